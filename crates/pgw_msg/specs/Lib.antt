@@ -1,0 +1,8 @@
+pub mod Rows
+pub mod Backend
+pub mod ClientError
+pub mod Texts
+pub mod Front
+pub mod Frontend
+pub mod Tags
+pub mod Fields

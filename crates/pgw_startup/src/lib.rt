@@ -1,0 +1,9 @@
+//! The messages of the startup phase.
+#![tactic(auto)]
+
+pub mod authentication;
+pub mod backend_key_data;
+pub mod negotiate;
+pub mod parameter_status;
+pub mod password;
+pub mod startup;

@@ -1,0 +1,105 @@
+//! The first message of a client.
+ghost use Rattle.std.specs.Prelude.{◌≡◌, IfOk, OnOk};
+ghost use Rattle.pgw_wire.specs.Reading.{Gives};
+ghost use Rattle.pgw_wire.specs.Pairs.{pair_at, from_pairs};
+ghost use Rattle.pgw_wire.specs.Writing.{refused_if};
+ghost use Rattle.pgw_wire.specs.declared.framing.Framing.TheVariants.{Untyped};
+ghost use Rattle.pgw_startup.specs.Startup.{startup_of, startup, is_startup_refused};
+
+use pgw_wire::context::DecodeContext;
+use pgw_wire::error::{PgWireError, PgWireResult};
+use pgw_wire::item::take_up_to_mark;
+use pgw_wire::memory::OutOfMemory;
+use pgw_wire::framing::Framing;
+use pgw_wire::message::Message;
+use pgw_wire::octets::Octets;
+use pgw_wire::params::Params;
+use pgw_wire::reader::FieldReader;
+use pgw_wire::text::Text;
+use pgw_wire::writer::{append, put_u16};
+use bytes::BytesMut;
+use std::alloc::Global;
+
+#[derive(Debug, Drop)]
+pub struct Startup {
+    pub protocol_number_major: u16,
+    pub protocol_number_minor: u16,
+    pub parameters: Params,
+}
+
+fn collected(alloc: Global, pairs: Vec<(Text, Text)>) -> Result<Params, OutOfMemory>
+    ensures { IfOk result (λ m. m ≡ from_pairs pairs.items) }
+{
+    let mut params = Params::new(alloc);
+    for (name, value) in pairs {
+        params.insert(name, value)?;
+    }
+    Ok(params)
+}
+
+// Whether there is no spelling.
+fn is_refused(m: &Startup) -> bool
+    ensures { result ≡ is_startup_refused m.now }
+{
+    m.protocol_number_major != 3 || m.parameters.is_refused()
+}
+
+impl Message for Startup {
+    ghost row_framing = { Untyped };
+
+    ghost limit = { 10000 };
+
+    ghost reading = { startup_of };
+
+    ghost written = { startup };
+
+    ghost fault = { λ m. refused_if (is_startup_refused m) };
+
+    fn framing() -> Framing {
+        Framing::Untyped
+    }
+
+    fn max_message_length() -> usize {
+        10000
+    }
+
+    #[tactic(auto, unfolding(pgw_wire::specs::Writing::u16))]
+    fn message_length(&self) -> usize {
+        self.parameters.written_len(9)
+    }
+
+    #[tactic(auto, unfolding(pgw_wire::specs::Writing::refused_if))]
+    fn encode_body(&self, buf: &mut BytesMut) -> PgWireResult<()> {
+        if is_refused(self) {
+            return Err(PgWireError::InvalidMessageBody);
+        }
+        let mut out = Vec::new(*buf.allocator());
+        put_u16(&mut out, self.protocol_number_major)?;
+        put_u16(&mut out, self.protocol_number_minor)?;
+        self.parameters.put(&mut out)?;
+        out.push(0)?;
+        append(buf, &out)
+    }
+
+    #[tactic(auto, unfolding(crate::specs::Startup::startup_of, crate::specs::Startup::three))]
+    fn decode_body(alloc: Global, body: &Octets, _ctx: &DecodeContext) -> PgWireResult<Startup>
+    {
+        if body.len() < 5 {
+            return Err(PgWireError::InvalidStartupMessage);
+        }
+        let mut reader = FieldReader::new(body);
+        let protocol_number_major = reader.take_u16()?;
+        if protocol_number_major != 3 {
+            return Err(PgWireError::InvalidStartupMessage);
+        }
+        let protocol_number_minor = reader.take_u16()?;
+        let pairs = take_up_to_mark(alloc, &mut reader)?;
+        reader.finish()?;
+        let parameters = collected(alloc, pairs.into_vec())?;
+        Ok(Startup {
+            protocol_number_major,
+            protocol_number_minor,
+            parameters,
+        })
+    }
+}
