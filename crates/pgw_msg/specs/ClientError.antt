@@ -8,7 +8,7 @@ use Rattle.pgw_msg.specs.declared.client_error.PgWireClientError.TheVariants as 
 
 -- the error holds this message, or memory ran out
 abbrev pub IsUnexpected : PgWireBackendMessage → PgWireClientError → Type 0
-IsUnexpected m (client.UnexpectedMessage b) = b.value ≡ m
+IsUnexpected m (client.UnexpectedMessage x) = x ≡ m
 IsUnexpected m client.OutOfMemory = Unit {0}
 IsUnexpected m e = ⊥
 

@@ -5,6 +5,7 @@ ghost use Rattle.pgw_msg.specs.ClientError.{IsUnexpected};
 use crate::backend::PgWireBackendMessage;
 use crate::pg_type::PgType;
 use crate::response::ErrorResponse;
+use pgw_wire::boxed::Boxed;
 use pgw_wire::error::PgWireError;
 use pgw_wire::listed::Listed;
 use pgw_wire::octets::Octets;
@@ -42,7 +43,7 @@ pub enum PgWireClientError {
     #[error("the server closed the connection")]
     UnexpectedEOF,
     #[error("unexpected message {0:?}")]
-    UnexpectedMessage(Box<PgWireBackendMessage>),
+    UnexpectedMessage(Boxed<PgWireBackendMessage>),
     #[error("input or output failed")]
     IoError,
     #[error("{0}")]
@@ -73,7 +74,7 @@ pub type PgWireClientResult<T> = Result<T, PgWireClientError>;
 pub fn unexpected(alloc: Global, message: PgWireBackendMessage) -> PgWireClientError
     ensures { IsUnexpected message result }
 {
-    match Box::new(alloc, message) {
+    match Boxed::new(alloc, message) {
         Ok(message) => PgWireClientError::UnexpectedMessage(message),
         Err(_) => PgWireClientError::OutOfMemory,
     }

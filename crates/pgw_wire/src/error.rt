@@ -2,6 +2,7 @@
 ghost use Rattle.std.specs.Prelude.{◌≡◌};
 ghost use Rattle.pgw_wire.specs.declared.error.PgWireError.TheVariants.{OutOfMemory as NoMemory};
 
+use crate::boxed::Boxed;
 use crate::error_info::ErrorInfo;
 use crate::memory::OutOfMemory;
 use crate::text::Text;
@@ -127,8 +128,8 @@ pub enum PgWireError {
     FailedToParseParameter(Text),
     #[error("the query was canceled")]
     QueryCanceled,
-    #[error("{}", .0.message.as_str())]
-    UserError(Box<ErrorInfo>),
+    #[error("{}", .0.as_ref().message.as_str())]
+    UserError(Boxed<ErrorInfo>),
     #[error("this message is not supported yet")]
     NotYetBuilt,
 }

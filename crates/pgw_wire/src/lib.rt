@@ -1,6 +1,7 @@
 //! The base of the codec.
 #![tactic(auto)]
 
+pub mod boxed;
 pub mod context;
 pub mod error;
 pub mod error_info;
