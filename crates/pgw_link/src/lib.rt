@@ -8,3 +8,5 @@ pub mod memory_stream;
 pub mod piece;
 pub mod standard;
 pub mod stream;
+#[cfg(test)]
+mod tests;
