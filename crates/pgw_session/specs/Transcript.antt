@@ -4,6 +4,7 @@ use Rattle.pgw_msg.specs.Front.{Spells}
 use Rattle.pgw_msg.specs.Frontend.{encodings}
 use Rattle.pgw_msg.specs.declared.frontend.PgWireFrontendMessage.{PgWireFrontendMessage as Frontend}
 use Rattle.pgw_config.specs.declared.config.Config.{Config}
+use Rattle.pgw_session.specs.declared.types.Answer.{Answer}
 use Rattle.pgw_session.specs.declared.types.Request.{Request}
 use Rattle.pgw_session.specs.declared.types.SessionReport.{SessionReport}
 use Rattle.pgw_session.specs.declared.standing.Standing.{Standing}
@@ -63,12 +64,13 @@ EncodesSent es bytes = encodings (sents es) ≡ Ok bytes
 
 -- ---- reports
 
--- what the client was told, and the answer of each request from its own segment
-abbrev pub report_with : Standing → List (List Event) → SessionReport
-report_with s segments = record { version = s.version; parameters = s.parameters; process_id = s.process_id; secret_key = s.secret_key; status = s.status; answers = map answer_of segments }
+-- what the client was told, and some answers
+abbrev pub report_with : Standing → List Answer → SessionReport
+report_with s answers = record { version = s.version; parameters = s.parameters; process_id = s.process_id; secret_key = s.secret_key; status = s.status; answers = answers }
 
+-- each answer is that of a request's own segment, in order
 unfoldable pub report_of : Config → List (List Event) → SessionReport
-report_of config segments = report_with (standing_of config (joined segments)) (drop 1 segments)
+report_of config segments = report_with (standing_of config (joined segments)) (map answer_of (drop 1 segments))
 
 -- A completed session: the bytes taken begin with spellings of the messages got, those put out encode those sent,
 -- together they are a transcript for that input, and the report is its fold.
