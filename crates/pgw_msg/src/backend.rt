@@ -35,9 +35,23 @@ pub enum PgWireBackendMessage {
     DataRow(DataRow),
 }
 
+impl PgWireBackendMessage {
+    /// Takes the message at the front, if it is whole. A refusal leaves the buffer, as does want of memory.
+    pub fn decode(
+        alloc: Global,
+        buf: &mut BytesMut,
+        ctx: &DecodeContext,
+    ) -> PgWireResult<Option<PgWireBackendMessage>>
+        // Which message it is or which refusal, and when nothing is whole yet.
+        ensures exact { Decodes result buf.old.items buf.new.items (backend_front ctx.now buf.old.items) }
+    {
+        decode_exact(alloc, buf, ctx)
+    }
+}
+
 // Takes the message at the front, if it is whole.
 #[tactic(auto, unfolding(crate::specs::Backend::backend_front))]
-pub fn decode_exact(
+fn decode_exact(
     alloc: Global,
     buf: &mut BytesMut,
     ctx: &DecodeContext,
