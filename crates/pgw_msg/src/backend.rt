@@ -5,7 +5,9 @@ ghost use Rattle.pgw_msg.specs.Backend.{backend_front};
 ghost use Rattle.pgw_msg.specs.declared.backend.PgWireBackendMessage.{PgWireBackendMessage as TheMessage};
 
 use crate::data::{DataRow, RowDescription};
-use crate::response::{CommandComplete, EmptyQueryResponse, ErrorResponse, NoticeResponse, ReadyForQuery};
+use crate::response::{
+    CommandComplete, EmptyQueryResponse, ErrorResponse, NoticeResponse, ReadyForQuery,
+};
 use bytes::BytesMut;
 use pgw_startup::authentication::Authentication;
 use pgw_startup::backend_key_data::BackendKeyData;
@@ -33,9 +35,23 @@ pub enum PgWireBackendMessage {
     DataRow(DataRow),
 }
 
+impl PgWireBackendMessage {
+    /// Takes the message at the front, if it is whole. A refusal leaves the buffer, as does want of memory.
+    pub fn decode(
+        alloc: Global,
+        buf: &mut BytesMut,
+        ctx: &DecodeContext,
+    ) -> PgWireResult<Option<PgWireBackendMessage>>
+        // Which message it is or which refusal, and when nothing is whole yet.
+        ensures exact { Decodes result buf.old.items buf.new.items (backend_front ctx.now buf.old.items) }
+    {
+        decode_exact(alloc, buf, ctx)
+    }
+}
+
 // Takes the message at the front, if it is whole.
 #[tactic(auto, unfolding(crate::specs::Backend::backend_front))]
-pub fn decode_exact(
+fn decode_exact(
     alloc: Global,
     buf: &mut BytesMut,
     ctx: &DecodeContext,
@@ -47,9 +63,15 @@ pub fn decode_exact(
     }
     let byte = buf.as_slice()[0];
     match byte {
-        b'C' => Ok(CommandComplete::decode(alloc, buf, ctx)?.map(PgWireBackendMessage::CommandComplete)),
-        b'Z' => Ok(ReadyForQuery::decode(alloc, buf, ctx)?.map(PgWireBackendMessage::ReadyForQuery)),
-        b'T' => Ok(RowDescription::decode(alloc, buf, ctx)?.map(PgWireBackendMessage::RowDescription)),
+        b'C' => Ok(CommandComplete::decode(alloc, buf, ctx)?.map(
+            PgWireBackendMessage::CommandComplete,
+        )),
+        b'Z' => Ok(ReadyForQuery::decode(alloc, buf, ctx)?.map(
+            PgWireBackendMessage::ReadyForQuery,
+        )),
+        b'T' => Ok(RowDescription::decode(alloc, buf, ctx)?.map(
+            PgWireBackendMessage::RowDescription,
+        )),
         b'D' => Ok(DataRow::decode(alloc, buf, ctx)?.map(PgWireBackendMessage::DataRow)),
         _ => Err(PgWireError::InvalidMessageType(byte)),
     }

@@ -1,2 +1,3 @@
 pub mod Startup
 pub mod Negotiate
+pub mod Password

@@ -1,0 +1,4 @@
+//! The configuration of a client.
+#![tactic(auto)]
+
+pub mod config;
