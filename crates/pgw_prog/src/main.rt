@@ -1,0 +1,8 @@
+//! Client sessions from scripts.
+#![tactic(auto)]
+
+mod error_names;
+mod pieces;
+mod printing;
+
+fn main() {}
