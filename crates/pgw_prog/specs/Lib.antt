@@ -1,3 +1,4 @@
 pub mod Pieces
 pub mod ErrorNames
 pub mod Printing
+pub mod Line

@@ -2,6 +2,7 @@
 #![tactic(auto)]
 
 mod error_names;
+mod line;
 mod pieces;
 mod printing;
 
