@@ -1,5 +1,5 @@
 -- The lines of a session script: what each says. A line is a word, a space and a value.
-use Rattle.std.specs.Prelude.{ℕ, ◌+◌, ◌^◌, List, [], ◌∷◌, ◌++◌, Bool, true, false, not, ◌==◌, ◌&&◌, ◌||◌, nat_lt, nat_le, nat_eq, length, take, drop, codes, Option, Some, None, Result, Ok, Err, if◌then◌else◌}
+use Rattle.std.specs.Prelude.{ℕ, ◌+◌, ◌<◌, ◌^◌, List, [], ◌∷◌, ◌++◌, Bool, true, false, not, ◌==◌, ◌&&◌, ◌||◌, nat_lt, nat_le, nat_eq, length, take, drop, codes, Option, Some, None, Result, Ok, Err, if◌then◌else◌}
 use Rattle.std.specs.List.{filter, list_all, position}
 use Rattle.std.specs.Result.{result_ok}
 use Rattle.std.specs.Cmp.Lexicographic.{pointwise}
@@ -111,3 +111,8 @@ setting_of bytes =
 -- config user=.., or another line
 unfoldable pub line_of : List ℕ → Option Line
 line_of bytes = behind_or (value_behind (codes "config user=") bytes) config_in (setting_of bytes)
+
+-- a cut lets a call move a byte
+abbrev pub Moves : Line → Type 0
+Moves (line.Cut n) = 0 < n
+Moves _ = Unit {0}

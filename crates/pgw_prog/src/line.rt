@@ -3,7 +3,7 @@ ghost use Rattle.std.specs.Prelude.{◌≡◌, ◌<◌, ◌==◌, ◌&&◌, IfOk
 ghost use Rattle.std.specs.Option.{option_copied};
 ghost use Rattle.std.specs.List.{filter, list_all};
 ghost use Rattle.std.specs.Char.{is_ascii_alphanumeric};
-ghost use Rattle.pgw_prog.specs.Line.{value_behind, name_in, number_in, text_in, is_name as names, cut_at_space as spaced, config_in, version_in, nonce_in, cut_in, bytes_in, later_line_of, setting_of, line_of};
+ghost use Rattle.pgw_prog.specs.Line.{value_behind, name_in, number_in, text_in, is_name as names, cut_at_space as spaced, config_in, version_in, nonce_in, cut_in, bytes_in, later_line_of, setting_of, line_of, Moves};
 
 use hex::{FromHex, FromHexError};
 use pgw_wire::context::ProtocolVersion;
@@ -99,7 +99,8 @@ fn space_in(bytes: &[u8]) -> Option<usize>
 
 #[tactic(auto, unfolding(crate::specs::Line::config_in))]
 fn read_config(alloc: Global, value: &[u8]) -> Result<Option<Line>, OutOfMemory>
-    ensures { IfOk result (λ o. o ≡ config_in value.now) }
+    ensures value { IfOk result (λ o. o ≡ config_in value.now) }
+    ensures moves { IfOk result (λ o. IfSome o Moves) }
 {
     let Some((user, rest)) = cut_at_space(value) else {
         return Ok(read_name(alloc, value)?.map(|user| Line::Config(user, None)));
@@ -139,7 +140,8 @@ fn read_nonce(value: &[u8]) -> Option<[u8; 18]>
 
 #[tactic(auto, unfolding(crate::specs::Line::cut_in))]
 fn read_cut(value: &[u8]) -> Option<usize>
-    ensures { result ≡ cut_in value.now }
+    ensures value { result ≡ cut_in value.now }
+    ensures moves { IfSome result (λ n. 0 < n) }
 {
     match read_number(value) {
         Some(number) if is_cut(number) => Some(number as usize),
@@ -179,7 +181,8 @@ fn without_spaces(alloc: Global, value: &[u8]) -> Result<Vec<u8>, OutOfMemory>
 /// What a line says, where it is one of the later kinds.
 #[tactic(auto, unfolding(crate::specs::Line::later_line_of))]
 fn read_later_line(alloc: Global, line: &[u8]) -> Result<Option<Line>, OutOfMemory>
-    ensures { IfOk result (λ o. o ≡ later_line_of line.now) }
+    ensures value { IfOk result (λ o. o ≡ later_line_of line.now) }
+    ensures moves { IfOk result (λ o. IfSome o Moves) }
 {
     if let Some(value) = behind(b"fail read ", line) {
         return Ok(read_number(value).map(Line::FailRead));
@@ -199,7 +202,8 @@ fn read_later_line(alloc: Global, line: &[u8]) -> Result<Option<Line>, OutOfMemo
 /// What a line says, where it is a setting or one of the later kinds.
 #[tactic(auto, unfolding(crate::specs::Line::setting_of))]
 fn read_setting(alloc: Global, line: &[u8]) -> Result<Option<Line>, OutOfMemory>
-    ensures { IfOk result (λ o. o ≡ setting_of line.now) }
+    ensures value { IfOk result (λ o. o ≡ setting_of line.now) }
+    ensures moves { IfOk result (λ o. IfSome o Moves) }
 {
     if let Some(value) = behind(b"protocol ", line) {
         return Ok(read_version(value).map(Line::Protocol));
@@ -219,7 +223,8 @@ fn read_setting(alloc: Global, line: &[u8]) -> Result<Option<Line>, OutOfMemory>
 /// What a line says, where it is in the grammar.
 #[tactic(auto, unfolding(crate::specs::Line::line_of))]
 pub fn read_line(alloc: Global, line: &[u8]) -> Result<Option<Line>, OutOfMemory>
-    ensures { IfOk result (λ o. o ≡ line_of line.now) }
+    ensures value { IfOk result (λ o. o ≡ line_of line.now) }
+    ensures moves { IfOk result (λ o. IfSome o Moves) }
 {
     match behind(b"config user=", line) {
         Some(value) => read_config(alloc, value),

@@ -5,5 +5,6 @@ mod error_names;
 mod line;
 mod pieces;
 mod printing;
+mod script;
 
 fn main() {}
