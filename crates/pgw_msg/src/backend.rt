@@ -5,7 +5,9 @@ ghost use Rattle.pgw_msg.specs.Backend.{backend_front};
 ghost use Rattle.pgw_msg.specs.declared.backend.PgWireBackendMessage.{PgWireBackendMessage as TheMessage};
 
 use crate::data::{DataRow, RowDescription};
-use crate::response::{CommandComplete, EmptyQueryResponse, ErrorResponse, NoticeResponse, ReadyForQuery};
+use crate::response::{
+    CommandComplete, EmptyQueryResponse, ErrorResponse, NoticeResponse, ReadyForQuery,
+};
 use bytes::BytesMut;
 use pgw_startup::authentication::Authentication;
 use pgw_startup::backend_key_data::BackendKeyData;
@@ -47,9 +49,15 @@ pub fn decode_exact(
     }
     let byte = buf.as_slice()[0];
     match byte {
-        b'C' => Ok(CommandComplete::decode(alloc, buf, ctx)?.map(PgWireBackendMessage::CommandComplete)),
-        b'Z' => Ok(ReadyForQuery::decode(alloc, buf, ctx)?.map(PgWireBackendMessage::ReadyForQuery)),
-        b'T' => Ok(RowDescription::decode(alloc, buf, ctx)?.map(PgWireBackendMessage::RowDescription)),
+        b'C' => Ok(CommandComplete::decode(alloc, buf, ctx)?.map(
+            PgWireBackendMessage::CommandComplete,
+        )),
+        b'Z' => Ok(ReadyForQuery::decode(alloc, buf, ctx)?.map(
+            PgWireBackendMessage::ReadyForQuery,
+        )),
+        b'T' => Ok(RowDescription::decode(alloc, buf, ctx)?.map(
+            PgWireBackendMessage::RowDescription,
+        )),
         b'D' => Ok(DataRow::decode(alloc, buf, ctx)?.map(PgWireBackendMessage::DataRow)),
         _ => Err(PgWireError::InvalidMessageType(byte)),
     }

@@ -77,7 +77,11 @@ impl Message for ReadyForQuery {
     }
 
     #[tactic(auto, unfolding(crate::specs::Rows::ready_for_query_of))]
-    fn decode_body(_alloc: Global, body: &Octets, _ctx: &DecodeContext) -> PgWireResult<ReadyForQuery> {
+    fn decode_body(
+        _alloc: Global,
+        body: &Octets,
+        _ctx: &DecodeContext,
+    ) -> PgWireResult<ReadyForQuery> {
         let mut reader = FieldReader::new(body);
         let byte = reader.take_u8()?;
         let status = TransactionStatus::try_from(byte)?;
@@ -126,7 +130,11 @@ impl Message for CommandComplete {
     }
 
     #[tactic(auto, unfolding(crate::specs::Rows::command_complete_of))]
-    fn decode_body(alloc: Global, body: &Octets, _ctx: &DecodeContext) -> PgWireResult<CommandComplete> {
+    fn decode_body(
+        alloc: Global,
+        body: &Octets,
+        _ctx: &DecodeContext,
+    ) -> PgWireResult<CommandComplete> {
         let mut reader = FieldReader::new(body);
         let tag = reader.take_text(alloc)?;
         reader.finish()?;

@@ -1,0 +1,92 @@
+-- What follows a message of a server, or a refusal, changes nothing.
+use Rattle.std.proofs.Common.{◌≡◌, inl, inr, ℕ, ◌+◌, ◌-◌, ◌<◌, ◌≤◌, Bool, true, false, cond, ltb, eqb, List, [], ◌∷◌, ◌++◌, length, get_or, take, drop, Option, Some, None, option_map, Result, Ok, Err, refl, sym, ap, subst, ◌∙◌, arith, length-append}
+use Rattle.std.proofs.lemmas.Bool.{ltb-false, le-ltb}
+use Rattle.std.proofs.lemmas.List.{get_or-take, take-append-le}
+use Rattle.pgw_wire.specs.declared.error.PgWireError.{PgWireError}
+use Rattle.pgw_wire.specs.declared.error.PgWireError.TheVariants.{InvalidMessageType}
+use Rattle.pgw_wire.specs.declared.context.DecodeContext.{DecodeContext}
+use Rattle.pgw_wire.specs.declared.framing.Framing.TheVariants.{Typed}
+use Rattle.pgw_wire.specs.Reading.{◌>>=◌}
+use Rattle.pgw_wire.specs.Framing.{front}
+use Rattle.pgw_wire.proofs.Laws.{bind_ok, chosen}
+use Rattle.pgw_wire.proofs.MessageLaws.{some_is, whole_at}
+use Rattle.pgw_wire.proofs.Stable.{Stable, Ends, bind_err, front_stable, stable_choice, stable_refusal}
+use Rattle.pgw_msg.specs.declared.backend.PgWireBackendMessage.{PgWireBackendMessage}
+use Rattle.pgw_msg.specs.declared.backend.PgWireBackendMessage.TheVariants as backend
+use Rattle.pgw_msg.specs.Rows.{ready_for_query_of, command_complete_of, row_description_of, data_row_of}
+use Rattle.pgw_msg.specs.Backend.{as_one_of, backend_by, backend_front}
+
+-- ---- one kind of message among all kinds
+
+pub made_of : {A B : Type 0} (make : A → B) (m : B) (rest : List ℕ) (o : Option (A × List ℕ)) → whole_at {X = B × List ℕ} (m, rest) ≡ Ok (option_map (λ x. (make x.0, x.1)) o) → (x : A) × (o ≡ Some (x, rest)) × (make x ≡ m)
+made_of make m rest None e = absurd cc
+made_of {A} {B} make m rest (Some x) e =
+    let same : ◌≡◌ {A = B × List ℕ} (make x.0, x.1) (m, rest) = sym (some_is (m, rest) (make x.0, x.1) e) in
+    (x.0, ap (λ (r : List ℕ). Some (x.0, r)) (ap (λ (p : B × List ℕ). p.1) same), ap (λ (p : B × List ℕ). p.0) same)
+
+again_as : {A B : Type 0} (make : A → B) (x : A) (m : B) (rest : List ℕ) (r : Result (Option (A × List ℕ)) PgWireError) → make x ≡ m → r ≡ Ok (Some (x, rest)) → as_one_of make r ≡ Ok (Some (m, rest))
+again_as make x m rest r is e = rw e (ap (λ n. Ok (Some (n, rest))) is)
+
+pub stable_as : {A B : Type 0} (make : A → B) (least : ℕ) (p : List ℕ → Result (Option (A × List ℕ)) PgWireError) → Stable least p → Stable least (λ bytes. as_one_of make (p bytes))
+stable_as {A} {B} make least p h = record {
+  whole = λ a m rest e.
+      let s = bind_ok (p a) (λ o. Ok (option_map (λ x. (make x.0, x.1)) o)) (Some (m, rest)) e in
+      let x = made_of make m rest s.0 (sym s.2) in
+      let ends = h.whole a x.0 rest (s.1 ∙ ap (λ o. Ok o) x.1) in
+      record {
+        len = ends.len;
+        some = ends.some;
+        within = ends.within;
+        left = ends.left;
+        again = λ b same long. again_as make x.0 m (drop ends.len b) (p b) x.2 (ends.again b same long);
+      };
+  bad = λ a more e is. elim (bind_err (p a) (λ o. Ok (option_map (λ x. (make x.0, x.1)) o)) e is) [
+    | inl h' ↦ rw (h.bad a more e h') refl
+    | inr h' ↦ absurd cc
+  ];
+}
+
+-- ---- all kinds
+
+one : {A : Type 0} (make : A → PgWireBackendMessage) (byte limit : ℕ) (read : List ℕ → Result A PgWireError) → Stable 5 (λ bytes. as_one_of make (front (Typed byte) limit read bytes))
+one make byte limit read = stable_as make 5 (front (Typed byte) limit read) (front_stable (Typed byte) limit read)
+
+by_stable : (byte : ℕ) (ctx : DecodeContext) → Stable 5 (backend_by byte ctx)
+by_stable byte ctx =
+    stable_choice 5 (eqb byte 67) _ _ (one backend.CommandComplete 67 30000 (command_complete_of ctx))
+    (stable_choice 5 (eqb byte 90) _ _ (one backend.ReadyForQuery 90 30000 (ready_for_query_of ctx))
+    (stable_choice 5 (eqb byte 84) _ _ (one backend.RowDescription 84 2147483647 (row_description_of ctx))
+    (stable_choice 5 (eqb byte 68) _ _ (one backend.DataRow 68 2147483647 (data_row_of ctx))
+    (stable_refusal 5 (InvalidMessageType byte)))))
+
+same_first : (n : ℕ) (a b : List ℕ) → 1 ≤ n → take n b ≡ take n a → get_or b 0 0 ≡ get_or a 0 0
+same_first n a b some same = sym (get_or-take n b 0 0 (omega (arith, some))) ∙ ap (λ (x : List ℕ). get_or x 0 0) same ∙ get_or-take n a 0 0 (omega (arith, some))
+
+by_same : (ctx : DecodeContext) (b : List ℕ) (byte : ℕ) (r : Result (Option (PgWireBackendMessage × List ℕ)) PgWireError) → 2 ≤ length b → get_or b 0 0 ≡ byte → backend_by byte ctx b ≡ r → backend_front ctx b ≡ r
+unfolding backend_front
+by_same ctx b byte r some is e =
+    let long : ltb (length b) 2 ≡ false = le-ltb _ _ some in
+    rw long (subst (λ (x : ℕ). backend_by x ctx b ≡ r) (sym is) e)
+
+pub backend_stable : (ctx : DecodeContext) → Stable 5 (backend_front ctx)
+unfolding backend_front
+backend_stable ctx = record {
+  whole = λ a m rest e. elim (chosen (ltb (length a) 2) _ _ _ e) [
+    | inl h ↦ absurd cc
+    | inr h ↦
+        let ends = (by_stable (get_or a 0 0) ctx).whole a m rest h.1 in
+        record {
+          len = ends.len;
+          some = ends.some;
+          within = ends.within;
+          left = ends.left;
+          again = λ b same long. by_same ctx b (get_or a 0 0) (Ok (Some (m, drop ends.len b))) (omega (arith, ends.some, long)) (same_first ends.len a b (omega (arith, ends.some)) same) (ends.again b same long);
+        }
+  ];
+  bad = λ a more e is. elim (chosen (ltb (length a) 2) _ _ _ is) [
+    | inl h ↦ absurd cc
+    | inr h ↦
+        let some : 2 ≤ length a = ltb-false _ _ h.0 in
+        by_same ctx (a ++ more) (get_or a 0 0) (Err e) (omega (arith, some, length-append a more)) (same_first 1 a (a ++ more) (omega arith) (take-append-le 1 a more (omega (arith, some)))) ((by_stable (get_or a 0 0) ctx).bad a more e h.1)
+  ];
+}
