@@ -1,5 +1,5 @@
 -- Why a session stops before its transcript is whole, in the terms of transcripts.
-use Rattle.std.specs.Prelude.{◌≡◌, ◌⊎◌, ℕ, List, [], ◌∷◌, ◌++◌, length, map, Option, Some, None, Err}
+use Rattle.std.specs.Prelude.{◌≡◌, ℕ, List, [], ◌∷◌, ◌++◌, length, map, Option, Err}
 use Rattle.pgw_wire.specs.declared.error.PgWireError.{PgWireError}
 use Rattle.pgw_startup.specs.declared.authentication.Authentication.TheVariants as authentication
 use Rattle.pgw_msg.specs.Front.{front, More, Bad, Whole}

@@ -1,0 +1,4 @@
+pub mod CourseLaws
+pub mod Hears
+pub mod Events
+pub mod Grammar
