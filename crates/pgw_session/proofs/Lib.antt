@@ -2,3 +2,4 @@ pub mod CourseLaws
 pub mod Hears
 pub mod Events
 pub mod Grammar
+pub mod Whole
