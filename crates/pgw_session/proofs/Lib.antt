@@ -3,3 +3,4 @@ pub mod Hears
 pub mod Events
 pub mod Grammar
 pub mod Whole
+pub mod Sound
