@@ -4,3 +4,5 @@ pub mod Events
 pub mod Grammar
 pub mod Whole
 pub mod Sound
+pub mod Complete
+pub mod FailureLaws
