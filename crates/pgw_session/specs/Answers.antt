@@ -1,5 +1,5 @@
 -- The answer of a request's segment.
-use Rattle.std.specs.Prelude.{◌≡◌, ℕ, List, [], ◌∷◌, ◌++◌, fold, map, Option, Some, None}
+use Rattle.std.specs.Prelude.{ℕ, List, [], ◌∷◌, ◌++◌, fold, map, Option, Some, None}
 use Rattle.pgw_msg.specs.Tags.{tag_of}
 use Rattle.pgw_msg.specs.Fields.{field_info_of}
 use Rattle.pgw_msg.specs.declared.data.DataRow.{DataRow}

@@ -1,5 +1,5 @@
 -- What the messages got tell of the connection.
-use Rattle.std.specs.Prelude.{◌≡◌, ℕ, ℤ, pos, negsuc, Bool, true, false, List, [], fold, Option, Some, None, if◌then◌else◌}
+use Rattle.std.specs.Prelude.{pos, negsuc, true, false, List, fold, Option, Some, None, if◌then◌else◌}
 use Rattle.std.specs.FinMap as map
 use Rattle.pgw_wire.specs.declared.context.ProtocolVersion.{ProtocolVersion}
 use Rattle.pgw_wire.specs.declared.secret_key.SecretKey.TheVariants as key
