@@ -1,0 +1,5 @@
+pub mod Tape
+pub mod Stream
+pub mod Calls
+pub mod Memory
+pub mod MemoryStream

@@ -1,0 +1,142 @@
+//! A source and a sink in memory.
+ghost use Rattle.std.specs.Prelude.{◌≡◌, ◌<◌, ◌≤◌, ◌⊎◌, ◌==◌, [], length, take, IfOk, OnOk, OnErr, is_err, true, false};
+ghost use Rattle.std.specs.List.{list_any};
+ghost use Rattle.pgw_link.specs.Tape.{HasCause, Rose};
+ghost use Rattle.pgw_link.specs.Stream.{Drew, NotDrawn, Poured, NotPoured};
+
+use crate::calls::Calls;
+use crate::piece::copy_from;
+use crate::stream::{Sink, SinkFault, Source, SourceFault};
+use pgw_wire::listed::Listed;
+use pgw_wire::octets::Octets;
+use std::alloc::Global;
+
+/// A source in memory. Each read moves at most `cut` bytes. Those with the listed numbers, counted from 1, fail.
+#[derive(Drop)]
+pub struct MemorySource {
+    bytes: Octets,
+    at: usize,
+    cut: usize,
+    reads: Calls,
+    ghost within: { at ≤ length bytes },
+    ghost moves: { 0 < cut },
+}
+
+impl MemorySource {
+    ghost use Rattle.pgw_link.specs.MemoryStream.{source_tape};
+
+    /// A source with these bytes to come.
+    pub fn new(bytes: Octets, cut: usize, fail_reads: Listed<u64>) -> MemorySource
+        requires { 0 < cut }
+        ensures tape { source_tape result ≡ record { left = bytes; reads = 0 } }
+        ensures faults { result.reads.failed ≡ 0 }
+        ensures listing { result.reads.numbers ≡ fail_reads }
+    {
+        MemorySource {
+            bytes,
+            at: 0,
+            cut,
+            reads: Calls::new(fail_reads),
+        }
+    }
+}
+
+impl Source for MemorySource {
+    ghost use Rattle.pgw_link.specs.MemoryStream.{source_tape};
+
+    ghost tells = { Unit {0} };
+
+    ghost tape = { source_tape };
+
+    ghost faults = { λ m. m.reads.failed };
+
+    fn read(&mut self, buf: &mut [u8]) -> Result<usize, SourceFault>
+        ensures bound { IfOk result (λ n. n ≤ length buf.new) }
+        ensures cut { IfOk result (λ n. n ≤ self.old.cut) }
+        ensures fails { is_err result ≡ list_any (λ n. n == (source_tape self.new).reads) self.old.reads.numbers }
+        ensures moved { 0 < length buf.old → IfOk result (λ n. Drew (source_tape self.old) (source_tape self.new) (take n buf.new)) }
+        ensures failed { OnErr result (NotDrawn (source_tape self.old) (source_tape self.new)) }
+        ensures cause { HasCause self.old.reads.failed self.new.reads.failed result }
+        ensures no_fault { OnOk result (self.new.reads.failed ≡ self.old.reads.failed) }
+        ensures kept { self.new.reads.numbers ≡ self.old.reads.numbers }
+    {
+        if self.reads.is_failing() {
+            return Err(SourceFault);
+        }
+        let count = copy_from(self.bytes.as_slice(), self.at, self.cut, buf);
+        self.at += count;
+        Ok(count)
+    }
+}
+
+/// A sink in memory. Each write appends at most `cut` bytes. Those with the listed numbers, counted from 1, fail, and
+/// so does one that finds no memory.
+#[derive(Drop)]
+pub struct MemorySink {
+    cut: usize,
+    written: Vec<u8>,
+    writes: Calls,
+    wanting: u64,
+    ghost moves: { 0 < cut },
+}
+
+impl MemorySink {
+    ghost use Rattle.pgw_link.specs.MemoryStream.{sink_tape, sink_faults};
+
+    /// A sink with nothing written.
+    pub fn new(alloc: Global, cut: usize, fail_writes: Listed<u64>) -> MemorySink
+        requires { 0 < cut }
+        ensures tape { sink_tape result ≡ record { wrote = []; writes = 0 } }
+        ensures faults { sink_faults result ≡ 0 }
+        ensures listing { result.writes.numbers ≡ fail_writes }
+    {
+        MemorySink {
+            cut,
+            written: Vec::new(alloc),
+            writes: Calls::new(fail_writes),
+            wanting: 0,
+        }
+    }
+
+    pub fn written(&self) -> &[u8]
+        ensures { result.now ≡ (sink_tape self.now).wrote }
+    {
+        self.written.as_slice()
+    }
+}
+
+impl Sink for MemorySink {
+    ghost use Rattle.pgw_link.specs.MemoryStream.{sink_tape, sink_faults};
+
+    ghost tells = { Unit {0} };
+
+    ghost tape = { sink_tape };
+
+    ghost faults = { sink_faults };
+
+    fn write(&mut self, piece: &[u8]) -> Result<usize, SinkFault>
+        requires { 0 < length piece.now }
+        ensures some { IfOk result (λ n. 0 < n) }
+        ensures bound { IfOk result (λ n. n ≤ length piece.now) }
+        ensures cut { IfOk result (λ n. n ≤ self.old.cut) }
+        ensures goes { OnOk result (list_any (λ n. n == (sink_tape self.new).writes) self.old.writes.numbers ≡ false) }
+        ensures fails { OnErr result (list_any (λ n. n == (sink_tape self.new).writes) self.old.writes.numbers ≡ true ⊎ Rose self.old.wanting self.new.wanting) }
+        ensures moved { IfOk result (λ n. Poured (sink_tape self.old) (sink_tape self.new) (take n piece.now)) }
+        ensures failed { OnErr result (NotPoured (sink_tape self.old) (sink_tape self.new)) }
+        ensures cause { HasCause (sink_faults self.old) (sink_faults self.new) result }
+        ensures no_fault { OnOk result (sink_faults self.new ≡ sink_faults self.old) }
+        ensures kept { self.new.writes.numbers ≡ self.old.writes.numbers }
+    {
+        if self.writes.is_failing() {
+            return Err(SinkFault);
+        }
+        let count = piece.len().min(self.cut);
+        match self.written.extend_from_slice(&piece[..count]) {
+            Ok(()) => Ok(count),
+            Err(_) => {
+                self.wanting = self.wanting.saturating_add(1);
+                Err(SinkFault)
+            }
+        }
+    }
+}

@@ -1,0 +1,155 @@
+use crate::link::{Link, LinkFault};
+use crate::memory::MemoryLink;
+use crate::memory_stream::{MemorySink, MemorySource};
+use crate::standard::{StdSink, StdSource};
+use crate::stream::{Sink, Source};
+use pgw_wire::listed::Listed;
+use pgw_wire::octets::Octets;
+use std::alloc::Global;
+use std::io;
+use std::io::Write;
+use std::test::Fail;
+
+fn numbers(alloc: Global, items: &[u64]) -> Result<Listed<u64>, Fail> {
+    let mut listed = Listed::new(alloc);
+    for item in items {
+        listed.push(*item)?;
+    }
+    Ok(listed)
+}
+
+// What each of four reads into three bytes answers; 9 stands for a fault.
+fn reads<L: Link>(link: &mut L) -> [usize; 4] {
+    let mut answers = [0usize; 4];
+    for answer in &mut answers {
+        let mut buf = [0u8; 3];
+        *answer = match link.read(&mut buf) {
+            Ok(count) => count,
+            Err(LinkFault) => 9,
+        };
+    }
+    answers
+}
+
+#[test]
+fn memory_link_reads(rt: HostRuntime) -> Result<(), Fail> {
+    let alloc = rt.alloc();
+    let cases: [(usize, &[u64], [usize; 4]); 4] = [
+        (1, &[], [1, 1, 1, 1]),
+        (1000, &[], [3, 1, 0, 0]),
+        (2, &[2], [2, 9, 2, 0]),
+        (1000, &[1, 4], [9, 3, 1, 9]),
+    ];
+    for (cut, fails, want) in cases {
+        let server = Octets::from_slice(alloc, b"wxyz")?;
+        let mut link = MemoryLink::new(
+            alloc,
+            server,
+            cut,
+            numbers(alloc, fails)?,
+            Listed::new(alloc),
+        );
+        assert_eq!(rt; reads(&mut link), want, "cut {cut}");
+        assert!(rt; link.written().is_empty());
+    }
+    Ok(())
+}
+
+// What each of three writes of these bytes answers; 9 stands for a fault.
+fn writes<L: Link>(link: &mut L, piece: &[u8; 3]) -> [usize; 3] {
+    let mut answers = [0usize; 3];
+    for answer in &mut answers {
+        *answer = match link.write(piece) {
+            Ok(count) => count,
+            Err(LinkFault) => 9,
+        };
+    }
+    answers
+}
+
+#[test]
+fn memory_link_writes(rt: HostRuntime) -> Result<(), Fail> {
+    let alloc = rt.alloc();
+    let cases: [(usize, &[u64], [usize; 3], &[u8]); 3] = [
+        (1, &[], [1, 1, 1], b"aaa"),
+        (1000, &[], [3, 3, 3], b"abcabcabc"),
+        (2, &[1, 3], [9, 2, 9], b"ab"),
+    ];
+    for (cut, fails, want, written) in cases {
+        let server = Octets::from_slice(alloc, b"")?;
+        let mut link = MemoryLink::new(
+            alloc,
+            server,
+            cut,
+            Listed::new(alloc),
+            numbers(alloc, fails)?,
+        );
+        assert_eq!(rt; writes(&mut link, b"abc"), want, "cut {cut}");
+        assert_eq!(rt; link.written(), written);
+        assert!(rt; link.flush().is_ok());
+        assert!(rt; !link.was_short_of_memory());
+    }
+    Ok(())
+}
+
+// What two reads of a source answer; 9 stands for a fault.
+fn drawn<S: Source>(source: &mut S) -> [usize; 2] {
+    let mut answers = [0usize; 2];
+    for answer in &mut answers {
+        let mut buf = [0u8; 3];
+        *answer = source.read(&mut buf).unwrap_or(9);
+    }
+    answers
+}
+
+// What two writes to a sink answer; 9 stands for a fault.
+fn poured<S: Sink>(sink: &mut S) -> [usize; 2] {
+    let mut answers = [0usize; 2];
+    for answer in &mut answers {
+        *answer = sink.write(b"abc").unwrap_or(9);
+    }
+    answers
+}
+
+#[test]
+fn streams_in_memory(rt: HostRuntime) -> Result<(), Fail> {
+    let alloc = rt.alloc();
+    let cases: [(usize, &[u64], [usize; 2], [usize; 2], &[u8]); 3] = [
+        (2, &[], [2, 2], [2, 2], b"abab"),
+        (1000, &[2], [3, 9], [3, 9], b"abc"),
+        (1, &[1], [9, 1], [9, 1], b"a"),
+    ];
+    for (cut, fails, read, wrote, written) in cases {
+        let bytes = Octets::from_slice(alloc, b"wxyz")?;
+        let mut source = MemorySource::new(bytes, cut, numbers(alloc, fails)?);
+        let mut sink = MemorySink::new(alloc, cut, numbers(alloc, fails)?);
+        assert_eq!(rt; drawn(&mut source), read, "cut {cut}");
+        assert_eq!(rt; poured(&mut sink), wrote, "cut {cut}");
+        assert_eq!(rt; sink.written(), written);
+    }
+    Ok(())
+}
+
+// A writer that takes nothing.
+#[derive(Drop)]
+struct Full;
+
+impl Write for Full {
+    fn write(&mut self, _buf: &[u8]) -> io::Result<usize> {
+        Ok(0)
+    }
+
+    fn flush(&mut self) -> io::Result<()> {
+        Ok(())
+    }
+}
+
+#[test]
+fn streams_over_readers_and_writers(rt: HostRuntime) {
+    let mut source = StdSource::new(b"wxyz".as_slice());
+    assert_eq!(rt; drawn(&mut source), [3, 1]);
+    let mut sink = StdSink::new(io::sink());
+    assert_eq!(rt; poured(&mut sink), [3, 3]);
+    let mut full = StdSink::new(Full);
+    assert_eq!(rt; poured(&mut full), [9, 9]);
+}
