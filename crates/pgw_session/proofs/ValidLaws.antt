@@ -33,9 +33,12 @@ use Rattle.pgw_session.specs.declared.stage.Next.{Next}
 use Rattle.pgw_session.specs.declared.stage.Next.TheVariants.{Goes, Closes, Wrong, Refuses, Spoils}
 use Rattle.pgw_session.specs.Events.{Event, Sent, Got, joined, sents}
 use Rattle.pgw_session.specs.Segments.{IsRequestSegment, startup_message, password_message, sends_of, with_user, cleartext_of}
-use Rattle.pgw_session.specs.Transcript.{AreSegments, IsTranscript, IsLegalPrefix, EncodesSent}
+use Rattle.pgw_session.specs.Transcript.{AreSegments, IsTranscript, IsLegalPrefix, EncodesSent, SpellsGot, Completes}
 use Rattle.pgw_session.specs.Valid.{HasNoZero, IsValidInput, IsValidRequest, startup_size}
-use Rattle.pgw_session.specs.Talk.{after, stage_for, replies}
+use Rattle.pgw_session.specs.Standings.{first_standing}
+use Rattle.pgw_session.specs.Course.{Over}
+use Rattle.pgw_session.proofs.FailureLaws.{unencoded}
+use Rattle.pgw_session.specs.Talk.{Ending, Unencoded, conversation, after, stage_for, replies}
 use Rattle.pgw_session.proofs.Hears.{sents_append, sents_sends}
 use Rattle.pgw_session.proofs.Events.{encodings_append, joined_cut}
 use Rattle.pgw_session.proofs.Grammar.{Rest, RestBy, rest_by, rest_nil, rest_sent, segment_is, behind_reply}
@@ -183,3 +186,24 @@ prefix_encodes config requests es valid (inl w) = subst (λ (l : List Event). En
 prefix_encodes config requests es valid (inr p) =
     front_encodes es (p.rest ++ joined p.later)
     (subst (λ (l : List Event). Encodes (encodings (sents l))) (joined_cut p.closed p.part p.rest p.later ∙ ap (λ (l : List Event). l ++ (p.rest ++ joined p.later)) (sym p.are)) (transcript_encodes config requests _ valid p.transcript))
+
+pub spelled_completes : (config : Config) (requests : List Request) (segments : List (List Event)) (bytes more : List ℕ) → IsValidInput config requests → IsTranscript config requests segments → SpellsGot (first_standing config) (joined segments) bytes
+    → Completes config requests (length bytes) (bytes ++ more) segments
+spelled_completes config requests segments bytes more valid transcript got =
+    let sends = transcript_encodes config requests segments valid transcript in
+    record { transcript = transcript; bytes = bytes; more = more; begins = refl; within = omega arith; got = got; sent = sends.0; put = sends.1 }
+
+-- what has an encoding has one of what stands behind
+both_behind : (a b : Result (List ℕ) PgWireError) → Encodes (both a b) → Encodes b
+both_behind (Err e) b x = absurd (let is = x.1 in cc)
+both_behind (Ok a) (Err e) x = absurd (let is = x.1 in cc)
+both_behind (Ok a) (Ok b) x = (b, refl)
+
+pub never_unencoded : (config : Config) (requests : List Request) (taken sent : List ℕ) (ending : Ending) (e : PgWireError) → IsValidInput config requests → conversation config requests taken ≡ Over ending sent → ending.outcome ≡ Unencoded e → ⊥
+never_unencoded config requests taken sent ending e valid is why =
+    let u = (unencoded config requests taken sent ending e is why).0 in
+    let all = prefix_encodes config requests (u.es ++ map Sent u.due) valid u.legal in
+    let due = both_behind (encodings (sents u.es)) (encodings u.due) (subst Encodes (ap encodings (sents_append u.es (map Sent u.due) ∙ ap (λ (l : List Frontend). sents u.es ++ l) (sents_sends u.due)) ∙ encodings_append (sents u.es) u.due) all) in
+    let is_ok = due.1 in
+    let is_err = u.unencoded in
+    cc
