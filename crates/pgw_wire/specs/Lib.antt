@@ -9,3 +9,4 @@ pub mod Versions
 pub mod Codes
 pub mod CodeLaws
 pub mod Keys
+pub mod Infos

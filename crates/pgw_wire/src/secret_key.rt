@@ -9,6 +9,7 @@ ghost use Rattle.pgw_wire.specs.Keys.{is_no_key as has_no_key, number_of, key_of
 
 use crate::context::{DecodeContext, ProtocolVersion};
 use crate::error::{PgWireError, PgWireResult};
+use crate::listed::Duplicate;
 use crate::memory::OutOfMemory;
 use crate::octets::Octets;
 use crate::writer::append;
@@ -118,6 +119,15 @@ impl SecretKey {
                 None => Err(PgWireError::InvalidMessageBody),
             },
             _ => Ok(SecretKey::Bytes(body.duplicate()?)),
+        }
+    }
+}
+
+impl Duplicate for SecretKey {
+    fn duplicate(&self) -> Result<SecretKey, OutOfMemory> {
+        match self {
+            SecretKey::I32(n) => Ok(SecretKey::I32(*n)),
+            SecretKey::Bytes(bytes) => Ok(SecretKey::Bytes(bytes.duplicate()?)),
         }
     }
 }
