@@ -6,13 +6,12 @@ use Rattle.pgw_wire.specs.Framing.{encoded}
 use Rattle.pgw_wire.specs.Writing.{text, has_zero, refused_if}
 use Rattle.pgw_startup.specs.Startup.{startup, is_startup_refused}
 use Rattle.pgw_startup.specs.declared.password.PasswordMessageFamily.{PasswordMessageFamily}
-use Rattle.pgw_startup.specs.declared.password.PasswordMessageFamily.TheVariants as password
+use Rattle.pgw_startup.specs.Password.{password_body, password_fault}
 use Rattle.pgw_msg.specs.declared.frontend.PgWireFrontendMessage.{PgWireFrontendMessage}
 use Rattle.pgw_msg.specs.declared.frontend.PgWireFrontendMessage.TheVariants as frontend
 
 abbrev pub password_encoding : PasswordMessageFamily → Result (List ℕ) PgWireError
-password_encoding (password.Raw body) = encoded (Typed 112) 10000 None body
-password_encoding (password.Password m) = encoded (Typed 112) 10000 (refused_if (has_zero m.password)) (text m.password)
+password_encoding m = encoded (Typed 112) 10000 (password_fault m) (password_body m)
 
 -- the one spelling that is written of a message, or why there is none
 unfoldable pub encoding : PgWireFrontendMessage → Result (List ℕ) PgWireError

@@ -1,8 +1,13 @@
 //! All messages of a client.
+ghost use Rattle.pgw_wire.specs.Framing.{Appends};
+ghost use Rattle.pgw_msg.specs.Frontend.{encoding};
 
 use crate::simplequery::Query;
+use bytes::BytesMut;
 use pgw_startup::password::PasswordMessageFamily;
 use pgw_startup::startup::Startup;
+use pgw_wire::error::PgWireResult;
+use pgw_wire::message::Message;
 
 /// A message of a client.
 #[derive(Debug, Drop)]
@@ -10,4 +15,18 @@ pub enum PgWireFrontendMessage {
     Startup(Startup),
     PasswordMessageFamily(PasswordMessageFamily),
     Query(Query),
+}
+
+impl PgWireFrontendMessage {
+    /// Appends the whole message, or nothing.
+    #[tactic(auto, unfolding(crate::specs::Frontend::encoding))]
+    pub fn encode(&self, buf: &mut BytesMut) -> PgWireResult<()>
+        ensures { Appends result buf.old.items buf.new.items (encoding self.now) }
+    {
+        match self {
+            PgWireFrontendMessage::Startup(m) => m.encode(buf),
+            PgWireFrontendMessage::PasswordMessageFamily(m) => m.encode(buf),
+            PgWireFrontendMessage::Query(m) => m.encode(buf),
+        }
+    }
 }

@@ -1,12 +1,69 @@
 //! What a client answers to an authentication request.
+ghost use Rattle.std.specs.Prelude.{◌≡◌};
+ghost use Rattle.pgw_wire.specs.declared.framing.Framing.TheVariants.{Typed};
+ghost use Rattle.pgw_wire.specs.Writing.{text, has_zero as holds_zero, refused_if};
+ghost use Rattle.pgw_startup.specs.Password.{password_of, family_of, password_body, password_fault};
 
+use bytes::BytesMut;
+use pgw_wire::context::DecodeContext;
+use pgw_wire::error::{PgWireError, PgWireResult};
+use pgw_wire::framing::Framing;
+use pgw_wire::message::Message;
 use pgw_wire::octets::Octets;
+use pgw_wire::reader::FieldReader;
 use pgw_wire::text::Text;
+use pgw_wire::writer::{append, has_zero, put_text};
+use std::alloc::Global;
+
+pub const MESSAGE_TYPE_BYTE_PASSWORD_MESSAGE_FAMILY: u8 = b'p';
 
 /// A password in clear text or hashed by MD5 (PasswordMessage).
 #[derive(Debug, Drop, PartialEq, Eq)]
 pub struct Password {
     pub password: Text,
+}
+
+impl Message for Password {
+    ghost row_framing = { Typed 112 };
+
+    ghost limit = { 10000 };
+
+    ghost reading = { password_of };
+
+    ghost written = { λ m. text m.password };
+
+    ghost fault = { λ m. refused_if (holds_zero m.password) };
+
+    fn framing() -> Framing {
+        Framing::Typed(MESSAGE_TYPE_BYTE_PASSWORD_MESSAGE_FAMILY)
+    }
+
+    fn max_message_length() -> usize {
+        10000
+    }
+
+    #[tactic(auto, unfolding(pgw_wire::specs::Writing::text))]
+    fn message_length(&self) -> usize {
+        self.password.len() + 5
+    }
+
+    #[tactic(auto, unfolding(pgw_wire::specs::Writing::refused_if))]
+    fn encode_body(&self, buf: &mut BytesMut) -> PgWireResult<()> {
+        if has_zero(&self.password) {
+            return Err(PgWireError::InvalidMessageBody);
+        }
+        let mut out = Vec::new(*buf.allocator());
+        put_text(&mut out, &self.password)?;
+        append(buf, &out)
+    }
+
+    #[tactic(auto, unfolding(crate::specs::Password::password_of))]
+    fn decode_body(alloc: Global, body: &Octets, _ctx: &DecodeContext) -> PgWireResult<Password> {
+        let mut reader = FieldReader::new(body);
+        let password = reader.take_text(alloc)?;
+        reader.finish()?;
+        Ok(Password { password })
+    }
 }
 
 /// The messages of type byte `p`, which a server tells apart by what it asked for.
@@ -15,4 +72,50 @@ pub enum PasswordMessageFamily {
     /// A body that is not read yet.
     Raw(Octets),
     Password(Password),
+}
+
+impl Message for PasswordMessageFamily {
+    ghost row_framing = { Typed 112 };
+
+    ghost limit = { 10000 };
+
+    ghost reading = { family_of };
+
+    ghost written = { password_body };
+
+    ghost fault = { password_fault };
+
+    fn framing() -> Framing {
+        Framing::Typed(MESSAGE_TYPE_BYTE_PASSWORD_MESSAGE_FAMILY)
+    }
+
+    fn max_message_length() -> usize {
+        10000
+    }
+
+    fn message_length(&self) -> usize {
+        match self {
+            PasswordMessageFamily::Raw(body) => body.len() + 4,
+            PasswordMessageFamily::Password(m) => m.message_length(),
+        }
+    }
+
+    fn encode_body(&self, buf: &mut BytesMut) -> PgWireResult<()> {
+        match self {
+            PasswordMessageFamily::Raw(body) => append(buf, body.as_slice()),
+            PasswordMessageFamily::Password(m) => m.encode_body(buf),
+        }
+    }
+
+    #[tactic(auto, unfolding(crate::specs::Password::family_of))]
+    fn decode_body(
+        _alloc: Global,
+        body: &Octets,
+        _ctx: &DecodeContext,
+    ) -> PgWireResult<PasswordMessageFamily> {
+        let mut reader = FieldReader::new(body);
+        let body = reader.take_rest()?;
+        reader.finish()?;
+        Ok(PasswordMessageFamily::Raw(body))
+    }
 }

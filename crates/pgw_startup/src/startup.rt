@@ -6,18 +6,18 @@ ghost use Rattle.pgw_wire.specs.Writing.{refused_if};
 ghost use Rattle.pgw_wire.specs.declared.framing.Framing.TheVariants.{Untyped};
 ghost use Rattle.pgw_startup.specs.Startup.{startup_of, startup, is_startup_refused};
 
+use bytes::BytesMut;
 use pgw_wire::context::DecodeContext;
 use pgw_wire::error::{PgWireError, PgWireResult};
+use pgw_wire::framing::Framing;
 use pgw_wire::item::take_up_to_mark;
 use pgw_wire::memory::OutOfMemory;
-use pgw_wire::framing::Framing;
 use pgw_wire::message::Message;
 use pgw_wire::octets::Octets;
 use pgw_wire::params::Params;
 use pgw_wire::reader::FieldReader;
 use pgw_wire::text::Text;
 use pgw_wire::writer::{append, put_u16};
-use bytes::BytesMut;
 use std::alloc::Global;
 
 #[derive(Debug, Drop)]
@@ -82,8 +82,7 @@ impl Message for Startup {
     }
 
     #[tactic(auto, unfolding(crate::specs::Startup::startup_of, crate::specs::Startup::three))]
-    fn decode_body(alloc: Global, body: &Octets, _ctx: &DecodeContext) -> PgWireResult<Startup>
-    {
+    fn decode_body(alloc: Global, body: &Octets, _ctx: &DecodeContext) -> PgWireResult<Startup> {
         if body.len() < 5 {
             return Err(PgWireError::InvalidStartupMessage);
         }
