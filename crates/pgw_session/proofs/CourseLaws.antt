@@ -69,7 +69,7 @@ bad_from rules state sent pending (b ∷ bytes) why more e =
       | is_whole m n k ↦ let h = front_whole_more (rules.version state) (pending ++ b ∷ []) bytes m n k in cc
     ]
 
-whole_from : {S R : Type 0} (rules : Rules S R) (state : S) (sent pending bytes : List ℕ) (m : Backend) → front (rules.version state) pending ≡ More → front (rules.version state) (pending ++ bytes) ≡ Whole m (length (pending ++ bytes)) → run rules (Waits state sent pending) bytes ≡ onto sent (rules.step state m)
+pub whole_from : {S R : Type 0} (rules : Rules S R) (state : S) (sent pending bytes : List ℕ) (m : Backend) → front (rules.version state) pending ≡ More → front (rules.version state) (pending ++ bytes) ≡ Whole m (length (pending ++ bytes)) → run rules (Waits state sent pending) bytes ≡ onto sent (rules.step state m)
 unfolding run
 whole_from rules state sent pending [] m more e = let n = front_behind_nothing (rules.version state) pending in cc
 whole_from rules state sent pending (b ∷ bytes) m more e =

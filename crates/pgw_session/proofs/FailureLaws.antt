@@ -16,10 +16,10 @@ use Rattle.pgw_session.specs.Answers.{tally_of}
 use Rattle.pgw_session.specs.Transcript.{IsLegalPrefix, SpellsGot, EncodesSent, Completed, report_of}
 use Rattle.pgw_session.specs.Failures.{RefusedAt, at_once, at_ready, at_the_end, Misplaced, Told, NextAtStartup, WaitsAt, LeftWith, Unreadable, Unsendable, IsHopeless, IsUnfinished, StoppedCause}
 use Rattle.pgw_session.specs.Course.{Course, Waits, Over, run, sent_of}
-use Rattle.pgw_session.specs.Talk.{Talk, Ending, Outcome, Complete, Unencoded, Stopped, said, heard_of, first_skipped, talk_rules, beginning, conversation}
+use Rattle.pgw_session.specs.Talk.{Talk, Ending, Outcome, Complete, Unencoded, Stopped, said, heard_of, first_skipped, talk_rules, beginning, conversation, whole_talk}
 use Rattle.pgw_session.proofs.CourseLaws.{run_append}
 use Rattle.pgw_session.proofs.Events.{sents_gots, clean_heard}
-use Rattle.pgw_session.proofs.Whole.{conversation_completes, whole_talk, lost_run, lost_not_ended}
+use Rattle.pgw_session.proofs.Whole.{conversation_completes, lost_run, lost_not_ended}
 use Rattle.pgw_session.proofs.Sound.{conversation_sound, SoundAt, Final, Cause, FirstAtStartup, Misplaces, Skipped, open_legal}
 use Rattle.pgw_session.proofs.Complete.{ends_agree, waits_before}
 

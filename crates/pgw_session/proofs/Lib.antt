@@ -6,3 +6,6 @@ pub mod Whole
 pub mod Sound
 pub mod Complete
 pub mod FailureLaws
+pub mod NextLaws
+pub mod ValidLaws
+pub mod StandingLaws

@@ -27,11 +27,11 @@ use Rattle.pgw_session.specs.Segments.{IsStartupSegment, IsQuiet, IsSimple, star
 use Rattle.pgw_session.specs.Transcript.{AreSegments, IsTranscript, IsLegalPrefix, SpellsGot, EncodesSent, opening_at, opened_by}
 use Rattle.pgw_session.specs.Failures.{IsUnsupportedLogin}
 use Rattle.pgw_session.specs.Course.{Move, On, Ends, Course, Waits, Over, onto, eat, feed, run}
-use Rattle.pgw_session.specs.Talk.{Talk, Ending, Outcome, Complete, Unencoded, Stopped, between, said, after, stage_for, moves, opens, opening, sending, replies, drains, turn, heard_of, refusal_of, talk_rules, beginning, conversation}
+use Rattle.pgw_session.specs.Talk.{Talk, Ending, Outcome, Complete, Unencoded, Stopped, between, said, after, stage_for, moves, opens, opening, sending, replies, drains, turn, heard_of, refusal_of, talk_rules, beginning, conversation, HasRefused}
 use Rattle.pgw_session.proofs.Hears.{hear, hear_append, gots, gots_append, gots_sends}
 use Rattle.pgw_session.proofs.Events.{clean_heard, joined_more, got_more, got_sends, put_on_sends, Grown, turn_grown}
 use Rattle.pgw_session.proofs.Grammar.{Rest, RestBy, by_rest, rest_nil, some_rest, is_segment, IsLogin, login_before, request_stage, IsRefusal, refuses_error, IsSimpleStage, simple_goes, simple_not_wrong, simple_request, reply_before}
-use Rattle.pgw_session.proofs.Whole.{Heard, Lost, no_place}
+use Rattle.pgw_session.proofs.Whole.{Heard, no_place}
 
 -- a segment is open: what ends it and segments of the requests behind it make a transcript with what has come
 pub record Open (config : Config) (requests : List Request) (t : Talk) : Type 0 where
@@ -41,7 +41,7 @@ pub record Open (config : Config) (requests : List Request) (t : Talk) : Type 0 
   pub first : IsLogin t.stage → t.closed ≡ []
   pub begins : (more : List Event) × (t.open_events ≡ map Sent (opening_at config requests (length t.closed)) ++ more)
 
-some_segments : (config : Config) (qs : List Request) → (segments : List (List Event)) × AreSegments qs segments
+pub some_segments : (config : Config) (qs : List Request) → (segments : List (List Event)) × AreSegments qs segments
 some_segments config [] = ([], tt)
 some_segments config (q ∷ qs) =
     let answer = some_rest config (stage_for q) in
@@ -114,14 +114,14 @@ SoundAt config requests bytes (Over e sent) = Final config requests e bytes sent
 abbrev Takes : Talk → Backend → Talk → Type 0
 Takes t m next = heard_of next ≡ heard_of t ++ Got m ∷ []
 
-abbrev Refuses_by : Config → List Request → Talk → Backend → Backend → List Backend → Type 0
-Refuses_by config requests t m x [] = (x ≡ m) × (IsLegalPrefix config requests (said t ++ Got m ∷ []) → ⊥) × (IsSimple t.open_events → ⊥)
-Refuses_by config requests t m x (first ∷ ms) = (first ≡ x) × ((ready : ReadyForQuery) × (m ≡ backend.ReadyForQuery ready))
+abbrev RefusesBy : Config → List Request → Talk → Backend → Backend → List Backend → Type 0
+RefusesBy config requests t m x [] = (x ≡ m) × (IsLegalPrefix config requests (said t ++ Got m ∷ []) → ⊥) × (IsSimple t.open_events → ⊥)
+RefusesBy config requests t m x (first ∷ ms) = (first ≡ x) × ((ready : ReadyForQuery) × (m ≡ backend.ReadyForQuery ready))
 
 abbrev Stops : Config → List Request → Talk → Backend → Talk → Outcome → Type 0
 Stops config requests t m next Complete = Takes t m next × IsLegalPrefix config requests (said next) × IsTranscript config requests next.closed × (next.open_events ≡ []) × (next.skipped ≡ [])
 Stops config requests t m next (Unencoded e) = Takes t m next × IsLegalPrefix config requests (said next) × ((due : List Frontend) × IsLegalPrefix config requests (said next ++ map Sent due) × (encodings due ≡ Err e) × (next.skipped ≡ []))
-Stops config requests t m next (Stopped (client.UnexpectedMessage x)) = (next ≡ t) × Refuses_by config requests t m x t.skipped
+Stops config requests t m next (Stopped (client.UnexpectedMessage x)) = (next ≡ t) × RefusesBy config requests t m x t.skipped
 Stops config requests t m next (Stopped (client.RemoteError r)) = (m ≡ backend.ErrorResponse r) × (next ≡ t) × IsLogin t.stage × (t.skipped ≡ [])
 Stops config requests t m next (Stopped client.NotYetBuilt) = IsUnsupportedLogin m × (next ≡ t) × IsLogin t.stage × (t.skipped ≡ [])
 Stops config requests t m next (Stopped e) = ⊥
@@ -142,11 +142,11 @@ drop_past (x ∷ requests) zero is = cc
 drop_past (x ∷ requests) (suc k) is = drop_past requests k is
 
 -- a segment has closed: any segments of the requests left make a transcript with those that have
-abbrev Closes_to : Config → List Request → List (List Event) → ℕ → Type 0
-Closes_to config requests closed k = (segments : List (List Event)) → AreSegments (drop k requests) segments → IsTranscript config requests (closed ++ segments)
+abbrev ClosesTo : Config → List Request → List (List Event) → ℕ → Type 0
+ClosesTo config requests closed k = (segments : List (List Event)) → AreSegments (drop k requests) segments → IsTranscript config requests (closed ++ segments)
 
 opening_good : (config : Config) (requests : List Request) (t : Talk) (m : Backend) (closed : List (List Event)) (k : ℕ) (q : Request) (o : Result (List ℕ) PgWireError) → encodings (sends_of q) ≡ o → heard_of (between closed) ≡ heard_of t ++ Got m ∷ []
-    → length closed ≡ suc k → slice_get requests k ≡ Some q → Closes_to config requests closed k → Good config requests t m (opening closed (sends_of q) (stage_for q) o)
+    → length closed ≡ suc k → slice_get requests k ≡ Some q → ClosesTo config requests closed k → Good config requests t m (opening closed (sends_of q) (stage_for q) o)
 opening_good config requests t m closed k q (Err e) is are count asked closes =
     let answer = some_rest config (stage_for q) in
     let later = some_segments config (drop (suc k) requests) in
@@ -193,7 +193,7 @@ opening_good config requests t m closed k q (Ok out) is are count asked closes =
 )
 
 opens_good : (config : Config) (requests : List Request) (t : Talk) (m : Backend) (closed : List (List Event)) (k : ℕ) (o : Option Request) → heard_of (between closed) ≡ heard_of t ++ Got m ∷ []
-    → length closed ≡ suc k → slice_get requests k ≡ o → Closes_to config requests closed k → Good config requests t m (opens closed o)
+    → length closed ≡ suc k → slice_get requests k ≡ o → ClosesTo config requests closed k → Good config requests t m (opens closed o)
 opens_good config requests t m closed k None are count asked closes =
     let transcript = subst (IsTranscript config requests) (append-nil closed) (closes [] (subst (λ (qs : List Request). AreSegments qs []) (sym (drop_past requests k asked)) tt)) in
     (refl, (are, inl (closed, transcript, sym (append-nil (joined closed))), transcript, refl, refl))
@@ -275,7 +275,7 @@ refusal_stops : (config : Config) (requests : List Request) (t : Talk) (m : Back
 refusal_stops config requests t m clean login (inl r) = subst (λ x. Stops config requests t x t (Stopped (refusal_of x))) (sym r.1) (refl, refl, login, clean)
 refusal_stops config requests t m clean login (inr u) = subst (λ e. Stops config requests t m t (Stopped e)) (sym (unsupported_refusal m u)) (u, refl, login, clean)
 
-moves_good : (config : Config) (requests : List Request) (t : Talk) (m : Backend) (sent : List ℕ) (n : Next) → t.skipped ≡ [] → (Lost (onto sent (moves config requests t m n)) → IsLegalPrefix config requests (said t ++ Got m ∷ []) → ⊥)
+moves_good : (config : Config) (requests : List Request) (t : Talk) (m : Backend) (sent : List ℕ) (n : Next) → t.skipped ≡ [] → (HasRefused (onto sent (moves config requests t m n)) → IsLegalPrefix config requests (said t ++ Got m ∷ []) → ⊥)
     → after t.stage m ≡ n → Open config requests t → Good config requests t m (moves config requests t m n)
 moves_good config requests t m sent (Goes stage reply) clean nowhere is is_open = reply_good config requests t m stage reply (encodings (replies config reply)) refl clean is is_open
 moves_good config requests t m sent Closes clean nowhere is is_open =
@@ -287,7 +287,7 @@ moves_good config requests t m sent Closes clean nowhere is is_open =
     refl
     (λ segments segs. subst (IsTranscript config requests) (sym (append_assoc t.closed (es ∷ []) segments)) (is_open.completes (Got m ∷ []) segments (by_rest config s m [] (subst (λ x. RestBy config x []) (sym is) refl)) segs))
 moves_good config requests t m sent Wrong clean nowhere is is_open =
-    (refl, (refl, subst (Refuses_by config requests t m m) (sym clean) (refl, nowhere (_, refl), λ l. simple_not_wrong t.stage m is (is_open.simple l))))
+    (refl, (refl, subst (RefusesBy config requests t m m) (sym clean) (refl, nowhere (_, refl), λ l. simple_not_wrong t.stage m is (is_open.simple l))))
 moves_good config requests t m sent Refuses clean nowhere is is_open =
     let r = refuses_error t.stage m is in
     (refl, refusal_stops config requests t m clean r.0 r.1)
@@ -295,7 +295,7 @@ moves_good config requests t m sent Spoils clean nowhere is is_open =
     (record { completes = is_open.completes; simple = is_open.simple; first = is_open.first; begins = is_open.begins }, (nowhere (m, [], refl), tt))
 
 drains_good : (config : Config) (requests : List Request) (t : Talk) (m first : Backend) (ms : List Backend) (b : Bool) → t.skipped ≡ first ∷ ms → is_ready m ≡ b → Skipped config requests t (first ∷ ms) → Open config requests t → Good config requests t m (drains t first m b)
-drains_good config requests t m first ms true are is skipped is_open = (refl, (refl, subst (Refuses_by config requests t m first) (sym are) (refl, ready_is m is)))
+drains_good config requests t m first ms true are is skipped is_open = (refl, (refl, subst (RefusesBy config requests t m first) (sym are) (refl, ready_is m is)))
 drains_good config requests t m first ms false are is skipped is_open = (
   record { completes = is_open.completes; simple = is_open.simple; first = is_open.first; begins = is_open.begins },
   subst (λ (l : List Backend). Skipped config requests t (l ++ m ∷ [])) (sym are) (skipped.0, quiet_more ms m skipped.1 is),
@@ -321,7 +321,7 @@ whole_all v pending b m n more is =
     ]
 
 -- bytes that spell a message have it at their front
-spelled_front : (v : ProtocolVersion) (m : Backend) (bytes : List ℕ) → Spells v m bytes → front v bytes ≡ Whole m (length bytes)
+pub spelled_front : (v : ProtocolVersion) (m : Backend) (bytes : List ℕ) → Spells v m bytes → front v bytes ≡ Whole m (length bytes)
 spelled_front v m bytes spells = ap (front v) (sym (append-nil bytes)) ∙ spells_front v m bytes [] spells
 
 got_one : (config : Config) (t : Talk) (m : Backend) (done message : List ℕ) → SpellsGot (first_standing config) (heard_of t) done → Spells (standing_of config (heard_of t)).version m message → SpellsGot (first_standing config) (heard_of t ++ Got m ∷ []) (done ++ message)
@@ -341,7 +341,7 @@ put_one t m sent put =
     subst (λ (l : List Event). EncodesSent l sent) (append-nil (heard_of t ++ Got m ∷ [])) (subst (EncodesSent ((heard_of t ++ Got m ∷ []) ++ [])) (append-nil sent) (put_on_sends (heard_of t) sent [] [] m put refl))
 
 refused_sound : (config : Config) (requests : List Request) (done sent message : List ℕ) (t : Talk) (m x : Backend) (skipped : List Backend) → t.skipped ≡ skipped → Sofar config requests t done sent → Spells (standing_of config (heard_of t)).version m message
-    → Refuses_by config requests t m x skipped → Skipped config requests t skipped → Misplaces config requests t message x skipped
+    → RefusesBy config requests t m x skipped → Skipped config requests t skipped → Misplaces config requests t message x skipped
 refused_sound config requests done sent message t m x [] are s spells r k =
     (length message, spelled_front (standing_of config (heard_of t)).version m message spells ∙ ap (λ y. Whole y (length message)) (sym r.0), subst (λ y. IsLegalPrefix config requests (said t ++ Got y ∷ []) → ⊥) (sym r.0) r.1, r.2)
 refused_sound config requests done sent message t m x (first ∷ ms) are s spells r k =
