@@ -3,6 +3,7 @@
 
 mod readings;
 mod responses;
+pub mod session;
 mod session_core;
 mod stubs;
 mod table;
