@@ -15,6 +15,8 @@ use pgw_startup::negotiate::NegotiateProtocolVersion;
 use pgw_startup::parameter_status::ParameterStatus;
 use pgw_wire::context::DecodeContext;
 use pgw_wire::error::{PgWireError, PgWireResult};
+use pgw_wire::listed::Duplicate;
+use pgw_wire::memory::OutOfMemory;
 use pgw_wire::message::Message;
 use pgw_wire::reader::are_bytes;
 use std::alloc::Global;
@@ -140,6 +142,44 @@ impl PgWireBackendMessage {
             PgWireBackendMessage::NoticeResponse(m) => m.encode(buf),
             PgWireBackendMessage::RowDescription(m) => m.encode(buf),
             PgWireBackendMessage::DataRow(m) => m.encode(buf),
+        }
+    }
+}
+
+impl Duplicate for PgWireBackendMessage {
+    fn duplicate(&self) -> Result<PgWireBackendMessage, OutOfMemory> {
+        match self {
+            PgWireBackendMessage::Authentication(x) => Ok(PgWireBackendMessage::Authentication(
+                x.duplicate()?,
+            )),
+            PgWireBackendMessage::ParameterStatus(x) => Ok(PgWireBackendMessage::ParameterStatus(
+                x.duplicate()?,
+            )),
+            PgWireBackendMessage::BackendKeyData(x) => Ok(PgWireBackendMessage::BackendKeyData(
+                x.duplicate()?,
+            )),
+            PgWireBackendMessage::NegotiateProtocolVersion(x) => Ok(
+                PgWireBackendMessage::NegotiateProtocolVersion(x.duplicate()?),
+            ),
+            PgWireBackendMessage::CommandComplete(x) => Ok(PgWireBackendMessage::CommandComplete(
+                x.duplicate()?,
+            )),
+            PgWireBackendMessage::EmptyQueryResponse(x) => Ok(
+                PgWireBackendMessage::EmptyQueryResponse(x.duplicate()?),
+            ),
+            PgWireBackendMessage::ReadyForQuery(x) => Ok(PgWireBackendMessage::ReadyForQuery(
+                x.duplicate()?,
+            )),
+            PgWireBackendMessage::ErrorResponse(x) => Ok(PgWireBackendMessage::ErrorResponse(
+                x.duplicate()?,
+            )),
+            PgWireBackendMessage::NoticeResponse(x) => Ok(PgWireBackendMessage::NoticeResponse(
+                x.duplicate()?,
+            )),
+            PgWireBackendMessage::RowDescription(x) => Ok(PgWireBackendMessage::RowDescription(
+                x.duplicate()?,
+            )),
+            PgWireBackendMessage::DataRow(x) => Ok(PgWireBackendMessage::DataRow(x.duplicate()?)),
         }
     }
 }

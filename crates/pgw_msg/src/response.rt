@@ -14,7 +14,8 @@ use pgw_wire::error::{PgWireError, PgWireResult};
 use pgw_wire::field::{list_len, put_list};
 use pgw_wire::framing::Framing;
 use pgw_wire::item::take_up_to_mark;
-use pgw_wire::listed::Listed;
+use pgw_wire::listed::{Duplicate, Listed};
+use pgw_wire::memory::OutOfMemory;
 use pgw_wire::message::Message;
 use pgw_wire::octets::Octets;
 use pgw_wire::reader::FieldReader;
@@ -329,5 +330,43 @@ impl Message for NoticeResponse {
         let fields = take_codes(alloc, &mut reader)?;
         reader.finish()?;
         Ok(NoticeResponse { fields })
+    }
+}
+
+impl Duplicate for ReadyForQuery {
+    fn duplicate(&self) -> Result<ReadyForQuery, OutOfMemory> {
+        Ok(ReadyForQuery {
+            status: self.status,
+        })
+    }
+}
+
+impl Duplicate for CommandComplete {
+    fn duplicate(&self) -> Result<CommandComplete, OutOfMemory> {
+        Ok(CommandComplete {
+            tag: self.tag.duplicate()?,
+        })
+    }
+}
+
+impl Duplicate for EmptyQueryResponse {
+    fn duplicate(&self) -> Result<EmptyQueryResponse, OutOfMemory> {
+        Ok(*self)
+    }
+}
+
+impl Duplicate for ErrorResponse {
+    fn duplicate(&self) -> Result<ErrorResponse, OutOfMemory> {
+        Ok(ErrorResponse {
+            fields: self.fields.duplicate()?,
+        })
+    }
+}
+
+impl Duplicate for NoticeResponse {
+    fn duplicate(&self) -> Result<NoticeResponse, OutOfMemory> {
+        Ok(NoticeResponse {
+            fields: self.fields.duplicate()?,
+        })
     }
 }

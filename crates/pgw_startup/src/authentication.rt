@@ -13,7 +13,8 @@ use pgw_wire::error::{PgWireError, PgWireResult};
 use pgw_wire::field::{list_len, put_list};
 use pgw_wire::framing::Framing;
 use pgw_wire::item::take_up_to_mark;
-use pgw_wire::listed::Listed;
+use pgw_wire::listed::{Duplicate, Listed};
+use pgw_wire::memory::OutOfMemory;
 use pgw_wire::message::Message;
 use pgw_wire::octets::Octets;
 use pgw_wire::reader::FieldReader;
@@ -154,5 +155,19 @@ impl Message for Authentication {
         let message = take_by_code(alloc, &mut reader, code)?;
         reader.finish()?;
         Ok(message)
+    }
+}
+
+impl Duplicate for Authentication {
+    fn duplicate(&self) -> Result<Authentication, OutOfMemory> {
+        match self {
+            Authentication::Ok => Ok(Authentication::Ok),
+            Authentication::CleartextPassword => Ok(Authentication::CleartextPassword),
+            Authentication::KerberosV5 => Ok(Authentication::KerberosV5),
+            Authentication::MD5Password(x) => Ok(Authentication::MD5Password(x.duplicate()?)),
+            Authentication::SASL(x) => Ok(Authentication::SASL(x.duplicate()?)),
+            Authentication::SASLContinue(x) => Ok(Authentication::SASLContinue(x.duplicate()?)),
+            Authentication::SASLFinal(x) => Ok(Authentication::SASLFinal(x.duplicate()?)),
+        }
     }
 }

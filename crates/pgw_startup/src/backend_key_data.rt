@@ -8,6 +8,8 @@ use bytes::BytesMut;
 use pgw_wire::context::DecodeContext;
 use pgw_wire::error::PgWireResult;
 use pgw_wire::framing::Framing;
+use pgw_wire::listed::Duplicate;
+use pgw_wire::memory::OutOfMemory;
 use pgw_wire::message::Message;
 use pgw_wire::octets::Octets;
 use pgw_wire::reader::FieldReader;
@@ -73,5 +75,14 @@ impl Message for BackendKeyData {
         let secret_key = SecretKey::decode(&rest, ctx)?;
         reader.finish()?;
         Ok(BackendKeyData { pid, secret_key })
+    }
+}
+
+impl Duplicate for BackendKeyData {
+    fn duplicate(&self) -> Result<BackendKeyData, OutOfMemory> {
+        Ok(BackendKeyData {
+            pid: self.pid,
+            secret_key: self.secret_key.duplicate()?,
+        })
     }
 }

@@ -11,7 +11,8 @@ use pgw_wire::context::{DecodeContext, ProtocolVersion};
 use pgw_wire::error::{PgWireError, PgWireResult};
 use pgw_wire::field::{list_len, put_list, take_list, unsigned_count};
 use pgw_wire::framing::Framing;
-use pgw_wire::listed::Listed;
+use pgw_wire::listed::{Duplicate, Listed};
+use pgw_wire::memory::OutOfMemory;
 use pgw_wire::message::Message;
 use pgw_wire::octets::Octets;
 use pgw_wire::reader::FieldReader;
@@ -122,5 +123,14 @@ pub fn negotiated_version(message: &NegotiateProtocolVersion) -> Option<Protocol
         known_version(number / 65536, number % 65536)
     } else {
         known_version(3, number)
+    }
+}
+
+impl Duplicate for NegotiateProtocolVersion {
+    fn duplicate(&self) -> Result<NegotiateProtocolVersion, OutOfMemory> {
+        Ok(NegotiateProtocolVersion {
+            newest_minor_protocol: self.newest_minor_protocol,
+            unsupported_options: self.unsupported_options.duplicate()?,
+        })
     }
 }

@@ -7,6 +7,8 @@ use bytes::BytesMut;
 use pgw_wire::context::DecodeContext;
 use pgw_wire::error::{PgWireError, PgWireResult};
 use pgw_wire::framing::Framing;
+use pgw_wire::listed::Duplicate;
+use pgw_wire::memory::OutOfMemory;
 use pgw_wire::message::Message;
 use pgw_wire::octets::Octets;
 use pgw_wire::reader::FieldReader;
@@ -69,5 +71,14 @@ impl Message for ParameterStatus {
         let value = reader.take_text(alloc)?;
         reader.finish()?;
         Ok(ParameterStatus { name, value })
+    }
+}
+
+impl Duplicate for ParameterStatus {
+    fn duplicate(&self) -> Result<ParameterStatus, OutOfMemory> {
+        Ok(ParameterStatus {
+            name: self.name.duplicate()?,
+            value: self.value.duplicate()?,
+        })
     }
 }
