@@ -5,7 +5,6 @@ mod readings;
 mod responses;
 pub mod session;
 mod session_core;
-mod stubs;
 mod table;
 mod wire;
 

@@ -7,9 +7,8 @@ use pgw_msg::backend::PgWireBackendMessage;
 use pgw_msg::response::TransactionStatus;
 use pgw_session::standing::Standing;
 use pgw_startup::backend_key_data::BackendKeyData;
-use crate::stubs::negotiated_version;
-use pgw_startup::negotiate::NegotiateProtocolVersion;
-
+use pgw_startup::negotiate::{NegotiateProtocolVersion, negotiated_version};
+use pgw_wire::listed::Duplicate;
 use pgw_wire::memory::OutOfMemory;
 use pgw_wire::params::Params;
 use pgw_wire::secret_key::SecretKey;
@@ -43,7 +42,7 @@ fn note_key(standing: &mut Standing, message: &BackendKeyData) -> Result<(), Out
     ensures { OnOk result (standing.new ≡ standing_by standing.old (PgWireBackendMessage.BackendKeyData message.now)) }
 {
     if !standing.settled {
-        standing.secret_key = crate::stubs::duplicate_key(&message.secret_key)?;
+        standing.secret_key = message.secret_key.duplicate()?;
         standing.process_id = message.pid;
     }
     Ok(())

@@ -46,7 +46,7 @@ fn columns(alloc: Global, fields: Vec<FieldDescription>) -> Result<Listed<FieldI
 {
     let mut columns = Listed::new(alloc);
     for field in fields {
-        columns.push(crate::stubs::from_description(field))?;
+        columns.push(FieldInfo::from_description(field))?;
     }
     Ok(columns)
 }
@@ -64,7 +64,7 @@ fn note_row(tally: &mut Tally, row: DataRow) -> Result<(), OutOfMemory>
 fn response_of(alloc: Global, opened: Option<Opened>, tag: &Text) -> Result<Response, OutOfMemory>
     ensures { IfOk result (λ response. response ≡ response_of opened tag.now) }
 {
-    let tag = crate::stubs::parse_tag(alloc, tag.as_str())?;
+    let tag = Tag::parse(alloc, tag.as_str())?;
     match opened {
         Some(Opened { fields, rows }) => Ok(Response::Query(tag, fields, rows)),
         None => Ok(Response::Execution(tag)),

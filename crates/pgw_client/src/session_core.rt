@@ -5,10 +5,9 @@ ghost use Rattle.pgw_session.specs.Talk.{replies, refusal_of, end_with};
 ghost use Rattle.pgw_client.specs.Errors.{Unless, IsOwn, IsEnd};
 ghost use Rattle.pgw_client.specs.Machine.{core_after, Moved, Passed, Shortens, Started, Advanced, core_rules, core_turn, open_request, closed_core, core_end, report_at};
 
-use crate::readings;
-use crate::responses;
 use crate::table::{after, is_ready, stage_for};
 use crate::wire::{decode, put_all};
+use crate::{readings, responses};
 use bytes::BytesMut;
 use pgw_config::config::Config;
 use pgw_msg::backend::PgWireBackendMessage;
@@ -22,10 +21,11 @@ use pgw_session::types::{Answer, Request, SessionReport};
 use pgw_startup::authentication::Authentication;
 use pgw_startup::password::{Password, PasswordMessageFamily};
 use pgw_startup::startup::Startup;
-use pgw_wire::listed::Listed;
+use pgw_wire::listed::{Duplicate, Listed};
 use pgw_wire::memory::OutOfMemory;
 use pgw_wire::octets::Octets;
 use pgw_wire::params::Params;
+use pgw_wire::reader::lossy_text;
 use pgw_wire::text::Text;
 use std::alloc::Global;
 use std::mem::replace;
@@ -36,7 +36,10 @@ fn cleartext_of(alloc: Global, password: &Option<Octets>) -> Result<Text, OutOfM
 {
     match password {
         None => Text::from_str(alloc, ""),
-        Some(password) => crate::stubs::lossy_text(alloc, password.as_slice()),
+        Some(password) => match lossy_text(alloc, password.as_slice()) {
+            Ok(text) => Ok(text),
+            Err(_) => Err(OutOfMemory),
+        },
     }
 }
 
@@ -76,13 +79,10 @@ fn startup_parameters(alloc: Global, config: &Config) -> Result<Params, OutOfMem
 }
 
 // The message that opens the session.
-fn startup_message(
-    alloc: Global,
-    config: &Config,
-) -> Result<PgWireFrontendMessage, OutOfMemory>
+fn startup_message(alloc: Global, config: &Config) -> Result<PgWireFrontendMessage, OutOfMemory>
     ensures { IfOk result (λ message. message ≡ startup_message config.now) }
 {
-    let (major, minor) = crate::stubs::version_number(config.protocol_version);
+    let (major, minor) = config.protocol_version.version_number();
     Ok(PgWireFrontendMessage::Startup(Startup {
         protocol_number_major: major,
         protocol_number_minor: minor,
@@ -91,10 +91,7 @@ fn startup_message(
 }
 
 // The password in clear text.
-fn password_message(
-    alloc: Global,
-    config: &Config,
-) -> Result<PgWireFrontendMessage, OutOfMemory>
+fn password_message(alloc: Global, config: &Config) -> Result<PgWireFrontendMessage, OutOfMemory>
     ensures { IfOk result (λ message. message ≡ password_message config.now) }
 {
     let password = cleartext_of(alloc, &config.password)?;
@@ -104,10 +101,7 @@ fn password_message(
 }
 
 // The messages that open a request's segment.
-fn opening_of(
-    alloc: Global,
-    request: &Request,
-) -> Result<Vec<PgWireFrontendMessage>, OutOfMemory>
+fn opening_of(alloc: Global, request: &Request) -> Result<Vec<PgWireFrontendMessage>, OutOfMemory>
     ensures { IfOk result (λ v. v.items ≡ sends_of request.now) }
 {
     let mut sends = Vec::new(alloc);
@@ -190,7 +184,9 @@ impl Core {
         ensures { result ≡ report_at self }
     {
         let Core {
-            standing, answers, ..
+            standing,
+            answers,
+            ..
         } = self;
         SessionReport {
             version: standing.version,
@@ -208,13 +204,13 @@ impl Core {
         ensures is { Unless result (result ≡ core_end self.now) }
     {
         if let Some(first) = &self.spoiled {
-            return match crate::stubs::duplicate_message(first) {
+            return match first.duplicate() {
                 Ok(first) => unexpected(alloc, first),
                 Err(_) => PgWireClientError::OutOfMemory,
             };
         }
         match &self.tally.remote {
-            Some(error) => match crate::stubs::duplicate_error(error) {
+            Some(error) => match error.duplicate() {
                 Ok(error) => PgWireClientError::RemoteError(error),
                 Err(_) => PgWireClientError::OutOfMemory,
             },

@@ -7,8 +7,7 @@ use pgw_msg::backend::PgWireBackendMessage;
 use pgw_session::stage::{Next, Reply, Stage};
 use pgw_session::types::Request;
 use pgw_startup::authentication::Authentication;
-use crate::stubs::negotiated_version;
-use pgw_startup::negotiate::NegotiateProtocolVersion;
+use pgw_startup::negotiate::negotiated_version;
 use pgw_wire::context::ProtocolVersion;
 
 /// Whether the message is ReadyForQuery.

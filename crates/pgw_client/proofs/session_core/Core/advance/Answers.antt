@@ -7,8 +7,7 @@ use Rattle.pgw_client.proofs.session_core.Core.advance.Goals as goal
 
 pub returns-in-Err-clause-step : goal.returns-in-Err-clause-step
 returns-in-Err-clause-step c =
-    let rules = core_rules c.args.config.now c.args.requests.now in
-    (
+    let rules = core_rules c.args.config.now c.args.requests.now in (
       refl,
       λ ne sent.
           let d = c.in-Err.ensures.decoded.1 ne in
@@ -32,8 +31,7 @@ pub returns-in-Ok-false-clause-step : goal.returns-in-Ok-false-clause-step
 returns-in-Ok-false-clause-step c =
     let w = rw c.in-Ok-Some.field-0-is at c.in-Ok-Some.ensures.decoded in
     let t = rw c.in-Ok-false.field-0-test at c.in-Ok-false.ensures.moved in
-    let rules = core_rules c.args.config.now c.args.requests.now in
-    (
+    let rules = core_rules c.args.config.now c.args.requests.now in (
       t.0,
       t.2,
       λ sent.
