@@ -3,7 +3,6 @@ use Rattle.std.proofs.Common.{◌≡◌, inl, inr, ℕ, ◌+◌, ◌-◌, ◌<�
 use Rattle.std.proofs.lemmas.Bool.{ltb-false, le-ltb}
 use Rattle.std.proofs.lemmas.List.{get_or-take, take-append-le}
 use Rattle.pgw_wire.specs.declared.error.PgWireError.{PgWireError}
-use Rattle.pgw_wire.specs.declared.error.PgWireError.TheVariants.{InvalidMessageType}
 use Rattle.pgw_wire.specs.declared.context.DecodeContext.{DecodeContext}
 use Rattle.pgw_wire.specs.declared.framing.Framing.TheVariants.{Typed}
 use Rattle.pgw_wire.specs.Reading.{◌>>=◌}
@@ -13,8 +12,9 @@ use Rattle.pgw_wire.proofs.MessageLaws.{some_is, whole_at}
 use Rattle.pgw_wire.proofs.Stable.{Stable, Ends, bind_err, front_stable, stable_choice, stable_refusal}
 use Rattle.pgw_msg.specs.declared.backend.PgWireBackendMessage.{PgWireBackendMessage}
 use Rattle.pgw_msg.specs.declared.backend.PgWireBackendMessage.TheVariants as backend
-use Rattle.pgw_msg.specs.Rows.{ready_for_query_of, command_complete_of, row_description_of, data_row_of}
-use Rattle.pgw_msg.specs.Backend.{as_one_of, backend_by, backend_front}
+use Rattle.pgw_startup.specs.Login.{authentication_of, parameter_status_of, backend_key_data_of, negotiate_of}
+use Rattle.pgw_msg.specs.Rows.{ready_for_query_of, command_complete_of, empty_query_response_of, error_response_of, notice_response_of, row_description_of, data_row_of}
+use Rattle.pgw_msg.specs.Backend.{as_one_of, unknown, backend_by, backend_front}
 
 -- ---- one kind of message among all kinds
 
@@ -53,11 +53,18 @@ one make byte limit read = stable_as make 5 (front (Typed byte) limit read) (fro
 
 by_stable : (byte : ℕ) (ctx : DecodeContext) → Stable 5 (backend_by byte ctx)
 by_stable byte ctx =
-    stable_choice 5 (eqb byte 67) _ _ (one backend.CommandComplete 67 30000 (command_complete_of ctx))
+    stable_choice 5 (eqb byte 82) _ _ (one backend.Authentication 82 30000 (authentication_of ctx))
+    (stable_choice 5 (eqb byte 83) _ _ (one backend.ParameterStatus 83 30000 (parameter_status_of ctx))
+    (stable_choice 5 (eqb byte 75) _ _ (one backend.BackendKeyData 75 30000 (backend_key_data_of ctx))
+    (stable_choice 5 (eqb byte 118) _ _ (one backend.NegotiateProtocolVersion 118 30000 (negotiate_of ctx))
+    (stable_choice 5 (eqb byte 67) _ _ (one backend.CommandComplete 67 30000 (command_complete_of ctx))
+    (stable_choice 5 (eqb byte 73) _ _ (one backend.EmptyQueryResponse 73 30000 (empty_query_response_of ctx))
     (stable_choice 5 (eqb byte 90) _ _ (one backend.ReadyForQuery 90 30000 (ready_for_query_of ctx))
+    (stable_choice 5 (eqb byte 69) _ _ (one backend.ErrorResponse 69 2147483647 (error_response_of ctx))
+    (stable_choice 5 (eqb byte 78) _ _ (one backend.NoticeResponse 78 2147483647 (notice_response_of ctx))
     (stable_choice 5 (eqb byte 84) _ _ (one backend.RowDescription 84 2147483647 (row_description_of ctx))
     (stable_choice 5 (eqb byte 68) _ _ (one backend.DataRow 68 2147483647 (data_row_of ctx))
-    (stable_refusal 5 (InvalidMessageType byte)))))
+    (stable_refusal 5 (unknown byte))))))))))))
 
 same_first : (n : ℕ) (a b : List ℕ) → 1 ≤ n → take n b ≡ take n a → get_or b 0 0 ≡ get_or a 0 0
 same_first n a b some same = sym (get_or-take n b 0 0 (omega (arith, some))) ∙ ap (λ (x : List ℕ). get_or x 0 0) same ∙ get_or-take n a 0 0 (omega (arith, some))

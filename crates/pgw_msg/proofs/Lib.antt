@@ -1,3 +1,4 @@
 pub mod RowLaws
 pub mod BackendStable
 pub mod FrontLaws
+pub mod TagLaws

@@ -5,7 +5,7 @@ use Rattle.std.specs.Int.{w8, w16, w32, to_be_bytes, cast_unsigned}
 use Rattle.pgw_wire.specs.declared.error.PgWireError.{PgWireError}
 use Rattle.pgw_wire.specs.declared.error.PgWireError.TheVariants.{InvalidMessageBody, InvalidTransactionStatus}
 use Rattle.pgw_wire.specs.declared.context.DecodeContext.{DecodeContext}
-use Rattle.pgw_wire.specs.Reading.{◌>>=◌, nat_at, int_at, text_at, rest_at, all_of, list_at, extended_count}
+use Rattle.pgw_wire.specs.Reading.{◌>>=◌, nat_at, int_at, text_at, rest_at, all_of, list_at, marked_list_at, extended_count}
 use Rattle.pgw_wire.specs.Formats.{pair_at, Pair, made_at, tried_at, list16_at, SpellsText, SpellsNat, SpellsInt, SpellsList16, IsRest}
 use Rattle.pgw_wire.specs.Writing.{text, i16, i32, u16, u32, has_zero, refused_if}
 use Rattle.pgw_msg.specs.declared.response.TransactionStatus.{TransactionStatus}
@@ -15,6 +15,10 @@ use Rattle.pgw_msg.specs.declared.response.CommandComplete.{CommandComplete}
 use Rattle.pgw_msg.specs.declared.data.FieldDescription.{FieldDescription}
 use Rattle.pgw_msg.specs.declared.data.RowDescription.{RowDescription}
 use Rattle.pgw_msg.specs.declared.data.DataRow.{DataRow}
+use Rattle.pgw_msg.specs.declared.response.EmptyQueryResponse.{EmptyQueryResponse}
+use Rattle.pgw_msg.specs.declared.response.ErrorResponse.{ErrorResponse}
+use Rattle.pgw_msg.specs.declared.response.NoticeResponse.{NoticeResponse}
+use Rattle.pgw_wire.specs.Codes.{code_at, coded, is_code_refused}
 use Rattle.pgw_msg.specs.declared.simplequery.Query.{Query}
 
 -- ---- ReadyForQuery
@@ -40,6 +44,30 @@ command_complete_of ctx bytes = all_of (made_at (λ t. record { tag = t }) text_
 
 abbrev pub SpellsCommandComplete : CommandComplete → List ℕ → Type 0
 SpellsCommandComplete m = SpellsText m.tag
+
+-- ---- EmptyQueryResponse
+
+-- a body without bytes
+unfoldable pub empty_query_response_of : DecodeContext → List ℕ → Result EmptyQueryResponse PgWireError
+empty_query_response_of ctx bytes = all_of (Ok (record {}, bytes))
+
+-- ---- ErrorResponse, NoticeResponse
+
+-- codes with their texts, up to a code 0
+unfoldable pub codes_at : List ℕ → Result (List (ℕ × List ℕ) × List ℕ) PgWireError
+codes_at bytes = marked_list_at code_at bytes
+
+unfoldable pub error_response_of : DecodeContext → List ℕ → Result ErrorResponse PgWireError
+error_response_of ctx bytes = all_of (made_at (λ fields. record { fields = fields }) codes_at bytes)
+
+unfoldable pub notice_response_of : DecodeContext → List ℕ → Result NoticeResponse PgWireError
+notice_response_of ctx bytes = all_of (made_at (λ fields. record { fields = fields }) codes_at bytes)
+
+abbrev pub codes : List (ℕ × List ℕ) → List ℕ
+codes fields = flat_map coded fields ++ 0 ∷ []
+
+abbrev pub codes_fault : List (ℕ × List ℕ) → Option PgWireError
+codes_fault fields = refused_if (list_any is_code_refused fields)
 
 -- ---- Query
 

@@ -7,6 +7,8 @@ use bytes::BytesMut;
 use pgw_startup::password::PasswordMessageFamily;
 use pgw_startup::startup::Startup;
 use pgw_wire::error::PgWireResult;
+use pgw_wire::listed::Duplicate;
+use pgw_wire::memory::OutOfMemory;
 use pgw_wire::message::Message;
 
 /// A message of a client.
@@ -27,6 +29,18 @@ impl PgWireFrontendMessage {
             PgWireFrontendMessage::Startup(m) => m.encode(buf),
             PgWireFrontendMessage::PasswordMessageFamily(m) => m.encode(buf),
             PgWireFrontendMessage::Query(m) => m.encode(buf),
+        }
+    }
+}
+
+impl Duplicate for PgWireFrontendMessage {
+    fn duplicate(&self) -> Result<PgWireFrontendMessage, OutOfMemory> {
+        match self {
+            PgWireFrontendMessage::Startup(x) => Ok(PgWireFrontendMessage::Startup(x.duplicate()?)),
+            PgWireFrontendMessage::PasswordMessageFamily(x) => Ok(
+                PgWireFrontendMessage::PasswordMessageFamily(x.duplicate()?),
+            ),
+            PgWireFrontendMessage::Query(x) => Ok(PgWireFrontendMessage::Query(x.duplicate()?)),
         }
     }
 }

@@ -2,19 +2,42 @@
 ghost use Rattle.std.specs.Prelude.{◌≡◌, ◌∷◌, [], None};
 ghost use Rattle.pgw_wire.specs.declared.framing.Framing.TheVariants.{Typed};
 ghost use Rattle.pgw_wire.specs.Writing.{text, has_zero as holds_zero, refused_if};
-ghost use Rattle.pgw_msg.specs.Rows.{status_of, status_byte, ready_for_query_of, command_complete_of};
+ghost use Rattle.std.specs.List.{list_any, flat_map};
+ghost use Rattle.pgw_wire.specs.Framing.{Appends, body_or};
+ghost use Rattle.pgw_wire.specs.Codes.{is_code_refused};
+ghost use Rattle.pgw_msg.specs.Rows.{status_of, status_byte, ready_for_query_of, command_complete_of, empty_query_response_of, error_response_of, notice_response_of, codes_at, codes, codes_fault};
+ghost use Rattle.pgw_wire.specs.Reading.{Reads};
 
 use bytes::BytesMut;
 use pgw_wire::context::DecodeContext;
 use pgw_wire::error::{PgWireError, PgWireResult};
+use pgw_wire::field::{list_len, put_list};
 use pgw_wire::framing::Framing;
-use pgw_wire::listed::Listed;
+use pgw_wire::item::take_up_to_mark;
+use pgw_wire::listed::{Duplicate, Listed};
+use pgw_wire::memory::OutOfMemory;
 use pgw_wire::message::Message;
 use pgw_wire::octets::Octets;
 use pgw_wire::reader::FieldReader;
 use pgw_wire::text::Text;
 use pgw_wire::writer::{append, has_zero, put_text};
 use std::alloc::Global;
+
+pub const MESSAGE_TYPE_BYTE_COMMAND_COMPLETE: u8 = b'C';
+
+pub const MESSAGE_TYPE_BYTE_EMPTY_QUERY_RESPONSE: u8 = b'I';
+
+pub const MESSAGE_TYPE_BYTE_READY_FOR_QUERY: u8 = b'Z';
+
+pub const MESSAGE_TYPE_BYTE_ERROR_RESPONSE: u8 = b'E';
+
+pub const MESSAGE_TYPE_BYTE_NOTICE_RESPONSE: u8 = b'N';
+
+pub const READY_STATUS_IDLE: u8 = b'I';
+
+pub const READY_STATUS_TRANSACTION_BLOCK: u8 = b'T';
+
+pub const READY_STATUS_FAILED_TRANSACTION_BLOCK: u8 = b'E';
 
 #[derive(Clone, Copy, Debug, PartialEq, Eq)]
 pub enum TransactionStatus {
@@ -56,7 +79,7 @@ impl Message for ReadyForQuery {
     ghost fault = { λ m. None };
 
     fn framing() -> Framing {
-        Framing::Typed(b'Z')
+        Framing::Typed(MESSAGE_TYPE_BYTE_READY_FOR_QUERY)
     }
 
     fn max_message_length() -> usize {
@@ -107,7 +130,7 @@ impl Message for CommandComplete {
     ghost fault = { λ m. refused_if (holds_zero m.tag) };
 
     fn framing() -> Framing {
-        Framing::Typed(b'C')
+        Framing::Typed(MESSAGE_TYPE_BYTE_COMMAND_COMPLETE)
     }
 
     fn max_message_length() -> usize {
@@ -146,14 +169,204 @@ impl Message for CommandComplete {
 #[derive(Clone, Copy, Debug, PartialEq, Eq)]
 pub struct EmptyQueryResponse;
 
+impl Message for EmptyQueryResponse {
+    ghost row_framing = { Typed 73 };
+
+    ghost limit = { 30000 };
+
+    ghost reading = { empty_query_response_of };
+
+    ghost written = { λ m. [] };
+
+    ghost fault = { λ m. None };
+
+    fn framing() -> Framing {
+        Framing::Typed(MESSAGE_TYPE_BYTE_EMPTY_QUERY_RESPONSE)
+    }
+
+    fn max_message_length() -> usize {
+        30000
+    }
+
+    fn message_length(&self) -> usize {
+        4
+    }
+
+    fn encode_body(&self, _buf: &mut BytesMut) -> PgWireResult<()> {
+        Ok(())
+    }
+
+    #[tactic(auto, unfolding(crate::specs::Rows::empty_query_response_of))]
+    fn decode_body(
+        _alloc: Global,
+        body: &Octets,
+        _ctx: &DecodeContext,
+    ) -> PgWireResult<EmptyQueryResponse> {
+        FieldReader::new(body).finish()?;
+        Ok(EmptyQueryResponse)
+    }
+}
+
+// The fields up to the mark.
+#[tactic(auto, unfolding(crate::specs::Rows::codes_at))]
+fn take_codes(alloc: Global, reader: &mut FieldReader<'_>) -> PgWireResult<Listed<(u8, Text)>>
+    ensures { Reads result reader.new (codes_at reader.old) }
+{
+    take_up_to_mark(alloc, reader)
+}
+
+fn any_refused(fields: &[(u8, Text)]) -> bool
+    ensures { result ≡ list_any is_code_refused fields.now }
+{
+    fields.iter().any(|f| is_refused_field(f))
+}
+
+fn is_refused_field(field: &(u8, Text)) -> bool
+    ensures { result ≡ is_code_refused field.now }
+{
+    field.0 == 0 || has_zero(&field.1)
+}
+
+// Appends the fields and the mark.
+#[tactic(auto, unfolding(pgw_wire::specs::Writing::refused_if))]
+fn append_codes(buf: &mut BytesMut, fields: &[(u8, Text)]) -> PgWireResult<()>
+    ensures { Appends result buf.old.items buf.new.items (body_or (codes_fault fields.now) (codes fields.now)) }
+{
+    if any_refused(fields) {
+        return Err(PgWireError::InvalidMessageBody);
+    }
+    let mut out = Vec::new(*buf.allocator());
+    put_list(&mut out, fields)?;
+    out.push(0)?;
+    append(buf, &out)
+}
+
 /// An error, as fields with their codes (ErrorResponse).
 #[derive(Debug, Drop, PartialEq, Eq)]
 pub struct ErrorResponse {
     pub fields: Listed<(u8, Text)>,
 }
 
+impl Message for ErrorResponse {
+    ghost row_framing = { Typed 69 };
+
+    ghost limit = { 2147483647 };
+
+    ghost reading = { error_response_of };
+
+    ghost written = { λ m. codes m.fields };
+
+    ghost fault = { λ m. codes_fault m.fields };
+
+    fn framing() -> Framing {
+        Framing::Typed(MESSAGE_TYPE_BYTE_ERROR_RESPONSE)
+    }
+
+    fn max_message_length() -> usize {
+        2147483647
+    }
+
+    fn message_length(&self) -> usize {
+        list_len(self.fields.as_slice(), 5)
+    }
+
+    fn encode_body(&self, buf: &mut BytesMut) -> PgWireResult<()> {
+        append_codes(buf, self.fields.as_slice())
+    }
+
+    #[tactic(auto, unfolding(crate::specs::Rows::error_response_of))]
+    fn decode_body(
+        alloc: Global,
+        body: &Octets,
+        _ctx: &DecodeContext,
+    ) -> PgWireResult<ErrorResponse> {
+        let mut reader = FieldReader::new(body);
+        let fields = take_codes(alloc, &mut reader)?;
+        reader.finish()?;
+        Ok(ErrorResponse { fields })
+    }
+}
+
 /// A notice, as fields with their codes (NoticeResponse).
 #[derive(Debug, Drop, PartialEq, Eq)]
 pub struct NoticeResponse {
     pub fields: Listed<(u8, Text)>,
+}
+
+impl Message for NoticeResponse {
+    ghost row_framing = { Typed 78 };
+
+    ghost limit = { 2147483647 };
+
+    ghost reading = { notice_response_of };
+
+    ghost written = { λ m. codes m.fields };
+
+    ghost fault = { λ m. codes_fault m.fields };
+
+    fn framing() -> Framing {
+        Framing::Typed(MESSAGE_TYPE_BYTE_NOTICE_RESPONSE)
+    }
+
+    fn max_message_length() -> usize {
+        2147483647
+    }
+
+    fn message_length(&self) -> usize {
+        list_len(self.fields.as_slice(), 5)
+    }
+
+    fn encode_body(&self, buf: &mut BytesMut) -> PgWireResult<()> {
+        append_codes(buf, self.fields.as_slice())
+    }
+
+    #[tactic(auto, unfolding(crate::specs::Rows::notice_response_of))]
+    fn decode_body(
+        alloc: Global,
+        body: &Octets,
+        _ctx: &DecodeContext,
+    ) -> PgWireResult<NoticeResponse> {
+        let mut reader = FieldReader::new(body);
+        let fields = take_codes(alloc, &mut reader)?;
+        reader.finish()?;
+        Ok(NoticeResponse { fields })
+    }
+}
+
+impl Duplicate for ReadyForQuery {
+    fn duplicate(&self) -> Result<ReadyForQuery, OutOfMemory> {
+        Ok(ReadyForQuery {
+            status: self.status,
+        })
+    }
+}
+
+impl Duplicate for CommandComplete {
+    fn duplicate(&self) -> Result<CommandComplete, OutOfMemory> {
+        Ok(CommandComplete {
+            tag: self.tag.duplicate()?,
+        })
+    }
+}
+
+impl Duplicate for EmptyQueryResponse {
+    fn duplicate(&self) -> Result<EmptyQueryResponse, OutOfMemory> {
+        Ok(*self)
+    }
+}
+
+impl Duplicate for ErrorResponse {
+    fn duplicate(&self) -> Result<ErrorResponse, OutOfMemory> {
+        Ok(ErrorResponse {
+            fields: self.fields.duplicate()?,
+        })
+    }
+}
+
+impl Duplicate for NoticeResponse {
+    fn duplicate(&self) -> Result<NoticeResponse, OutOfMemory> {
+        Ok(NoticeResponse {
+            fields: self.fields.duplicate()?,
+        })
+    }
 }

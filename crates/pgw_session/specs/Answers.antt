@@ -1,5 +1,5 @@
 -- The answer of a request's segment.
-use Rattle.std.specs.Prelude.{◌≡◌, ℕ, List, [], ◌∷◌, ◌++◌, fold, map, Option, Some, None}
+use Rattle.std.specs.Prelude.{ℕ, List, [], ◌∷◌, ◌++◌, fold, map, Option, Some, None}
 use Rattle.pgw_msg.specs.Tags.{tag_of}
 use Rattle.pgw_msg.specs.Fields.{field_info_of}
 use Rattle.pgw_msg.specs.declared.data.DataRow.{DataRow}
@@ -60,3 +60,10 @@ answer_by t = answer_with t.remote t.responses
 
 abbrev pub answer_of : List Event → Answer
 answer_of es = answer_by (tally_of es)
+
+-- the first ErrorResponse got
+abbrev pub first_error : List Event → Option ErrorResponse
+first_error [] = None
+first_error (Sent m ∷ es) = first_error es
+first_error (Got (backend.ErrorResponse m) ∷ es) = Some m
+first_error (Got m ∷ es) = first_error es

@@ -1,11 +1,13 @@
 -- Why a session stops before its transcript is whole, in the terms of transcripts.
-use Rattle.std.specs.Prelude.{◌≡◌, ◌⊎◌, ℕ, List, [], ◌∷◌, ◌++◌, length, map, Option, Some, None, Err}
+use Rattle.std.specs.Prelude.{◌≡◌, ℕ, List, [], ◌∷◌, ◌++◌, length, map, Option, Err}
 use Rattle.pgw_wire.specs.declared.error.PgWireError.{PgWireError}
 use Rattle.pgw_startup.specs.declared.authentication.Authentication.TheVariants as authentication
 use Rattle.pgw_msg.specs.Front.{front, More, Bad, Whole}
 use Rattle.pgw_msg.specs.Frontend.{encodings}
 use Rattle.pgw_msg.specs.declared.backend.PgWireBackendMessage.{PgWireBackendMessage as Backend}
 use Rattle.pgw_msg.specs.declared.backend.PgWireBackendMessage.TheVariants as backend
+use Rattle.pgw_msg.specs.declared.client_error.PgWireClientError.{PgWireClientError as ClientError}
+use Rattle.pgw_msg.specs.declared.client_error.PgWireClientError.TheVariants as client
 use Rattle.pgw_msg.specs.declared.frontend.PgWireFrontendMessage.{PgWireFrontendMessage as Frontend}
 use Rattle.pgw_msg.specs.declared.response.ErrorResponse.{ErrorResponse}
 use Rattle.pgw_msg.specs.declared.response.ReadyForQuery.{ReadyForQuery}
@@ -117,3 +119,12 @@ IsHopeless config requests taken = (limit : ℕ) (more : List ℕ) (segments : L
 -- no front of these bytes completes a transcript
 abbrev pub IsUnfinished : Config → List Request → List ℕ → Type 0
 IsUnfinished config requests taken = (segments : List (List Event)) → Completes config requests (length taken) taken segments → ⊥
+
+-- why what was got ended the conversation, by the error: a message that has no place, a refusal of the decoder, the
+-- server's error or a login that is not supported in the startup segment
+abbrev pub StoppedCause : Config → List Request → List ℕ → List ℕ → List ℕ → ClientError → Type 0
+StoppedCause config requests taken sent left (client.UnexpectedMessage m) = Misplaced config requests taken sent left m
+StoppedCause config requests taken sent left (client.PgWireError why) = Unreadable config requests taken sent why
+StoppedCause config requests taken sent left (client.RemoteError e) = NextAtStartup config taken sent (backend.ErrorResponse e)
+StoppedCause config requests taken sent left client.NotYetBuilt = (m : Backend) × IsUnsupportedLogin m × NextAtStartup config taken sent m
+StoppedCause config requests taken sent left e = ⊥

@@ -6,3 +6,4 @@ pub mod Transcript
 pub mod Course
 pub mod Talk
 pub mod Failures
+pub mod Valid

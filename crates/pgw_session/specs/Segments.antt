@@ -1,5 +1,5 @@
 -- The segments of a session: which messages follow one another.
-use Rattle.std.specs.Prelude.{◌≡◌, ℕ, Bool, true, false, List, [], ◌∷◌, ◌++◌, map, codes, Option, Some, None}
+use Rattle.std.specs.Prelude.{◌≡◌, ℕ, Bool, true, false, List, [], ◌∷◌, codes, Option, Some, None}
 use Rattle.std.specs.FinMap as map
 use Rattle.pgw_wire.specs.Pairs.{Held}
 use Rattle.pgw_wire.specs.Reading.{lossy}
@@ -8,7 +8,6 @@ use Rattle.pgw_wire.specs.declared.context.ProtocolVersion.{ProtocolVersion}
 use Rattle.pgw_startup.specs.Negotiate.{negotiated_version}
 use Rattle.pgw_startup.specs.declared.authentication.Authentication.TheVariants as authentication
 use Rattle.pgw_startup.specs.declared.password.PasswordMessageFamily.TheVariants as family
-use Rattle.pgw_startup.specs.declared.startup.Startup.{Startup}
 use Rattle.pgw_msg.specs.declared.backend.PgWireBackendMessage.{PgWireBackendMessage as Backend}
 use Rattle.pgw_msg.specs.declared.backend.PgWireBackendMessage.TheVariants as backend
 use Rattle.pgw_msg.specs.declared.frontend.PgWireFrontendMessage.{PgWireFrontendMessage as Frontend}

@@ -1,5 +1,5 @@
 -- What the messages got tell of the connection.
-use Rattle.std.specs.Prelude.{◌≡◌, ℕ, ℤ, pos, negsuc, Bool, true, false, List, [], fold, Option, Some, None, if◌then◌else◌}
+use Rattle.std.specs.Prelude.{◌≡◌, ◌≢◌, ℕ, pos, negsuc, true, false, List, [], ◌∷◌, fold, Option, Some, None, if◌then◌else◌}
 use Rattle.std.specs.FinMap as map
 use Rattle.pgw_wire.specs.declared.context.ProtocolVersion.{ProtocolVersion}
 use Rattle.pgw_wire.specs.declared.secret_key.SecretKey.TheVariants as key
@@ -41,3 +41,23 @@ standing_at s (Got m) = standing_by s m
 
 unfoldable pub standing_of : Config → List Event → Standing
 standing_of config es = fold standing_at (first_standing config) es
+
+-- version, process number and key are the same
+pub record IsSameConnection (s other : Standing) : Type 0 where
+  pub version : s.version ≡ other.version
+  pub process_id : s.process_id ≡ other.process_id
+  pub secret_key : s.secret_key ≡ other.secret_key
+
+-- no ReadyForQuery was got
+abbrev pub IsUnready : List Event → Type 0
+IsUnready [] = Unit {0}
+IsUnready (Sent m ∷ es) = IsUnready es
+IsUnready (Got (backend.ReadyForQuery m) ∷ es) = ⊥
+IsUnready (Got m ∷ es) = IsUnready es
+
+-- no ParameterStatus of that name was got
+abbrev pub SetsNone : List ℕ → List Event → Type 0
+SetsNone name [] = Unit {0}
+SetsNone name (Sent m ∷ es) = SetsNone name es
+SetsNone name (Got (backend.ParameterStatus m) ∷ es) = (m.name ≢ name) × SetsNone name es
+SetsNone name (Got m ∷ es) = SetsNone name es

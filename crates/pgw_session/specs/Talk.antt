@@ -1,5 +1,5 @@
 -- The conversation: the events that the bytes read give, cut into segments, and how it ends.
-use Rattle.std.specs.Prelude.{ℕ, Bool, true, false, List, [], ◌∷◌, ◌++◌, length, map, slice_get, Option, Some, None, Result, Ok, Err}
+use Rattle.std.specs.Prelude.{◌≡◌, ℕ, Bool, true, false, List, [], ◌∷◌, ◌++◌, length, map, slice_get, Option, Some, None, Result, Ok, Err}
 use Rattle.pgw_wire.specs.declared.context.ProtocolVersion.{ProtocolVersion}
 use Rattle.pgw_wire.specs.declared.error.PgWireError.{PgWireError}
 use Rattle.pgw_startup.specs.Negotiate.{negotiated_version}
@@ -23,7 +23,7 @@ use Rattle.pgw_session.specs.declared.stage.Next.TheVariants.{Goes, Closes, Wron
 use Rattle.pgw_session.specs.Events.{Event, Sent, Got, joined}
 use Rattle.pgw_session.specs.Standings.{standing_of}
 use Rattle.pgw_session.specs.Segments.{startup_message, password_message, sends_of, is_ready}
-use Rattle.pgw_session.specs.Course.{Move, On, Ends, Course, Rules, onto, run}
+use Rattle.pgw_session.specs.Course.{Move, On, Ends, Course, Waits, Over, Rules, onto, run}
 
 -- a version that is not known has no place
 abbrev pub where_mapped : Option ProtocolVersion → Stage → Next
@@ -135,6 +135,10 @@ sending before behind (Ok bytes) = On behind bytes
 abbrev pub between : List (List Event) → Talk
 between closed = record { closed = closed; open_events = []; stage = Starting; skipped = [] }
 
+-- the end of a whole conversation
+abbrev pub whole_talk : List (List Event) → Ending
+whole_talk segments = record { talk = between segments; outcome = Complete }
+
 -- a segment is opened
 abbrev pub opening : List (List Event) → List Frontend → Stage → Result (List ℕ) PgWireError → Move Talk Ending
 opening closed sends stage encoded = sending (between closed) (record { closed = closed; open_events = map Sent sends; stage = stage; skipped = [] }) encoded
@@ -180,3 +184,8 @@ beginning config = onto [] (opening [] (startup_message config ∷ []) Starting 
 -- the conversation of the bytes
 unfoldable pub conversation : Config → List Request → List ℕ → Course Talk Ending
 conversation config requests bytes = run (talk_rules config requests) (beginning config) bytes
+
+-- what was got has been refused: messages are passed over, or it ended the conversation with an error
+abbrev pub HasRefused : Course Talk Ending → Type 0
+HasRefused (Waits t sent pending) = (m : Backend) × (ms : List Backend) × (t.skipped ≡ m ∷ ms)
+HasRefused (Over e sent) = (why : ClientError) × (e.outcome ≡ Stopped why)

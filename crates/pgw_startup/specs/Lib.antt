@@ -1,3 +1,4 @@
 pub mod Startup
 pub mod Negotiate
 pub mod Password
+pub mod Login

@@ -1,8 +1,28 @@
 //! What a server asks for at login.
+ghost use Rattle.std.specs.Prelude.{◌≡◌, Ok, ◌==◌, ◌∷◌, [], ◌++◌, length, OnOk};
+ghost use Rattle.std.specs.List.{list_any, flat_map};
+ghost use Rattle.pgw_wire.specs.declared.framing.Framing.TheVariants.{Typed};
+ghost use Rattle.pgw_wire.specs.Framing.{Appends, body_or};
+ghost use Rattle.pgw_wire.specs.Reading.{Reads};
+ghost use Rattle.pgw_wire.specs.Writing.{text as text_bytes, u32 as u32_bytes};
+ghost use Rattle.pgw_startup.specs.Login.{by_code, authentication_of, authentication, is_method_refused, authentication_fault};
 
-use pgw_wire::listed::Listed;
+use bytes::BytesMut;
+use pgw_wire::context::DecodeContext;
+use pgw_wire::error::{PgWireError, PgWireResult};
+use pgw_wire::field::{list_len, put_list};
+use pgw_wire::framing::Framing;
+use pgw_wire::item::take_up_to_mark;
+use pgw_wire::listed::{Duplicate, Listed};
+use pgw_wire::memory::OutOfMemory;
+use pgw_wire::message::Message;
 use pgw_wire::octets::Octets;
+use pgw_wire::reader::FieldReader;
 use pgw_wire::text::Text;
+use pgw_wire::writer::{append, has_zero, put_u32};
+use std::alloc::Global;
+
+pub const MESSAGE_TYPE_BYTE_AUTHENTICATION: u8 = b'R';
 
 /// An authentication request, or its end (AuthenticationOk and the other Authentication messages).
 #[derive(Debug, Drop, PartialEq, Eq)]
@@ -14,4 +34,140 @@ pub enum Authentication {
     SASL(Listed<Text>),
     SASLContinue(Octets),
     SASLFinal(Octets),
+}
+
+// Whether a method has no spelling.
+fn any_refused(methods: &[Text]) -> bool
+    ensures { result ≡ list_any is_method_refused methods.now }
+{
+    methods.iter().any(|t| is_refused_method(t))
+}
+
+fn is_refused_method(method: &Text) -> bool
+    ensures { result ≡ is_method_refused method.now }
+{
+    method.is_empty() || has_zero(method)
+}
+
+// What follows the code.
+#[tactic(auto, unfolding(crate::specs::Login::by_code))]
+fn take_by_code(
+    alloc: Global,
+    reader: &mut FieldReader<'_>,
+    code: u32,
+) -> PgWireResult<Authentication>
+    ensures { Reads result reader.new (by_code code reader.old) }
+{
+    match code {
+        0 => Ok(Authentication::Ok),
+        2 => Ok(Authentication::KerberosV5),
+        3 => Ok(Authentication::CleartextPassword),
+        5 => Ok(Authentication::MD5Password(reader.take_octets(4)?)),
+        10 => Ok(Authentication::SASL(take_up_to_mark(alloc, reader)?)),
+        11 => Ok(Authentication::SASLContinue(reader.take_rest()?)),
+        12 => Ok(Authentication::SASLFinal(reader.take_rest()?)),
+        _ => Err(PgWireError::InvalidAuthenticationMessageCode(code.cast_signed())),
+    }
+}
+
+// Appends a code and bytes.
+fn append_coded(buf: &mut BytesMut, code: u32, bytes: &[u8]) -> PgWireResult<()>
+    ensures { Appends result buf.old.items buf.new.items (Ok (u32_bytes code ++ bytes.now)) }
+{
+    let mut out = Vec::new(*buf.allocator());
+    put_u32(&mut out, code)?;
+    out.extend_from_slice(bytes)?;
+    append(buf, &out)
+}
+
+fn append_methods(buf: &mut BytesMut, methods: &[Text]) -> PgWireResult<()>
+    ensures { Appends result buf.old.items buf.new.items (Ok (u32_bytes 10 ++ flat_map text_bytes methods.now ++ 0 ∷ [])) }
+{
+    let mut out = Vec::new(*buf.allocator());
+    put_u32(&mut out, 10)?;
+    put_list(&mut out, methods)?;
+    out.push(0)?;
+    append(buf, &out)
+}
+
+impl Message for Authentication {
+    ghost row_framing = { Typed 82 };
+
+    ghost limit = { 30000 };
+
+    ghost reading = { authentication_of };
+
+    ghost written = { authentication };
+
+    ghost fault = { authentication_fault };
+
+    fn framing() -> Framing {
+        Framing::Typed(MESSAGE_TYPE_BYTE_AUTHENTICATION)
+    }
+
+    fn max_message_length() -> usize {
+        30000
+    }
+
+    #[tactic(auto, unfolding(pgw_wire::specs::Writing::u32))]
+    fn message_length(&self) -> usize {
+        match self {
+            Authentication::Ok | Authentication::CleartextPassword | Authentication::KerberosV5 =>
+                8,
+            Authentication::MD5Password(bytes)
+            | Authentication::SASLContinue(bytes)
+            | Authentication::SASLFinal(bytes) => bytes.len() + 8,
+            Authentication::SASL(methods) => list_len(methods.as_slice(), 9),
+        }
+    }
+
+    #[tactic(auto, unfolding(pgw_wire::specs::Writing::refused_if))]
+    fn encode_body(&self, buf: &mut BytesMut) -> PgWireResult<()> {
+        match self {
+            Authentication::Ok => append_coded(buf, 0, &[]),
+            Authentication::KerberosV5 => append_coded(buf, 2, &[]),
+            Authentication::CleartextPassword => append_coded(buf, 3, &[]),
+            Authentication::MD5Password(salt) => {
+                if salt.len() != 4 {
+                    return Err(PgWireError::InvalidMessageBody);
+                }
+                append_coded(buf, 5, salt.as_slice())
+            }
+            Authentication::SASL(methods) => {
+                if any_refused(methods.as_slice()) {
+                    return Err(PgWireError::InvalidMessageBody);
+                }
+                append_methods(buf, methods.as_slice())
+            }
+            Authentication::SASLContinue(bytes) => append_coded(buf, 11, bytes.as_slice()),
+            Authentication::SASLFinal(bytes) => append_coded(buf, 12, bytes.as_slice()),
+        }
+    }
+
+    #[tactic(auto, unfolding(crate::specs::Login::authentication_of))]
+    fn decode_body(
+        alloc: Global,
+        body: &Octets,
+        _ctx: &DecodeContext,
+    ) -> PgWireResult<Authentication> {
+        let mut reader = FieldReader::new(body);
+        let code = reader.take_u32()?;
+        let message = take_by_code(alloc, &mut reader, code)?;
+        reader.finish()?;
+        Ok(message)
+    }
+}
+
+impl Duplicate for Authentication {
+    fn duplicate(&self) -> Result<Authentication, OutOfMemory> {
+        match self {
+            Authentication::Ok => Ok(Authentication::Ok),
+            Authentication::CleartextPassword => Ok(Authentication::CleartextPassword),
+            Authentication::KerberosV5 => Ok(Authentication::KerberosV5),
+            Authentication::MD5Password(x) => Ok(Authentication::MD5Password(x.duplicate()?)),
+            Authentication::SASL(x) => Ok(Authentication::SASL(x.duplicate()?)),
+            Authentication::SASLContinue(x) => Ok(Authentication::SASLContinue(x.duplicate()?)),
+            Authentication::SASLFinal(x) => Ok(Authentication::SASLFinal(x.duplicate()?)),
+        }
+    }
 }

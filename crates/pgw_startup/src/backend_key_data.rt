@@ -1,10 +1,88 @@
 //! The process number and the key of a connection.
+ghost use Rattle.std.specs.Prelude.{◌≡◌, ◌++◌};
+ghost use Rattle.pgw_wire.specs.declared.framing.Framing.TheVariants.{Typed};
+ghost use Rattle.pgw_wire.specs.Keys.{key_fault};
+ghost use Rattle.pgw_startup.specs.Login.{backend_key_data_of, backend_key_data};
 
+use bytes::BytesMut;
+use pgw_wire::context::DecodeContext;
+use pgw_wire::error::PgWireResult;
+use pgw_wire::framing::Framing;
+use pgw_wire::listed::Duplicate;
+use pgw_wire::memory::OutOfMemory;
+use pgw_wire::message::Message;
+use pgw_wire::octets::Octets;
+use pgw_wire::reader::FieldReader;
 use pgw_wire::secret_key::SecretKey;
+use pgw_wire::writer::append;
+use std::alloc::Global;
+
+pub const MESSAGE_TYPE_BYTE_BACKEND_KEY_DATA: u8 = b'K';
 
 /// What a client sends to cancel a query of this connection (BackendKeyData).
 #[derive(Debug, Drop, PartialEq, Eq)]
 pub struct BackendKeyData {
     pub pid: i32,
     pub secret_key: SecretKey,
+}
+
+impl Message for BackendKeyData {
+    ghost row_framing = { Typed 75 };
+
+    ghost limit = { 30000 };
+
+    ghost reading = { backend_key_data_of };
+
+    ghost written = { backend_key_data };
+
+    ghost fault = { λ m. key_fault m.secret_key };
+
+    fn framing() -> Framing {
+        Framing::Typed(MESSAGE_TYPE_BYTE_BACKEND_KEY_DATA)
+    }
+
+    fn max_message_length() -> usize {
+        30000
+    }
+
+    #[tactic(auto, unfolding(pgw_wire::specs::Writing::i32))]
+    fn message_length(&self) -> usize {
+        match &self.secret_key {
+            SecretKey::I32(_) => 12,
+            SecretKey::Bytes(bytes) => bytes.len() + 8,
+        }
+    }
+
+    #[tactic(auto, unfolding(pgw_wire::specs::Writing::i32))]
+    fn encode_body(&self, buf: &mut BytesMut) -> PgWireResult<()> {
+        let mut key = BytesMut::new(*buf.allocator());
+        self.secret_key.encode(&mut key)?;
+        let mut out = Vec::new(*buf.allocator());
+        out.extend_from_slice(&self.pid.cast_unsigned().to_be_bytes())?;
+        out.extend_from_slice(key.as_slice())?;
+        append(buf, &out)
+    }
+
+    #[tactic(auto, unfolding(crate::specs::Login::backend_key_data_of))]
+    fn decode_body(
+        _alloc: Global,
+        body: &Octets,
+        ctx: &DecodeContext,
+    ) -> PgWireResult<BackendKeyData> {
+        let mut reader = FieldReader::new(body);
+        let pid = reader.take_i32()?;
+        let rest = reader.take_rest()?;
+        let secret_key = SecretKey::decode(&rest, ctx)?;
+        reader.finish()?;
+        Ok(BackendKeyData { pid, secret_key })
+    }
+}
+
+impl Duplicate for BackendKeyData {
+    fn duplicate(&self) -> Result<BackendKeyData, OutOfMemory> {
+        Ok(BackendKeyData {
+            pid: self.pid,
+            secret_key: self.secret_key.duplicate()?,
+        })
+    }
 }

@@ -1,10 +1,84 @@
 //! A setting of the server.
+ghost use Rattle.std.specs.Prelude.{◌≡◌, ◌∷◌, [], ◌++◌, ◌||◌};
+ghost use Rattle.pgw_wire.specs.declared.framing.Framing.TheVariants.{Typed};
+ghost use Rattle.pgw_startup.specs.Login.{parameter_status_of, parameter_status, parameter_status_fault};
 
+use bytes::BytesMut;
+use pgw_wire::context::DecodeContext;
+use pgw_wire::error::{PgWireError, PgWireResult};
+use pgw_wire::framing::Framing;
+use pgw_wire::listed::Duplicate;
+use pgw_wire::memory::OutOfMemory;
+use pgw_wire::message::Message;
+use pgw_wire::octets::Octets;
+use pgw_wire::reader::FieldReader;
 use pgw_wire::text::Text;
+use pgw_wire::writer::{append, has_zero, put_text};
+use std::alloc::Global;
+
+pub const MESSAGE_TYPE_BYTE_PARAMETER_STATUS: u8 = b'S';
 
 /// The value of a parameter, at startup and whenever it changes (ParameterStatus).
 #[derive(Debug, Drop, PartialEq, Eq)]
 pub struct ParameterStatus {
     pub name: Text,
     pub value: Text,
+}
+
+impl Message for ParameterStatus {
+    ghost row_framing = { Typed 83 };
+
+    ghost limit = { 30000 };
+
+    ghost reading = { parameter_status_of };
+
+    ghost written = { parameter_status };
+
+    ghost fault = { parameter_status_fault };
+
+    fn framing() -> Framing {
+        Framing::Typed(MESSAGE_TYPE_BYTE_PARAMETER_STATUS)
+    }
+
+    fn max_message_length() -> usize {
+        30000
+    }
+
+    #[tactic(auto, unfolding(pgw_wire::specs::Writing::text))]
+    fn message_length(&self) -> usize {
+        (self.name.len() + 6).saturating_add(self.value.len())
+    }
+
+    #[tactic(auto, unfolding(pgw_wire::specs::Writing::refused_if))]
+    fn encode_body(&self, buf: &mut BytesMut) -> PgWireResult<()> {
+        if has_zero(&self.name) || has_zero(&self.value) {
+            return Err(PgWireError::InvalidMessageBody);
+        }
+        let mut out = Vec::new(*buf.allocator());
+        put_text(&mut out, &self.name)?;
+        put_text(&mut out, &self.value)?;
+        append(buf, &out)
+    }
+
+    #[tactic(auto, unfolding(crate::specs::Login::parameter_status_of))]
+    fn decode_body(
+        alloc: Global,
+        body: &Octets,
+        _ctx: &DecodeContext,
+    ) -> PgWireResult<ParameterStatus> {
+        let mut reader = FieldReader::new(body);
+        let name = reader.take_text(alloc)?;
+        let value = reader.take_text(alloc)?;
+        reader.finish()?;
+        Ok(ParameterStatus { name, value })
+    }
+}
+
+impl Duplicate for ParameterStatus {
+    fn duplicate(&self) -> Result<ParameterStatus, OutOfMemory> {
+        Ok(ParameterStatus {
+            name: self.name.duplicate()?,
+            value: self.value.duplicate()?,
+        })
+    }
 }

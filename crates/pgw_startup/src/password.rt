@@ -8,6 +8,8 @@ use bytes::BytesMut;
 use pgw_wire::context::DecodeContext;
 use pgw_wire::error::{PgWireError, PgWireResult};
 use pgw_wire::framing::Framing;
+use pgw_wire::listed::Duplicate;
+use pgw_wire::memory::OutOfMemory;
 use pgw_wire::message::Message;
 use pgw_wire::octets::Octets;
 use pgw_wire::reader::FieldReader;
@@ -117,5 +119,24 @@ impl Message for PasswordMessageFamily {
         let body = reader.take_rest()?;
         reader.finish()?;
         Ok(PasswordMessageFamily::Raw(body))
+    }
+}
+
+impl Duplicate for Password {
+    fn duplicate(&self) -> Result<Password, OutOfMemory> {
+        Ok(Password {
+            password: self.password.duplicate()?,
+        })
+    }
+}
+
+impl Duplicate for PasswordMessageFamily {
+    fn duplicate(&self) -> Result<PasswordMessageFamily, OutOfMemory> {
+        match self {
+            PasswordMessageFamily::Raw(x) => Ok(PasswordMessageFamily::Raw(x.duplicate()?)),
+            PasswordMessageFamily::Password(x) => Ok(PasswordMessageFamily::Password(
+                x.duplicate()?,
+            )),
+        }
     }
 }

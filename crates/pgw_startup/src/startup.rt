@@ -11,6 +11,7 @@ use pgw_wire::context::DecodeContext;
 use pgw_wire::error::{PgWireError, PgWireResult};
 use pgw_wire::framing::Framing;
 use pgw_wire::item::take_up_to_mark;
+use pgw_wire::listed::Duplicate;
 use pgw_wire::memory::OutOfMemory;
 use pgw_wire::message::Message;
 use pgw_wire::octets::Octets;
@@ -99,6 +100,16 @@ impl Message for Startup {
             protocol_number_major,
             protocol_number_minor,
             parameters,
+        })
+    }
+}
+
+impl Duplicate for Startup {
+    fn duplicate(&self) -> Result<Startup, OutOfMemory> {
+        Ok(Startup {
+            protocol_number_major: self.protocol_number_major,
+            protocol_number_minor: self.protocol_number_minor,
+            parameters: self.parameters.duplicate()?,
         })
     }
 }

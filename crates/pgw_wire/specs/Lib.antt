@@ -6,3 +6,7 @@ pub mod Pairs
 pub mod PairLaws
 pub mod Steps
 pub mod Versions
+pub mod Codes
+pub mod CodeLaws
+pub mod Keys
+pub mod Infos

@@ -56,3 +56,37 @@ impl Item for (Text, Text) {
         Ok(Some((name, value)))
     }
 }
+
+/// A text; an empty one is the mark.
+impl Item for Text {
+    ghost use Rattle.pgw_wire.specs.Reading.{name_at};
+    ghost use Rattle.pgw_wire.specs.CodeLaws.{name_shrinks};
+
+    ghost at = { name_at };
+
+    ghost shrinks = { name_shrinks };
+
+    fn take(alloc: Global, reader: &mut FieldReader<'_>) -> PgWireResult<Option<Text>> {
+        reader.take_name(alloc)
+    }
+}
+
+/// A code and its text; a code 0 is the mark.
+#[tactic(auto, unfolding(crate::specs::Codes::code_at))]
+impl Item for (u8, Text) {
+    ghost use Rattle.pgw_wire.specs.Codes.{code_at};
+    ghost use Rattle.pgw_wire.specs.CodeLaws.{code_shrinks};
+
+    ghost at = { code_at };
+
+    ghost shrinks = { code_shrinks };
+
+    fn take(alloc: Global, reader: &mut FieldReader<'_>) -> PgWireResult<Option<(u8, Text)>> {
+        let code = reader.take_u8()?;
+        if code == 0 {
+            return Ok(None);
+        }
+        let text = reader.take_text(alloc)?;
+        Ok(Some((code, text)))
+    }
+}

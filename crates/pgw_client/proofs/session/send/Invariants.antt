@@ -1,0 +1,16 @@
+use Rattle.std.proofs.Common.{◌≡◌, ◌≤◌, ◌+◌, ◌-◌, ◌++◌, length, take}
+use Rattle.pgw_client.specs.Outcome.{ReadsNothing}
+use Rattle.pgw_client.proofs.session.send.Given as goal
+
+abbrev pub invariant-loop-at : goal.invariant-loop-at
+invariant-loop-at g l = record {
+  at_in : l.at ≤ length l.fn.bytes;
+  later : g.L.Link.faults l.fn.link ≤ g.L.Link.faults l.link;
+  reads_nothing : g.L.Link.tells → ReadsNothing (g.L.Link.tape l.fn.link) (g.L.Link.tape l.link);
+  wrote : g.L.Link.tells → (g.L.Link.tape l.link).wrote ≡ (g.L.Link.tape l.fn.link).wrote ++ take l.at l.fn.bytes;
+  flushed : g.L.Link.tells → (g.L.Link.tape l.link).flushed ≡ (g.L.Link.tape l.fn.link).flushed;
+  writes : g.L.Link.tells → (g.L.Link.tape l.link).writes ≤ (g.L.Link.tape l.fn.link).writes + l.at;
+}
+
+abbrev pub decreases-loop-at : goal.decreases-loop-at
+decreases-loop-at g l = length l.fn.bytes - l.at

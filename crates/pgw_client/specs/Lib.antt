@@ -1,0 +1,5 @@
+pub mod Errors
+pub mod Wire
+pub mod Machine
+pub mod Outcome
+pub mod Sessions

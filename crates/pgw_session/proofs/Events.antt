@@ -1,0 +1,153 @@
+-- Lists of events: parts, joined lists, standings, encodings.
+use Rattle.std.proofs.Common.{◌≡◌, ℕ, List, [], ◌∷◌, ◌++◌, length, map, fold, Option, Some, None, Result, Ok, Err, slice_get, Bool, true, false, refl, sym, ◌∙◌, ap, subst, append_assoc}
+use Rattle.std.proofs.lemmas.List.{append-nil, map-append}
+use Rattle.std.proofs.lemmas.List.Sums.{fold-append}
+use Rattle.pgw_wire.specs.declared.error.PgWireError.{PgWireError}
+use Rattle.pgw_msg.specs.declared.backend.PgWireBackendMessage.{PgWireBackendMessage as Backend}
+use Rattle.pgw_msg.specs.declared.frontend.PgWireFrontendMessage.{PgWireFrontendMessage as Frontend}
+use Rattle.pgw_msg.specs.Front.{Spells}
+use Rattle.pgw_msg.specs.Frontend.{encoding, encodings, both}
+use Rattle.pgw_config.specs.declared.config.Config.{Config}
+use Rattle.pgw_session.specs.declared.types.Request.{Request}
+use Rattle.pgw_session.specs.declared.standing.Standing.{Standing}
+use Rattle.pgw_session.specs.declared.tally.Tally.{Tally}
+use Rattle.pgw_session.specs.declared.stage.Reply.{Reply}
+use Rattle.pgw_session.specs.declared.stage.Reply.TheVariants.{Silent, Passes}
+use Rattle.pgw_session.specs.declared.stage.Next.{Next}
+use Rattle.pgw_session.specs.declared.stage.Next.TheVariants.{Goes, Closes, Wrong, Refuses, Spoils}
+use Rattle.pgw_session.specs.Events.{Event, Sent, Got, joined, sents}
+use Rattle.pgw_session.specs.Standings.{standing_of, standing_at, standing_by, first_standing}
+use Rattle.pgw_session.specs.Segments.{sends_of, is_ready}
+use Rattle.pgw_session.specs.Answers.{tally_of, tally_at, tally_after}
+use Rattle.pgw_session.specs.Transcript.{SpellsGot}
+use Rattle.pgw_session.specs.Course.{Move, On, Ends}
+use Rattle.pgw_session.specs.Talk.{Talk, Ending, said, heard_of, sending, replies, opens, moves, drains, turn, talk_rules, after, stage_for}
+use Rattle.pgw_session.proofs.Hears.{Follows, sents_append, sents_sends}
+
+pub joined_more : (segments : List (List Event)) (es : List Event) → joined (segments ++ es ∷ []) ≡ joined segments ++ es
+joined_more [] es = append-nil es
+joined_more (first ∷ segments) es = ap (λ (l : List Event). first ++ l) (joined_more segments es) ∙ sym (append_assoc first (joined segments) es)
+
+-- a joined list, cut in one of its segments
+pub joined_cut : (closed : List (List Event)) (part rest : List Event) (later : List (List Event)) → joined (closed ++ (part ++ rest) ∷ later) ≡ (joined closed ++ part) ++ (rest ++ joined later)
+joined_cut [] part rest later = append_assoc part rest (joined later)
+joined_cut (first ∷ closed) part rest later =
+    ap (λ (l : List Event). first ++ l) (joined_cut closed part rest later)
+    ∙ sym (append_assoc first (joined closed ++ part) (rest ++ joined later))
+    ∙ ap (λ (l : List Event). l ++ (rest ++ joined later)) (sym (append_assoc first (joined closed) part))
+
+standing_sends : (r : Standing) (fs : List Frontend) → fold standing_at r (map Sent fs) ≡ r
+standing_sends r [] = refl
+standing_sends r (f ∷ fs) = standing_sends r fs
+
+-- the version behind a message, and what was sent then
+pub standing_more : (config : Config) (es : List Event) (m : Backend) (fs : List Frontend) → standing_of config ((es ++ Got m ∷ []) ++ map Sent fs) ≡ standing_by (standing_of config es) m
+unfolding standing_of
+standing_more config es m fs =
+    fold-append standing_at (first_standing config) (es ++ Got m ∷ []) (map Sent fs)
+    ∙ ap (λ r. fold standing_at r (map Sent fs)) (fold-append standing_at (first_standing config) es (Got m ∷ []))
+    ∙ standing_sends _ fs
+
+pub standing_plus : (config : Config) (es : List Event) (fs : List Frontend) → standing_of config (es ++ map Sent fs) ≡ standing_of config es
+unfolding standing_of
+standing_plus config es fs = fold-append standing_at (first_standing config) es (map Sent fs) ∙ standing_sends _ fs
+
+pub standing_one : (config : Config) (es : List Event) (m : Backend) → standing_of config (es ++ Got m ∷ []) ≡ standing_by (standing_of config es) m
+unfolding standing_of
+standing_one config es m = fold-append standing_at (first_standing config) es (Got m ∷ [])
+
+pub first_sends : (config : Config) (fs : List Frontend) → standing_of config (map Sent fs) ≡ first_standing config
+unfolding standing_of
+first_sends config fs = standing_sends (first_standing config) fs
+
+reply_tally : (config : Config) (t : Tally) (reply : Reply) → fold tally_at t (map Sent (replies config reply)) ≡ t
+reply_tally config t Silent = refl
+reply_tally config t Passes = refl
+
+pub tally_on : (config : Config) (es : List Event) (m : Backend) (reply : Reply) → tally_of (es ++ Got m ∷ map Sent (replies config reply)) ≡ tally_after (tally_of es) m
+unfolding tally_of
+tally_on config es m reply = fold-append tally_at _ es (Got m ∷ map Sent (replies config reply)) ∙ reply_tally config _ reply
+
+-- encodings, one list behind the other
+pub both_assoc : (a b c : Result (List ℕ) PgWireError) → both (both a b) c ≡ both a (both b c)
+both_assoc (Err e) b c = refl
+both_assoc (Ok a) (Err e) c = refl
+both_assoc (Ok a) (Ok b) (Err e) = refl
+both_assoc (Ok a) (Ok b) (Ok c) = ap Ok (append_assoc a b c)
+
+both_nil : (o : Result (List ℕ) PgWireError) → both (Ok []) o ≡ o
+both_nil (Err e) = refl
+both_nil (Ok a) = refl
+
+pub encodings_append : (xs ys : List Frontend) → encodings (xs ++ ys) ≡ both (encodings xs) (encodings ys)
+encodings_append [] ys = sym (both_nil (encodings ys))
+encodings_append (x ∷ xs) ys = ap (both (encoding x)) (encodings_append xs ys) ∙ sym (both_assoc (encoding x) (encodings xs) (encodings ys))
+
+pub put_on_sends : (es : List Event) (a b : List ℕ) (fs : List Frontend) (m : Backend) → encodings (sents es) ≡ Ok a → encodings fs ≡ Ok b → encodings (sents ((es ++ Got m ∷ []) ++ map Sent fs)) ≡ Ok (a ++ b)
+put_on_sends es a b fs m put is =
+    ap encodings (sents_append (es ++ Got m ∷ []) (map Sent fs) ∙ ap (λ (l : List Frontend). l ++ sents (map Sent fs)) (sents_append es (Got m ∷ []) ∙ append-nil (sents es)) ∙ ap (λ (l : List Frontend). sents es ++ l) (sents_sends fs))
+    ∙ encodings_append (sents es) fs
+    ∙ ap (λ o. both o (encodings fs)) put
+    ∙ ap (both (Ok a)) is
+
+-- a message more
+pub got_more : (r : Standing) (es : List Event) (m : Backend) (a b : List ℕ) → SpellsGot r es a → Spells (fold standing_at r es).version m b → SpellsGot r (es ++ Got m ∷ []) (a ++ b)
+got_more r [] m a b s p = (b, [], ap (λ (x : List ℕ). x ++ b) s ∙ sym (append-nil b), p, refl)
+got_more r (Sent x ∷ es) m a b s p = got_more r es m a b s p
+got_more r (Got x ∷ es) m a b s p = (s.0, s.1 ++ b, ap (λ (l : List ℕ). l ++ b) s.2 ∙ append_assoc s.0 s.1 b, s.3, got_more (standing_by r x) es m s.1 b s.4 p)
+
+pub got_sends : (r : Standing) (es : List Event) (fs : List Frontend) (a : List ℕ) → SpellsGot r es a → SpellsGot r (es ++ map Sent fs) a
+got_sends r [] [] a s = s
+got_sends r [] (f ∷ fs) a s = got_sends r [] fs a s
+got_sends r (Sent x ∷ es) fs a s = got_sends r es fs a s
+got_sends r (Got x ∷ es) fs a s = (s.0, s.1, s.2, s.3, got_sends (standing_by r x) es fs s.1 s.4)
+
+pub clean_heard : (t : Talk) → t.skipped ≡ [] → said t ≡ heard_of t
+clean_heard t clean = sym (append-nil (said t)) ∙ ap (λ (ms : List Backend). said t ++ map Got ms) (sym clean)
+
+-- what a move that goes on has got and sent
+abbrev pub Grown : List Event → Move Talk Ending → Type 0
+Grown es (On next out) = (fs : List Frontend) × (heard_of next ≡ es ++ map Sent fs) × (encodings fs ≡ Ok out)
+Grown es (Ends e out) = Unit {0}
+
+sending_grown : (before behind : Talk) (es : List Event) (fs : List Frontend) (o : Result (List ℕ) PgWireError) → encodings fs ≡ o → heard_of behind ≡ es ++ map Sent fs → Grown es (sending before behind o)
+sending_grown before behind es fs (Err e) is are = tt
+sending_grown before behind es fs (Ok out) is are = (fs, are, is)
+
+pub opens_grown : (closed : List (List Event)) (q : Option Request) → Grown (joined closed) (opens closed q)
+opens_grown closed None = tt
+opens_grown closed (Some q) = sending_grown _ (record { closed = closed; open_events = map Sent (sends_of q); stage = stage_for q; skipped = [] }) (joined closed) (sends_of q) (encodings (sends_of q)) refl (append-nil _)
+
+moves_grown : (config : Config) (requests : List Request) (t : Talk) (m : Backend) (n : Next) → Grown (said t ++ Got m ∷ []) (moves config requests t m n)
+moves_grown config requests t m (Goes stage reply) =
+    sending_grown _ (record { closed = t.closed; open_events = t.open_events ++ Got m ∷ map Sent (replies config reply); stage = stage; skipped = [] }) (said t ++ Got m ∷ []) (replies config reply) (encodings (replies config reply)) refl
+    (append-nil _ ∙ sym (append_assoc (joined t.closed) t.open_events (Got m ∷ map Sent (replies config reply))) ∙ sym (append_assoc (said t) (Got m ∷ []) (map Sent (replies config reply))))
+moves_grown config requests t m Closes =
+    subst (λ (es : List Event). Grown es (moves config requests t m Closes)) (joined_more t.closed (t.open_events ++ Got m ∷ []) ∙ sym (append_assoc (joined t.closed) t.open_events (Got m ∷ [])))
+    (opens_grown _ (slice_get requests (length t.closed)))
+moves_grown config requests t m Wrong = tt
+moves_grown config requests t m Refuses = tt
+moves_grown config requests t m Spoils = ([], sym (append-nil _), refl)
+
+drains_grown : (t : Talk) (first m : Backend) (b : Bool) → Grown (heard_of t ++ Got m ∷ []) (drains t first m b)
+drains_grown t first m true = tt
+drains_grown t first m false = ([], ap (λ (l : List Event). said t ++ l) (map-append Got t.skipped (m ∷ [])) ∙ sym (append_assoc (said t) (map Got t.skipped) (Got m ∷ [])) ∙ sym (append-nil _), refl)
+
+pub turn_grown : (config : Config) (requests : List Request) (t : Talk) (m : Backend) (skipped : List Backend) → t.skipped ≡ skipped → Grown (heard_of t ++ Got m ∷ []) (turn config requests t m skipped)
+turn_grown config requests t m [] none =
+    subst (λ (l : List Event). Grown (l ++ Got m ∷ []) (turn config requests t m [])) (sym (append-nil (said t)) ∙ ap (λ (ms : List Backend). said t ++ map Got ms) (sym none)) (moves_grown config requests t m (after t.stage m))
+turn_grown config requests t m (first ∷ rest) some = drains_grown t first m (is_ready m)
+
+pub sents_gots : (es : List Event) (ms : List Backend) → sents (es ++ map Got ms) ≡ sents es
+sents_gots [] [] = refl
+sents_gots [] (m ∷ ms) = sents_gots [] ms
+sents_gots (Sent m ∷ es) ms = ap (λ (l : List Frontend). m ∷ l) (sents_gots es ms)
+sents_gots (Got m ∷ es) ms = sents_gots es ms
+
+pub talk_follows : (config : Config) (requests : List Request) → Follows (talk_rules config requests) (λ t. standing_of config (heard_of t))
+talk_follows config requests = (
+  λ t. refl,
+  λ t m next out is.
+      let g = subst (Grown (heard_of t ++ Got m ∷ [])) is (turn_grown config requests t m t.skipped refl) in
+      ap (standing_of config) g.1 ∙ standing_more config (heard_of t) m g.0,
+)

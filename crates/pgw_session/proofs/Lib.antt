@@ -1,0 +1,11 @@
+pub mod CourseLaws
+pub mod Hears
+pub mod Events
+pub mod Grammar
+pub mod Whole
+pub mod Sound
+pub mod Complete
+pub mod FailureLaws
+pub mod NextLaws
+pub mod ValidLaws
+pub mod StandingLaws

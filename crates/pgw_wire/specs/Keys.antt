@@ -1,0 +1,39 @@
+-- The key of a connection (BackendKeyData).
+use Rattle.std.specs.Prelude.{ℕ, ℤ, List, length, Bool, ◌||◌, ◌==◌, Option, Some, None, Result, Ok, Err, nat_lt, if◌then◌else◌}
+use Rattle.std.specs.Int.{w32, from_be_bytes, cast_signed}
+use Rattle.pgw_wire.specs.declared.error.PgWireError.{PgWireError}
+use Rattle.pgw_wire.specs.declared.error.PgWireError.TheVariants.{InvalidSecretKey, InvalidMessageBody}
+use Rattle.pgw_wire.specs.declared.context.ProtocolVersion.{ProtocolVersion}
+use Rattle.pgw_wire.specs.declared.context.ProtocolVersion.TheVariants.{PROTOCOL3_0, PROTOCOL3_2, PROTOCOL3_9999}
+use Rattle.pgw_wire.specs.declared.secret_key.SecretKey.{SecretKey}
+use Rattle.pgw_wire.specs.declared.secret_key.SecretKey.TheVariants.{I32, Bytes}
+use Rattle.pgw_wire.specs.Writing.{i32}
+
+-- a key has 4 to 256 bytes
+abbrev pub is_no_key : List ℕ → Bool
+is_no_key bytes = nat_lt (length bytes) 4 || nat_lt 256 (length bytes)
+
+abbrev pub number_of : List ℕ → ℤ
+number_of bytes = cast_signed w32 (from_be_bytes w32 bytes)
+
+-- under version 3.0 it is a number of four bytes
+abbrev pub key_by : ProtocolVersion → List ℕ → Result SecretKey PgWireError
+key_by PROTOCOL3_0 bytes = if length bytes == 4 then Ok (I32 (number_of bytes)) else Err InvalidMessageBody
+key_by PROTOCOL3_2 bytes = Ok (Bytes bytes)
+key_by PROTOCOL3_9999 bytes = Ok (Bytes bytes)
+
+unfoldable pub key_of : ProtocolVersion → List ℕ → Result SecretKey PgWireError
+key_of version bytes = if is_no_key bytes then Err InvalidSecretKey else key_by version bytes
+
+abbrev pub key_bytes : SecretKey → List ℕ
+key_bytes (I32 n) = i32 n
+key_bytes (Bytes bytes) = bytes
+
+abbrev pub key_fault : SecretKey → Option PgWireError
+key_fault (I32 n) = None
+key_fault (Bytes bytes) = if is_no_key bytes then Some InvalidSecretKey else None
+
+-- the number that a key of four bytes is
+abbrev pub key_number : SecretKey → Option ℤ
+key_number (I32 n) = Some n
+key_number (Bytes bytes) = if length bytes == 4 then Some (number_of bytes) else None
