@@ -10,6 +10,8 @@ mod printed;
 mod printing;
 mod program;
 mod script;
+#[cfg(test)]
+mod tests;
 mod transfer;
 
 use pgw_link::standard::{StdSink, StdSource};

@@ -1,0 +1,451 @@
+use crate::program::run_program;
+use pgw_link::memory_stream::{MemorySink, MemorySource};
+use pgw_wire::listed::Listed;
+use pgw_wire::octets::Octets;
+use std::alloc::Global;
+use std::test::Fail;
+
+// What is written of this source, and the status. The listed calls fail.
+fn ran(
+    alloc: Global,
+    words: &[&str],
+    script: &str,
+    fail_reads: &[u64],
+    fail_writes: &[u64],
+) -> Result<(Vec<u8>, u8), Fail> {
+    let mut list = Vec::new(alloc);
+    for word in words {
+        list.push(String::from_str(alloc, word)?)?;
+    }
+    let bytes = Octets::from_slice(alloc, script.as_bytes())?;
+    let mut input = MemorySource::new(bytes, 100, numbers(alloc, fail_reads)?);
+    let mut output = MemorySink::new(alloc, 7, numbers(alloc, fail_writes)?);
+    let status = run_program(alloc, &list, &mut input, &mut output, &[0; 18], &[0; 32]);
+    Ok((output.written().to_vec(alloc)?, status))
+}
+
+fn numbers(alloc: Global, items: &[u64]) -> Result<Listed<u64>, Fail> {
+    let mut listed = Listed::new(alloc);
+    for item in items {
+        listed.push(*item)?;
+    }
+    Ok(listed)
+}
+
+const HEAD: &str = "config user=bob\nnonce 000000000000000000000000000000000000\n";
+
+const SELECT: &str = "simple SELECT 1
+server 52 00000008 00000000
+server 5a 00000005 49
+server 54 0000001a 0001 6100 00000000 0000 00000017 0004 ffffffff 0000
+server 44 0000000b 0001 00000001 31
+server 43 0000000d 53454c454354203100
+server 5a 00000005 49
+";
+
+const STARTED: &str = "sent 00000012000300007573657200626f620000\n";
+
+const SENT: &str = "sent 00000012000300007573657200626f620000510000000d53454c454354203100\n";
+
+const REPORT: &str = "version 3.0
+process -1
+key i32 00000000
+status I
+answer 1 responses 1
+rows \"SELECT 1\"
+field \"a\" 23 0
+row 1 0000000131
+";
+
+// The text of these parts.
+fn joined(alloc: Global, parts: &[&str]) -> Result<String, Fail> {
+    let mut text = String::new(alloc);
+    for part in parts {
+        text.push_str(part)?;
+    }
+    Ok(text)
+}
+
+#[test]
+fn script_select_one(rt: HostRuntime) -> Result<(), Fail> {
+    let alloc = rt.alloc();
+    let cases: [(&str, &str, &str, u8); 8] = [
+        ("limit 1000\ncut 1000\n", SENT, REPORT, 0),
+        ("limit 1000\ncut 1\n", SENT, REPORT, 0),
+        ("limit 74\ncut 65536\n", SENT, REPORT, 0),
+        ("limit 73\ncut 1000\n", SENT, "error ReadLimit\n", 1),
+        ("limit 0\ncut 1000\n", STARTED, "error ReadLimit\n", 1),
+        (
+            "limit 1000\ncut 1000\nfail read 1\n",
+            STARTED,
+            "error IoError\n",
+            1,
+        ),
+        (
+            "limit 1000\ncut 1000\nfail write 1\n",
+            "sent -\n",
+            "error IoError\n",
+            1,
+        ),
+        (
+            "limit +1000\ncut 0001000\nfail read 0\nfail write 90\n",
+            SENT,
+            REPORT,
+            0,
+        ),
+    ];
+    for (middle, sent, rest, status) in cases {
+        let script = joined(alloc, &[HEAD, middle, SELECT])?;
+        let want = joined(alloc, &[sent, rest])?;
+        let (text, ended) = ran(alloc, &[], script.as_str(), &[], &[])?;
+        assert_eq!(rt; text.as_slice(), want.as_str().as_bytes(), "{middle}");
+        assert_eq!(rt; ended, status);
+    }
+    Ok(())
+}
+
+// The script for one user, with these lines behind its settings.
+fn told(alloc: Global, config: &str, protocol: &str, rest: &str) -> Result<String, Fail> {
+    joined(
+        alloc,
+        &[
+            "config ",
+            config,
+            "\n",
+            protocol,
+            "nonce 000000000000000000000000000000000000\nlimit 1000\ncut 1000\n",
+            rest,
+        ],
+    )
+}
+
+const IDLE: &str = "version 3.0\nprocess -1\nkey i32 00000000\nstatus I\n";
+
+const KEYED: &str = "version 3.2
+process 7
+key bytes 000102030405060708090a0b0c0d0e0f101112131415161718191a1b1c1d1e1f
+status I
+";
+
+const NEGOTIATED: &str = "server 52 00000008 00000000
+server 76 0000000c 00030002 00000000
+server 4b 00000028 00000007 000102030405060708090A0B0C0D0E0F
+server 101112131415161718191a1b1c1d1e1f 5a0000000549
+";
+
+const UNNEGOTIATED: &str = "server 52 00000008 00000000
+server 4b 00000028 00000007 000102030405060708090A0B0C0D0E0F
+server 101112131415161718191a1b1c1d1e1f 5a0000000549
+";
+
+#[test]
+fn script_startups(rt: HostRuntime) -> Result<(), Fail> {
+    let alloc = rt.alloc();
+    let bob = "user=bob";
+    let secret = "user=bob password=secret";
+    let cases: [(&str, &str, &str, &str, &str); 12] = [
+        (bob, "", "server 5a 00000005 49", STARTED, IDLE),
+        (bob, "", NEGOTIATED, STARTED, KEYED),
+        (bob, "protocol 3.0\n", NEGOTIATED, STARTED, KEYED),
+        (
+            bob,
+            "protocol 3.9999\n",
+            NEGOTIATED,
+            "sent 000000120003270f7573657200626f620000\n",
+            KEYED,
+        ),
+        (
+            bob,
+            "protocol 3.0\n",
+            UNNEGOTIATED,
+            STARTED,
+            "error PgWireError/InvalidMessageBody\n",
+        ),
+        (
+            bob,
+            "",
+            "server 52 00000008 00000002",
+            STARTED,
+            "error UnexpectedMessage\n",
+        ),
+        (
+            bob,
+            "",
+            "server 52 00000008 00000007",
+            STARTED,
+            "error PgWireError/InvalidAuthenticationMessageCode\n",
+        ),
+        (
+            bob,
+            "",
+            "server 76 0000000c ffffffff 00000000",
+            STARTED,
+            "error UnexpectedMessage\n",
+        ),
+        (
+            bob,
+            "",
+            "server 45 00000019 53 4552524f5200 43 585830303000 4d 626f6f6d00 00",
+            STARTED,
+            "error RemoteError\n",
+        ),
+        (
+            bob,
+            "",
+            "server 53 00000008 6100 6200\nserver 5a 00000005 49",
+            STARTED,
+            "version 3.0\nprocess -1\nkey i32 00000000\nparameter \"a\" \"b\"\nstatus I\n",
+        ),
+        (
+            secret,
+            "",
+            "server 52 00000008 00000003 5200000008 00000000 5a0000000549",
+            "sent 00000012000300007573657200626f620000700000000b73656372657400\n",
+            IDLE,
+        ),
+        (
+            bob,
+            "",
+            "server 52 00000008 00000003 52 00000008 00000003",
+            "sent 00000012000300007573657200626f620000700000000500\n",
+            "error UnexpectedMessage\n",
+        ),
+    ];
+    for (config, protocol, rest, sent, told_back) in cases {
+        let script = told(alloc, config, protocol, rest)?;
+        let want = joined(alloc, &[sent, told_back])?;
+        let (text, _) = ran(alloc, &["script"], script.as_str(), &[], &[])?;
+        assert_eq!(rt; text.as_slice(), want.as_str().as_bytes(), "{rest}");
+    }
+    Ok(())
+}
+
+const TRANSACTION: &str = "simple BEGIN
+simple SELECT 1
+simple FAIL
+simple ROLLBACK
+server 52 00000008 00000000 5a 00000005 49
+server 43 0000000a 424547494e00 5a 00000005 54
+server 43 00000007 4f4b00 5a 00000005 54
+server 45 00000019 53 4552524f5200 43 585830303000 4d 626f6f6d00 00 5a 00000005 45
+server 43 0000000d 524f4c4c4241434b00 5a 00000005 49
+";
+
+const ANSWERED: &str = "status I
+answer 1 responses 1
+done \"BEGIN\"
+answer 2 responses 1
+done \"OK\"
+answer 3 remote
+item 53 \"ERROR\"
+item 43 \"XX000\"
+item 4d \"boom\"
+answer 4 responses 1
+done \"ROLLBACK\"
+";
+
+// The last lines of what is printed.
+#[test]
+fn script_answers(rt: HostRuntime) -> Result<(), Fail> {
+    let alloc = rt.alloc();
+    let cases: [(&str, &str); 2] = [
+        (TRANSACTION, ANSWERED),
+        (
+            "simple \nserver 52 00000008 00000000 5a 00000005 49 49 00000004 5a 00000005 45\n",
+            "status E\nanswer 1 responses 1\nempty\n",
+        ),
+    ];
+    for (rest, want) in cases {
+        let script = told(alloc, "user=bob", "", rest)?;
+        let (text, status) = ran(alloc, &[], script.as_str(), &[], &[])?;
+        let (_, end) = text.split_at(text.len().saturating_sub(want.len()));
+        assert_eq!(rt; end, want.as_bytes(), "{rest}");
+        assert_eq!(rt; status, 0);
+    }
+    Ok(())
+}
+
+#[test]
+fn script_faults(rt: HostRuntime) -> Result<(), Fail> {
+    let alloc = rt.alloc();
+    let nonce = "nonce 000000000000000000000000000000000000\n";
+    let cases: [(&[&str], &str); 34] = [
+        (&[], "line 1\n"),
+        (&["\n"], "line 1\n"),
+        (&["config user=\n"], "line 1\n"),
+        (&["config user=b-b\n"], "line 1\n"),
+        (&["config user=bob \n"], "line 1\n"),
+        (&["config user=bob password=\n"], "line 1\n"),
+        (&["config user=bob  password=a\n"], "line 1\n"),
+        (&["config user=bob password=a \n"], "line 1\n"),
+        (&["config user=bob\r\n"], "line 1\n"),
+        (&["config password=a user=bob\n"], "line 1\n"),
+        (&["nonce 00\n"], "line 1\n"),
+        (&["config user=bob\n"], "line 2\n"),
+        (&["config user=bob\nprotocol 3.1\n"], "line 2\n"),
+        (
+            &["config user=bob\nprotocol 3.0\nprotocol 3.0\n"],
+            "line 3\n",
+        ),
+        (
+            &["config user=bob\nnonce 00000000000000000000000000000000000\n"],
+            "line 2\n",
+        ),
+        (
+            &["config user=bob\nnonce 00000000000000000000000000000000000g\n"],
+            "line 2\n",
+        ),
+        (&["config user=bob\nnonce -\n"], "line 2\n"),
+        (&["config user=bob\n", nonce, "limit -1\n"], "line 3\n"),
+        (
+            &["config user=bob\n", nonce, "limit 18446744073709551616\n"],
+            "line 3\n",
+        ),
+        (&["config user=bob\n", nonce, "limit 1000\n"], "line 4\n"),
+        (
+            &["config user=bob\n", nonce, "limit 1000\ncut 0\n"],
+            "line 4\n",
+        ),
+        (
+            &["config user=bob\n", nonce, "limit 1000\ncut 65537\n"],
+            "line 4\n",
+        ),
+        (
+            &["config user=bob\n", nonce, "limit 1000\ncut +\n"],
+            "line 4\n",
+        ),
+        (
+            &["config user=bob\n", nonce, "limit 1000\ncut 1\n\n"],
+            "line 5\n",
+        ),
+        (
+            &["config user=bob\n", nonce, "limit 1000\ncut 1\nfail read\n"],
+            "line 5\n",
+        ),
+        (
+            &[
+                "config user=bob\n",
+                nonce,
+                "limit 1000\ncut 1\nfail flush 1\n",
+            ],
+            "line 5\n",
+        ),
+        (
+            &[
+                "config user=bob\n",
+                nonce,
+                "limit 1000\ncut 1\nfail write 1\nsimple\n",
+            ],
+            "line 6\n",
+        ),
+        (
+            &[
+                "config user=bob\n",
+                nonce,
+                "limit 1000\ncut 1\nsimple a\nfail read 1\n",
+            ],
+            "line 6\n",
+        ),
+        (
+            &["config user=bob\n", nonce, "limit 1000\ncut 1\nserver 5\n"],
+            "line 5\n",
+        ),
+        (
+            &[
+                "config user=bob\n",
+                nonce,
+                "limit 1000\ncut 1\nserver 5 a a\n",
+            ],
+            "line 5\n",
+        ),
+        (
+            &["config user=bob\n", nonce, "limit 1000\ncut 1\nserver -\n"],
+            "line 5\n",
+        ),
+        (
+            &[
+                "config user=bob\n",
+                nonce,
+                "limit 1000\ncut 1\nserver \nsimple a\n",
+            ],
+            "line 6\n",
+        ),
+        (
+            &[
+                "config user=bob\n",
+                nonce,
+                "limit 1000\ncut 1\nprepare - - a\n",
+            ],
+            "line 5\n",
+        ),
+        (
+            &["config user=bob\nlimit 1000\n", nonce, "cut 1\nserver x\n"],
+            "line 2\n",
+        ),
+    ];
+    for (parts, want) in cases {
+        let script = joined(alloc, parts)?;
+        let (text, status) = ran(alloc, &["script"], script.as_str(), &[], &[])?;
+        assert_eq!(rt; text.as_slice(), want.as_bytes(), "{}", script.as_str());
+        assert_eq!(rt; status, 2);
+    }
+    Ok(())
+}
+
+#[test]
+fn other_commands(rt: HostRuntime) -> Result<(), Fail> {
+    let alloc = rt.alloc();
+    let cases: [(&[&str], &str, u8); 6] = [
+        (&["usage"], "usage\n", 2),
+        (&["script", "script"], "usage\n", 2),
+        (&["--help", "script"], "usage\n", 2),
+        (&["Script"], "usage\n", 2),
+        (&["--version"], "pgw_prog 0.1.0\n", 0),
+        (
+            &["--help"],
+            "Holds the client's side of a PostgreSQL session",
+            0,
+        ),
+    ];
+    for (words, want, status) in cases {
+        let (text, ended) = ran(alloc, words, "", &[1], &[])?;
+        let (front, _) = text.split_at(want.len().min(text.len()));
+        assert_eq!(rt; front, want.as_bytes());
+        assert_eq!(rt; ended, status);
+    }
+    Ok(())
+}
+
+#[test]
+fn failing_source_and_sink(rt: HostRuntime) -> Result<(), Fail> {
+    let alloc = rt.alloc();
+    let script = joined(alloc, &[HEAD, "limit 1000\ncut 1000\n", SELECT])?;
+    let cases: [(&[u64], &[u64], &str); 4] = [
+        (&[1], &[], ""),
+        (&[4], &[], ""),
+        (&[], &[1], ""),
+        (&[], &[3], "sent 000000120"),
+    ];
+    for (fail_reads, fail_writes, want) in cases {
+        let (text, status) = ran(alloc, &[], script.as_str(), fail_reads, fail_writes)?;
+        assert_eq!(rt; text.as_slice(), want.as_bytes());
+        assert_eq!(rt; status, 3);
+    }
+    Ok(())
+}
+
+#[test]
+fn script_too_long(rt: HostRuntime) -> Result<(), Fail> {
+    let alloc = rt.alloc();
+    let cases: [(usize, &str); 2] = [(16777216, "line 1\n"), (16777217, "script too long\n")];
+    for (length, want) in cases {
+        let bytes = vec![in alloc; b' '; length]?;
+        let bytes = Octets::from_slice(alloc, &bytes)?;
+        let mut input = MemorySource::new(bytes, 65536, Listed::new(alloc));
+        let mut output = MemorySink::new(alloc, 1000, Listed::new(alloc));
+        let status = run_program(alloc, &[], &mut input, &mut output, &[0; 18], &[0; 32]);
+        assert_eq!(rt; output.written(), want.as_bytes());
+        assert_eq!(rt; status, 2);
+    }
+    Ok(())
+}
