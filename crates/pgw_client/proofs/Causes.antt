@@ -1,8 +1,7 @@
 -- What a session leaves, in the terms of transcripts.
-use Rattle.std.proofs.Common.{◌≡◌, ◌<◌, ◌⊎◌, ◌+◌, ℕ, List, [], ◌++◌, length, Option, Some, None, Result, Ok, Err, inl, inr, refl, ◌∙◌, ap, sym, subst}
+use Rattle.std.proofs.Common.{◌≡◌, ℕ, List, [], ◌++◌, length, Option, Some, None, Result, Ok, Err, inl, inr, refl, ◌∙◌, ap, sym, subst}
 use Rattle.std.proofs.lemmas.List.{append-nil}
 use Rattle.std.specs.Prelude.{IfOk, IsErrOf}
-use Rattle.pgw_wire.specs.declared.error.PgWireError.{PgWireError}
 use Rattle.pgw_msg.specs.declared.backend.PgWireBackendMessage.{PgWireBackendMessage as Backend}
 use Rattle.pgw_msg.specs.declared.response.ErrorResponse.{ErrorResponse}
 use Rattle.pgw_msg.specs.declared.client_error.PgWireClientError.{PgWireClientError as ClientError}
@@ -15,7 +14,7 @@ use Rattle.pgw_session.specs.Events.{Event}
 use Rattle.pgw_session.specs.Answers.{tally_of}
 use Rattle.pgw_session.specs.Transcript.{Completed, Completes, report_of}
 use Rattle.pgw_session.specs.Failures.{IsHopeless, LeftWith, StoppedCause, Told}
-use Rattle.pgw_session.specs.Course.{Course, Waits, Over, sent_of}
+use Rattle.pgw_session.specs.Course.{Waits, Over, sent_of}
 use Rattle.pgw_session.specs.Talk.{Talk, Ending, Outcome, Complete, Unencoded, Stopped, error_of, end_with, conversation, first_skipped}
 use Rattle.pgw_session.proofs.Complete.{ended_whole, never_waits}
 use Rattle.pgw_session.proofs.FailureLaws.{complete_is_completed, unencoded, waits_at, unfinished, misplaced_left, left_with}

@@ -1,5 +1,5 @@
 -- What a session over a link answers, and why.
-use Rattle.std.specs.Prelude.{◌≡◌, ◌⊎◌, ◌<◌, ◌≤◌, ℕ, ◌+◌, List, [], ◌++◌, length, Option, Some, None, Result, Ok, Err}
+use Rattle.std.specs.Prelude.{◌≡◌, ◌⊎◌, ◌<◌, ◌≤◌, ℕ, ◌+◌, List, [], ◌++◌, length, Some, None, Result, Ok, Err}
 use Rattle.pgw_link.specs.Tape.{Tape}
 use Rattle.pgw_msg.specs.declared.backend.PgWireBackendMessage.{PgWireBackendMessage as Backend}
 use Rattle.pgw_msg.specs.declared.backend.PgWireBackendMessage.TheVariants as backend
@@ -9,7 +9,7 @@ use Rattle.pgw_config.specs.declared.config.Config.{Config}
 use Rattle.pgw_session.specs.declared.types.Request.{Request}
 use Rattle.pgw_session.specs.declared.types.SessionReport.{SessionReport}
 use Rattle.pgw_session.specs.Events.{Event}
-use Rattle.pgw_session.specs.Transcript.{IsLegalPrefix, EncodesSent, Completed}
+use Rattle.pgw_session.specs.Transcript.{IsLegalPrefix, EncodesSent}
 use Rattle.pgw_session.specs.Failures.{Misplaced, NextAtStartup, IsUnsupportedLogin, WaitsAt, LeftWith, Unreadable, Unsendable, IsHopeless, IsUnfinished}
 
 -- a fact of the bytes that a call took from its link and of those that it wrote
