@@ -15,7 +15,10 @@ use Rattle.pgw_msg.specs.declared.backend.PgWireBackendMessage.{PgWireBackendMes
 use Rattle.pgw_msg.specs.declared.backend.PgWireBackendMessage.TheVariants as backend
 use Rattle.pgw_msg.specs.Rows.{command_complete_of, empty_query_response_of, ready_for_query_of, error_response_of, notice_response_of, row_description_of, data_row_of, SpellsCommandComplete, SpellsEmptyQueryResponse, SpellsReadyForQuery, SpellsErrorResponse, SpellsNoticeResponse, SpellsRowDescription, SpellsDataRow}
 use Rattle.pgw_msg.specs.Backend.{as_one_of, awaits_reply, backend_by, backend_front}
-use Rattle.pgw_msg.specs.Front.{Spells}
+use Rattle.pgw_wire.specs.declared.context.ProtocolVersion.{ProtocolVersion}
+use Rattle.pgw_wire.proofs.MessageLaws.{some_is}
+use Rattle.std.proofs.lemmas.List.{append-nil}
+use Rattle.pgw_msg.specs.Front.{Spells, typed_phase}
 use Rattle.pgw_msg.proofs.RowLaws.{command_complete, empty_query_response, ready_for_query, error_response, notice_response, row_description, data_row}
 use Rattle.pgw_msg.proofs.BackendStable.{made_of, typed_found, by_same}
 
@@ -110,6 +113,14 @@ backend_again ctx typed (backend.ErrorResponse m) g rest h = one_again ctx backe
 backend_again ctx typed (backend.NoticeResponse m) g rest h = one_again ctx backend.NoticeResponse 78 2147483647 (notice_response_of ctx) SpellsNoticeResponse (notice_response ctx) (λ bytes. refl) typed m g rest h
 backend_again ctx typed (backend.RowDescription m) g rest h = one_again ctx backend.RowDescription 84 2147483647 (row_description_of ctx) SpellsRowDescription (row_description ctx) (λ bytes. refl) typed m g rest h
 backend_again ctx typed (backend.DataRow m) g rest h = one_again ctx backend.DataRow 68 2147483647 (data_row_of ctx) SpellsDataRow (data_row ctx) (λ bytes. refl) typed m g rest h
+
+-- a message's spelling ends where its length says
+pub goes_on : (v : ProtocolVersion) (m n : PgWireBackendMessage) (g more : List ℕ) → Spells v m g → Spells v n (g ++ more) → (more ≡ []) × (n ≡ m)
+goes_on v m n g more one two =
+    let first : backend_front (typed_phase v) (g ++ more) ≡ Ok (Some (m, more)) = backend_again (typed_phase v) refl m g more one in
+    let second : backend_front (typed_phase v) (g ++ more) ≡ Ok (Some (n, [])) = ap (backend_front (typed_phase v)) (sym (append-nil (g ++ more))) ∙ backend_again (typed_phase v) refl n (g ++ more) [] two in
+    let same : ◌≡◌ {A = PgWireBackendMessage × List ℕ} (m, more) (n, []) = some_is (m, more) (n, []) (sym first ∙ second) in
+    (ap (λ (p : PgWireBackendMessage × List ℕ). p.1) same, sym (ap (λ (p : PgWireBackendMessage × List ℕ). p.0) same))
 
 -- ---- what a decoder gave
 
