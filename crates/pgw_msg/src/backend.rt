@@ -1,7 +1,8 @@
 //! All messages of a server.
-ghost use Rattle.std.specs.Prelude.{◌≡◌, ◌++◌, ℕ, List, IfOk, IfSome, Ok, Some};
+ghost use Rattle.std.specs.Prelude.{◌≡◌, ◌++◌, ℕ, List, IfOk, IfSome, Ok, Some, false};
 ghost use Rattle.pgw_wire.specs.Framing.{Decodes, Appends};
-ghost use Rattle.pgw_msg.specs.Backend.{unknown as why_unknown, backend_front, backend_encoding};
+ghost use Rattle.pgw_msg.specs.Backend.{unknown as why_unknown, awaits_reply, backend_front, backend_encoding};
+ghost use Rattle.pgw_msg.specs.Front.{Spells};
 ghost use Rattle.pgw_msg.specs.declared.backend.PgWireBackendMessage.{PgWireBackendMessage as TheMessage};
 
 use crate::data::{DataRow, RowDescription};
@@ -18,7 +19,6 @@ use pgw_wire::error::{PgWireError, PgWireResult};
 use pgw_wire::listed::Duplicate;
 use pgw_wire::memory::OutOfMemory;
 use pgw_wire::message::Message;
-use pgw_wire::reader::are_bytes;
 use std::alloc::Global;
 
 /// A message of a server.
@@ -56,6 +56,10 @@ impl PgWireBackendMessage {
         buf: &mut BytesMut,
         ctx: &DecodeContext,
     ) -> PgWireResult<Option<PgWireBackendMessage>>
+        // A message that is read is spelled by the bytes that were taken.
+        ensures found { IfOk result (λ o. IfSome o (λ m. (g : List ℕ) × (buf.old.items ≡ g ++ buf.new.items) × Spells ctx.now.protocol_version m g)) }
+        // What is spelled at the front is read, unless memory runs out.
+        ensures only { awaits_reply ctx.now ≡ false → (m : TheMessage) (g rest : List ℕ) → Spells ctx.now.protocol_version m g → buf.old.items ≡ g ++ rest → Decodes result buf.old.items buf.new.items (Ok (Some (m, rest))) }
         // Which message it is or which refusal, and when nothing is whole yet.
         ensures exact { Decodes result buf.old.items buf.new.items (backend_front ctx.now buf.old.items) }
     {
@@ -84,6 +88,9 @@ fn decode_exact(
 ) -> PgWireResult<Option<PgWireBackendMessage>>
     ensures { Decodes result buf.old.items buf.new.items (backend_front ctx.now buf.old.items) }
 {
+    if ctx.awaiting_backend_ssl_response || ctx.awaiting_backend_gss_response {
+        return Err(PgWireError::NotYetBuilt);
+    }
     if buf.len() < 2 {
         return Ok(None);
     }
