@@ -1,0 +1,4 @@
+pub mod Totals
+pub mod Draws
+pub mod Maps
+pub mod Nesting

@@ -1,0 +1,9 @@
+//! Which query of which connection is to be canceled, and the process numbers of connections.
+#![tactic(auto)]
+
+pub mod error;
+pub mod generator;
+pub mod key;
+pub mod numbered;
+pub mod numbers;
+pub mod pairs;
