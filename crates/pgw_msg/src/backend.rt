@@ -1,14 +1,17 @@
 //! All messages of a server.
-ghost use Rattle.std.specs.Prelude.{◌≡◌, ◌++◌, ℕ, List, IfOk, IfSome, Ok, Some, false};
+ghost use Rattle.std.specs.Prelude.{◌≡◌, ◌++◌, ℕ, List, IfOk, IfSome, OnOk, Ok, Some, false};
 ghost use Rattle.pgw_wire.specs.Framing.{Decodes, Appends};
 ghost use Rattle.pgw_msg.specs.Backend.{unknown as why_unknown, awaits_reply, backend_front, backend_encoding};
 ghost use Rattle.pgw_msg.specs.Front.{Spells};
+ghost use Rattle.pgw_msg.specs.Texts.{Suits};
+ghost use Rattle.pgw_wire.specs.declared.context.ProtocolVersion.{ProtocolVersion as TheVersion};
 ghost use Rattle.pgw_msg.specs.declared.backend.PgWireBackendMessage.{PgWireBackendMessage as TheMessage};
 
 use crate::data::{DataRow, RowDescription};
 use crate::response::{
     CommandComplete, EmptyQueryResponse, ErrorResponse, NoticeResponse, ReadyForQuery,
 };
+use crate::sound::is_sound;
 use bytes::BytesMut;
 use pgw_startup::authentication::Authentication;
 use pgw_startup::backend_key_data::BackendKeyData;
@@ -38,19 +41,7 @@ pub enum PgWireBackendMessage {
 }
 
 impl PgWireBackendMessage {
-    /// Why a type byte is refused.
-    #[tactic(auto, unfolding(crate::specs::Backend::unknown))]
-    fn unknown(byte: u8) -> PgWireError
-        ensures { result ≡ why_unknown byte }
-    {
-        if b"123snAtdcfGHW".contains(&byte) {
-            PgWireError::NotYetBuilt
-        } else {
-            PgWireError::InvalidMessageType(byte)
-        }
-    }
-
-    // Takes the message at the front, if it is whole. A refusal leaves the buffer, as does want of memory.
+    /// Takes the message at the front, if it is whole. A refusal leaves the buffer, as does want of memory.
     pub fn decode(
         alloc: Global,
         buf: &mut BytesMut,
@@ -133,8 +124,18 @@ fn decode_exact(
 
 impl PgWireBackendMessage {
     /// Appends the whole message, or nothing.
-    #[tactic(auto, unfolding(crate::specs::Backend::backend_encoding))]
     pub fn encode(&self, buf: &mut BytesMut) -> PgWireResult<()>
+        // What is written spells the message, under each version that its key suits.
+        ensures spelled { OnOk result ((v : TheVersion) → Suits v self.now → (g : List ℕ) × (buf.new.items ≡ buf.old.items ++ g) × Spells v self.now g) }
+        // Which bytes are written, or which refusal it is.
+        ensures exact { Appends result buf.old.items buf.new.items (backend_encoding self.now) }
+    {
+        is_sound(self);
+        self.encode_exact(buf)
+    }
+
+    #[tactic(auto, unfolding(crate::specs::Backend::backend_encoding))]
+    fn encode_exact(&self, buf: &mut BytesMut) -> PgWireResult<()>
         ensures { Appends result buf.old.items buf.new.items (backend_encoding self.now) }
     {
         match self {

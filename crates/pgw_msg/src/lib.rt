@@ -10,4 +10,7 @@ pub mod laws;
 pub mod pg_type;
 pub mod response;
 pub mod simplequery;
+mod sound;
 pub mod tag;
+#[cfg(test)]
+mod tests;
