@@ -4,3 +4,6 @@ pub mod Key
 pub mod Generator
 pub mod Pairs
 pub mod Nested
+pub mod Sequential
+pub mod Registry
+pub mod BookCode
