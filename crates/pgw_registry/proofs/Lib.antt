@@ -4,3 +4,4 @@ pub mod Maps
 pub mod Nesting
 pub mod Holders
 pub mod Names
+pub mod Firing

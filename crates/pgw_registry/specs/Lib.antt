@@ -7,3 +7,4 @@ pub mod Nested
 pub mod Sequential
 pub mod Registry
 pub mod BookCode
+pub mod Laws

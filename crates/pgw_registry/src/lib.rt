@@ -5,6 +5,7 @@ pub mod call;
 pub mod error;
 pub mod generator;
 pub mod key;
+pub mod laws;
 pub mod numbered;
 pub mod numbers;
 pub mod pairs;
