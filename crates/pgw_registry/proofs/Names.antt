@@ -132,6 +132,7 @@ forgets_one pairs h k there alone = map.same_map pair_cmp_total pairs_alone (map
     self : (o : Option ℕ) → o ≡ Some h → None ≡ cond (not (is_handle h o)) o None
     self None e = refl
     self (Some m) e = let s = some_is m h e in let t : eqb m h ≡ true = grind (arith, nat_tests) in sym (ap (λ b. cond (not b) (Some m) None) t)
+
     by : (q : ℤ × List ℕ) (b : Bool) → eq_by_cmp pair_cmp q k ≡ b → cond b None (map.get pairs q) ≡ cond (not (is_handle h (map.get pairs q))) (map.get pairs q) None
     by q true t = self (map.get pairs q) (ap (map.get pairs) (pairs_tied q k t) ∙ there)
     by q false t = kept_by h (map.get pairs q) (λ e. true≢false (sym (pair_itself k) ∙ ap (λ z. eq_by_cmp pair_cmp z k) (sym (alone q e)) ∙ t))

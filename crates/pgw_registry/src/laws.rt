@@ -5,5 +5,4 @@ ghost use Rattle.pgw_registry.specs.Laws.{FiredLaw};
 /// no start on that handle between the query's start and that cancel.
 pub fn fired_after_cancel()
     ensures { FiredLaw }
-{
-}
+{}

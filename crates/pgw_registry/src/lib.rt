@@ -10,3 +10,5 @@ pub mod numbered;
 pub mod numbers;
 pub mod pairs;
 pub mod registry;
+#[cfg(test)]
+mod tests;
