@@ -168,6 +168,7 @@ none_to_take old pid key none p q = by (int_cmp pid p) refl
     same : (b : Bool) (x : Option ℕ) → x ≡ None → x ≡ cond b None x
     same true x e = e
     same false x e = refl
+
     by : (r : Ordering) → int_cmp pid p ≡ r → in_number (at_number old p) q ≡ cond (is_eq (ordering_then r (bytes_cmp key q))) None (in_number (at_number old p) q)
     by Less t = refl
     by Equal t = same (eq_by_cmp bytes_cmp key q) (in_number (at_number old p) q) (ap (λ (z : Option Held). in_number z q) (ap (at_number old) (sym (map.int_cmp-IsAntisymmetric pid p t)) ∙ none))

@@ -4,3 +4,7 @@ pub mod Key
 pub mod Generator
 pub mod Pairs
 pub mod Nested
+pub mod Sequential
+pub mod Registry
+pub mod BookCode
+pub mod Laws

@@ -13,6 +13,16 @@ pub enum RegistryError {
     OutOfMemory,
 }
 
+impl From<OutOfMemory> for RegistryError {
+    ghost use Rattle.pgw_registry.specs.declared.error.RegistryError.TheVariants as registry;
+
+    ghost from_gives = { λ _ e. e ≡ registry.OutOfMemory };
+
+    fn from(_: OutOfMemory) -> RegistryError {
+        RegistryError::OutOfMemory
+    }
+}
+
 /// Why a look tells nothing of a query.
 #[derive(Clone, Copy, Debug, PartialEq, Eq)]
 pub enum LookError {

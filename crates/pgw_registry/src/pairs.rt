@@ -8,9 +8,17 @@ ghost use Rattle.pgw_registry.specs.Pairs.{bytes_cmp, pair_cmp};
 ghost use Rattle.pgw_registry.specs.Nested.{at_key, at_pair};
 
 use pgw_wire::memory::OutOfMemory;
+use pgw_wire::octets::Octets;
 use std::alloc::Global;
 use std::collections::BTreeMap;
 use std::marker::Model;
+
+/// A process number and a key.
+#[derive(Debug, Drop, PartialEq, Eq)]
+pub struct Pair {
+    pub pid: i32,
+    pub key: Octets,
+}
 
 type Keys = BTreeMap<Vec<u8>, u64>;
 
