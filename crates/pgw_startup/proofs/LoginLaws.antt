@@ -1,15 +1,13 @@
 -- The rows of the login are exact.
-use Rattle.std.proofs.Common.{◌≡◌, ℕ, ℤ, ◌+◌, ◌<◌, ◌≤◌, ◌^◌, ◌⊎◌, inl, inr, Bool, true, false, cond, eqb, List, [], ◌∷◌, ◌++◌, length, Result, Ok, Err, refl, sym, ap, subst, ◌∙◌, append_assoc, arith, lit<, length-append}
-use Rattle.std.specs.Int.{w32, cast_signed}
+use Rattle.std.proofs.Common.{◌≡◌, ℕ, ◌<◌, ◌≤◌, ◌^◌, inl, inr, true, eqb, List, [], ◌∷◌, ◌++◌, length, Result, Ok, refl, sym, ap, subst, ◌∙◌, append_assoc, arith, lit<, length-append}
+use Rattle.std.specs.Int.{w32}
 use Rattle.std.proofs.lemmas.Bool.{eqb-true}
-use Rattle.std.proofs.lemmas.List.{append-nil}
 use Rattle.pgw_wire.specs.declared.error.PgWireError.{PgWireError}
-use Rattle.pgw_wire.specs.declared.error.PgWireError.TheVariants.{InvalidAuthenticationMessageCode}
 use Rattle.pgw_wire.specs.declared.context.DecodeContext.{DecodeContext}
 use Rattle.pgw_wire.specs.Reading.{◌>>=◌, text_at, nat_at, int_at, name_at, octets_at, rest_at, marked_list_at}
 use Rattle.pgw_wire.specs.CodeLaws.{name_shrinks}
 use Rattle.pgw_wire.specs.Keys.{key_of, SpellsKey}
-use Rattle.pgw_wire.specs.Formats.{pair_at, made_at, tried_at, counted_at, IsRow, Reads, ReadsLast, SpellsText, SpellsNat, SpellsInt, SpellsOctets, SpellsName, SpellsMarked, SpellsCounted}
+use Rattle.pgw_wire.specs.Formats.{made_at, tried_at, counted_at, IsRow, ReadsLast, SpellsText, SpellsInt, SpellsOctets, SpellsName, SpellsMarked, SpellsCounted}
 use Rattle.pgw_wire.proofs.Laws.{bind_ok, done, ok_is, chosen, shorter_after}
 use Rattle.pgw_wire.proofs.FieldLaws.{text_reads, nat_reads, int_reads, octets_reads}
 use Rattle.pgw_wire.proofs.FrameLaws.{reads_last, rest_reads, pair_last, made_last, counted_reads, count32}

@@ -1,7 +1,7 @@
 -- What is written of the login's messages spells them.
-use Rattle.std.proofs.Common.{◌≡◌, ℕ, ℤ, pos, ◌+◌, ◌<◌, ◌≤◌, ◌^◌, not, Bool, true, false, cond, ltb, eqb, ◌||◌, List, [], ◌∷◌, ◌++◌, length, Option, Some, None, Result, Ok, Err, refl, sym, ap, ◌∙◌, append_assoc, arith, lit<, IsUtf8, length-append}
-use Rattle.std.specs.List.{flat_map, list_any, AllByRecursion}
-use Rattle.std.specs.Int.{w8, w16, w32, to_be_bytes, cast_unsigned}
+use Rattle.std.proofs.Common.{◌≡◌, ℕ, ℤ, pos, ◌<◌, ◌^◌, not, Bool, true, false, cond, ltb, eqb, List, [], ◌∷◌, ◌++◌, length, Some, None, refl, sym, append_assoc, arith, lit<, IsUtf8}
+use Rattle.std.specs.List.{flat_map, list_any}
+use Rattle.std.specs.Int.{w32}
 use Rattle.std.proofs.lemmas.Bool.{ltb-false, or_parts, eqb-true, eqb-false}
 use Rattle.std.proofs.lemmas.Int.{ints}
 use Rattle.std.proofs.lemmas.List.{append-nil}
@@ -13,7 +13,7 @@ use Rattle.pgw_wire.specs.declared.secret_key.SecretKey.{SecretKey}
 use Rattle.pgw_wire.specs.declared.secret_key.SecretKey.TheVariants.{I32, Bytes}
 use Rattle.pgw_wire.specs.Writing.{text, i32, u32, has_zero, refused_if}
 use Rattle.pgw_wire.specs.Keys.{is_no_key, SpellsKey, key_bytes, key_fault}
-use Rattle.pgw_wire.specs.Formats.{SpellsText, SpellsNat, SpellsInt, SpellsName, SpellsMany}
+use Rattle.pgw_wire.specs.Formats.{SpellsText, SpellsNat, SpellsInt, SpellsName}
 use Rattle.std.specs.Prelude.{FitsSigned}
 use Rattle.pgw_wire.proofs.FieldLaws.{wide32}
 use Rattle.pgw_wire.proofs.WrittenLaws.{text_written, int_written, nat_written, many_written, marked_written, unrefused, lossy-IsUtf8}

@@ -1,9 +1,8 @@
 -- Versions that a server offers.
-use Rattle.std.proofs.Common.{◌≡◌, ℕ, pos, ◌+◌, ◌*◌, ◌/◌, ◌%◌, ◌<◌, ◌≤◌, Bool, true, false, cond, ltb, eqb, Option, Some, None, refl, sym, ap, ◌∙◌, arith}
+use Rattle.std.proofs.Common.{◌≡◌, ℕ, pos, ◌+◌, ◌*◌, ◌/◌, ◌%◌, ◌<◌, ◌≤◌, true, false, ltb, Some, refl, arith}
 use Rattle.std.proofs.lemmas.Bool.{lt-ltb, le-ltb}
-use Rattle.pgw_wire.specs.declared.context.ProtocolVersion.{ProtocolVersion}
 use Rattle.pgw_wire.specs.declared.context.ProtocolVersion.TheVariants.{PROTOCOL3_0, PROTOCOL3_2}
-use Rattle.pgw_startup.specs.Negotiate.{known_version, negotiated_version}
+use Rattle.pgw_startup.specs.Negotiate.{negotiated_version}
 
 pub alike : (minor : ℕ) → minor < 65536 → negotiated_version (pos (3 * 65536 + minor)) ≡ negotiated_version (pos minor)
 unfolding negotiated_version

@@ -1,15 +1,15 @@
 -- What a server says at login.
-use Rattle.std.specs.Prelude.{◌≡◌, ℕ, ℤ, ◌+◌, Bool, not, ◌||◌, List, [], ◌∷◌, ◌++◌, length, Option, Some, None, Result, Ok, Err, nat_lt, ◌==◌, if◌then◌else◌}
+use Rattle.std.specs.Prelude.{◌≡◌, ℕ, Bool, not, ◌||◌, List, [], ◌∷◌, ◌++◌, length, Option, None, Result, Ok, Err, nat_lt, ◌==◌, if◌then◌else◌}
 use Rattle.std.specs.List.{list_any, flat_map}
 use Rattle.std.specs.Int.{w32, cast_signed}
 use Rattle.pgw_wire.specs.declared.error.PgWireError.{PgWireError}
 use Rattle.pgw_wire.specs.declared.error.PgWireError.TheVariants.{InvalidAuthenticationMessageCode}
 use Rattle.pgw_wire.specs.declared.context.DecodeContext.{DecodeContext}
 use Rattle.pgw_wire.specs.declared.context.ProtocolVersion.{ProtocolVersion}
-use Rattle.pgw_wire.specs.Reading.{◌>>=◌, nat_at, int_at, text_at, name_at, octets_at, rest_at, all_of, list_at, marked_list_at, extended_count}
+use Rattle.pgw_wire.specs.Reading.{◌>>=◌, nat_at, int_at, text_at, name_at, octets_at, rest_at, all_of, marked_list_at}
 use Rattle.pgw_wire.specs.Formats.{pair_at, Pair, made_at, tried_at, counted_at, SpellsText, SpellsNat, SpellsInt, SpellsOctets, SpellsName, SpellsCounted, SpellsMarked}
 use Rattle.pgw_wire.specs.Writing.{text, i32, u32, has_zero, refused_if}
-use Rattle.pgw_wire.specs.Keys.{key_of, SpellsKey, key_bytes, key_fault}
+use Rattle.pgw_wire.specs.Keys.{key_of, SpellsKey, key_bytes}
 use Rattle.pgw_startup.specs.declared.authentication.Authentication.{Authentication}
 use Rattle.pgw_startup.specs.declared.authentication.Authentication.TheVariants as auth
 use Rattle.pgw_startup.specs.declared.parameter_status.ParameterStatus.{ParameterStatus}
