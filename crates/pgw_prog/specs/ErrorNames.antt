@@ -1,0 +1,67 @@
+-- The names of errors.
+use Rattle.std.specs.Prelude.{ℕ, List, ◌++◌, codes}
+use Rattle.pgw_wire.specs.declared.error.PgWireError.{PgWireError}
+use Rattle.pgw_wire.specs.declared.error.PgWireError.TheVariants as wire
+use Rattle.pgw_msg.specs.declared.client_error.PgWireClientError.{PgWireClientError}
+use Rattle.pgw_msg.specs.declared.client_error.PgWireClientError.TheVariants as client
+
+unfoldable pub wire_name : PgWireError → List ℕ
+wire_name (wire.UnsupportedProtocolVersion a b) = codes "UnsupportedProtocolVersion"
+wire_name wire.InvalidCancelRequest = codes "InvalidCancelRequest"
+wire_name wire.InvalidSecretKey = codes "InvalidSecretKey"
+wire_name (wire.InvalidMessageType a) = codes "InvalidMessageType"
+wire_name (wire.MessageTooLarge a b) = codes "MessageTooLarge"
+wire_name (wire.InvalidElementCount a b c) = codes "InvalidElementCount"
+wire_name (wire.InvalidTargetType a) = codes "InvalidTargetType"
+wire_name (wire.InvalidTransactionStatus a) = codes "InvalidTransactionStatus"
+wire_name wire.InvalidSSLRequestMessage = codes "InvalidSSLRequestMessage"
+wire_name wire.InvalidGssEncRequestMessage = codes "InvalidGssEncRequestMessage"
+wire_name wire.InvalidStartupMessage = codes "InvalidStartupMessage"
+wire_name (wire.InvalidAuthenticationMessageCode a) = codes "InvalidAuthenticationMessageCode"
+wire_name (wire.UnsupportedSASLAuthMethod a) = codes "UnsupportedSASLAuthMethod"
+wire_name (wire.InvalidScramMessage a) = codes "InvalidScramMessage"
+wire_name wire.NotReadyForQuery = codes "NotReadyForQuery"
+wire_name (wire.InvalidOauthMessage a) = codes "InvalidOauthMessage"
+wire_name (wire.OAuthAuthenticationFailed a) = codes "OAuthAuthenticationFailed"
+wire_name (wire.OAuthValidationError a) = codes "OAuthValidationError"
+wire_name wire.InvalidMessageBody = codes "InvalidMessageBody"
+wire_name wire.FailedToCoercePasswordMessage = codes "FailedToCoercePasswordMessage"
+wire_name wire.InvalidSASLState = codes "InvalidSASLState"
+wire_name wire.SaltRequired = codes "SaltRequired"
+wire_name wire.PidsExhausted = codes "PidsExhausted"
+wire_name wire.RegistryExhausted = codes "RegistryExhausted"
+wire_name wire.IoError = codes "IoError"
+wire_name (wire.InvalidPassword a) = codes "InvalidPassword"
+wire_name wire.UserNameRequired = codes "UserNameRequired"
+wire_name (wire.OauthAuthzIdError a) = codes "OauthAuthzIdError"
+wire_name wire.OutOfMemory = codes "OutOfMemory"
+wire_name (wire.PortalNotFound a) = codes "PortalNotFound"
+wire_name (wire.StatementNotFound a) = codes "StatementNotFound"
+wire_name wire.PortalNotStarted = codes "PortalNotStarted"
+wire_name (wire.ApiError a) = codes "ApiError"
+wire_name (wire.ParameterIndexOutOfBound a) = codes "ParameterIndexOutOfBound"
+wire_name (wire.InvalidRustTypeForParameter a) = codes "InvalidRustTypeForParameter"
+wire_name (wire.InvalidOptionValue a) = codes "InvalidOptionValue"
+wire_name (wire.FailedToParseParameter a) = codes "FailedToParseParameter"
+wire_name wire.QueryCanceled = codes "QueryCanceled"
+wire_name (wire.UserError a) = codes "UserError"
+wire_name wire.NotYetBuilt = codes "NotYetBuilt"
+
+-- a wrapped error has both names
+unfoldable pub client_name : PgWireClientError → List ℕ
+client_name (client.InvalidConfig a) = codes "InvalidConfig"
+client_name (client.UnknownConfig a) = codes "UnknownConfig"
+client_name (client.InvalidUtf8ConfigValue a) = codes "InvalidUtf8ConfigValue"
+client_name client.UnexpectedEOF = codes "UnexpectedEOF"
+client_name (client.UnexpectedMessage a) = codes "UnexpectedMessage"
+client_name client.IoError = codes "IoError"
+client_name (client.PgWireError a) = codes "PgWireError/" ++ wire_name a
+client_name (client.RemoteError a) = codes "RemoteError"
+client_name (client.FromSqlError a) = codes "FromSqlError"
+client_name client.DataRowIndexOutOfBounds = codes "DataRowIndexOutOfBounds"
+client_name (client.ScramError a) = codes "ScramError"
+client_name (client.UnsupportedSASLAuthMethods a) = codes "UnsupportedSASLAuthMethods"
+client_name client.ReadLimit = codes "ReadLimit"
+client_name client.Broken = codes "Broken"
+client_name client.OutOfMemory = codes "OutOfMemory"
+client_name client.NotYetBuilt = codes "NotYetBuilt"

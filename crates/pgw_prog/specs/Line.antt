@@ -1,0 +1,118 @@
+-- The lines of a session script: what each says. A line is a word, a space and a value.
+use Rattle.std.specs.Prelude.{ℕ, ◌+◌, ◌<◌, ◌^◌, List, [], ◌∷◌, ◌++◌, Bool, true, false, not, ◌==◌, ◌&&◌, ◌||◌, nat_lt, nat_le, nat_eq, length, take, drop, codes, Option, Some, None, Result, Ok, Err, if◌then◌else◌}
+use Rattle.std.specs.List.{filter, list_all, position}
+use Rattle.std.specs.Result.{result_ok}
+use Rattle.std.specs.Cmp.Lexicographic.{pointwise}
+use Rattle.std.specs.Str.{is_utf8, all_ascii_digits}
+use Rattle.std.specs.Str.Parse.{without_leading_plus, digits_value}
+use Rattle.std.specs.Char.{is_ascii_alphanumeric}
+use Rattle.hex.specs.Hex.{decode_of, decode_sized}
+use Rattle.pgw_wire.specs.declared.context.ProtocolVersion.{ProtocolVersion}
+use Rattle.pgw_wire.specs.declared.context.ProtocolVersion.TheVariants as version
+use Rattle.pgw_prog.specs.declared.line.Line.{Line}
+use Rattle.pgw_prog.specs.declared.line.Line.TheVariants as line
+
+-- the value behind a word
+unfoldable pub value_behind : List ℕ → List ℕ → Option (List ℕ)
+value_behind word bytes = if pointwise nat_eq (take (length word) bytes) word then Some (drop (length word) bytes) else None
+
+-- one or more ASCII letters and digits
+unfoldable pub is_name : List ℕ → Bool
+is_name bytes = not (length bytes == 0) && list_all is_ascii_alphanumeric bytes
+
+unfoldable pub name_in : List ℕ → Option (List ℕ)
+name_in bytes = if is_name bytes then Some bytes else None
+
+-- any text in UTF-8
+unfoldable pub text_in : List ℕ → Option (List ℕ)
+text_in bytes = if is_utf8 bytes then Some bytes else None
+
+-- digits, and a plus may stand before them; the number has 64 bits
+unfoldable pub number_in : List ℕ → Option ℕ
+number_in bytes =
+    let digits = without_leading_plus bytes in
+    if not (length digits == 0) && all_ascii_digits digits && nat_lt (digits_value 10 digits) (2 ^ 64) then Some (digits_value 10 digits) else None
+
+-- what stands before the first space and behind it
+abbrev pub cut_at : List ℕ → Option ℕ → Option (List ℕ × List ℕ)
+cut_at bytes None = None
+cut_at bytes (Some at) = Some (take at bytes, drop (at + 1) bytes)
+
+unfoldable pub cut_at_space : List ℕ → Option (List ℕ × List ℕ)
+cut_at_space bytes = cut_at bytes (position (λ b. b == 32) bytes)
+
+-- a line's kind, and its value
+abbrev pub known : {A : Type 0} → (A → Line) → Option A → Option Line
+known make None = None
+known make (Some value) = Some (make value)
+
+-- a user and a password
+abbrev pub login : Option (List ℕ) → Option (List ℕ) → Option Line
+login (Some user) (Some password) = Some (line.Config user (Some password))
+login None password = None
+login (Some user) None = None
+
+abbrev pub password_in : Option (List ℕ) → Option (List ℕ)
+password_in None = None
+password_in (Some word) = name_in word
+
+-- NAME, or NAME, a space, password= and WORD
+abbrev pub config_by : List ℕ → Option (List ℕ × List ℕ) → Option Line
+config_by value None = known (λ user. line.Config user None) (name_in value)
+config_by value (Some parts) = login (name_in parts.0) (password_in (value_behind (codes "password=") parts.1))
+
+unfoldable pub config_in : List ℕ → Option Line
+config_in value = config_by value (cut_at_space value)
+
+unfoldable pub version_in : List ℕ → Option ProtocolVersion
+version_in value =
+    if pointwise nat_eq value (codes "3.0") then Some version.PROTOCOL3_0
+    else if pointwise nat_eq value (codes "3.2") then Some version.PROTOCOL3_2
+    else if pointwise nat_eq value (codes "3.9999") then Some version.PROTOCOL3_9999
+    else None
+
+-- 36 hex digits
+unfoldable pub nonce_in : List ℕ → Option (List ℕ)
+nonce_in value = result_ok (decode_sized value 18)
+
+-- 1 to 65536
+abbrev pub within_cut : Option ℕ → Option ℕ
+within_cut None = None
+within_cut (Some n) = if nat_le 1 n && nat_le n 65536 then Some n else None
+
+unfoldable pub cut_in : List ℕ → Option ℕ
+cut_in value = within_cut (number_in value)
+
+-- hex digits, among which spaces may stand
+unfoldable pub bytes_in : List ℕ → Option (List ℕ)
+bytes_in value = result_ok (decode_of (filter (λ b. not (b == 32)) value))
+
+-- the value behind this word, if the line has it, and else what the rest says
+abbrev pub behind_or : Option (List ℕ) → (List ℕ → Option Line) → Option Line → Option Line
+behind_or None read rest = rest
+behind_or (Some value) read rest = read value
+
+-- fail read N, fail write N, simple SQL, server HEX
+unfoldable pub later_line_of : List ℕ → Option Line
+later_line_of bytes =
+    behind_or (value_behind (codes "fail read ") bytes) (λ v. known line.FailRead (number_in v))
+    (behind_or (value_behind (codes "fail write ") bytes) (λ v. known line.FailWrite (number_in v))
+    (behind_or (value_behind (codes "simple ") bytes) (λ v. known line.Simple (text_in v))
+    (behind_or (value_behind (codes "server ") bytes) (λ v. known line.Server (bytes_in v)) None)))
+
+-- protocol .., nonce .., limit N, cut N, or a later line
+unfoldable pub setting_of : List ℕ → Option Line
+setting_of bytes =
+    behind_or (value_behind (codes "protocol ") bytes) (λ v. known line.Protocol (version_in v))
+    (behind_or (value_behind (codes "nonce ") bytes) (λ v. known line.Nonce (nonce_in v))
+    (behind_or (value_behind (codes "limit ") bytes) (λ v. known line.Limit (number_in v))
+    (behind_or (value_behind (codes "cut ") bytes) (λ v. known line.Cut (cut_in v)) (later_line_of bytes))))
+
+-- config user=.., or another line
+unfoldable pub line_of : List ℕ → Option Line
+line_of bytes = behind_or (value_behind (codes "config user=") bytes) config_in (setting_of bytes)
+
+-- a cut lets a call move a byte
+abbrev pub Moves : Line → Type 0
+Moves (line.Cut n) = 0 < n
+Moves _ = Unit {0}

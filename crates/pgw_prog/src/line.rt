@@ -1,0 +1,233 @@
+//! The lines of a session script.
+ghost use Rattle.std.specs.Prelude.{◌≡◌, ◌<◌, ◌==◌, ◌&&◌, IfOk, IfSome, MatchOption, Some, None, length, not, nat_le, position};
+ghost use Rattle.std.specs.Option.{option_copied};
+ghost use Rattle.std.specs.List.{filter, list_all};
+ghost use Rattle.std.specs.Char.{is_ascii_alphanumeric};
+ghost use Rattle.pgw_prog.specs.Line.{value_behind, name_in, number_in, text_in, is_name as names, cut_at_space as spaced, config_in, version_in, nonce_in, cut_in, bytes_in, later_line_of, setting_of, line_of, Moves};
+
+use hex::{FromHex, FromHexError};
+use pgw_wire::context::ProtocolVersion;
+use pgw_wire::memory::OutOfMemory;
+use pgw_wire::octets::Octets;
+use pgw_wire::text::Text;
+use std::alloc::Global;
+use std::str;
+
+/// What one line of a script says.
+#[derive(Debug, Drop)]
+pub enum Line {
+    /// The user and the password.
+    Config(Text, Option<Text>),
+    Protocol(ProtocolVersion),
+    Nonce([u8; 18]),
+    Limit(u64),
+    Cut(usize),
+    FailRead(u64),
+    FailWrite(u64),
+    Simple(Text),
+    Server(Octets),
+}
+
+/// What stands behind a word.
+#[tactic(auto, unfolding(crate::specs::Line::value_behind))]
+fn behind<'a>(word: &[u8], line: &'a [u8]) -> Option<&'a [u8]>
+    ensures { option_copied result ≡ value_behind word.now line.now }
+{
+    line.strip_prefix(word)
+}
+
+/// The text that bytes are, where they are UTF-8.
+#[tactic(auto, unfolding(crate::specs::Line::text_in))]
+fn read_text(alloc: Global, value: &[u8]) -> Result<Option<Text>, OutOfMemory>
+    ensures { IfOk result (λ o. o ≡ text_in value.now) }
+{
+    match str::from_utf8(value) {
+        Ok(text) => Ok(Some(Text::from_str(alloc, text)?)),
+        Err(_) => Ok(None),
+    }
+}
+
+#[tactic(auto, unfolding(crate::specs::Line::is_name))]
+fn is_name(value: &[u8]) -> bool
+    ensures { result ≡ names value.now }
+{
+    !value.is_empty() && is_alphanumeric(value)
+}
+
+fn is_alphanumeric(value: &[u8]) -> bool
+    ensures { result ≡ list_all is_ascii_alphanumeric value.now }
+{
+    value.iter().all(|byte| byte.is_ascii_alphanumeric())
+}
+
+#[tactic(auto, unfolding(crate::specs::Line::name_in, crate::specs::Line::text_in))]
+fn read_name(alloc: Global, value: &[u8]) -> Result<Option<Text>, OutOfMemory>
+    ensures { IfOk result (λ o. o ≡ name_in value.now) }
+{
+    if !is_name(value) {
+        return Ok(None);
+    }
+    read_text(alloc, value)
+}
+
+fn read_number(value: &[u8]) -> Option<u64>
+    ensures { result ≡ number_in value.now }
+{
+    match str::from_utf8(value) {
+        Ok(text) => text.parse::<u64>().ok(),
+        Err(_) => None,
+    }
+}
+
+#[tactic(auto, unfolding(crate::specs::Line::cut_at_space))]
+fn cut_at_space(bytes: &[u8]) -> Option<(&[u8], &[u8])>
+    ensures { MatchOption result (spaced bytes.now ≡ None) (λ p. spaced bytes.now ≡ Some (p.0.now, p.1.now)) }
+{
+    let at = space_in(bytes)?;
+    let (front, _) = bytes.split_at(at);
+    let (_, back) = bytes.split_at(at + 1);
+    Some((front, back))
+}
+
+/// The place of the first space.
+fn space_in(bytes: &[u8]) -> Option<usize>
+    ensures place { result ≡ position (λ b. b == 32) bytes.now }
+    ensures bound { IfSome result (λ at. at < length bytes.now) }
+{
+    bytes.iter().position(|byte| *byte == b' ')
+}
+
+#[tactic(auto, unfolding(crate::specs::Line::config_in))]
+fn read_config(alloc: Global, value: &[u8]) -> Result<Option<Line>, OutOfMemory>
+    ensures value { IfOk result (λ o. o ≡ config_in value.now) }
+    ensures moves { IfOk result (λ o. IfSome o Moves) }
+{
+    let Some((user, rest)) = cut_at_space(value) else {
+        return Ok(read_name(alloc, value)?.map(|user| Line::Config(user, None)));
+    };
+    let user = read_name(alloc, user)?;
+    let password = match behind(b"password=", rest) {
+        Some(word) => read_name(alloc, word)?,
+        None => None,
+    };
+    Ok(match (user, password) {
+        (Some(user), Some(password)) => Some(Line::Config(user, Some(password))),
+        _ => None,
+    })
+}
+
+#[tactic(auto, unfolding(crate::specs::Line::version_in))]
+fn read_version(value: &[u8]) -> Option<ProtocolVersion>
+    ensures { result ≡ version_in value.now }
+{
+    if value == b"3.0".as_slice() {
+        Some(ProtocolVersion::PROTOCOL3_0)
+    } else if value == b"3.2".as_slice() {
+        Some(ProtocolVersion::PROTOCOL3_2)
+    } else if value == b"3.9999".as_slice() {
+        Some(ProtocolVersion::PROTOCOL3_9999)
+    } else {
+        None
+    }
+}
+
+#[tactic(auto, unfolding(crate::specs::Line::nonce_in))]
+fn read_nonce(value: &[u8]) -> Option<[u8; 18]>
+    ensures { result ≡ nonce_in value.now }
+{
+    <[u8; 18] as FromHex>::from_hex(value).ok()
+}
+
+#[tactic(auto, unfolding(crate::specs::Line::cut_in))]
+fn read_cut(value: &[u8]) -> Option<usize>
+    ensures value { result ≡ cut_in value.now }
+    ensures moves { IfSome result (λ n. 0 < n) }
+{
+    match read_number(value) {
+        Some(number) if is_cut(number) => Some(number as usize),
+        _ => None,
+    }
+}
+
+fn is_cut(number: u64) -> bool
+    ensures { result ≡ (nat_le 1 number && nat_le number 65536) }
+{
+    1 <= number && number <= 65536
+}
+
+#[tactic(auto, unfolding(crate::specs::Line::bytes_in))]
+fn read_bytes(alloc: Global, value: &[u8]) -> Result<Option<Octets>, OutOfMemory>
+    ensures { IfOk result (λ o. o ≡ bytes_in value.now) }
+{
+    let digits = without_spaces(alloc, value)?;
+    match hex::decode(alloc, digits.as_slice()) {
+        Ok(bytes) => Ok(Some(Octets::from_slice(alloc, &bytes)?)),
+        Err(FromHexError::OutOfMemory) => Err(OutOfMemory),
+        Err(_) => Ok(None),
+    }
+}
+
+fn without_spaces(alloc: Global, value: &[u8]) -> Result<Vec<u8>, OutOfMemory>
+    ensures { IfOk result (λ v. v.items ≡ filter (λ b. not (b == 32)) value.now) }
+{
+    let digits = value
+        .iter()
+        .copied()
+        .filter(|byte| *byte != b' ')
+        .collect(alloc)?;
+    Ok(digits)
+}
+
+/// What a line says, where it is one of the later kinds.
+#[tactic(auto, unfolding(crate::specs::Line::later_line_of))]
+fn read_later_line(alloc: Global, line: &[u8]) -> Result<Option<Line>, OutOfMemory>
+    ensures value { IfOk result (λ o. o ≡ later_line_of line.now) }
+    ensures moves { IfOk result (λ o. IfSome o Moves) }
+{
+    if let Some(value) = behind(b"fail read ", line) {
+        return Ok(read_number(value).map(Line::FailRead));
+    }
+    if let Some(value) = behind(b"fail write ", line) {
+        return Ok(read_number(value).map(Line::FailWrite));
+    }
+    if let Some(value) = behind(b"simple ", line) {
+        return Ok(read_text(alloc, value)?.map(Line::Simple));
+    }
+    if let Some(value) = behind(b"server ", line) {
+        return Ok(read_bytes(alloc, value)?.map(Line::Server));
+    }
+    Ok(None)
+}
+
+/// What a line says, where it is a setting or one of the later kinds.
+#[tactic(auto, unfolding(crate::specs::Line::setting_of))]
+fn read_setting(alloc: Global, line: &[u8]) -> Result<Option<Line>, OutOfMemory>
+    ensures value { IfOk result (λ o. o ≡ setting_of line.now) }
+    ensures moves { IfOk result (λ o. IfSome o Moves) }
+{
+    if let Some(value) = behind(b"protocol ", line) {
+        return Ok(read_version(value).map(Line::Protocol));
+    }
+    if let Some(value) = behind(b"nonce ", line) {
+        return Ok(read_nonce(value).map(Line::Nonce));
+    }
+    if let Some(value) = behind(b"limit ", line) {
+        return Ok(read_number(value).map(Line::Limit));
+    }
+    if let Some(value) = behind(b"cut ", line) {
+        return Ok(read_cut(value).map(Line::Cut));
+    }
+    read_later_line(alloc, line)
+}
+
+/// What a line says, where it is in the grammar.
+#[tactic(auto, unfolding(crate::specs::Line::line_of))]
+pub fn read_line(alloc: Global, line: &[u8]) -> Result<Option<Line>, OutOfMemory>
+    ensures value { IfOk result (λ o. o ≡ line_of line.now) }
+    ensures moves { IfOk result (λ o. IfSome o Moves) }
+{
+    match behind(b"config user=", line) {
+        Some(value) => read_config(alloc, value),
+        None => read_setting(alloc, line),
+    }
+}

@@ -1,0 +1,78 @@
+//! The pieces of printed text.
+ghost use Rattle.std.specs.Prelude.{◌≡◌, ◌++◌, ◌∷◌, [], OnOk, codes, decimal};
+ghost use Rattle.std.specs.Fmt.{signed_decimal};
+ghost use Rattle.std.specs.List.{flat_map};
+ghost use Rattle.pgw_prog.specs.Pieces.{in_hex, quoted, quoted_byte};
+
+use itoa::Buffer;
+use pgw_wire::memory::OutOfMemory;
+
+pub fn put(out: &mut Vec<u8>, text: &[u8]) -> Result<(), OutOfMemory>
+    ensures { OnOk result (out.new.items ≡ out.old.items ++ text.now) }
+{
+    out.extend_from_slice(text)?;
+    Ok(())
+}
+
+#[tactic(auto, unfolding(crate::specs::Pieces::in_hex))]
+pub fn put_hex(out: &mut Vec<u8>, bytes: &[u8]) -> Result<(), OutOfMemory>
+    ensures { OnOk result (out.new.items ≡ out.old.items ++ in_hex bytes.now) }
+{
+    if bytes.is_empty() {
+        return put(out, b"-");
+    }
+    let text = hex::encode(*out.allocator(), bytes)?;
+    put(out, text.as_bytes())
+}
+
+pub fn put_decimal(out: &mut Vec<u8>, number: u64) -> Result<(), OutOfMemory>
+    ensures { OnOk result (out.new.items ≡ out.old.items ++ decimal number) }
+{
+    let mut buffer = Buffer::new();
+    put(out, buffer.format(number).as_bytes())
+}
+
+pub fn put_signed(out: &mut Vec<u8>, number: i32) -> Result<(), OutOfMemory>
+    ensures { OnOk result (out.new.items ≡ out.old.items ++ signed_decimal number) }
+{
+    let mut buffer = Buffer::new();
+    put(out, buffer.format(number).as_bytes())
+}
+
+#[tactic(auto, unfolding(crate::specs::Pieces::quoted_byte))]
+fn put_quoted_byte(out: &mut Vec<u8>, byte: u8) -> Result<(), OutOfMemory>
+    ensures { OnOk result (out.new.items ≡ out.old.items ++ quoted_byte byte) }
+{
+    match byte {
+        b'"' => put(out, b"\\\""),
+        b'\\' => put(out, b"\\\\"),
+        0..=31 => put_escape(out, byte),
+        127 => put_escape(out, byte),
+        _ => put(out, &[byte]),
+    }
+}
+
+fn put_escape(out: &mut Vec<u8>, byte: u8) -> Result<(), OutOfMemory>
+    ensures { OnOk result (out.new.items ≡ out.old.items ++ (codes "\\x" ++ in_hex (byte ∷ []))) }
+{
+    put(out, b"\\x")?;
+    put_hex(out, &[byte])
+}
+
+fn put_quoted_bytes(out: &mut Vec<u8>, bytes: &[u8]) -> Result<(), OutOfMemory>
+    ensures { OnOk result (out.new.items ≡ out.old.items ++ flat_map quoted_byte bytes.now) }
+{
+    for byte in bytes {
+        put_quoted_byte(out, *byte)?;
+    }
+    Ok(())
+}
+
+#[tactic(auto, unfolding(crate::specs::Pieces::quoted))]
+pub fn put_quoted(out: &mut Vec<u8>, text: &[u8]) -> Result<(), OutOfMemory>
+    ensures { OnOk result (out.new.items ≡ out.old.items ++ quoted text.now) }
+{
+    put(out, b"\"")?;
+    put_quoted_bytes(out, text)?;
+    put(out, b"\"")
+}
