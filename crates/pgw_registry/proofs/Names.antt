@@ -1,5 +1,5 @@
 -- Each pair is the one with which its handle was made.
-use Rattle.std.proofs.Common.{◌≡◌, ◌≢◌, ◌⊎◌, inl, inr, ⊎_elim, ℕ, ℤ, ◌+◌, ◌<◌, ◌≤◌, Bool, true, false, true≢false, not, eqb, cond, List, Option, Some, None, Ordering, Less, Equal, Greater, refl, sym, ap, ◌∙◌, subst, arith}
+use Rattle.std.proofs.Common.{◌≡◌, ◌≢◌, ◌⊎◌, inl, inr, ⊎_elim, ℕ, ℤ, ◌+◌, Bool, true, false, true≢false, not, eqb, cond, List, Option, Some, None, Ordering, Less, Equal, Greater, refl, sym, ap, ◌∙◌, subst, arith}
 use Rattle.std.proofs.lemmas.Bool.Decides.{nat_tests}
 use Rattle.std.specs.Ordering.{nat_cmp, eq_by_cmp, is_eq}
 use Rattle.std.specs.Cmp.{nat_cmp_total, eq_by_cmp_equiv}
@@ -8,7 +8,7 @@ use Rattle.pgw_registry.specs.Pairs.{PairMap, pair_cmp, is_handle, without_handl
 use Rattle.pgw_registry.specs.declared.pairs.Pair.{Pair}
 use Rattle.pgw_registry.specs.Registry.{NamesPairs, pair}
 use Rattle.pgw_registry.proofs.Nesting.{pair_cmp_total, pairs_alone}
-use Rattle.pgw_registry.proofs.Holders.{cond_is, some_is, not_none, numbers_apart, number_itself, in_written}
+use Rattle.pgw_registry.proofs.Holders.{cond_is, some_is, not_none, numbers_apart, number_itself}
 
 abbrev Names : Type 0
 Names = map.FinMap nat_cmp Pair

@@ -60,6 +60,8 @@ pub trait PidSecretKeyGenerator {
     /// The seat comes from this generator.
     ghost fits: { Self → Listing → Type 0 };
 
+    /// A process number that no other connection has, and a key made of the words, which are to be
+    /// random.
     fn generate(
         &self,
         seat: &mut PidSeat,
@@ -97,12 +99,14 @@ impl PidSecretKeyGenerator for RandomPidSecretKeyGenerator {
 }
 
 impl RandomPidSecretKeyGenerator {
+    /// A generator and its first seat. The numbers begin at 100000.
     pub fn new(alloc: Global) -> Result<(RandomPidSecretKeyGenerator, PidSeat), OutOfMemory>
         ensures { IfOk result (λ r. r.1 ≡ unused r.0 100000) }
     {
         RandomPidSecretKeyGenerator::starting_at(alloc, 100_000)
     }
 
+    /// A generator whose numbers begin at `first`.
     pub fn starting_at(
         alloc: Global,
         first: i32,
@@ -118,7 +122,8 @@ impl RandomPidSecretKeyGenerator {
         ))
     }
 
-    /// A new seat, for which `from` draws one number, unless it has drawn one for a seat that was not made.
+    /// A new seat, for which `from` draws one number, unless it has drawn one for a seat that was
+    /// not made.
     pub fn seat(&self, from: &mut PidSeat) -> Result<PidSeat, PidError>
         requires { from.old.of ≡ self.now }
         ensures kept { (from.new.of ≡ from.old.of) × (from.new.begins ≡ from.old.begins) × (from.old.seen ≤ from.new.seen) }

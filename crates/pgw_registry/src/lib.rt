@@ -6,9 +6,9 @@ pub mod error;
 pub mod generator;
 pub mod key;
 pub mod laws;
-pub mod numbered;
-pub mod numbers;
-pub mod pairs;
+mod numbered;
+mod numbers;
+mod pairs;
 pub mod registry;
 #[cfg(test)]
 mod tests;

@@ -1,5 +1,5 @@
 use Rattle.pgw_registry.specs.Nested.{at_key}
-use Rattle.std.proofs.Common.{◌≡◌, ap, ◌∙◌}
+use Rattle.std.proofs.Common.{ap, ◌∙◌}
 use Rattle.pgw_registry.proofs.Nesting.{key_written}
 use Rattle.pgw_registry.proofs.pairs.add_key.Goals as goal
 

@@ -1,12 +1,12 @@
-use Rattle.std.proofs.Common.{◌≡◌, ap, sym, ◌∙◌, cond, Some, Ok, rules, arith, ℤ, ℕ}
+use Rattle.std.proofs.Common.{◌≡◌, ap, sym, ◌∙◌, cond, Some, arith}
 use Rattle.std.proofs.lemmas.Int.{to_z-of_z}
 use mir.Syntax.{w32}
 use mir.Val.{to_z, of_z}
 use Rattle.std.specs.Ordering.{eq_by_cmp, int_cmp}
 use Rattle.std.specs.BTreeMap.{is_at}
 use Rattle.std.specs.Map.{lookup}
-use Rattle.pgw_registry.specs.Pairs.{bytes_cmp, pair_cmp}
-use Rattle.pgw_registry.specs.Nested.{at_key, in_number, at_pair}
+use Rattle.pgw_registry.specs.Pairs.{bytes_cmp}
+use Rattle.pgw_registry.specs.Nested.{at_key, in_number}
 use Rattle.pgw_registry.proofs.Nesting.{changed, in_some, in_none, at_nothing}
 use Rattle.pgw_registry.proofs.pairs.add_number.Goals as goal
 

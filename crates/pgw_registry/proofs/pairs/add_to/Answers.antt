@@ -1,7 +1,7 @@
-use Rattle.std.proofs.Common.{◌≡◌, ap, sym, subst, refl, ◌∙◌, IsSome, cond, List, ℕ, ℤ, Option, Some}
+use Rattle.std.proofs.Common.{ap, sym, subst, refl, ◌∙◌, IsSome, cond, Some}
 use Rattle.std.specs.Ordering.{eq_by_cmp}
-use Rattle.pgw_registry.specs.Pairs.{bytes_cmp, pair_cmp}
-use Rattle.pgw_registry.specs.Nested.{at_key, in_number, at_pair}
+use Rattle.pgw_registry.specs.Pairs.{bytes_cmp}
+use Rattle.pgw_registry.specs.Nested.{in_number}
 use Rattle.pgw_registry.proofs.Nesting.{changed, unchanged, in_some, on_ok_from, on_err_from}
 use Rattle.pgw_registry.proofs.pairs.add_to.Goals as goal
 

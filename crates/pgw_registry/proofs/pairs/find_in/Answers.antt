@@ -1,4 +1,4 @@
-use Rattle.std.proofs.Common.{◌≡◌, ap, ◌∙◌}
+use Rattle.std.proofs.Common.{ap, ◌∙◌}
 use Rattle.pgw_registry.specs.Nested.{at_key, in_number, at_pair}
 use Rattle.pgw_registry.proofs.pairs.find_in.Goals as goal
 

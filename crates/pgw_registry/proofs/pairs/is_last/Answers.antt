@@ -1,4 +1,3 @@
-use Rattle.std.proofs.Common.{◌≡◌, ap, ◌∙◌}
 use Rattle.pgw_registry.specs.Nested.{at_key}
 use Rattle.pgw_registry.proofs.Nesting.{key_taken}
 use Rattle.pgw_registry.proofs.pairs.is_last.Goals as goal

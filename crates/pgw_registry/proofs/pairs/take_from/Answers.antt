@@ -1,9 +1,9 @@
-use Rattle.std.proofs.Common.{◌≡◌, ap, sym, subst, refl, ◌∙◌, IsSome, cond, Some, None}
+use Rattle.std.proofs.Common.{ap, sym, subst, refl, ◌∙◌, IsSome, cond, Some, None}
 use Rattle.std.specs.Ordering.{eq_by_cmp, int_cmp}
 use Rattle.std.specs.BTreeMap.{is_at}
 use Rattle.std.specs.Map.{lookup}
 use Rattle.std.specs.Option.{option_copied_mut}
-use Rattle.pgw_registry.specs.Pairs.{bytes_cmp, pair_cmp}
+use Rattle.pgw_registry.specs.Pairs.{bytes_cmp}
 use Rattle.pgw_registry.specs.Nested.{at_key, in_number, at_pair}
 use Rattle.pgw_registry.proofs.Nesting.{changed, none_to_take, in_some, in_none, at_nothing, forgotten}
 use Rattle.pgw_registry.proofs.pairs.take_from.Goals as goal

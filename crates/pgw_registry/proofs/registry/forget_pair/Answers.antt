@@ -1,9 +1,7 @@
-use Rattle.std.proofs.Common.{◌≡◌, ◌≢◌, ℤ, List, ℕ, Option, Some, None, arith, sym, ap, ◌∙◌}
+use Rattle.std.proofs.Common.{◌≡◌, ℤ, List, ℕ, Some, arith, sym, ap, ◌∙◌}
 use Rattle.std.proofs.lemmas.Int.{to_z-of_z}
 use mir.Syntax.{w32}
 use mir.Val.{to_z, of_z}
-use Rattle.std.specs.FinMap as map
-use Rattle.pgw_registry.specs.Registry.{pair}
 use Rattle.pgw_registry.proofs.Holders.{some_is, not_none}
 use Rattle.pgw_registry.proofs.Names.{forgets_none, forgets_one, forgets_other, named_only}
 use Rattle.pgw_registry.proofs.registry.forget_pair.Goals as goal

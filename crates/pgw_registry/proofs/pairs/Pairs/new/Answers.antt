@@ -1,4 +1,4 @@
-use Rattle.std.proofs.Common.{◌≡◌, ℕ, ap, List}
+use Rattle.std.proofs.Common.{ap}
 use Rattle.std.specs.FinMap as map
 use Rattle.pgw_registry.specs.Pairs.{pair_cmp}
 use Rattle.pgw_registry.specs.Nested.{flat}

@@ -1,9 +1,8 @@
-use Rattle.std.proofs.Common.{◌≡◌, ◌+◌, ℤ, List, ℕ, Some, None, arith, refl, sym, ap, subst, ◌∙◌}
+use Rattle.std.proofs.Common.{◌≡◌, ◌+◌, ℤ, Some, None, arith, refl, sym, ap, subst, ◌∙◌}
 use Rattle.std.proofs.lemmas.Int.{to_z-of_z}
 use mir.Syntax.{w32}
 use mir.Val.{to_z, of_z}
 use Rattle.std.specs.FinMap as map
-use Rattle.pgw_registry.specs.Pairs.{PairMap}
 use Rattle.pgw_registry.specs.Sequential.{Book}
 use Rattle.pgw_registry.specs.Registry.{FewHolders, NamesPairs, pair}
 use Rattle.pgw_registry.proofs.Holders.{few_written}

@@ -1,5 +1,4 @@
-use Rattle.std.proofs.Common.{◌≡◌, arith, sym, ap, ◌∙◌}
-use Rattle.std.proofs.lemmas.Int.{to_z-of_z}
+use Rattle.std.proofs.Common.{arith, sym, ◌∙◌}
 use mir.Syntax.{w32}
 use mir.Val.{to_z, of_z}
 use Rattle.pgw_registry.proofs.Names.{names_without_pair}

@@ -1,4 +1,4 @@
-use Rattle.std.proofs.Common.{◌≡◌, ◌<◌, ◌≤◌, ◌+◌, Some, sym, ◌∙◌, arith}
+use Rattle.std.proofs.Common.{sym, ◌∙◌, arith}
 use Rattle.pgw_registry.proofs.Holders.{few_written}
 use Rattle.pgw_registry.proofs.registry.Registry.start_query.Goals as goal
 
