@@ -3,3 +3,4 @@ pub mod BackendStable
 pub mod FrontLaws
 pub mod TagLaws
 pub mod BackendLaws
+pub mod BackendWritten

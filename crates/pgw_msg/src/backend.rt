@@ -38,19 +38,7 @@ pub enum PgWireBackendMessage {
 }
 
 impl PgWireBackendMessage {
-    /// Why a type byte is refused.
-    #[tactic(auto, unfolding(crate::specs::Backend::unknown))]
-    fn unknown(byte: u8) -> PgWireError
-        ensures { result ≡ why_unknown byte }
-    {
-        if b"123snAtdcfGHW".contains(&byte) {
-            PgWireError::NotYetBuilt
-        } else {
-            PgWireError::InvalidMessageType(byte)
-        }
-    }
-
-    // Takes the message at the front, if it is whole. A refusal leaves the buffer, as does want of memory.
+    /// Takes the message at the front, if it is whole. A refusal leaves the buffer, as does want of memory.
     pub fn decode(
         alloc: Global,
         buf: &mut BytesMut,

@@ -11,3 +11,5 @@ pub mod pg_type;
 pub mod response;
 pub mod simplequery;
 pub mod tag;
+#[cfg(test)]
+mod tests;
