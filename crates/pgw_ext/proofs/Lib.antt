@@ -1,2 +1,3 @@
 pub mod KindLaws
 pub mod RowLaws
+pub mod RowsWritten

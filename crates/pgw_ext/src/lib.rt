@@ -10,3 +10,5 @@ pub mod laws;
 mod parameter;
 mod parse;
 mod target;
+#[cfg(test)]
+mod tests;
