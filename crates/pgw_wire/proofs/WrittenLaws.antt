@@ -70,9 +70,9 @@ unfolding encoded
 encoded_parts framing limit fault body g small is = elim (chosen (ltb limit (saturated (length body + 4))) _ _ _ is) [
   | inl h ↦ absurd cc
   | inr h ↦
-    let within : saturated (length body + 4) ≤ limit = ltb-false _ _ h.0 in
-    let b = body_is fault (header framing (length body) ++ body) g h.1 in
-    (omega (arith, within, small), b.0, b.1)
+      let within : saturated (length body + 4) ≤ limit = ltb-false _ _ h.0 in
+      let b = body_is fault (header framing (length body) ++ body) g h.1 in
+      (omega (arith, within, small), b.0, b.1)
 ]
 
 pub typed_written : {M : Type 0} (byte limit : ℕ) (P : M → List ℕ → Type 0) (m : M) (fault : Option PgWireError) (body g : List ℕ) → limit < 2 ^ 31 → encoded (Typed byte) limit fault body ≡ Ok g → (fault ≡ None → P m body) → SpellsTyped byte limit P m g
