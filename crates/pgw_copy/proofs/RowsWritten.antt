@@ -1,5 +1,5 @@
 -- What is written of the messages spells them.
-use Rattle.std.proofs.Common.{◌≡◌, ℕ, ℤ, pos, ◌<◌, ◌^◌, not, Bool, true, false, List, [], ◌∷◌, ◌++◌, length, refl, sym, subst, ap, ◌∙◌, None, arith}
+use Rattle.std.proofs.Common.{◌≡◌, ℤ, pos, ◌<◌, ◌^◌, not, Bool, true, false, List, [], ◌∷◌, ◌++◌, length, refl, subst, ap, ◌∙◌, None, arith}
 use Rattle.std.specs.Prelude.{FitsSigned}
 use Rattle.std.specs.Ordering.{int_eq}
 use Rattle.std.specs.List.{flat_map, AllByRecursion}
@@ -8,10 +8,10 @@ use Rattle.std.proofs.lemmas.Int.{to_z-of_z}
 use Rattle.std.proofs.lemmas.List.Concat.{flat_map-cons}
 use Rattle.std.proofs.lemmas.Bool.Decides.{Decides-int_eq}
 use Rattle.std.proofs.Math.Facts.{Fits-of_z, Fits-lt-pow}
-use Rattle.pgw_wire.specs.Writing.{text, i16, has_zero, refused_if}
-use Rattle.pgw_wire.specs.Formats.{SpellsText, SpellsInt, SpellsMany}
+use Rattle.pgw_wire.specs.Writing.{i16, refused_if}
+use Rattle.pgw_wire.specs.Formats.{SpellsInt, SpellsMany}
 use Rattle.pgw_wire.proofs.FieldLaws.{wide16}
-use Rattle.pgw_wire.proofs.WrittenLaws.{text_written, int_written, unrefused}
+use Rattle.pgw_wire.proofs.WrittenLaws.{int_written, unrefused}
 use Rattle.pgw_copy.specs.Rows.{formats, is_miscounted, SpellsColumns}
 use Rattle.pgw_copy.specs.Sound.{IsCode, AreColumns}
 

@@ -1,5 +1,5 @@
 -- What every message of the program is: its texts are UTF-8, and its numbers fit.
-use Rattle.std.specs.Prelude.{ℕ, ℤ, List, FitsSigned, IsUtf8}
+use Rattle.std.specs.Prelude.{ℤ, List, FitsSigned, IsUtf8}
 use Rattle.std.specs.List.{AllByRecursion}
 use Rattle.std.specs.Int.{w8, w16}
 use Rattle.pgw_copy.specs.declared.data.CopyFail.{CopyFail}

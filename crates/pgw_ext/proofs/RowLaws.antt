@@ -1,10 +1,9 @@
 -- Each row of the message table is exact.
-use Rattle.std.proofs.Common.{◌≡◌, ℕ, ℤ, ◌+◌, ◌<◌, ◌≤◌, ◌^◌, List, [], ◌++◌, length, Option, Result, Ok, refl, sym, ap, subst, ◌∙◌, arith, lit<}
+use Rattle.std.proofs.Common.{◌≡◌, ℕ, ◌<◌, ◌^◌, List, [], ◌++◌, Ok, refl, subst, arith, lit<}
 use Rattle.std.specs.Int.{w8, w16, w32}
-use Rattle.pgw_wire.specs.declared.error.PgWireError.{PgWireError}
 use Rattle.pgw_wire.specs.declared.context.DecodeContext.{DecodeContext}
 use Rattle.pgw_wire.specs.Reading.{nat_at, int_at, text_at, name_at, all_of}
-use Rattle.pgw_wire.specs.Formats.{pair_at, Pair, IsRow, Reads, ReadsLast, SpellsText, SpellsNat, SpellsInt, SpellsName}
+use Rattle.pgw_wire.specs.Formats.{IsRow, Reads, ReadsLast, SpellsText, SpellsNat, SpellsInt, SpellsName}
 use Rattle.pgw_wire.proofs.Laws.{pair_reads, ok_is}
 use Rattle.pgw_wire.proofs.FieldLaws.{text_reads, nat_reads, int_reads}
 use Rattle.pgw_wire.proofs.FrameLaws.{reads_last, made_last}

@@ -1,8 +1,8 @@
 -- What is written of the messages spells them.
-use Rattle.std.proofs.Common.{◌≡◌, ℕ, ℤ, pos, negsuc, ◌+◌, ◌<◌, ◌≤◌, ◌^◌, Bool, true, false, ltb, List, [], ◌∷◌, ◌++◌, length, Option, Some, None, Result, Ok, refl, sym, ap, ◌∙◌, append_assoc, arith, lit<, IsUtf8, length-append}
+use Rattle.std.proofs.Common.{◌≡◌, ℕ, ℤ, pos, negsuc, ◌+◌, ◌<◌, ◌^◌, false, ltb, List, [], ◌∷◌, ◌++◌, length, Option, Some, None, Ok, refl, ap, append_assoc, arith, length-append}
 use Rattle.std.specs.Prelude.{FitsSigned}
 use Rattle.std.specs.List.{flat_map, AllByRecursion}
-use Rattle.std.specs.Int.{w8, w16, w32, to_be_bytes}
+use Rattle.std.specs.Int.{w16, w32, to_be_bytes}
 use Rattle.std.proofs.lemmas.Bool.{ltb-false, or_parts}
 use Rattle.std.proofs.lemmas.Int.{ints}
 use Rattle.std.proofs.lemmas.List.Concat.{flat_map-cons}
@@ -11,7 +11,7 @@ use Rattle.pgw_wire.specs.declared.error.PgWireError.{PgWireError}
 use Rattle.pgw_wire.specs.declared.framing.Framing.TheVariants.{Typed}
 use Rattle.pgw_wire.specs.Framing.{encoded}
 use Rattle.pgw_wire.specs.Writing.{text, i16, i32, u16, u32, has_zero, refused_if}
-use Rattle.pgw_wire.specs.Formats.{SpellsText, SpellsNat, SpellsInt, SpellsName, SpellsMany, SpellsTyped}
+use Rattle.pgw_wire.specs.Formats.{SpellsNat, SpellsInt, SpellsName, SpellsMany, SpellsTyped}
 use Rattle.pgw_wire.proofs.FieldLaws.{wide16, wide32}
 use Rattle.pgw_wire.proofs.WrittenLaws.{text_written, int_written, nat_written, lossy-IsUtf8, unrefused, encoded_parts}
 use Rattle.pgw_ext.specs.declared.parse.Parse.{Parse}
