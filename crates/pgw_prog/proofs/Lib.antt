@@ -1,2 +1,4 @@
 pub mod LineLaws
 pub mod ScriptLaws
+pub mod TransferLaws
+pub mod HeldLaws

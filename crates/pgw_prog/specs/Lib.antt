@@ -3,3 +3,7 @@ pub mod ErrorNames
 pub mod Printing
 pub mod Line
 pub mod Script
+pub mod Transfer
+pub mod Held
+pub mod Command
+pub mod Program

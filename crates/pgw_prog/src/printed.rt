@@ -1,0 +1,10 @@
+//! What the program prints.
+ghost use Rattle.std.specs.Prelude.{◌≤◌};
+
+/// A text to be written, and the status to end with.
+#[derive(Drop)]
+pub struct Printed {
+    pub text: Vec<u8>,
+    pub status: u8,
+    ghost bound: { status ≤ 2 },
+}

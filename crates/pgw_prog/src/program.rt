@@ -1,0 +1,161 @@
+//! The program: the words of the command line, the source and the sink.
+ghost use Rattle.std.specs.Prelude.{◌≡◌, ◌≢◌, ◌⊎◌, ◌<◌, ◌≤◌, ◌++◌, map, codes, decimal, string_bytes, IfOk, IfErr, OnOk, OnErr};
+ghost use Rattle.pgw_link.specs.Tape.{Rose};
+ghost use Rattle.pgw_prog.specs.declared.command.Command.TheVariants as kind;
+ghost use Rattle.pgw_prog.specs.Command.{command_for};
+ghost use Rattle.pgw_prog.specs.Program.{Says, AnswersRead, AnswersScript, Answers, Prints, TookFront, Appended, CountsStop};
+ghost use Rattle.pgw_prog.specs.Printing.{line_end};
+ghost use Rattle.pgw_prog.specs.Script.{read_script};
+
+use crate::command::{Command, command_of};
+use crate::held::hold;
+use crate::pieces::{put, put_decimal};
+use crate::printed::Printed;
+use crate::script::{ScriptFault, parse};
+use crate::transfer::{ReadFault, read_whole, write_whole};
+use pgw_link::stream::{Sink, Source};
+use pgw_wire::memory::OutOfMemory;
+use std::alloc::Global;
+
+const VERSION: &str = "pgw_prog 0.1.0\n";
+
+const HELP: &str = "Holds the client's side of a PostgreSQL session and prints what it gave.
+
+pgw_prog
+pgw_prog script      reads a script from standard input, holds its session
+                     against the server's bytes that it gives, and prints the
+                     bytes sent and the report, or the error
+pgw_prog --help      prints this text
+pgw_prog --version   prints the version
+
+A script has these lines, in this order. N is a whole number, HEX is hex digits.
+
+config user=NAME                 the user; NAME has ASCII letters and digits
+config user=NAME password=WORD   the user and a password, instead
+protocol 3.0                     or 3.2 or 3.9999; may be left out (3.0)
+nonce HEX                        36 digits: the bytes of a login's nonce
+limit N                          the most bytes to read from the server
+cut N                            the most bytes that one call moves, 1 to 65536
+fail read N                      the read with this number fails; any number
+fail write N                     the write with this number fails; any number
+simple SQL                       a query; any number
+server HEX                       bytes that the server sends; any number
+
+Status: 0 the session ended well, 1 it ended with an error, 2 the words or the
+script are wrong (usage, line N, script too long), 3 reading or writing failed,
+4 memory ran out.
+";
+
+/// Why nothing is printed.
+#[derive(Clone, Copy, Debug, PartialEq, Eq)]
+pub enum Stop {
+    Source,
+    OutOfMemory,
+}
+
+impl From<OutOfMemory> for Stop {
+    ghost use Rattle.pgw_prog.specs.declared.program.Stop.TheVariants.{OutOfMemory as NoMemory};
+
+    ghost from_gives = { λ _ e. e ≡ NoMemory };
+
+    fn from(_e: OutOfMemory) -> Stop {
+        Stop::OutOfMemory
+    }
+}
+
+fn says(alloc: Global, text: &[u8], status: u8) -> Result<Printed, OutOfMemory>
+    requires { status ≤ 2 }
+    ensures { IfOk result (λ p. Says p text.now status) }
+{
+    let mut out = Vec::new(alloc);
+    put(&mut out, text)?;
+    Ok(Printed { text: out, status })
+}
+
+/// What is printed of a script whose line with this number is outside the grammar.
+fn says_line(alloc: Global, number: u64) -> Result<Printed, OutOfMemory>
+    ensures { IfOk result (λ p. Says p (codes "line " ++ decimal number ++ line_end) 2) }
+{
+    let mut text = Vec::new(alloc);
+    put(&mut text, b"line ")?;
+    put_decimal(&mut text, number)?;
+    put(&mut text, b"\n")?;
+    Ok(Printed { text, status: 2 })
+}
+
+/// Reads a script, and holds its session.
+fn answer_text(alloc: Global, text: &[u8]) -> Result<Printed, OutOfMemory>
+    ensures { IfOk result (AnswersRead (read_script text.now)) }
+{
+    match parse(alloc, text) {
+        Ok(script) => hold(alloc, script),
+        Err(ScriptFault::Line(number)) => says_line(alloc, number),
+        Err(ScriptFault::OutOfMemory) => Err(OutOfMemory),
+    }
+}
+
+fn answer_script<I: Source>(alloc: Global, input: &mut I) -> Result<Printed, Stop>
+    ensures no_fault { OnOk result (I.faults input.new ≡ I.faults input.old) }
+    ensures cause { IfErr result (λ e. CountsStop e (I.faults input.old) (I.faults input.new)) }
+    ensures took { I.tells → TookFront (I.tape input.old) (I.tape input.new) }
+    ensures answers { I.tells → IfOk result (AnswersScript (I.tape input.old).left) }
+{
+    match read_whole(alloc, input) {
+        Ok(text) => Ok(answer_text(alloc, &text)?),
+        Err(ReadFault::TooLong) => Ok(says(alloc, b"script too long\n", 2)?),
+        Err(ReadFault::Source) => Err(Stop::Source),
+        Err(ReadFault::OutOfMemory) => Err(Stop::OutOfMemory),
+    }
+}
+
+fn answer<I: Source>(alloc: Global, command: Command, input: &mut I) -> Result<Printed, Stop>
+    ensures no_fault { OnOk result (I.faults input.new ≡ I.faults input.old) }
+    ensures cause { IfErr result (λ e. CountsStop e (I.faults input.old) (I.faults input.new)) }
+    ensures took { I.tells → TookFront (I.tape input.old) (I.tape input.new) }
+    ensures answers { I.tells → IfOk result (Answers HELP.now VERSION.now command (I.tape input.old).left) }
+    ensures unread { command ≢ kind.Script → input.new ≡ input.old }
+{
+    match command {
+        Command::Script => answer_script(alloc, input),
+        Command::Help => Ok(says(alloc, HELP.as_bytes(), 0)?),
+        Command::Version => Ok(says(alloc, VERSION.as_bytes(), 0)?),
+        Command::Usage => Ok(says(alloc, b"usage\n", 2)?),
+    }
+}
+
+/// Runs the command that the words ask for, and says with which status to end: 0 all went well, 1 the session ended with
+/// an error, 2 the words or the script are outside their grammar, 3 the source or the sink failed, 4 memory ran out.
+///
+/// A script has its own nonce: the fresh bytes are for commands over a network.
+pub fn run_program<I: Source, O: Sink>(
+    alloc: Global,
+    words: &[String],
+    input: &mut I,
+    output: &mut O,
+    _nonce: &[u8; 18],
+    _words32: &[u8; 32],
+) -> u8
+    // The text of the answer is written, and its status is returned.
+    ensures prints { I.tells → O.tells → ¬ (Rose (I.faults input.old) (I.faults input.new)) → ¬ (Rose (O.faults output.old) (O.faults output.new)) → result ≢ 4 →
+        Prints HELP.now VERSION.now (command_for (map string_bytes words.now)) (I.tape input.old).left (O.tape output.old).wrote (O.tape output.new).wrote result }
+    ensures status { result ≤ 4 }
+    // Status 3 comes only where a call of the source or of the sink failed, and wherever one did.
+    ensures fault { result ≡ 3 → Rose (I.faults input.old) (I.faults input.new) ⊎ Rose (O.faults output.old) (O.faults output.new) }
+    ensures source_fault { I.faults input.old < I.faults input.new → (result ≡ 3) × (output.new ≡ output.old) }
+    ensures sink_fault { O.faults output.old < O.faults output.new → result ≡ 3 }
+    // Where memory ran out nothing is written.
+    ensures silent { result ≡ 4 → output.new ≡ output.old }
+    // At most one read more than bytes read, and one write more than bytes written. Only a script is read.
+    ensures reads { I.tells → TookFront (I.tape input.old) (I.tape input.new) }
+    ensures writes { O.tells → Appended (O.tape output.old) (O.tape output.new) }
+    ensures unread { command_for (map string_bytes words.now) ≢ kind.Script → input.new ≡ input.old }
+{
+    match answer(alloc, command_of(words), input) {
+        Ok(printed) => match write_whole(output, &printed.text) {
+            Ok(()) => printed.status,
+            Err(_) => 3,
+        },
+        Err(Stop::Source) => 3,
+        Err(Stop::OutOfMemory) => 4,
+    }
+}
