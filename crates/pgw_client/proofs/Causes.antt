@@ -1,8 +1,16 @@
 -- What a session leaves, in the terms of transcripts.
-use Rattle.std.proofs.Common.{◌≡◌, ◌<◌, ◌⊎◌, ◌+◌, ℕ, List, [], ◌++◌, length, Option, Some, None, Result, Ok, Err, inl, inr, refl, ◌∙◌, ap, sym, subst}
+use Rattle.std.proofs.Common.{◌≡◌, ℕ, List, [], ◌++◌, length, ◌∷◌, ◌⊎◌, Option, Some, None, Result, Ok, Err, Bool, true, false, cond, inl, inr, refl, ◌∙◌, ap, sym, subst}
 use Rattle.std.proofs.lemmas.List.{append-nil}
 use Rattle.std.specs.Prelude.{IfOk, IsErrOf}
 use Rattle.pgw_wire.specs.declared.error.PgWireError.{PgWireError}
+use Rattle.pgw_wire.specs.declared.error.PgWireError.TheVariants as wire
+use Rattle.pgw_wire.specs.declared.framing.Framing.{Framing}
+use Rattle.pgw_wire.specs.Framing.{encoded, body_or}
+use Rattle.pgw_wire.specs.Writing.{refused_if}
+use Rattle.pgw_startup.specs.declared.password.PasswordMessageFamily.TheVariants as family
+use Rattle.pgw_msg.specs.Frontend.{encoding, encodings, both}
+use Rattle.pgw_msg.specs.declared.frontend.PgWireFrontendMessage.{PgWireFrontendMessage as Frontend}
+use Rattle.pgw_msg.specs.declared.frontend.PgWireFrontendMessage.TheVariants as frontend
 use Rattle.pgw_msg.specs.declared.backend.PgWireBackendMessage.{PgWireBackendMessage as Backend}
 use Rattle.pgw_msg.specs.declared.response.ErrorResponse.{ErrorResponse}
 use Rattle.pgw_msg.specs.declared.client_error.PgWireClientError.{PgWireClientError as ClientError}
@@ -15,20 +23,20 @@ use Rattle.pgw_session.specs.Events.{Event}
 use Rattle.pgw_session.specs.Answers.{tally_of}
 use Rattle.pgw_session.specs.Transcript.{Completed, Completes, report_of}
 use Rattle.pgw_session.specs.Failures.{IsHopeless, LeftWith, StoppedCause, Told}
-use Rattle.pgw_session.specs.Course.{Course, Waits, Over, sent_of}
+use Rattle.pgw_session.specs.Course.{Waits, Over, sent_of}
 use Rattle.pgw_session.specs.Talk.{Talk, Ending, Outcome, Complete, Unencoded, Stopped, error_of, end_with, conversation, first_skipped}
 use Rattle.pgw_session.proofs.Complete.{ended_whole, never_waits}
 use Rattle.pgw_session.proofs.FailureLaws.{complete_is_completed, unencoded, waits_at, unfinished, misplaced_left, left_with}
 use Rattle.pgw_session.proofs.FailureLaws as failures
 use Rattle.pgw_client.specs.Outcome.{Session, Waiting, Reason, memory, unsent, stopped, failed, unread, at_limit, at_end, ending_why, talk_end}
-use Rattle.pgw_client.specs.Sessions.{ErrorCause, Causes, KeepsPace, MovedBy, Reports, WaitsStill}
+use Rattle.pgw_client.specs.Sessions.{ErrorCause, Causes, KeepsPace, MovedBy, Reports, WaitsStill, told_error}
 
 -- the cause of a stopped conversation is that of the error
 stopped_as : (config : Config) (requests : List Request) (limit before : ℕ) (new : Tape) (taken sent : List ℕ) (e : ClientError) → StoppedCause config requests taken sent new.left e × IsHopeless config requests taken → ErrorCause config requests limit before new taken sent e
 stopped_as config requests limit before new taken sent (client.UnexpectedMessage m) c = c
 stopped_as config requests limit before new taken sent (client.PgWireError why) c = (inl c.0, c.1)
 stopped_as config requests limit before new taken sent (client.RemoteError e) c = inl c
-stopped_as config requests limit before new taken sent client.NotYetBuilt c = c
+stopped_as config requests limit before new taken sent client.NotYetBuilt c = (inl c.0, c.1)
 stopped_as config requests limit before new taken sent e c = absurd c.0
 
 -- an error with which the conversation ended
@@ -117,3 +125,57 @@ reports config requests limit old new (Ok report) segments s c no_io =
     let h = s.held in
     let same = ended_whole config requests limit old.left s.taken new.left s.sent (record { talk = h.0; outcome = Complete }) segments s.left c h.1 in
     h.2 ∙ ap (λ (x : Ending). report_of config (x.talk).closed) same
+
+-- only a text or a length refuses a message that is to be sent
+fault_is : (b : Bool) (e : PgWireError) → refused_if b ≡ Some e → e ≡ wire.InvalidMessageBody
+unfolding refused_if
+fault_is true e is = cc
+fault_is false e is = cc
+
+encoded_by : (b : Bool) (large : PgWireError) (fault : Option PgWireError) (bytes : List ℕ) (e : PgWireError) → cond b (Err large) (body_or fault bytes) ≡ Err e → (e ≡ large) ⊎ (fault ≡ Some e)
+encoded_by true large fault bytes e is = inl (cc)
+encoded_by false large None bytes e is = cc
+encoded_by false large (Some f) bytes e is = inr (ap Some (cc))
+
+built : (framing : Framing) (limit : ℕ) (fault : Option PgWireError) (body : List ℕ) → (fault ≡ Some wire.NotYetBuilt → ⊥) → encoded framing limit fault body ≡ Err wire.NotYetBuilt → ⊥
+unfolding encoded
+built framing limit fault body none is =
+    elim (encoded_by _ _ fault _ wire.NotYetBuilt is) [ inl large ↦ cc | inr f ↦ none f ]
+
+by_fault : (b : Bool) → refused_if b ≡ Some wire.NotYetBuilt → ⊥
+by_fault b is = let e = fault_is b wire.NotYetBuilt is in cc
+
+message_built : (m : Frontend) → encoding m ≡ Err wire.NotYetBuilt → ⊥
+unfolding encoding
+message_built (frontend.Startup m) is = built _ _ _ _ (by_fault _) is
+message_built (frontend.PasswordMessageFamily (family.Raw b)) is = built _ _ _ _ (λ e. cc) is
+message_built (frontend.PasswordMessageFamily (family.Password m)) is = built _ _ _ _ (by_fault _) is
+message_built (frontend.Query m) is = built _ _ _ _ (by_fault _) is
+
+both_built : (a b : Result (List ℕ) PgWireError) → (a ≡ Err wire.NotYetBuilt → ⊥) → (b ≡ Err wire.NotYetBuilt → ⊥) → both a b ≡ Err wire.NotYetBuilt → ⊥
+both_built (Err e) b no_a no_b is = no_a is
+both_built (Ok a) (Err e) no_a no_b is = no_b is
+both_built (Ok a) (Ok b) no_a no_b is = cc
+
+messages_built : (ms : List Frontend) → encodings ms ≡ Err wire.NotYetBuilt → ⊥
+messages_built [] is = cc
+messages_built (m ∷ ms) is = both_built (encoding m) (encodings ms) (message_built m) (messages_built ms) is
+
+-- the cause stays under the name that is told
+told_cause : (config : Config) (requests : List Request) (limit before : ℕ) (new : Tape) (taken sent : List ℕ) (e : ClientError) → ErrorCause config requests limit before new taken sent e → ErrorCause config requests limit before new taken sent (told_error e)
+told_cause config requests limit before new taken sent (client.PgWireError wire.NotYetBuilt) c = (elim c.0 [ inl u ↦ inr u | inr u ↦ absurd (messages_built u.due u.unencoded) ], c.1)
+told_cause config requests limit before new taken sent e c = c
+
+pub told_causes : (config : Config) (requests : List Request) (limit : ℕ) (old new : Tape) (e : ClientError) → Causes config requests limit old new (Err e) → Causes config requests limit old new (Err (told_error e))
+told_causes config requests limit old new e c = (c.0, c.1, c.2, c.3, told_cause config requests limit (length old.wrote) new c.0 c.1 e c.4)
+
+-- want of memory and a failing link keep their names
+told_memory : (e : ClientError) → e ≡ client.OutOfMemory → told_error e ≡ client.OutOfMemory
+told_memory e is = ap told_error is
+
+pub told_reports : (report : SessionReport) (e : ClientError) → Reports report (Err e) → Reports report (Err (told_error e))
+told_reports report e r = told_memory e r
+
+pub told_io : (e : ClientError) → told_error e ≡ client.IoError → e ≡ client.IoError
+told_io (client.PgWireError wire.NotYetBuilt) is = cc
+told_io e is = is

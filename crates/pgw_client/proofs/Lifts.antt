@@ -4,7 +4,6 @@ use Rattle.std.proofs.lemmas.List.{append-nil, length-take-le, take-append-drop}
 use Rattle.pgw_wire.specs.declared.error.PgWireError.{PgWireError}
 use Rattle.pgw_wire.specs.Framing.{encoded, body_or}
 use Rattle.pgw_msg.specs.Frontend.{encoding, encodings, both}
-use Rattle.pgw_msg.specs.declared.frontend.PgWireFrontendMessage.{PgWireFrontendMessage as Frontend}
 use Rattle.pgw_msg.specs.declared.client_error.PgWireClientError.{PgWireClientError as ClientError}
 use Rattle.pgw_msg.specs.declared.client_error.PgWireClientError.TheVariants as client
 use Rattle.pgw_link.specs.Tape.{Tape}
@@ -22,7 +21,7 @@ use Rattle.pgw_session.proofs.Complete.{prefix_split}
 use Rattle.pgw_session.proofs.Sound.{SoundAt, Cause, conversation_sound}
 use Rattle.pgw_client.specs.declared.session_core.Core.{Core}
 use Rattle.pgw_client.specs.Machine.{report_at, Stop, Started, started, core_sending, core_rules, core_end}
-use Rattle.pgw_client.specs.Outcome.{Because, Begins, Conversed, Held, Reason, Session, Stopping, Waiting, Wrote, WroteSome, memory, unsent, stopped, failed, unread, at_limit, at_end, stop_why, ending_why, talk_end}
+use Rattle.pgw_client.specs.Outcome.{Because, Conversed, Reason, Session, Stopping, Waiting, Wrote, WroteSome, memory, unsent, stopped, failed, unread, at_limit, at_end, stop_why, ending_why, talk_end}
 use Rattle.pgw_client.proofs.Steps.{memory_or}
 use Rattle.pgw_client.proofs.Views.{view, view_end, view_course, run_view, start_view}
 

@@ -12,7 +12,6 @@ use Rattle.pgw_session.specs.Transcript.{report_of}
 use Rattle.pgw_session.specs.Talk.{Talk, Ending, Complete, error_of, conversation, end_with, first_skipped}
 use Rattle.pgw_session.specs.Course.{Course, Waits, Over, Rules, run, sent_of}
 use Rattle.pgw_client.specs.declared.session_core.Core.{Core}
-use Rattle.pgw_client.specs.Errors.{Unless}
 use Rattle.pgw_client.specs.Machine.{report_at, Stop, core_end}
 
 -- the count of faults never falls, and Io is answered only where it rose

@@ -1,6 +1,7 @@
 -- What a session over a link answers, and why.
-use Rattle.std.specs.Prelude.{◌≡◌, ◌⊎◌, ◌<◌, ◌≤◌, ℕ, ◌+◌, List, [], ◌++◌, length, Option, Some, None, Result, Ok, Err}
+use Rattle.std.specs.Prelude.{◌≡◌, ◌⊎◌, ◌<◌, ◌≤◌, ℕ, ◌+◌, List, [], ◌++◌, length, Some, None, Result, Ok, Err}
 use Rattle.pgw_link.specs.Tape.{Tape}
+use Rattle.pgw_wire.specs.declared.error.PgWireError.TheVariants as wire
 use Rattle.pgw_msg.specs.declared.backend.PgWireBackendMessage.{PgWireBackendMessage as Backend}
 use Rattle.pgw_msg.specs.declared.backend.PgWireBackendMessage.TheVariants as backend
 use Rattle.pgw_msg.specs.declared.client_error.PgWireClientError.{PgWireClientError as ClientError}
@@ -9,7 +10,7 @@ use Rattle.pgw_config.specs.declared.config.Config.{Config}
 use Rattle.pgw_session.specs.declared.types.Request.{Request}
 use Rattle.pgw_session.specs.declared.types.SessionReport.{SessionReport}
 use Rattle.pgw_session.specs.Events.{Event}
-use Rattle.pgw_session.specs.Transcript.{IsLegalPrefix, EncodesSent, Completed}
+use Rattle.pgw_session.specs.Transcript.{IsLegalPrefix, EncodesSent}
 use Rattle.pgw_session.specs.Failures.{Misplaced, NextAtStartup, IsUnsupportedLogin, WaitsAt, LeftWith, Unreadable, Unsendable, IsHopeless, IsUnfinished}
 
 -- a fact of the bytes that a call took from its link and of those that it wrote
@@ -44,6 +45,15 @@ abbrev pub WaitsStill : Config → List Request → List ℕ → List ℕ → Ty
 WaitsStill config requests taken sent =
     ((closed : List (List Event)) × (part : List Event) × (drained : List Backend) × WaitsAt config requests taken sent closed part drained) × IsUnfinished config requests taken
 
+-- a message that is not supported yet is told by the one name for it
+abbrev pub told_error : ClientError → ClientError
+told_error (client.PgWireError wire.NotYetBuilt) = client.NotYetBuilt
+told_error e = e
+
+abbrev pub told_answer : Result SessionReport ClientError → Result SessionReport ClientError
+told_answer (Ok report) = Ok report
+told_answer (Err e) = Err (told_error e)
+
 -- The cause of each error, where these bytes were taken and written. No other error comes.
 abbrev pub ErrorCause : Config → List Request → ℕ → ℕ → Tape → List ℕ → List ℕ → ClientError → Type 0
 ErrorCause config requests limit before new taken sent client.OutOfMemory = Unit {0}
@@ -54,7 +64,8 @@ ErrorCause config requests limit before new taken sent (client.PgWireError why) 
 ErrorCause config requests limit before new taken sent (client.UnexpectedMessage m) = Misplaced config requests taken sent new.left m × IsHopeless config requests taken
 ErrorCause config requests limit before new taken sent (client.RemoteError e) =
     (NextAtStartup config taken sent (backend.ErrorResponse e) × IsHopeless config requests taken) ⊎ (LeftWith config requests taken sent (Some e) × IsUnfinished config requests taken × (new.left ≡ []))
-ErrorCause config requests limit before new taken sent client.NotYetBuilt = ((m : Backend) × IsUnsupportedLogin m × NextAtStartup config taken sent m) × IsHopeless config requests taken
+ErrorCause config requests limit before new taken sent client.NotYetBuilt =
+    (((m : Backend) × IsUnsupportedLogin m × NextAtStartup config taken sent m) ⊎ Unreadable config requests taken sent wire.NotYetBuilt) × IsHopeless config requests taken
 ErrorCause config requests limit before new taken sent e = ⊥
 
 abbrev pub Causes : Config → List Request → ℕ → Tape → Tape → Result SessionReport ClientError → Type 0

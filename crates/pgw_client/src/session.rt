@@ -5,7 +5,7 @@ ghost use Rattle.pgw_session.specs.Events.{Event};
 ghost use Rattle.pgw_session.specs.Transcript.{Completed, Completes, report_of};
 ghost use Rattle.pgw_session.specs.Failures.{Told};
 ghost use Rattle.pgw_client.specs.Machine.{core_rules};
-ghost use Rattle.pgw_client.specs.Sessions.{MovedBy, Causes, Reports, KeepsPace};
+ghost use Rattle.pgw_client.specs.Sessions.{MovedBy, Causes, Reports, KeepsPace, told_error};
 ghost use Rattle.pgw_client.specs.Outcome.{IoHasCause, Wrote, WroteSome, TookAll, Filled, Conversed, Session};
 
 use crate::session_core::{Core, Taken};
@@ -14,6 +14,7 @@ use pgw_config::config::Config;
 use pgw_link::link::{Link, LinkFault};
 use pgw_msg::client_error::{PgWireClientError, PgWireClientResult};
 use pgw_session::types::{Request, SessionReport};
+use pgw_wire::error::PgWireError;
 use std::alloc::Global;
 
 /// The most bytes that one read asks for.
@@ -157,6 +158,16 @@ fn hold_session<L: Link>(
     }
 }
 
+// A message that is not supported yet is told by the one name for it.
+fn told_error(error: PgWireClientError) -> PgWireClientError
+    ensures { result ≡ told_error error }
+{
+    match error {
+        PgWireClientError::PgWireError(PgWireError::NotYetBuilt) => PgWireClientError::NotYetBuilt,
+        error => error,
+    }
+}
+
 /// Holds a session over the link: logs in, makes each request in turn, and reports.
 ///
 /// A request is sent once the answer before it is whole. At most `limit` bytes are read. The
@@ -184,5 +195,8 @@ pub fn run_session<L: Link>(
     ensures reports { L.tells → (segments : List (List Event)) → Completes config.now requests.now limit (L.tape link.old).left segments →
         (Rose (L.faults link.old) (L.faults link.new) → ⊥) → Reports (report_of config.now segments) result }
 {
-    hold_session(alloc, link, config, requests, limit)
+    match hold_session(alloc, link, config, requests, limit) {
+        Ok(report) => Ok(report),
+        Err(error) => Err(told_error(error)),
+    }
 }

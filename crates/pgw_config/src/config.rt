@@ -73,3 +73,23 @@ impl Config {
         self.protocol_version
     }
 }
+
+#[cfg(test)]
+mod tests {
+    use super::*;
+    use std::test::Fail;
+
+    #[test]
+    fn setters_keep(rt: HostRuntime) -> Result<(), Fail> {
+        let alloc = rt.alloc();
+        let mut config = Config::new();
+        assert_eq!(rt; config.get_user(), None);
+        assert_eq!(rt; config.get_protocol_version(), ProtocolVersion::PROTOCOL3_0);
+        config.user(alloc, "bob")?.password(alloc, b"secret")?;
+        config.protocol_version(ProtocolVersion::PROTOCOL3_2);
+        assert_eq!(rt; config.get_user(), Some("bob"));
+        assert_eq!(rt; config.get_password(), Some(b"secret".as_slice()));
+        assert_eq!(rt; config.get_protocol_version(), ProtocolVersion::PROTOCOL3_2);
+        Ok(())
+    }
+}

@@ -3,6 +3,7 @@ use Rattle.std.proofs.Common.{◌≡◌, inl, inr, ℕ, ◌+◌, ◌-◌, ◌<�
 use Rattle.std.proofs.lemmas.Bool.{ltb-false, le-ltb}
 use Rattle.std.proofs.lemmas.List.{get_or-take, take-append-le}
 use Rattle.pgw_wire.specs.declared.error.PgWireError.{PgWireError}
+use Rattle.pgw_wire.specs.declared.error.PgWireError.TheVariants.{NotYetBuilt}
 use Rattle.pgw_wire.specs.declared.context.DecodeContext.{DecodeContext}
 use Rattle.pgw_wire.specs.declared.framing.Framing.TheVariants.{Typed}
 use Rattle.pgw_wire.specs.Reading.{◌>>=◌}
@@ -14,7 +15,7 @@ use Rattle.pgw_msg.specs.declared.backend.PgWireBackendMessage.{PgWireBackendMes
 use Rattle.pgw_msg.specs.declared.backend.PgWireBackendMessage.TheVariants as backend
 use Rattle.pgw_startup.specs.Login.{authentication_of, parameter_status_of, backend_key_data_of, negotiate_of}
 use Rattle.pgw_msg.specs.Rows.{ready_for_query_of, command_complete_of, empty_query_response_of, error_response_of, notice_response_of, row_description_of, data_row_of}
-use Rattle.pgw_msg.specs.Backend.{as_one_of, unknown, backend_by, backend_front}
+use Rattle.pgw_msg.specs.Backend.{as_one_of, unknown, awaits_reply, backend_by, backend_front}
 
 -- ---- one kind of message among all kinds
 
@@ -69,31 +70,50 @@ by_stable byte ctx =
 same_first : (n : ℕ) (a b : List ℕ) → 1 ≤ n → take n b ≡ take n a → get_or b 0 0 ≡ get_or a 0 0
 same_first n a b some same = sym (get_or-take n b 0 0 (omega (arith, some))) ∙ ap (λ (x : List ℕ). get_or x 0 0) same ∙ get_or-take n a 0 0 (omega (arith, some))
 
-by_same : (ctx : DecodeContext) (b : List ℕ) (byte : ℕ) (r : Result (Option (PgWireBackendMessage × List ℕ)) PgWireError) → 2 ≤ length b → get_or b 0 0 ≡ byte → backend_by byte ctx b ≡ r → backend_front ctx b ≡ r
+pub by_same : (ctx : DecodeContext) (b : List ℕ) (byte : ℕ) (r : Result (Option (PgWireBackendMessage × List ℕ)) PgWireError) → awaits_reply ctx ≡ false → 2 ≤ length b → get_or b 0 0 ≡ byte → backend_by byte ctx b ≡ r → backend_front ctx b ≡ r
 unfolding backend_front
-by_same ctx b byte r some is e =
+by_same ctx b byte r typed some is e =
     let long : ltb (length b) 2 ≡ false = le-ltb _ _ some in
-    rw long (subst (λ (x : ℕ). backend_by x ctx b ≡ r) (sym is) e)
+    rw (typed, long) (subst (λ (x : ℕ). backend_by x ctx b ≡ r) (sym is) e)
 
-pub backend_stable : (ctx : DecodeContext) → Stable 5 (backend_front ctx)
+replied : (ctx : DecodeContext) (b : List ℕ) → awaits_reply ctx ≡ true → backend_front ctx b ≡ Err NotYetBuilt
 unfolding backend_front
-backend_stable ctx = record {
-  whole = λ a m rest e. elim (chosen (ltb (length a) 2) _ _ _ e) [
+replied ctx b is = rw is refl
+
+-- a message was found by its type byte
+pub typed_found : (ctx : DecodeContext) (a : List ℕ) (m : PgWireBackendMessage) (rest : List ℕ) → backend_front ctx a ≡ Ok (Some (m, rest)) → (awaits_reply ctx ≡ false) × (backend_by (get_or a 0 0) ctx a ≡ Ok (Some (m, rest)))
+unfolding backend_front
+typed_found ctx a m rest e = elim (chosen (awaits_reply ctx) _ _ _ e) [
+  | inl h ↦ absurd cc
+  | inr t ↦ elim (chosen (ltb (length a) 2) _ _ _ t.1) [
     | inl h ↦ absurd cc
-    | inr h ↦
-        let ends = (by_stable (get_or a 0 0) ctx).whole a m rest h.1 in
-        record {
-          len = ends.len;
-          some = ends.some;
-          within = ends.within;
-          left = ends.left;
-          again = λ b same long. by_same ctx b (get_or a 0 0) (Ok (Some (m, drop ends.len b))) (omega (arith, ends.some, long)) (same_first ends.len a b (omega (arith, ends.some)) same) (ends.again b same long);
-        }
-  ];
-  bad = λ a more e is. elim (chosen (ltb (length a) 2) _ _ _ is) [
+    | inr h ↦ (t.0, h.1)
+  ]
+]
+
+front_bad : (ctx : DecodeContext) (a more : List ℕ) (e : PgWireError) → backend_front ctx a ≡ Err e → backend_front ctx (a ++ more) ≡ Err e
+unfolding backend_front
+front_bad ctx a more e is = elim (chosen (awaits_reply ctx) _ _ _ is) [
+  | inl h ↦ replied ctx (a ++ more) h.0 ∙ h.1
+  | inr t ↦ elim (chosen (ltb (length a) 2) _ _ _ t.1) [
     | inl h ↦ absurd cc
     | inr h ↦
         let some : 2 ≤ length a = ltb-false _ _ h.0 in
-        by_same ctx (a ++ more) (get_or a 0 0) (Err e) (omega (arith, some, length-append a more)) (same_first 1 a (a ++ more) (omega arith) (take-append-le 1 a more (omega (arith, some)))) ((by_stable (get_or a 0 0) ctx).bad a more e h.1)
-  ];
+        by_same ctx (a ++ more) (get_or a 0 0) (Err e) t.0 (omega (arith, some, length-append a more)) (same_first 1 a (a ++ more) (omega arith) (take-append-le 1 a more (omega (arith, some)))) ((by_stable (get_or a 0 0) ctx).bad a more e h.1)
+  ]
+]
+
+pub backend_stable : (ctx : DecodeContext) → Stable 5 (backend_front ctx)
+backend_stable ctx = record {
+  whole = λ a m rest e.
+      let h = typed_found ctx a m rest e in
+      let ends = (by_stable (get_or a 0 0) ctx).whole a m rest h.1 in
+      record {
+        len = ends.len;
+        some = ends.some;
+        within = ends.within;
+        left = ends.left;
+        again = λ b same long. by_same ctx b (get_or a 0 0) (Ok (Some (m, drop ends.len b))) h.0 (omega (arith, ends.some, long)) (same_first ends.len a b (omega (arith, ends.some)) same) (ends.again b same long);
+      };
+  bad = front_bad ctx;
 }

@@ -1,12 +1,13 @@
 -- What a client finds at the front of the bytes that came.
 use Rattle.std.proofs.Common.{◌≡◌, ℕ, ◌+◌, ◌-◌, ◌<◌, ◌≤◌, List, [], ◌∷◌, ◌++◌, length, take, drop, Option, Some, None, Result, Ok, Err, refl, sym, ap, subst, ◌∙◌, arith, length-append}
-use Rattle.std.proofs.lemmas.List.{take-take, take-append-le, length-take, length-drop}
+use Rattle.std.proofs.lemmas.List.{take-take, take-append-le, take_at, length-take, length-drop}
 use Rattle.pgw_wire.specs.declared.error.PgWireError.{PgWireError}
 use Rattle.pgw_wire.specs.declared.context.ProtocolVersion.{ProtocolVersion}
 use Rattle.pgw_msg.specs.declared.backend.PgWireBackendMessage.{PgWireBackendMessage}
 use Rattle.pgw_msg.specs.Backend.{backend_front}
 use Rattle.pgw_msg.specs.Front.{Front, More, Bad, Whole, typed_phase, front_of, front, Spells}
 use Rattle.pgw_msg.proofs.BackendStable.{backend_stable}
+use Rattle.pgw_msg.proofs.BackendLaws.{backend_found, backend_again}
 
 -- ---- the three outcomes
 
@@ -70,14 +71,19 @@ unfolding front
 front_bad_more v bytes more why is = rw ((backend_stable (typed_phase v)).bad bytes more why (bad_part bytes (backend_front (typed_phase v) bytes) why is)) refl
 
 pub front_spells : (v : ProtocolVersion) (bytes : List ℕ) (m : PgWireBackendMessage) (n : ℕ) → front v bytes ≡ Whole m n → Spells v m (take n bytes)
-unfolding Spells
+unfolding front
 front_spells v bytes m n is =
-    let size : n ≡ length (take n bytes) = omega (arith, length-take n bytes, (front_whole v bytes m n is).1) in
-    front_take v bytes m n is ∙ ap (λ (k : ℕ). Whole m k) size
+    let p = whole_parts bytes (backend_front (typed_phase v) bytes) m n is in
+    let f = backend_found (typed_phase v) bytes m p.0 p.1 in
+    let size : n ≡ length f.0 = omega (arith, p.2, ap length f.1, length-append f.0 p.0) in
+    let cut : take n bytes ≡ f.0 = ap (take n) f.1 ∙ take_at f.0 p.0 n (sym size) in
+    subst (λ (g : List ℕ). Spells v m g) (sym cut) f.2
 
 pub spells_front : (v : ProtocolVersion) (m : PgWireBackendMessage) (g rest : List ℕ) → Spells v m g → front v (g ++ rest) ≡ Whole m (length g)
-unfolding Spells
-spells_front v m g rest is = front_whole_more v g rest m (length g) is
+unfolding front
+spells_front v m g rest h =
+    let size : length (g ++ rest) - length rest ≡ length g = omega (arith, length-append g rest) in
+    rw (backend_again (typed_phase v) refl m g rest h) (ap (λ (k : ℕ). Whole m k) size)
 
 -- ---- what a decoder gave
 

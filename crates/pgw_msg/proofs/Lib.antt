@@ -2,3 +2,5 @@ pub mod RowLaws
 pub mod BackendStable
 pub mod FrontLaws
 pub mod TagLaws
+pub mod BackendLaws
+pub mod BackendWritten

@@ -7,7 +7,6 @@ use Rattle.pgw_wire.specs.declared.framing.Framing.TheVariants.{Typed}
 use Rattle.pgw_wire.specs.Reading.{◌>>=◌}
 use Rattle.pgw_wire.specs.Framing.{front, encoded}
 use Rattle.pgw_wire.specs.Writing.{text, has_zero, refused_if}
-use Rattle.pgw_wire.specs.Formats.{SpellsTyped}
 use Rattle.pgw_startup.specs.Login.{authentication_of, parameter_status_of, backend_key_data_of, negotiate_of, authentication, authentication_fault, parameter_status, parameter_status_fault, backend_key_data, negotiate, is_options_refused}
 use Rattle.pgw_wire.specs.Keys.{key_fault}
 use Rattle.pgw_msg.specs.Rows.{ready_for_query_of, command_complete_of, empty_query_response_of, error_response_of, notice_response_of, row_description_of, data_row_of, status_byte, codes, codes_fault, row_description, is_refused, data_row}
@@ -44,8 +43,16 @@ backend_by byte ctx bytes =
     else (if byte == 68 then as_one_of backend.DataRow (front (Typed 68) 2147483647 (data_row_of ctx) bytes)
     else Err (unknown byte)))))))))))
 
+-- whether the server's next byte answers a request for encryption; those answers are not built yet
+abbrev pub awaits_reply : DecodeContext → Bool
+awaits_reply ctx = ctx.awaiting_backend_ssl_response || ctx.awaiting_backend_gss_response
+
+-- two bytes are looked for before the type byte is
 unfoldable pub backend_front : DecodeContext → List ℕ → Result (Option (PgWireBackendMessage × List ℕ)) PgWireError
-backend_front ctx bytes = if nat_lt (length bytes) 2 then Ok None else backend_by (slice_index bytes 0) ctx bytes
+backend_front ctx bytes =
+    if awaits_reply ctx then Err NotYetBuilt
+    else (if nat_lt (length bytes) 2 then Ok None
+    else backend_by (slice_index bytes 0) ctx bytes)
 
 -- the one spelling that is written of a message, or why there is none
 unfoldable pub backend_encoding : PgWireBackendMessage → Result (List ℕ) PgWireError

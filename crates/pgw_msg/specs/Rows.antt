@@ -6,7 +6,7 @@ use Rattle.pgw_wire.specs.declared.error.PgWireError.{PgWireError}
 use Rattle.pgw_wire.specs.declared.error.PgWireError.TheVariants.{InvalidMessageBody, InvalidTransactionStatus}
 use Rattle.pgw_wire.specs.declared.context.DecodeContext.{DecodeContext}
 use Rattle.pgw_wire.specs.Reading.{◌>>=◌, nat_at, int_at, text_at, rest_at, all_of, list_at, marked_list_at, extended_count}
-use Rattle.pgw_wire.specs.Formats.{pair_at, Pair, made_at, tried_at, list16_at, SpellsText, SpellsNat, SpellsInt, SpellsList16, IsRest}
+use Rattle.pgw_wire.specs.Formats.{pair_at, Pair, made_at, tried_at, counted_at, SpellsText, SpellsNat, SpellsInt, SpellsCounted, SpellsMarked, IsRest}
 use Rattle.pgw_wire.specs.Writing.{text, i16, i32, u16, u32, has_zero, refused_if}
 use Rattle.pgw_msg.specs.declared.response.TransactionStatus.{TransactionStatus}
 use Rattle.pgw_msg.specs.declared.response.TransactionStatus.TheVariants.{Idle, Transaction, Error}
@@ -18,7 +18,7 @@ use Rattle.pgw_msg.specs.declared.data.DataRow.{DataRow}
 use Rattle.pgw_msg.specs.declared.response.EmptyQueryResponse.{EmptyQueryResponse}
 use Rattle.pgw_msg.specs.declared.response.ErrorResponse.{ErrorResponse}
 use Rattle.pgw_msg.specs.declared.response.NoticeResponse.{NoticeResponse}
-use Rattle.pgw_wire.specs.Codes.{code_at, coded, is_code_refused}
+use Rattle.pgw_wire.specs.Codes.{code_at, SpellsCode, coded, is_code_refused}
 use Rattle.pgw_msg.specs.declared.simplequery.Query.{Query}
 
 -- ---- ReadyForQuery
@@ -51,6 +51,9 @@ SpellsCommandComplete m = SpellsText m.tag
 unfoldable pub empty_query_response_of : DecodeContext → List ℕ → Result EmptyQueryResponse PgWireError
 empty_query_response_of ctx bytes = all_of (Ok (record {}, bytes))
 
+abbrev pub SpellsEmptyQueryResponse : EmptyQueryResponse → List ℕ → Type 0
+SpellsEmptyQueryResponse m bytes = bytes ≡ []
+
 -- ---- ErrorResponse, NoticeResponse
 
 -- codes with their texts, up to a code 0
@@ -62,6 +65,12 @@ error_response_of ctx bytes = all_of (made_at (λ fields. record { fields = fiel
 
 unfoldable pub notice_response_of : DecodeContext → List ℕ → Result NoticeResponse PgWireError
 notice_response_of ctx bytes = all_of (made_at (λ fields. record { fields = fields }) codes_at bytes)
+
+abbrev pub SpellsErrorResponse : ErrorResponse → List ℕ → Type 0
+SpellsErrorResponse m = SpellsMarked SpellsCode m.fields
+
+abbrev pub SpellsNoticeResponse : NoticeResponse → List ℕ → Type 0
+SpellsNoticeResponse m = SpellsMarked SpellsCode m.fields
 
 abbrev pub codes : List (ℕ × List ℕ) → List ℕ
 codes fields = flat_map coded fields ++ 0 ∷ []
@@ -99,10 +108,10 @@ abbrev pub field : FieldDescription → List ℕ
 field f = text f.name ++ i32 f.table_id ++ i16 f.column_id ++ u32 f.type_id ++ i16 f.type_size ++ i32 f.type_modifier ++ i16 f.format_code
 
 unfoldable pub row_description_of : DecodeContext → List ℕ → Result RowDescription PgWireError
-row_description_of ctx bytes = all_of (made_at (λ fields. record { fields = fields }) (list16_at 19 field_at) bytes)
+row_description_of ctx bytes = all_of (made_at (λ fields. record { fields = fields }) (counted_at w16 19 field_at) bytes)
 
 abbrev pub SpellsRowDescription : RowDescription → List ℕ → Type 0
-SpellsRowDescription m = SpellsList16 SpellsField m.fields
+SpellsRowDescription m = SpellsCounted w16 SpellsField m.fields
 
 abbrev pub row_description : RowDescription → List ℕ
 row_description m = u16 (length m.fields) ++ flat_map field m.fields

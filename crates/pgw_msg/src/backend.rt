@@ -1,13 +1,17 @@
 //! All messages of a server.
-ghost use Rattle.std.specs.Prelude.{◌≡◌, ◌++◌, ℕ, List, IfOk, IfSome, Ok, Some};
+ghost use Rattle.std.specs.Prelude.{◌≡◌, ◌++◌, ℕ, List, IfOk, IfSome, OnOk, Ok, Some, false};
 ghost use Rattle.pgw_wire.specs.Framing.{Decodes, Appends};
-ghost use Rattle.pgw_msg.specs.Backend.{unknown as why_unknown, backend_front, backend_encoding};
+ghost use Rattle.pgw_msg.specs.Backend.{unknown as why_unknown, awaits_reply, backend_front, backend_encoding};
+ghost use Rattle.pgw_msg.specs.Front.{Spells};
+ghost use Rattle.pgw_msg.specs.Texts.{Suits};
+ghost use Rattle.pgw_wire.specs.declared.context.ProtocolVersion.{ProtocolVersion as TheVersion};
 ghost use Rattle.pgw_msg.specs.declared.backend.PgWireBackendMessage.{PgWireBackendMessage as TheMessage};
 
 use crate::data::{DataRow, RowDescription};
 use crate::response::{
     CommandComplete, EmptyQueryResponse, ErrorResponse, NoticeResponse, ReadyForQuery,
 };
+use crate::sound::is_sound;
 use bytes::BytesMut;
 use pgw_startup::authentication::Authentication;
 use pgw_startup::backend_key_data::BackendKeyData;
@@ -18,7 +22,6 @@ use pgw_wire::error::{PgWireError, PgWireResult};
 use pgw_wire::listed::Duplicate;
 use pgw_wire::memory::OutOfMemory;
 use pgw_wire::message::Message;
-use pgw_wire::reader::are_bytes;
 use std::alloc::Global;
 
 /// A message of a server.
@@ -38,24 +41,16 @@ pub enum PgWireBackendMessage {
 }
 
 impl PgWireBackendMessage {
-    /// Why a type byte is refused.
-    #[tactic(auto, unfolding(crate::specs::Backend::unknown))]
-    fn unknown(byte: u8) -> PgWireError
-        ensures { result ≡ why_unknown byte }
-    {
-        if b"123snAtdcfGHW".contains(&byte) {
-            PgWireError::NotYetBuilt
-        } else {
-            PgWireError::InvalidMessageType(byte)
-        }
-    }
-
-    // Takes the message at the front, if it is whole. A refusal leaves the buffer, as does want of memory.
+    /// Takes the message at the front, if it is whole. A refusal leaves the buffer, as does want of memory.
     pub fn decode(
         alloc: Global,
         buf: &mut BytesMut,
         ctx: &DecodeContext,
     ) -> PgWireResult<Option<PgWireBackendMessage>>
+        // A message that is read is spelled by the bytes that were taken.
+        ensures found { IfOk result (λ o. IfSome o (λ m. (g : List ℕ) × (buf.old.items ≡ g ++ buf.new.items) × Spells ctx.now.protocol_version m g)) }
+        // What is spelled at the front is read, unless memory runs out.
+        ensures only { awaits_reply ctx.now ≡ false → (m : TheMessage) (g rest : List ℕ) → Spells ctx.now.protocol_version m g → buf.old.items ≡ g ++ rest → Decodes result buf.old.items buf.new.items (Ok (Some (m, rest))) }
         // Which message it is or which refusal, and when nothing is whole yet.
         ensures exact { Decodes result buf.old.items buf.new.items (backend_front ctx.now buf.old.items) }
     {
@@ -84,6 +79,9 @@ fn decode_exact(
 ) -> PgWireResult<Option<PgWireBackendMessage>>
     ensures { Decodes result buf.old.items buf.new.items (backend_front ctx.now buf.old.items) }
 {
+    if ctx.awaiting_backend_ssl_response || ctx.awaiting_backend_gss_response {
+        return Err(PgWireError::NotYetBuilt);
+    }
     if buf.len() < 2 {
         return Ok(None);
     }
@@ -126,8 +124,18 @@ fn decode_exact(
 
 impl PgWireBackendMessage {
     /// Appends the whole message, or nothing.
-    #[tactic(auto, unfolding(crate::specs::Backend::backend_encoding))]
     pub fn encode(&self, buf: &mut BytesMut) -> PgWireResult<()>
+        // What is written spells the message, under each version that its key suits.
+        ensures spelled { OnOk result ((v : TheVersion) → Suits v self.now → (g : List ℕ) × (buf.new.items ≡ buf.old.items ++ g) × Spells v self.now g) }
+        // Which bytes are written, or which refusal it is.
+        ensures exact { Appends result buf.old.items buf.new.items (backend_encoding self.now) }
+    {
+        is_sound(self);
+        self.encode_exact(buf)
+    }
+
+    #[tactic(auto, unfolding(crate::specs::Backend::backend_encoding))]
+    fn encode_exact(&self, buf: &mut BytesMut) -> PgWireResult<()>
         ensures { Appends result buf.old.items buf.new.items (backend_encoding self.now) }
     {
         match self {

@@ -12,7 +12,7 @@ use pgw_wire::memory::OutOfMemory;
 use pgw_wire::message::Message;
 
 /// A message of a client.
-#[derive(Debug, Drop)]
+#[derive(Debug, Drop, PartialEq, Eq)]
 pub enum PgWireFrontendMessage {
     Startup(Startup),
     PasswordMessageFamily(PasswordMessageFamily),

@@ -2,3 +2,4 @@ pub mod Startup
 pub mod Negotiate
 pub mod Password
 pub mod Login
+pub mod Sound

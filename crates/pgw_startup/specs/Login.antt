@@ -1,14 +1,15 @@
 -- What a server says at login.
-use Rattle.std.specs.Prelude.{◌≡◌, ℕ, ℤ, ◌+◌, Bool, not, ◌||◌, List, [], ◌∷◌, ◌++◌, length, Option, Some, None, Result, Ok, Err, nat_lt, ◌==◌, if◌then◌else◌}
+use Rattle.std.specs.Prelude.{◌≡◌, ℕ, Bool, not, ◌||◌, List, [], ◌∷◌, ◌++◌, length, Option, None, Result, Ok, Err, nat_lt, ◌==◌, if◌then◌else◌}
 use Rattle.std.specs.List.{list_any, flat_map}
 use Rattle.std.specs.Int.{w32, cast_signed}
 use Rattle.pgw_wire.specs.declared.error.PgWireError.{PgWireError}
 use Rattle.pgw_wire.specs.declared.error.PgWireError.TheVariants.{InvalidAuthenticationMessageCode}
 use Rattle.pgw_wire.specs.declared.context.DecodeContext.{DecodeContext}
-use Rattle.pgw_wire.specs.Reading.{◌>>=◌, nat_at, int_at, text_at, name_at, octets_at, rest_at, all_of, list_at, marked_list_at, extended_count}
-use Rattle.pgw_wire.specs.Formats.{pair_at, made_at, tried_at, list32_at}
+use Rattle.pgw_wire.specs.declared.context.ProtocolVersion.{ProtocolVersion}
+use Rattle.pgw_wire.specs.Reading.{◌>>=◌, nat_at, int_at, text_at, name_at, octets_at, rest_at, all_of, marked_list_at}
+use Rattle.pgw_wire.specs.Formats.{pair_at, Pair, made_at, tried_at, counted_at, SpellsText, SpellsNat, SpellsInt, SpellsOctets, SpellsName, SpellsCounted, SpellsMarked}
 use Rattle.pgw_wire.specs.Writing.{text, i32, u32, has_zero, refused_if}
-use Rattle.pgw_wire.specs.Keys.{key_of, key_bytes, key_fault}
+use Rattle.pgw_wire.specs.Keys.{key_of, SpellsKey, key_bytes}
 use Rattle.pgw_startup.specs.declared.authentication.Authentication.{Authentication}
 use Rattle.pgw_startup.specs.declared.authentication.Authentication.TheVariants as auth
 use Rattle.pgw_startup.specs.declared.parameter_status.ParameterStatus.{ParameterStatus}
@@ -33,6 +34,28 @@ unfoldable pub authentication_of : DecodeContext → List ℕ → Result Authent
 authentication_of ctx bytes = all_of (do
   code ← nat_at w32 bytes
   by_code code.0 code.1)
+
+abbrev pub authentication_code : Authentication → ℕ
+authentication_code auth.Ok = 0
+authentication_code auth.KerberosV5 = 2
+authentication_code auth.CleartextPassword = 3
+authentication_code (auth.MD5Password salt) = 5
+authentication_code (auth.SASL methods) = 10
+authentication_code (auth.SASLContinue bytes) = 11
+authentication_code (auth.SASLFinal bytes) = 12
+
+-- what follows the code: a salt of four bytes, names of methods up to an empty one, or all that is left
+abbrev pub SpellsAfter : Authentication → List ℕ → Type 0
+SpellsAfter auth.Ok rest = rest ≡ []
+SpellsAfter auth.KerberosV5 rest = rest ≡ []
+SpellsAfter auth.CleartextPassword rest = rest ≡ []
+SpellsAfter (auth.MD5Password salt) rest = SpellsOctets 4 salt rest
+SpellsAfter (auth.SASL methods) rest = SpellsMarked SpellsName methods rest
+SpellsAfter (auth.SASLContinue bytes) rest = rest ≡ bytes
+SpellsAfter (auth.SASLFinal bytes) rest = rest ≡ bytes
+
+abbrev pub SpellsAuthentication : Authentication → List ℕ → Type 0
+SpellsAuthentication m bytes = (code : List ℕ) × (rest : List ℕ) × (bytes ≡ code ++ rest) × SpellsNat w32 (authentication_code m) code × SpellsAfter m rest
 
 abbrev pub authentication : Authentication → List ℕ
 authentication auth.Ok = u32 0
@@ -61,6 +84,9 @@ authentication_fault (auth.SASLFinal bytes) = None
 unfoldable pub parameter_status_of : DecodeContext → List ℕ → Result ParameterStatus PgWireError
 parameter_status_of ctx bytes = all_of (made_at (λ p. record { name = p.0; value = p.1 }) (pair_at text_at text_at) bytes)
 
+abbrev pub SpellsParameterStatus : ParameterStatus → List ℕ → Type 0
+SpellsParameterStatus m = Pair SpellsText SpellsText (m.name, m.value)
+
 abbrev pub parameter_status : ParameterStatus → List ℕ
 parameter_status m = text m.name ++ text m.value
 
@@ -72,13 +98,19 @@ parameter_status_fault m = refused_if (has_zero m.name || has_zero m.value)
 unfoldable pub backend_key_data_of : DecodeContext → List ℕ → Result BackendKeyData PgWireError
 backend_key_data_of ctx bytes = all_of (made_at (λ p. record { pid = p.0; secret_key = p.1 }) (pair_at (int_at w32) (tried_at (key_of ctx.protocol_version) rest_at)) bytes)
 
+abbrev pub SpellsBackendKeyData : ProtocolVersion → BackendKeyData → List ℕ → Type 0
+SpellsBackendKeyData version m = Pair (SpellsInt w32) (SpellsKey version) (m.pid, m.secret_key)
+
 abbrev pub backend_key_data : BackendKeyData → List ℕ
 backend_key_data m = i32 m.pid ++ key_bytes m.secret_key
 
 -- ---- NegotiateProtocolVersion
 
 unfoldable pub negotiate_of : DecodeContext → List ℕ → Result NegotiateProtocolVersion PgWireError
-negotiate_of ctx bytes = all_of (made_at (λ p. record { newest_minor_protocol = p.0; unsupported_options = p.1 }) (pair_at (int_at w32) (list32_at 1 text_at)) bytes)
+negotiate_of ctx bytes = all_of (made_at (λ p. record { newest_minor_protocol = p.0; unsupported_options = p.1 }) (pair_at (int_at w32) (counted_at w32 1 text_at)) bytes)
+
+abbrev pub SpellsNegotiate : NegotiateProtocolVersion → List ℕ → Type 0
+SpellsNegotiate m = Pair (SpellsInt w32) (SpellsCounted w32 SpellsText) (m.newest_minor_protocol, m.unsupported_options)
 
 abbrev pub negotiate : NegotiateProtocolVersion → List ℕ
 negotiate m = i32 m.newest_minor_protocol ++ u32 (length m.unsupported_options) ++ flat_map text m.unsupported_options

@@ -1,5 +1,5 @@
 -- Which version a server offers.
-use Rattle.std.specs.Prelude.{ℕ, ℤ, pos, negsuc, ◌/◌, ◌%◌, ◌==◌, Bool, Option, Some, None, nat_lt, if◌then◌else◌}
+use Rattle.std.specs.Prelude.{ℕ, ℤ, pos, negsuc, ◌/◌, ◌%◌, ◌==◌, Option, Some, None, nat_lt, if◌then◌else◌}
 use Rattle.pgw_wire.specs.declared.context.ProtocolVersion.{ProtocolVersion}
 use Rattle.pgw_wire.specs.declared.context.ProtocolVersion.TheVariants.{PROTOCOL3_0, PROTOCOL3_2}
 

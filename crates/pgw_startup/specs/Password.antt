@@ -2,7 +2,7 @@
 use Rattle.std.specs.Prelude.{ℕ, List, Option, None, Result}
 use Rattle.pgw_wire.specs.declared.error.PgWireError.{PgWireError}
 use Rattle.pgw_wire.specs.declared.context.DecodeContext.{DecodeContext}
-use Rattle.pgw_wire.specs.Reading.{◌>>=◌, text_at, rest_at, all_of}
+use Rattle.pgw_wire.specs.Reading.{text_at, rest_at, all_of}
 use Rattle.pgw_wire.specs.Formats.{made_at}
 use Rattle.pgw_wire.specs.Writing.{text, has_zero, refused_if}
 use Rattle.pgw_startup.specs.declared.password.Password.{Password}

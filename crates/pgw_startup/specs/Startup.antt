@@ -1,16 +1,14 @@
 -- The first message of a client.
-use Rattle.std.specs.Prelude.{◌≡◌, ℕ, ◌+◌, Bool, not, ◌||◌, List, [], ◌∷◌, ◌++◌, length, fold, Option, Some, None, Result, Ok, Err, nat_lt, ◌==◌, if◌then◌else◌}
-use Rattle.std.specs.Ordering.{nat_cmp}
-use Rattle.std.specs.Cmp.Lexicographic.{slice_cmp}
+use Rattle.std.specs.Prelude.{ℕ, Bool, not, ◌||◌, List, [], ◌∷◌, ◌++◌, length, Result, Ok, Err, nat_lt, ◌==◌, if◌then◌else◌}
 use Rattle.std.specs.FinMap as map
 use Rattle.std.specs.Int.{w16}
-use Rattle.std.specs.List.{flat_map, list_any}
+use Rattle.std.specs.List.{list_any}
 use Rattle.pgw_wire.specs.declared.error.PgWireError.{PgWireError}
 use Rattle.pgw_wire.specs.declared.error.PgWireError.TheVariants.{InvalidStartupMessage}
 use Rattle.pgw_wire.specs.declared.context.DecodeContext.{DecodeContext}
 use Rattle.pgw_startup.specs.declared.startup.Startup.{Startup}
-use Rattle.pgw_wire.specs.Reading.{◌>>=◌, nat_at, text_at, all_of, marked_list_at}
-use Rattle.pgw_wire.specs.Writing.{text, u16}
+use Rattle.pgw_wire.specs.Reading.{◌>>=◌, nat_at, all_of, marked_list_at}
+use Rattle.pgw_wire.specs.Writing.{u16}
 use Rattle.pgw_wire.specs.Pairs.{pair_at, from_pairs, pairs_written, is_pair_refused}
 
 unfoldable pub three : ℕ → Result ℕ PgWireError

@@ -3,6 +3,7 @@
 
 pub mod authentication;
 pub mod backend_key_data;
+pub mod laws;
 pub mod negotiate;
 pub mod parameter_status;
 pub mod password;

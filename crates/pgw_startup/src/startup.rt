@@ -21,7 +21,7 @@ use pgw_wire::text::Text;
 use pgw_wire::writer::{append, put_u16};
 use std::alloc::Global;
 
-#[derive(Debug, Drop)]
+#[derive(Debug, Drop, PartialEq, Eq)]
 pub struct Startup {
     pub protocol_number_major: u16,
     pub protocol_number_minor: u16,

@@ -1,9 +1,10 @@
 -- Texts with a code, as the fields of errors and notices are.
-use Rattle.std.specs.Prelude.{ℕ, List, [], ◌∷◌, ◌++◌, length, Bool, ◌||◌, Option, Some, None, Result, Ok, Err, ◌==◌, if◌then◌else◌}
+use Rattle.std.specs.Prelude.{ℕ, ◌<◌, List, [], ◌∷◌, ◌++◌, length, Bool, ◌||◌, Option, Some, None, Result, Ok, Err, ◌==◌, if◌then◌else◌}
 use Rattle.std.specs.Int.{w8}
 use Rattle.pgw_wire.specs.declared.error.PgWireError.{PgWireError}
 use Rattle.pgw_wire.specs.Reading.{◌>>=◌, nat_at, text_at}
 use Rattle.pgw_wire.specs.Writing.{text, has_zero}
+use Rattle.pgw_wire.specs.Formats.{Pair, SpellsNat, SpellsText}
 
 -- a code and its text
 unfoldable pub coded_at : List ℕ → Result ((ℕ × List ℕ) × List ℕ) PgWireError
@@ -17,6 +18,11 @@ unfoldable pub code_at : List ℕ → Result (Option (ℕ × List ℕ) × List �
 code_at bytes = do
   code ← nat_at w8 bytes
   if code.0 == 0 then Ok (None, code.1) else (text_at code.1 >>= λ t. Ok (Some (code.0, t.0), t.1))
+
+-- a code that is not 0 and its text, or the mark
+abbrev pub SpellsCode : Option (ℕ × List ℕ) → List ℕ → Type 0
+SpellsCode None bytes = SpellsNat w8 0 bytes
+SpellsCode (Some p) bytes = Pair (SpellsNat w8) SpellsText p bytes × (0 < p.0)
 
 abbrev pub coded : ℕ × List ℕ → List ℕ
 coded p = p.0 ∷ text p.1

@@ -1,5 +1,5 @@
 -- The key of a connection (BackendKeyData).
-use Rattle.std.specs.Prelude.{ℕ, ℤ, List, length, Bool, ◌||◌, ◌==◌, Option, Some, None, Result, Ok, Err, nat_lt, if◌then◌else◌}
+use Rattle.std.specs.Prelude.{◌≡◌, ◌≤◌, ℕ, ℤ, List, length, Bool, ◌||◌, ◌==◌, Option, Some, None, Result, Ok, Err, nat_lt, if◌then◌else◌}
 use Rattle.std.specs.Int.{w32, from_be_bytes, cast_signed}
 use Rattle.pgw_wire.specs.declared.error.PgWireError.{PgWireError}
 use Rattle.pgw_wire.specs.declared.error.PgWireError.TheVariants.{InvalidSecretKey, InvalidMessageBody}
@@ -8,6 +8,7 @@ use Rattle.pgw_wire.specs.declared.context.ProtocolVersion.TheVariants.{PROTOCOL
 use Rattle.pgw_wire.specs.declared.secret_key.SecretKey.{SecretKey}
 use Rattle.pgw_wire.specs.declared.secret_key.SecretKey.TheVariants.{I32, Bytes}
 use Rattle.pgw_wire.specs.Writing.{i32}
+use Rattle.pgw_wire.specs.Formats.{SpellsInt}
 
 -- a key has 4 to 256 bytes
 abbrev pub is_no_key : List ℕ → Bool
@@ -24,6 +25,15 @@ key_by PROTOCOL3_9999 bytes = Ok (Bytes bytes)
 
 unfoldable pub key_of : ProtocolVersion → List ℕ → Result SecretKey PgWireError
 key_of version bytes = if is_no_key bytes then Err InvalidSecretKey else key_by version bytes
+
+-- the bytes are the key's, under the version
+abbrev pub SpellsKey : ProtocolVersion → SecretKey → List ℕ → Type 0
+SpellsKey PROTOCOL3_0 (I32 n) bytes = SpellsInt w32 n bytes
+SpellsKey PROTOCOL3_0 (Bytes key) bytes = ⊥
+SpellsKey PROTOCOL3_2 (I32 n) bytes = ⊥
+SpellsKey PROTOCOL3_2 (Bytes key) bytes = (bytes ≡ key) × (4 ≤ length key) × (length key ≤ 256)
+SpellsKey PROTOCOL3_9999 (I32 n) bytes = ⊥
+SpellsKey PROTOCOL3_9999 (Bytes key) bytes = (bytes ≡ key) × (4 ≤ length key) × (length key ≤ 256)
 
 abbrev pub key_bytes : SecretKey → List ℕ
 key_bytes (I32 n) = i32 n

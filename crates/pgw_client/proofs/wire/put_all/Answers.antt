@@ -1,4 +1,4 @@
-use Rattle.std.proofs.Common.{◌+◌, ◌++◌, take, length, List, ℕ, append_assoc, ap, arith, sym, subst, ◌∙◌, Err}
+use Rattle.std.proofs.Common.{◌++◌, take, length, List, ℕ, append_assoc, ap, arith, sym, subst, ◌∙◌, Err}
 use Rattle.pgw_msg.specs.Frontend.{encoding, encodings}
 use Rattle.pgw_client.specs.Errors.{IsOwn}
 use Rattle.pgw_client.specs.Wire.{PutOut}

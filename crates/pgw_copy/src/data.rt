@@ -1,0 +1,199 @@
+//! Data, and its end.
+ghost use Rattle.std.specs.Prelude.{◌≡◌, [], None};
+ghost use Rattle.pgw_wire.specs.declared.framing.Framing.TheVariants.{Typed};
+ghost use Rattle.pgw_wire.specs.Writing.{text, has_zero as holds_zero, refused_if};
+ghost use Rattle.pgw_copy.specs.Rows.{copy_data_of, copy_done_of, copy_fail_of};
+
+use bytes::BytesMut;
+use pgw_wire::context::DecodeContext;
+use pgw_wire::error::{PgWireError, PgWireResult};
+use pgw_wire::framing::Framing;
+use pgw_wire::listed::Duplicate;
+use pgw_wire::memory::OutOfMemory;
+use pgw_wire::message::Message;
+use pgw_wire::octets::Octets;
+use pgw_wire::reader::FieldReader;
+use pgw_wire::text::Text;
+use pgw_wire::writer::{append, has_zero, put_text};
+use std::alloc::Global;
+
+pub const MESSAGE_TYPE_BYTE_COPY_DATA: u8 = b'd';
+
+pub const MESSAGE_TYPE_BYTE_COPY_DONE: u8 = b'c';
+
+pub const MESSAGE_TYPE_BYTE_COPY_FAIL: u8 = b'f';
+
+/// A piece of the data (CopyData).
+#[derive(Debug, Drop, PartialEq, Eq)]
+pub struct CopyData {
+    pub payload: Octets,
+}
+
+impl CopyData {
+    pub fn new(payload: Octets) -> CopyData
+        ensures { result ≡ record { payload = payload } }
+    {
+        CopyData { payload }
+    }
+}
+
+impl Message for CopyData {
+    ghost row_framing = { Typed 100 };
+
+    ghost limit = { 1073741822 };
+
+    ghost reading = { copy_data_of };
+
+    ghost written = { λ m. m.payload };
+
+    ghost fault = { λ m. None };
+
+    fn framing() -> Framing {
+        Framing::Typed(MESSAGE_TYPE_BYTE_COPY_DATA)
+    }
+
+    fn max_message_length() -> usize {
+        1073741822
+    }
+
+    fn message_length(&self) -> usize {
+        self.payload.len() + 4
+    }
+
+    fn encode_body(&self, buf: &mut BytesMut) -> PgWireResult<()> {
+        append(buf, self.payload.as_slice())
+    }
+
+    #[tactic(auto, unfolding(crate::specs::Rows::copy_data_of))]
+    fn decode_body(_alloc: Global, body: &Octets, _ctx: &DecodeContext) -> PgWireResult<CopyData> {
+        let mut reader = FieldReader::new(body);
+        let payload = reader.take_rest()?;
+        reader.finish()?;
+        Ok(CopyData { payload })
+    }
+}
+
+impl Duplicate for CopyData {
+    fn duplicate(&self) -> Result<CopyData, OutOfMemory> {
+        Ok(CopyData {
+            payload: self.payload.duplicate()?,
+        })
+    }
+}
+
+/// The data is complete (CopyDone).
+#[derive(Clone, Copy, Debug, PartialEq, Eq)]
+pub struct CopyDone;
+
+impl CopyDone {
+    pub fn new() -> CopyDone
+        ensures { result ≡ record {} }
+    {
+        CopyDone
+    }
+}
+
+impl Message for CopyDone {
+    ghost row_framing = { Typed 99 };
+
+    ghost limit = { 10000 };
+
+    ghost reading = { copy_done_of };
+
+    ghost written = { λ m. [] };
+
+    ghost fault = { λ m. None };
+
+    fn framing() -> Framing {
+        Framing::Typed(MESSAGE_TYPE_BYTE_COPY_DONE)
+    }
+
+    fn max_message_length() -> usize {
+        10000
+    }
+
+    fn message_length(&self) -> usize {
+        4
+    }
+
+    fn encode_body(&self, _buf: &mut BytesMut) -> PgWireResult<()> {
+        Ok(())
+    }
+
+    #[tactic(auto, unfolding(crate::specs::Rows::copy_done_of))]
+    fn decode_body(_alloc: Global, body: &Octets, _ctx: &DecodeContext) -> PgWireResult<CopyDone> {
+        FieldReader::new(body).finish()?;
+        Ok(CopyDone)
+    }
+}
+
+impl Duplicate for CopyDone {
+    fn duplicate(&self) -> Result<CopyDone, OutOfMemory> {
+        Ok(CopyDone)
+    }
+}
+
+/// The data can't be completed, and why (CopyFail).
+#[derive(Debug, Drop, PartialEq, Eq)]
+pub struct CopyFail {
+    pub message: Text,
+}
+
+impl CopyFail {
+    pub fn new(message: Text) -> CopyFail
+        ensures { result ≡ record { message = message } }
+    {
+        CopyFail { message }
+    }
+}
+
+impl Message for CopyFail {
+    ghost row_framing = { Typed 102 };
+
+    ghost limit = { 10000 };
+
+    ghost reading = { copy_fail_of };
+
+    ghost written = { λ m. text m.message };
+
+    ghost fault = { λ m. refused_if (holds_zero m.message) };
+
+    fn framing() -> Framing {
+        Framing::Typed(MESSAGE_TYPE_BYTE_COPY_FAIL)
+    }
+
+    fn max_message_length() -> usize {
+        10000
+    }
+
+    #[tactic(auto, unfolding(pgw_wire::specs::Writing::text))]
+    fn message_length(&self) -> usize {
+        self.message.len() + 5
+    }
+
+    #[tactic(auto, unfolding(pgw_wire::specs::Writing::refused_if))]
+    fn encode_body(&self, buf: &mut BytesMut) -> PgWireResult<()> {
+        if has_zero(&self.message) {
+            return Err(PgWireError::InvalidMessageBody);
+        }
+        let mut out = Vec::new(*buf.allocator());
+        put_text(&mut out, &self.message)?;
+        append(buf, &out)
+    }
+
+    #[tactic(auto, unfolding(crate::specs::Rows::copy_fail_of))]
+    fn decode_body(alloc: Global, body: &Octets, _ctx: &DecodeContext) -> PgWireResult<CopyFail> {
+        let mut reader = FieldReader::new(body);
+        let message = reader.take_text(alloc)?;
+        reader.finish()?;
+        Ok(CopyFail { message })
+    }
+}
+
+impl Duplicate for CopyFail {
+    fn duplicate(&self) -> Result<CopyFail, OutOfMemory> {
+        Ok(CopyFail {
+            message: self.message.duplicate()?,
+        })
+    }
+}

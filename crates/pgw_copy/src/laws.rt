@@ -1,0 +1,33 @@
+//! What holds of the messages of COPY.
+ghost use Rattle.std.specs.Prelude.{◌≡◌, ℕ, List, None, Ok};
+ghost use Rattle.pgw_wire.specs.declared.framing.Framing.TheVariants.{Typed};
+ghost use Rattle.pgw_wire.specs.Framing.{encoded};
+ghost use Rattle.pgw_wire.specs.Writing.{text, has_zero, refused_if};
+ghost use Rattle.pgw_wire.specs.Formats.{IsRow, SpellsTyped};
+ghost use Rattle.pgw_wire.specs.declared.context.DecodeContext.{DecodeContext as TheContext};
+ghost use Rattle.pgw_copy.specs.declared.data.CopyData.{CopyData as TheCopyData};
+ghost use Rattle.pgw_copy.specs.declared.data.CopyFail.{CopyFail as TheCopyFail};
+ghost use Rattle.pgw_copy.specs.declared.response.CopyInResponse.{CopyInResponse as TheCopyInResponse};
+ghost use Rattle.pgw_copy.specs.declared.response.CopyOutResponse.{CopyOutResponse as TheCopyOutResponse};
+ghost use Rattle.pgw_copy.specs.declared.response.CopyBothResponse.{CopyBothResponse as TheCopyBothResponse};
+ghost use Rattle.pgw_copy.specs.Sound.{IsCopyFail, AreColumns};
+ghost use Rattle.pgw_copy.specs.Rows.{formats, is_miscounted, copy_data_of, SpellsCopyData, copy_done_of, SpellsCopyDone, copy_fail_of, SpellsCopyFail, copy_in_response_of, SpellsCopyInResponse, copy_out_response_of, SpellsCopyOutResponse, copy_both_response_of, SpellsCopyBothResponse};
+
+/// What is read at the front of some bytes is spelled so, and what is spelled so is read, whatever follows it.
+pub fn rows_are_exact()
+    ensures copy_data { (ctx : TheContext) → IsRow 100 1073741822 (copy_data_of ctx) SpellsCopyData }
+    ensures copy_done { (ctx : TheContext) → IsRow 99 10000 (copy_done_of ctx) SpellsCopyDone }
+    ensures copy_fail { (ctx : TheContext) → IsRow 102 10000 (copy_fail_of ctx) SpellsCopyFail }
+    ensures copy_in_response { (ctx : TheContext) → IsRow 71 30000 (copy_in_response_of ctx) SpellsCopyInResponse }
+    ensures copy_out_response { (ctx : TheContext) → IsRow 72 30000 (copy_out_response_of ctx) SpellsCopyOutResponse }
+    ensures copy_both_response { (ctx : TheContext) → IsRow 87 30000 (copy_both_response_of ctx) SpellsCopyBothResponse }
+{}
+
+/// What is written of a message spells it. CopyDone has no body.
+pub fn what_is_written_is_spelled()
+    ensures copy_data { (m : TheCopyData) (g : List ℕ) → encoded (Typed 100) 1073741822 None m.payload ≡ Ok g → SpellsTyped 100 1073741822 SpellsCopyData m g }
+    ensures copy_fail { (m : TheCopyFail) (g : List ℕ) → IsCopyFail m → encoded (Typed 102) 10000 (refused_if (has_zero m.message)) (text m.message) ≡ Ok g → SpellsTyped 102 10000 SpellsCopyFail m g }
+    ensures copy_in_response { (m : TheCopyInResponse) (g : List ℕ) → AreColumns m.format m.columns m.column_formats → encoded (Typed 71) 30000 (refused_if (is_miscounted m.columns m.column_formats)) (formats m.format m.columns m.column_formats) ≡ Ok g → SpellsTyped 71 30000 SpellsCopyInResponse m g }
+    ensures copy_out_response { (m : TheCopyOutResponse) (g : List ℕ) → AreColumns m.format m.columns m.column_formats → encoded (Typed 72) 30000 (refused_if (is_miscounted m.columns m.column_formats)) (formats m.format m.columns m.column_formats) ≡ Ok g → SpellsTyped 72 30000 SpellsCopyOutResponse m g }
+    ensures copy_both_response { (m : TheCopyBothResponse) (g : List ℕ) → AreColumns m.format m.columns m.column_formats → encoded (Typed 87) 30000 (refused_if (is_miscounted m.columns m.column_formats)) (formats m.format m.columns m.column_formats) ≡ Ok g → SpellsTyped 87 30000 SpellsCopyBothResponse m g }
+{}

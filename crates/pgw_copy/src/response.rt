@@ -1,0 +1,274 @@
+//! What a server answers to COPY.
+ghost use Rattle.std.specs.Prelude.{◌≡◌};
+ghost use Rattle.pgw_wire.specs.declared.framing.Framing.TheVariants.{Typed};
+ghost use Rattle.pgw_wire.specs.Framing.{Appends, body_or};
+ghost use Rattle.pgw_wire.specs.Reading.{Reads};
+ghost use Rattle.pgw_wire.specs.Writing.{refused_if};
+ghost use Rattle.pgw_copy.specs.Rows.{columns_at, formats, is_miscounted as is_miscounted_list, copy_in_response_of, copy_out_response_of, copy_both_response_of};
+
+use bytes::BytesMut;
+use pgw_wire::context::DecodeContext;
+use pgw_wire::error::{PgWireError, PgWireResult};
+use pgw_wire::field::{list_len, put_list, take_list, unsigned_count};
+use pgw_wire::framing::Framing;
+use pgw_wire::listed::Listed;
+use pgw_wire::message::Message;
+use pgw_wire::octets::Octets;
+use pgw_wire::reader::FieldReader;
+use pgw_wire::writer::{append, put_i16};
+use std::alloc::Global;
+
+pub const MESSAGE_TYPE_BYTE_COPY_IN_RESPONSE: u8 = b'G';
+
+pub const MESSAGE_TYPE_BYTE_COPY_OUT_RESPONSE: u8 = b'H';
+
+pub const MESSAGE_TYPE_BYTE_COPY_BOTH_RESPONSE: u8 = b'W';
+
+// The format of all, the number of columns, and their formats.
+#[tactic(auto, unfolding(crate::specs::Rows::columns_at))]
+fn take_formats(alloc: Global, reader: &mut FieldReader<'_>) -> PgWireResult<(i8, i16, Listed<i16>)>
+    ensures { Reads result reader.new (columns_at reader.old) }
+{
+    let format = reader.take_i8()?;
+    let columns = reader.take_i16()?;
+    let count = unsigned_count(columns as i32);
+    let column_formats = take_list(alloc, reader, count, 2)?;
+    Ok((format, columns, column_formats))
+}
+
+// Whether the columns are not as many as their formats.
+fn is_miscounted(columns: i16, column_formats: &[i16]) -> bool
+    ensures { result ≡ is_miscounted_list columns column_formats.now }
+{
+    columns < 0 || columns as usize != column_formats.len()
+}
+
+// Appends them.
+#[tactic(auto, unfolding(pgw_wire::specs::Writing::refused_if))]
+fn append_formats(
+    buf: &mut BytesMut,
+    format: i8,
+    columns: i16,
+    column_formats: &[i16],
+) -> PgWireResult<()>
+    ensures { Appends result buf.old.items buf.new.items (body_or (refused_if (is_miscounted_list columns column_formats.now)) (formats format columns column_formats.now)) }
+{
+    if is_miscounted(columns, column_formats) {
+        return Err(PgWireError::InvalidMessageBody);
+    }
+    let mut out = Vec::new(*buf.allocator());
+    out.push(format.cast_unsigned())?;
+    put_i16(&mut out, columns)?;
+    put_list(&mut out, column_formats)?;
+    append(buf, &out)
+}
+
+/// The server waits for data (CopyInResponse).
+#[derive(Debug, Drop, PartialEq, Eq)]
+pub struct CopyInResponse {
+    pub format: i8,
+    pub columns: i16,
+    pub column_formats: Listed<i16>,
+}
+
+impl CopyInResponse {
+    pub fn new(format: i8, columns: i16, column_formats: Listed<i16>) -> CopyInResponse
+        ensures { result ≡ record { format = format; columns = columns; column_formats = column_formats } }
+    {
+        CopyInResponse {
+            format,
+            columns,
+            column_formats,
+        }
+    }
+}
+
+impl Message for CopyInResponse {
+    ghost row_framing = { Typed 71 };
+
+    ghost limit = { 30000 };
+
+    ghost reading = { copy_in_response_of };
+
+    ghost written = { λ m. formats m.format m.columns m.column_formats };
+
+    ghost fault = { λ m. refused_if (is_miscounted_list m.columns m.column_formats) };
+
+    fn framing() -> Framing {
+        Framing::Typed(MESSAGE_TYPE_BYTE_COPY_IN_RESPONSE)
+    }
+
+    fn max_message_length() -> usize {
+        30000
+    }
+
+    #[tactic(auto, unfolding(pgw_wire::specs::Writing::i16))]
+    fn message_length(&self) -> usize {
+        list_len(self.column_formats.as_slice(), 7)
+    }
+
+    fn encode_body(&self, buf: &mut BytesMut) -> PgWireResult<()> {
+        append_formats(
+            buf,
+            self.format,
+            self.columns,
+            self.column_formats.as_slice(),
+        )
+    }
+
+    #[tactic(auto, unfolding(crate::specs::Rows::copy_in_response_of))]
+    fn decode_body(
+        alloc: Global,
+        body: &Octets,
+        _ctx: &DecodeContext,
+    ) -> PgWireResult<CopyInResponse> {
+        let mut reader = FieldReader::new(body);
+        let (format, columns, column_formats) = take_formats(alloc, &mut reader)?;
+        reader.finish()?;
+        Ok(CopyInResponse {
+            format,
+            columns,
+            column_formats,
+        })
+    }
+}
+
+/// The server sends data (CopyOutResponse).
+#[derive(Debug, Drop, PartialEq, Eq)]
+pub struct CopyOutResponse {
+    pub format: i8,
+    pub columns: i16,
+    pub column_formats: Listed<i16>,
+}
+
+impl CopyOutResponse {
+    pub fn new(format: i8, columns: i16, column_formats: Listed<i16>) -> CopyOutResponse
+        ensures { result ≡ record { format = format; columns = columns; column_formats = column_formats } }
+    {
+        CopyOutResponse {
+            format,
+            columns,
+            column_formats,
+        }
+    }
+}
+
+impl Message for CopyOutResponse {
+    ghost row_framing = { Typed 72 };
+
+    ghost limit = { 30000 };
+
+    ghost reading = { copy_out_response_of };
+
+    ghost written = { λ m. formats m.format m.columns m.column_formats };
+
+    ghost fault = { λ m. refused_if (is_miscounted_list m.columns m.column_formats) };
+
+    fn framing() -> Framing {
+        Framing::Typed(MESSAGE_TYPE_BYTE_COPY_OUT_RESPONSE)
+    }
+
+    fn max_message_length() -> usize {
+        30000
+    }
+
+    #[tactic(auto, unfolding(pgw_wire::specs::Writing::i16))]
+    fn message_length(&self) -> usize {
+        list_len(self.column_formats.as_slice(), 7)
+    }
+
+    fn encode_body(&self, buf: &mut BytesMut) -> PgWireResult<()> {
+        append_formats(
+            buf,
+            self.format,
+            self.columns,
+            self.column_formats.as_slice(),
+        )
+    }
+
+    #[tactic(auto, unfolding(crate::specs::Rows::copy_out_response_of))]
+    fn decode_body(
+        alloc: Global,
+        body: &Octets,
+        _ctx: &DecodeContext,
+    ) -> PgWireResult<CopyOutResponse> {
+        let mut reader = FieldReader::new(body);
+        let (format, columns, column_formats) = take_formats(alloc, &mut reader)?;
+        reader.finish()?;
+        Ok(CopyOutResponse {
+            format,
+            columns,
+            column_formats,
+        })
+    }
+}
+
+/// Data goes both ways (CopyBothResponse).
+#[derive(Debug, Drop, PartialEq, Eq)]
+pub struct CopyBothResponse {
+    pub format: i8,
+    pub columns: i16,
+    pub column_formats: Listed<i16>,
+}
+
+impl CopyBothResponse {
+    pub fn new(format: i8, columns: i16, column_formats: Listed<i16>) -> CopyBothResponse
+        ensures { result ≡ record { format = format; columns = columns; column_formats = column_formats } }
+    {
+        CopyBothResponse {
+            format,
+            columns,
+            column_formats,
+        }
+    }
+}
+
+impl Message for CopyBothResponse {
+    ghost row_framing = { Typed 87 };
+
+    ghost limit = { 30000 };
+
+    ghost reading = { copy_both_response_of };
+
+    ghost written = { λ m. formats m.format m.columns m.column_formats };
+
+    ghost fault = { λ m. refused_if (is_miscounted_list m.columns m.column_formats) };
+
+    fn framing() -> Framing {
+        Framing::Typed(MESSAGE_TYPE_BYTE_COPY_BOTH_RESPONSE)
+    }
+
+    fn max_message_length() -> usize {
+        30000
+    }
+
+    #[tactic(auto, unfolding(pgw_wire::specs::Writing::i16))]
+    fn message_length(&self) -> usize {
+        list_len(self.column_formats.as_slice(), 7)
+    }
+
+    fn encode_body(&self, buf: &mut BytesMut) -> PgWireResult<()> {
+        append_formats(
+            buf,
+            self.format,
+            self.columns,
+            self.column_formats.as_slice(),
+        )
+    }
+
+    #[tactic(auto, unfolding(crate::specs::Rows::copy_both_response_of))]
+    fn decode_body(
+        alloc: Global,
+        body: &Octets,
+        _ctx: &DecodeContext,
+    ) -> PgWireResult<CopyBothResponse> {
+        let mut reader = FieldReader::new(body);
+        let (format, columns, column_formats) = take_formats(alloc, &mut reader)?;
+        reader.finish()?;
+        Ok(CopyBothResponse {
+            format,
+            columns,
+            column_formats,
+        })
+    }
+}

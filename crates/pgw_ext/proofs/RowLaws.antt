@@ -1,0 +1,101 @@
+-- Each row of the message table is exact.
+use Rattle.std.proofs.Common.{◌≡◌, ℕ, ◌<◌, ◌^◌, List, [], ◌++◌, Ok, refl, subst, arith, lit<}
+use Rattle.std.specs.Int.{w8, w16, w32}
+use Rattle.pgw_wire.specs.declared.context.DecodeContext.{DecodeContext}
+use Rattle.pgw_wire.specs.Reading.{nat_at, int_at, text_at, name_at, all_of}
+use Rattle.pgw_wire.specs.Formats.{IsRow, Reads, ReadsLast, SpellsText, SpellsNat, SpellsInt, SpellsName}
+use Rattle.pgw_wire.proofs.Laws.{pair_reads, ok_is}
+use Rattle.pgw_wire.proofs.FieldLaws.{text_reads, nat_reads, int_reads}
+use Rattle.pgw_wire.proofs.FrameLaws.{reads_last, made_last}
+use Rattle.pgw_wire.proofs.MarkLaws.{name_reads}
+use Rattle.pgw_wire.proofs.MessageLaws.{is_row}
+use Rattle.pgw_ext.specs.Kinds.{counted16_at, SpellsCounted16, parameter_at, SpellsParameter}
+use Rattle.pgw_ext.specs.Rows.{NoBody, parse_from, parse_of, SpellsParse, parse_complete_of, bind_from, parts_of, bind_of, SpellsBind, bind_complete_of, target_at, SpellsTarget, close_of, SpellsClose, close_complete_of, describe_of, SpellsDescribe, execute_of, SpellsExecute, portal_suspended_of, flush_of, sync_of}
+use Rattle.pgw_ext.proofs.KindLaws.{counted16_reads, parameter_reads, parameter_least}
+
+-- a message of which there is one value, and whose body has no bytes
+empty_row : {M : Type 0} (byte limit : ℕ) → limit < 2 ^ 31 → (m : M) → ((n : M) → m ≡ n) → IsRow byte limit (λ bytes. all_of (Ok (m, bytes))) NoBody
+empty_row {M} byte limit small m one = is_row byte limit small (λ bytes. Ok (m, bytes)) NoBody (record {
+  found = λ bytes n rest short e.
+      let made : M × List ℕ = (m, bytes) in
+      subst (λ (y : M × List ℕ). (f : List ℕ) × (bytes ≡ f ++ y.1) × NoBody y.0 f) (ok_is made (n, rest) e) ([], refl, refl);
+  only = λ n front h. rw (h, one n) refl;
+})
+
+-- ---- Parse, ParseComplete
+
+oids_reads : Reads (counted16_at 4 (nat_at w32)) (SpellsCounted16 (SpellsNat w32))
+oids_reads = counted16_reads (nat_at w32) (SpellsNat w32) 4 (λ x f h. omega (arith, h.0)) (nat_reads w32)
+
+pub parse : (ctx : DecodeContext) → IsRow 80 1073741822 (parse_of ctx) SpellsParse
+unfolding parse_of
+parse ctx = is_row 80 1073741822 (lit< tt) _ SpellsParse
+    (made_last parse_from (λ m. (m.name, (m.query, m.type_oids))) _ _ (λ x. refl) (λ y. refl)
+    (reads_last _ _ (pair_reads name_at SpellsName _ _ name_reads (pair_reads text_at SpellsText _ _ text_reads oids_reads))))
+
+pub parse_complete : (ctx : DecodeContext) → IsRow 49 30000 (parse_complete_of ctx) NoBody
+unfolding parse_complete_of
+parse_complete ctx = empty_row 49 30000 (lit< tt) (record {}) (λ n. refl)
+
+-- ---- Bind, BindComplete
+
+codes_reads : Reads (counted16_at 2 (int_at w16)) (SpellsCounted16 (SpellsInt w16))
+codes_reads = counted16_reads (int_at w16) (SpellsInt w16) 2 (λ x f h. omega (arith, h.0)) (int_reads w16)
+
+parameters_reads : Reads (counted16_at 4 parameter_at) (SpellsCounted16 SpellsParameter)
+parameters_reads = counted16_reads parameter_at SpellsParameter 4 parameter_least parameter_reads
+
+pub bind : (ctx : DecodeContext) → IsRow 66 1073741822 (bind_of ctx) SpellsBind
+unfolding bind_of
+bind ctx = is_row 66 1073741822 (lit< tt) _ SpellsBind
+    (made_last bind_from parts_of _ _ (λ x. refl) (λ y. refl)
+    (reads_last _ _ (pair_reads name_at SpellsName _ _ name_reads
+    (pair_reads name_at SpellsName _ _ name_reads
+    (pair_reads (counted16_at 2 (int_at w16)) (SpellsCounted16 (SpellsInt w16)) _ _ codes_reads
+    (pair_reads (counted16_at 4 parameter_at) (SpellsCounted16 SpellsParameter) _ _ parameters_reads codes_reads))))))
+
+pub bind_complete : (ctx : DecodeContext) → IsRow 50 30000 (bind_complete_of ctx) NoBody
+unfolding bind_complete_of
+bind_complete ctx = empty_row 50 30000 (lit< tt) (record {}) (λ n. refl)
+
+-- ---- Close, CloseComplete, Describe
+
+target_reads : ReadsLast target_at SpellsTarget
+unfolding target_at
+target_reads = reads_last _ _ (pair_reads (nat_at w8) (SpellsNat w8) name_at SpellsName (nat_reads w8) name_reads)
+
+pub close : (ctx : DecodeContext) → IsRow 67 10000 (close_of ctx) SpellsClose
+unfolding close_of
+close ctx = is_row 67 10000 (lit< tt) _ SpellsClose
+    (made_last (λ p. record { target_type = p.0; name = p.1 }) (λ m. (m.target_type, m.name)) target_at SpellsTarget (λ x. refl) (λ y. refl) target_reads)
+
+pub describe : (ctx : DecodeContext) → IsRow 68 10000 (describe_of ctx) SpellsDescribe
+unfolding describe_of
+describe ctx = is_row 68 10000 (lit< tt) _ SpellsDescribe
+    (made_last (λ p. record { target_type = p.0; name = p.1 }) (λ m. (m.target_type, m.name)) target_at SpellsTarget (λ x. refl) (λ y. refl) target_reads)
+
+pub close_complete : (ctx : DecodeContext) → IsRow 51 30000 (close_complete_of ctx) NoBody
+unfolding close_complete_of
+close_complete ctx = empty_row 51 30000 (lit< tt) (record {}) (λ n. refl)
+
+-- ---- Execute, PortalSuspended
+
+pub execute : (ctx : DecodeContext) → IsRow 69 10000 (execute_of ctx) SpellsExecute
+unfolding execute_of
+execute ctx = is_row 69 10000 (lit< tt) _ SpellsExecute
+    (made_last (λ p. record { name = p.0; max_rows = p.1 }) (λ m. (m.name, m.max_rows)) _ _ (λ x. refl) (λ y. refl)
+    (reads_last _ _ (pair_reads name_at SpellsName (int_at w32) (SpellsInt w32) name_reads (int_reads w32))))
+
+pub portal_suspended : (ctx : DecodeContext) → IsRow 115 30000 (portal_suspended_of ctx) NoBody
+unfolding portal_suspended_of
+portal_suspended ctx = empty_row 115 30000 (lit< tt) (record {}) (λ n. refl)
+
+-- ---- Flush, Sync
+
+pub flush : (ctx : DecodeContext) → IsRow 72 10000 (flush_of ctx) NoBody
+unfolding flush_of
+flush ctx = empty_row 72 10000 (lit< tt) (record {}) (λ n. refl)
+
+pub sync : (ctx : DecodeContext) → IsRow 83 10000 (sync_of ctx) NoBody
+unfolding sync_of
+sync ctx = empty_row 83 10000 (lit< tt) (record {}) (λ n. refl)

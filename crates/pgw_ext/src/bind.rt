@@ -1,0 +1,194 @@
+//! Binding parameters to a prepared statement.
+ghost use Rattle.std.specs.Prelude.{◌≡◌, ◌||◌, [], None};
+ghost use Rattle.pgw_wire.specs.declared.framing.Framing.TheVariants.{Typed};
+ghost use Rattle.pgw_wire.specs.Writing.{refused_if};
+ghost use Rattle.pgw_ext.specs.Kinds.{is_name_refused as is_name_refused_list};
+ghost use Rattle.pgw_ext.specs.Rows.{bind_of, bind, is_bind_refused, is_too_long, bind_complete_of};
+
+use crate::kinds::{is_name_refused, name_len, put_counted16, put_name, take_counted16};
+use crate::parameter::{parameters_len, put_parameters, take_parameters};
+use bytes::BytesMut;
+use pgw_wire::context::DecodeContext;
+use pgw_wire::error::{PgWireError, PgWireResult};
+use pgw_wire::field::list_len;
+use pgw_wire::framing::Framing;
+use pgw_wire::listed::{Duplicate, Listed};
+use pgw_wire::memory::OutOfMemory;
+use pgw_wire::message::Message;
+use pgw_wire::octets::Octets;
+use pgw_wire::reader::FieldReader;
+use pgw_wire::text::Text;
+use pgw_wire::writer::append;
+use std::alloc::Global;
+
+pub const MESSAGE_TYPE_BYTE_BIND: u8 = b'B';
+
+pub const MESSAGE_TYPE_BYTE_BIND_COMPLETE: u8 = b'2';
+
+/// The values of a statement's parameters, where none is NULL, and the formats of both sides (Bind).
+#[derive(Debug, Drop, PartialEq, Eq)]
+pub struct Bind {
+    pub portal_name: Option<Text>,
+    pub statement_name: Option<Text>,
+    pub parameter_format_codes: Listed<i16>,
+    pub parameters: Listed<Option<Octets>>,
+    pub result_column_format_codes: Listed<i16>,
+}
+
+impl Bind {
+    pub fn new(
+        portal_name: Option<Text>,
+        statement_name: Option<Text>,
+        parameter_format_codes: Listed<i16>,
+        parameters: Listed<Option<Octets>>,
+        result_column_format_codes: Listed<i16>,
+    ) -> Bind
+        ensures { result ≡ record { portal_name = portal_name; statement_name = statement_name; parameter_format_codes = parameter_format_codes; parameters = parameters; result_column_format_codes = result_column_format_codes } }
+    {
+        Bind {
+            portal_name,
+            statement_name,
+            parameter_format_codes,
+            parameters,
+            result_column_format_codes,
+        }
+    }
+}
+
+// Whether a name has no spelling.
+fn is_any_name_refused(m: &Bind) -> bool
+    ensures { result ≡ (is_name_refused_list m.now.portal_name || is_name_refused_list m.now.statement_name) }
+{
+    is_name_refused(&m.portal_name) || is_name_refused(&m.statement_name)
+}
+
+// Whether a list has more elements than its count tells.
+fn is_any_list_too_long(m: &Bind) -> bool
+    ensures { result ≡ (is_too_long m.now.parameter_format_codes || (is_too_long m.now.parameters || is_too_long m.now.result_column_format_codes)) }
+{
+    m.parameter_format_codes.as_slice().len() > 65535
+        || (m.parameters.as_slice().len() > 65535
+            || m.result_column_format_codes.as_slice().len() > 65535)
+}
+
+fn is_refused(m: &Bind) -> bool
+    ensures { result ≡ is_bind_refused m.now }
+{
+    is_any_name_refused(m) || is_any_list_too_long(m)
+}
+
+impl Message for Bind {
+    ghost row_framing = { Typed 66 };
+
+    ghost limit = { 1073741822 };
+
+    ghost reading = { bind_of };
+
+    ghost written = { bind };
+
+    ghost fault = { λ m. refused_if (is_bind_refused m) };
+
+    fn framing() -> Framing {
+        Framing::Typed(MESSAGE_TYPE_BYTE_BIND)
+    }
+
+    fn max_message_length() -> usize {
+        1073741822
+    }
+
+    #[tactic(auto, unfolding(pgw_wire::specs::Writing::u16))]
+    fn message_length(&self) -> usize {
+        let len = name_len(&self.portal_name, name_len(&self.statement_name, 10));
+        let len = list_len(self.parameter_format_codes.as_slice(), len);
+        let len = parameters_len(self.parameters.as_slice(), len);
+        list_len(self.result_column_format_codes.as_slice(), len)
+    }
+
+    #[tactic(auto, unfolding(pgw_wire::specs::Writing::refused_if))]
+    fn encode_body(&self, buf: &mut BytesMut) -> PgWireResult<()> {
+        if is_refused(self) {
+            return Err(PgWireError::InvalidMessageBody);
+        }
+        let mut out = Vec::new(*buf.allocator());
+        put_name(&mut out, &self.portal_name)?;
+        put_name(&mut out, &self.statement_name)?;
+        put_counted16(&mut out, self.parameter_format_codes.as_slice())?;
+        put_parameters(&mut out, self.parameters.as_slice())?;
+        put_counted16(&mut out, self.result_column_format_codes.as_slice())?;
+        append(buf, &out)
+    }
+
+    #[tactic(auto, unfolding(crate::specs::Rows::bind_of))]
+    fn decode_body(alloc: Global, body: &Octets, _ctx: &DecodeContext) -> PgWireResult<Bind> {
+        let mut reader = FieldReader::new(body);
+        let portal_name = reader.take_name(alloc)?;
+        let statement_name = reader.take_name(alloc)?;
+        let parameter_format_codes = take_counted16(alloc, &mut reader, 2)?;
+        let parameters = take_parameters(alloc, &mut reader)?;
+        let result_column_format_codes = take_counted16(alloc, &mut reader, 2)?;
+        reader.finish()?;
+        Ok(Bind {
+            portal_name,
+            statement_name,
+            parameter_format_codes,
+            parameters,
+            result_column_format_codes,
+        })
+    }
+}
+
+/// The values are bound (BindComplete).
+#[derive(Clone, Copy, Debug, PartialEq, Eq)]
+pub struct BindComplete;
+
+impl BindComplete {
+    pub fn new() -> BindComplete
+        ensures { result ≡ record {} }
+    {
+        BindComplete
+    }
+}
+
+impl Message for BindComplete {
+    ghost row_framing = { Typed 50 };
+
+    ghost limit = { 30000 };
+
+    ghost reading = { bind_complete_of };
+
+    ghost written = { λ m. [] };
+
+    ghost fault = { λ m. None };
+
+    fn framing() -> Framing {
+        Framing::Typed(MESSAGE_TYPE_BYTE_BIND_COMPLETE)
+    }
+
+    fn max_message_length() -> usize {
+        30000
+    }
+
+    fn message_length(&self) -> usize {
+        4
+    }
+
+    fn encode_body(&self, _buf: &mut BytesMut) -> PgWireResult<()> {
+        Ok(())
+    }
+
+    #[tactic(auto, unfolding(crate::specs::Rows::bind_complete_of))]
+    fn decode_body(
+        _alloc: Global,
+        body: &Octets,
+        _ctx: &DecodeContext,
+    ) -> PgWireResult<BindComplete> {
+        FieldReader::new(body).finish()?;
+        Ok(BindComplete)
+    }
+}
+
+impl Duplicate for BindComplete {
+    fn duplicate(&self) -> Result<BindComplete, OutOfMemory> {
+        Ok(BindComplete)
+    }
+}

@@ -1,0 +1,149 @@
+//! Running a portal.
+ghost use Rattle.std.specs.Prelude.{◌≡◌, ◌++◌, [], None};
+ghost use Rattle.pgw_wire.specs.declared.framing.Framing.TheVariants.{Typed};
+ghost use Rattle.pgw_wire.specs.Writing.{i32 as i32_bytes, refused_if};
+ghost use Rattle.pgw_ext.specs.Kinds.{name as name_bytes, is_name_refused as is_name_refused_list};
+ghost use Rattle.pgw_ext.specs.Rows.{execute_of, portal_suspended_of};
+
+use crate::kinds::{is_name_refused, name_len, put_name};
+use bytes::BytesMut;
+use pgw_wire::context::DecodeContext;
+use pgw_wire::error::{PgWireError, PgWireResult};
+use pgw_wire::framing::Framing;
+use pgw_wire::listed::Duplicate;
+use pgw_wire::memory::OutOfMemory;
+use pgw_wire::message::Message;
+use pgw_wire::octets::Octets;
+use pgw_wire::reader::FieldReader;
+use pgw_wire::text::Text;
+use pgw_wire::writer::{append, put_i32};
+use std::alloc::Global;
+
+pub const MESSAGE_TYPE_BYTE_EXECUTE: u8 = b'E';
+
+pub const MESSAGE_TYPE_BYTE_PORTAL_SUSPENDED: u8 = b's';
+
+/// A portal to be run, and after how many rows to stop; zero is no limit (Execute).
+#[derive(Debug, Drop, PartialEq, Eq)]
+pub struct Execute {
+    pub name: Option<Text>,
+    pub max_rows: i32,
+}
+
+impl Execute {
+    pub fn new(name: Option<Text>, max_rows: i32) -> Execute
+        ensures { result ≡ record { name = name; max_rows = max_rows } }
+    {
+        Execute { name, max_rows }
+    }
+}
+
+impl Message for Execute {
+    ghost row_framing = { Typed 69 };
+
+    ghost limit = { 10000 };
+
+    ghost reading = { execute_of };
+
+    ghost written = { λ m. name_bytes m.name ++ i32_bytes m.max_rows };
+
+    ghost fault = { λ m. refused_if (is_name_refused_list m.name) };
+
+    fn framing() -> Framing {
+        Framing::Typed(MESSAGE_TYPE_BYTE_EXECUTE)
+    }
+
+    fn max_message_length() -> usize {
+        10000
+    }
+
+    #[tactic(auto, unfolding(pgw_wire::specs::Writing::i32))]
+    fn message_length(&self) -> usize {
+        name_len(&self.name, 8)
+    }
+
+    #[tactic(auto, unfolding(pgw_wire::specs::Writing::refused_if))]
+    fn encode_body(&self, buf: &mut BytesMut) -> PgWireResult<()> {
+        if is_name_refused(&self.name) {
+            return Err(PgWireError::InvalidMessageBody);
+        }
+        let mut out = Vec::new(*buf.allocator());
+        put_name(&mut out, &self.name)?;
+        put_i32(&mut out, self.max_rows)?;
+        append(buf, &out)
+    }
+
+    #[tactic(auto, unfolding(crate::specs::Rows::execute_of))]
+    fn decode_body(alloc: Global, body: &Octets, _ctx: &DecodeContext) -> PgWireResult<Execute> {
+        let mut reader = FieldReader::new(body);
+        let name = reader.take_name(alloc)?;
+        let max_rows = reader.take_i32()?;
+        reader.finish()?;
+        Ok(Execute { name, max_rows })
+    }
+}
+
+impl Duplicate for Execute {
+    fn duplicate(&self) -> Result<Execute, OutOfMemory> {
+        Ok(Execute {
+            name: self.name.duplicate()?,
+            max_rows: self.max_rows,
+        })
+    }
+}
+
+/// The portal has more rows than were asked for (PortalSuspended).
+#[derive(Clone, Copy, Debug, PartialEq, Eq)]
+pub struct PortalSuspended;
+
+impl PortalSuspended {
+    pub fn new() -> PortalSuspended
+        ensures { result ≡ record {} }
+    {
+        PortalSuspended
+    }
+}
+
+impl Message for PortalSuspended {
+    ghost row_framing = { Typed 115 };
+
+    ghost limit = { 30000 };
+
+    ghost reading = { portal_suspended_of };
+
+    ghost written = { λ m. [] };
+
+    ghost fault = { λ m. None };
+
+    fn framing() -> Framing {
+        Framing::Typed(MESSAGE_TYPE_BYTE_PORTAL_SUSPENDED)
+    }
+
+    fn max_message_length() -> usize {
+        30000
+    }
+
+    fn message_length(&self) -> usize {
+        4
+    }
+
+    fn encode_body(&self, _buf: &mut BytesMut) -> PgWireResult<()> {
+        Ok(())
+    }
+
+    #[tactic(auto, unfolding(crate::specs::Rows::portal_suspended_of))]
+    fn decode_body(
+        _alloc: Global,
+        body: &Octets,
+        _ctx: &DecodeContext,
+    ) -> PgWireResult<PortalSuspended> {
+        FieldReader::new(body).finish()?;
+        Ok(PortalSuspended)
+    }
+}
+
+impl Duplicate for PortalSuspended {
+    fn duplicate(&self) -> Result<PortalSuspended, OutOfMemory> {
+        Ok(PortalSuspended)
+    }
+}

@@ -1,0 +1,39 @@
+//! What holds of the messages of the extended query.
+ghost use Rattle.std.specs.Prelude.{◌≡◌, ◌∷◌, ◌++◌, ℕ, List, Ok};
+ghost use Rattle.pgw_wire.specs.declared.framing.Framing.TheVariants.{Typed};
+ghost use Rattle.pgw_wire.specs.Framing.{encoded};
+ghost use Rattle.pgw_wire.specs.Writing.{i32, refused_if};
+ghost use Rattle.pgw_wire.specs.Formats.{IsRow, SpellsTyped};
+ghost use Rattle.pgw_wire.specs.declared.context.DecodeContext.{DecodeContext as TheContext};
+ghost use Rattle.pgw_ext.specs.declared.parse.Parse.{Parse as TheParse};
+ghost use Rattle.pgw_ext.specs.declared.bind.Bind.{Bind as TheBind};
+ghost use Rattle.pgw_ext.specs.declared.target.Close.{Close as TheClose};
+ghost use Rattle.pgw_ext.specs.declared.target.Describe.{Describe as TheDescribe};
+ghost use Rattle.pgw_ext.specs.declared.execute.Execute.{Execute as TheExecute};
+ghost use Rattle.pgw_ext.specs.Kinds.{name, is_name_refused};
+ghost use Rattle.pgw_ext.specs.Sound.{IsParse, IsBind, IsClose, IsDescribe, IsExecute};
+ghost use Rattle.pgw_ext.specs.Rows.{parse, is_parse_refused, bind, is_bind_refused, parse_of, parse_complete_of, bind_of, bind_complete_of, close_of, close_complete_of, describe_of, execute_of, portal_suspended_of, flush_of, sync_of, SpellsParse, SpellsBind, SpellsClose, SpellsDescribe, SpellsExecute, NoBody};
+
+/// What is read at the front of some bytes is spelled so, and what is spelled so is read, whatever follows it.
+pub fn rows_are_exact()
+    ensures parse { (ctx : TheContext) → IsRow 80 1073741822 (parse_of ctx) SpellsParse }
+    ensures parse_complete { (ctx : TheContext) → IsRow 49 30000 (parse_complete_of ctx) NoBody }
+    ensures bind { (ctx : TheContext) → IsRow 66 1073741822 (bind_of ctx) SpellsBind }
+    ensures bind_complete { (ctx : TheContext) → IsRow 50 30000 (bind_complete_of ctx) NoBody }
+    ensures close { (ctx : TheContext) → IsRow 67 10000 (close_of ctx) SpellsClose }
+    ensures close_complete { (ctx : TheContext) → IsRow 51 30000 (close_complete_of ctx) NoBody }
+    ensures describe { (ctx : TheContext) → IsRow 68 10000 (describe_of ctx) SpellsDescribe }
+    ensures execute { (ctx : TheContext) → IsRow 69 10000 (execute_of ctx) SpellsExecute }
+    ensures portal_suspended { (ctx : TheContext) → IsRow 115 30000 (portal_suspended_of ctx) NoBody }
+    ensures flush { (ctx : TheContext) → IsRow 72 10000 (flush_of ctx) NoBody }
+    ensures sync { (ctx : TheContext) → IsRow 83 10000 (sync_of ctx) NoBody }
+{}
+
+/// What is written of a message spells it. The others have no body.
+pub fn what_is_written_is_spelled()
+    ensures parse { (m : TheParse) (g : List ℕ) → IsParse m → encoded (Typed 80) 1073741822 (refused_if (is_parse_refused m)) (parse m) ≡ Ok g → SpellsTyped 80 1073741822 SpellsParse m g }
+    ensures bind { (m : TheBind) (g : List ℕ) → IsBind m → encoded (Typed 66) 1073741822 (refused_if (is_bind_refused m)) (bind m) ≡ Ok g → SpellsTyped 66 1073741822 SpellsBind m g }
+    ensures close { (m : TheClose) (g : List ℕ) → IsClose m → encoded (Typed 67) 10000 (refused_if (is_name_refused m.name)) (m.target_type ∷ name m.name) ≡ Ok g → SpellsTyped 67 10000 SpellsClose m g }
+    ensures describe { (m : TheDescribe) (g : List ℕ) → IsDescribe m → encoded (Typed 68) 10000 (refused_if (is_name_refused m.name)) (m.target_type ∷ name m.name) ≡ Ok g → SpellsTyped 68 10000 SpellsDescribe m g }
+    ensures execute { (m : TheExecute) (g : List ℕ) → IsExecute m → encoded (Typed 69) 10000 (refused_if (is_name_refused m.name)) (name m.name ++ i32 m.max_rows) ≡ Ok g → SpellsTyped 69 10000 SpellsExecute m g }
+{}

@@ -1,0 +1,14 @@
+//! The messages of the extended query.
+#![tactic(auto)]
+
+mod bind;
+mod execute;
+pub mod extendedquery;
+mod flush;
+mod kinds;
+pub mod laws;
+mod parameter;
+mod parse;
+mod target;
+#[cfg(test)]
+mod tests;

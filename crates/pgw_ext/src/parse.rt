@@ -1,0 +1,161 @@
+//! Making a prepared statement.
+ghost use Rattle.std.specs.Prelude.{◌≡◌, [], None};
+ghost use Rattle.pgw_wire.specs.declared.framing.Framing.TheVariants.{Typed};
+ghost use Rattle.pgw_wire.specs.Writing.{refused_if};
+ghost use Rattle.pgw_ext.specs.Rows.{parse_of, parse, is_parse_refused, parse_complete_of};
+
+use crate::kinds::{is_name_refused, name_len, put_counted16, put_name, take_counted16};
+use bytes::BytesMut;
+use pgw_wire::context::DecodeContext;
+use pgw_wire::error::{PgWireError, PgWireResult};
+use pgw_wire::field::list_len;
+use pgw_wire::framing::Framing;
+use pgw_wire::listed::{Duplicate, Listed};
+use pgw_wire::memory::OutOfMemory;
+use pgw_wire::message::Message;
+use pgw_wire::octets::Octets;
+use pgw_wire::reader::FieldReader;
+use pgw_wire::text::Text;
+use pgw_wire::writer::{append, has_zero, put_text};
+use std::alloc::Global;
+
+pub const MESSAGE_TYPE_BYTE_PARSE: u8 = b'P';
+
+pub const MESSAGE_TYPE_BYTE_PARSE_COMPLETE: u8 = b'1';
+
+/// A statement to be prepared, and the types of its first parameters (Parse). No name is the unnamed statement.
+#[derive(Debug, Drop, PartialEq, Eq)]
+pub struct Parse {
+    pub name: Option<Text>,
+    pub query: Text,
+    pub type_oids: Listed<u32>,
+}
+
+impl Parse {
+    pub fn new(name: Option<Text>, query: Text, type_oids: Listed<u32>) -> Parse
+        ensures { result ≡ record { name = name; query = query; type_oids = type_oids } }
+    {
+        Parse {
+            name,
+            query,
+            type_oids,
+        }
+    }
+}
+
+// Whether there is no spelling.
+fn is_refused(m: &Parse) -> bool
+    ensures { result ≡ is_parse_refused m.now }
+{
+    is_name_refused(&m.name) || (has_zero(&m.query) || m.type_oids.as_slice().len() > 65535)
+}
+
+impl Message for Parse {
+    ghost row_framing = { Typed 80 };
+
+    ghost limit = { 1073741822 };
+
+    ghost reading = { parse_of };
+
+    ghost written = { parse };
+
+    ghost fault = { λ m. refused_if (is_parse_refused m) };
+
+    fn framing() -> Framing {
+        Framing::Typed(MESSAGE_TYPE_BYTE_PARSE)
+    }
+
+    fn max_message_length() -> usize {
+        1073741822
+    }
+
+    #[tactic(auto, unfolding(pgw_wire::specs::Writing::text, pgw_wire::specs::Writing::u16))]
+    fn message_length(&self) -> usize {
+        list_len(
+            self.type_oids.as_slice(),
+            name_len(&self.name, self.query.len() + 7),
+        )
+    }
+
+    #[tactic(auto, unfolding(pgw_wire::specs::Writing::refused_if))]
+    fn encode_body(&self, buf: &mut BytesMut) -> PgWireResult<()> {
+        if is_refused(self) {
+            return Err(PgWireError::InvalidMessageBody);
+        }
+        let mut out = Vec::new(*buf.allocator());
+        put_name(&mut out, &self.name)?;
+        put_text(&mut out, &self.query)?;
+        put_counted16(&mut out, self.type_oids.as_slice())?;
+        append(buf, &out)
+    }
+
+    #[tactic(auto, unfolding(crate::specs::Rows::parse_of))]
+    fn decode_body(alloc: Global, body: &Octets, _ctx: &DecodeContext) -> PgWireResult<Parse> {
+        let mut reader = FieldReader::new(body);
+        let name = reader.take_name(alloc)?;
+        let query = reader.take_text(alloc)?;
+        let type_oids = take_counted16(alloc, &mut reader, 4)?;
+        reader.finish()?;
+        Ok(Parse {
+            name,
+            query,
+            type_oids,
+        })
+    }
+}
+
+/// The statement is prepared (ParseComplete).
+#[derive(Clone, Copy, Debug, PartialEq, Eq)]
+pub struct ParseComplete;
+
+impl ParseComplete {
+    pub fn new() -> ParseComplete
+        ensures { result ≡ record {} }
+    {
+        ParseComplete
+    }
+}
+
+impl Message for ParseComplete {
+    ghost row_framing = { Typed 49 };
+
+    ghost limit = { 30000 };
+
+    ghost reading = { parse_complete_of };
+
+    ghost written = { λ m. [] };
+
+    ghost fault = { λ m. None };
+
+    fn framing() -> Framing {
+        Framing::Typed(MESSAGE_TYPE_BYTE_PARSE_COMPLETE)
+    }
+
+    fn max_message_length() -> usize {
+        30000
+    }
+
+    fn message_length(&self) -> usize {
+        4
+    }
+
+    fn encode_body(&self, _buf: &mut BytesMut) -> PgWireResult<()> {
+        Ok(())
+    }
+
+    #[tactic(auto, unfolding(crate::specs::Rows::parse_complete_of))]
+    fn decode_body(
+        _alloc: Global,
+        body: &Octets,
+        _ctx: &DecodeContext,
+    ) -> PgWireResult<ParseComplete> {
+        FieldReader::new(body).finish()?;
+        Ok(ParseComplete)
+    }
+}
+
+impl Duplicate for ParseComplete {
+    fn duplicate(&self) -> Result<ParseComplete, OutOfMemory> {
+        Ok(ParseComplete)
+    }
+}

@@ -1,0 +1,2 @@
+mod Xoring
+mod Rounds

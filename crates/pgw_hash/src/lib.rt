@@ -1,0 +1,11 @@
+//! The hashes of a login: HMAC, the salted password, the preparation of texts and the MD5 password.
+#![tactic(auto)]
+
+pub mod hmac;
+pub mod laws;
+pub mod md5_password;
+pub mod pbkdf2;
+pub mod saslprep;
+#[cfg(test)]
+mod tests;
+mod xor;

@@ -1,0 +1,29 @@
+//! Preparation of names and passwords.
+ghost use Rattle.std.specs.Prelude.{◌≡◌, IfOk, IsNone, chars};
+ghost use Rattle.std.specs.List.{list_any};
+ghost use Rattle.std.specs.Char.{is_ascii_control};
+ghost use Rattle.pgw_hash.specs.Saslprep.{prepared};
+
+use pgw_wire::memory::OutOfMemory;
+use pgw_wire::text::Text;
+use std::alloc::Global;
+use unicode_normalization::to_nfkc;
+
+/// A text prepared, or `None` where it holds an ASCII control character.
+#[tactic(auto, unfolding(crate::specs::Saslprep::prepared))]
+pub fn saslprep(alloc: Global, text: &str) -> Result<Option<Text>, OutOfMemory>
+    ensures value { IfOk result (λ form. form ≡ prepared text.now) }
+    ensures refused { IsNone (prepared text.now) → result ≡ Ok None }
+{
+    if has_control(text) {
+        return Ok(None);
+    }
+    let form = to_nfkc(alloc, text)?;
+    Ok(Some(Text::from_string(form)))
+}
+
+fn has_control(text: &str) -> bool
+    ensures { result ≡ list_any is_ascii_control (chars text.now) }
+{
+    text.chars().any(|c| c.is_ascii_control())
+}

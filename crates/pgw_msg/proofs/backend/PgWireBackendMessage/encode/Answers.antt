@@ -1,0 +1,5 @@
+use Rattle.pgw_msg.proofs.BackendWritten.{is_spelled}
+use Rattle.pgw_msg.proofs.backend.PgWireBackendMessage.encode.Goals as goal
+
+pub returns-clause-spelled : goal.returns-clause-spelled
+returns-clause-spelled c = is_spelled c.args.self.now c.args.buf.now.items c.encode_exact.new.buf.items c.encode_exact.result c.is_sound.ensures c.encode_exact.ensures

@@ -1,0 +1,212 @@
+-- Pairs in a map of maps.
+use Rattle.std.proofs.Common.{◌≡◌, Result, Ok, Err, OnOk, OnErr, ℕ, ℤ, Bool, true, false, cond, List, [], ◌∷◌, ◌++◌, map, Option, Some, None, Ordering, Less, Equal, Greater, refl, sym, ap, ◌∙◌}
+use Rattle.std.specs.Ordering.{int_cmp, eq_by_cmp, is_eq, ordering_then, match_ordering}
+use Rattle.std.specs.Cmp.{IsTotalOrder, int_cmp_total, then_total, on_total, eq_by_cmp_equiv}
+use Rattle.std.specs.Cmp.Lexicographic.{nat_list_cmp_total}
+use Rattle.std.specs.List.{AllByRecursion}
+use Rattle.std.specs.List.Sorted.{IsStrictlySortedBy}
+use Rattle.std.specs.BTreeMap.{BTreeMap, insert_entry, is_at}
+use Rattle.std.specs.Map.{lookup, remove_entry, keys_of}
+use Rattle.std.specs.FinMap as map
+use Rattle.std.specs.FinMap.Entries.{find, put, find-put}
+use Rattle.std.proofs.lemmas.Map.Keys.{sorted_head, sorted_tail}
+use Rattle.pgw_registry.specs.Pairs.{bytes_cmp, pair_cmp}
+use Rattle.pgw_registry.specs.Nested.{Key, pairs_of, flat, at_key, in_number, at_pair}
+
+pub pair_cmp_total : IsTotalOrder pair_cmp
+pair_cmp_total = then_total (on_total (λ (p : ℤ × List ℕ). p.0) int_cmp_total) (on_total (λ (p : ℤ × List ℕ). p.1) nat_list_cmp_total)
+
+pub bytes_alone : map.IsAntisymmetric bytes_cmp
+bytes_alone = map.slice_cmp-IsAntisymmetric map.nat_cmp-IsAntisymmetric
+
+pub pairs_alone : map.IsAntisymmetric pair_cmp
+pairs_alone x y e = by (int_cmp x.0 y.0) refl e
+  where
+    by : (o : Ordering) → int_cmp x.0 y.0 ≡ o → ordering_then o (bytes_cmp x.1 y.1) ≡ Equal → x ≡ y
+    by Less t e = absurd (cc)
+    by Equal t e = λ i. (map.int_cmp-IsAntisymmetric x.0 y.0 t i, bytes_alone x.1 y.1 e i)
+    by Greater t e = absurd (cc)
+
+first_of : Option ℕ → Option ℕ → Option ℕ
+first_of None o = o
+first_of (Some x) o = Some x
+
+first_of_none : (o : Option ℕ) → first_of o None ≡ o
+unfolding first_of
+first_of_none None = refl
+first_of_none (Some x) = refl
+
+found_in_two : (q : ℤ × List ℕ) (xs ys : List ((ℤ × List ℕ) × ℕ)) → find pair_cmp q (xs ++ ys) ≡ first_of (find pair_cmp q xs) (find pair_cmp q ys)
+unfolding first_of
+found_in_two q [] ys = refl
+found_in_two q (x ∷ xs) ys = elim (eq_by_cmp pair_cmp q x.0) as (λ b. cond b (Some x.1) (find pair_cmp q (xs ++ ys)) ≡ first_of (cond b (Some x.1) (find pair_cmp q xs)) (find pair_cmp q ys)) [
+  | true ↦ refl
+  | false ↦ found_in_two q xs ys
+]
+
+-- the pairs of a number have its keys
+found_in_number : (o : Ordering) (pid n : ℤ) (key : List ℕ) → int_cmp pid n ≡ o → (ks : List (Key × ℕ)) → find pair_cmp (pid, key) (pairs_of n ks) ≡ cond (is_eq o) (at_key ks key) None
+unfolding at_key
+found_in_number o pid n key e [] = elim o as (λ r. ◌≡◌ {A = Option ℕ} None (cond (is_eq r) None None)) [ Less ↦ refl | Equal ↦ refl | Greater ↦ refl ]
+found_in_number o pid n key e (k ∷ ks) =
+    let c : Ordering = bytes_cmp key k.0.items in
+    let rest : Option ℕ = find pair_cmp (pid, key) (pairs_of n ks) in
+    ap (λ (r : Ordering). cond (is_eq (ordering_then r c)) (Some k.1) rest) e
+    ∙ ap (λ (z : Option ℕ). cond (is_eq (ordering_then o c)) (Some k.1) z) (found_in_number o pid n key e ks)
+    ∙ elim o as (λ r. cond (is_eq (ordering_then r c)) (Some k.1) (cond (is_eq r) (at_key ks key) None) ≡ cond (is_eq r) (cond (is_eq c) (Some k.1) (at_key ks key)) None) [
+      | Less ↦ refl
+      | Equal ↦ refl
+      | Greater ↦ refl
+    ]
+
+-- a number stands once
+none_later : (pid n : ℤ) (es : List (ℤ × BTreeMap Key ℕ)) → int_cmp pid n ≡ Equal → AllByRecursion (λ y. int_cmp n y ≡ Less) (keys_of es) → lookup (is_at (int_cmp pid)) es ≡ None
+none_later pid n [] e later = refl
+none_later pid n (x ∷ es) e later =
+    ap (λ (o : Ordering). cond (is_eq o) (Some x.1) (lookup (is_at (int_cmp pid)) es)) (int_cmp_total.congr pid n x.0 e ∙ later.0)
+    ∙ none_later pid n es e later.1
+
+one_number : (o : Ordering) (keys : BTreeMap Key ℕ) (later : Option (BTreeMap Key ℕ)) (key : List ℕ) → (o ≡ Equal → later ≡ None)
+    → first_of (cond (is_eq o) (at_key keys.entries key) None) (in_number later key) ≡ in_number (cond (is_eq o) (Some keys) later) key
+unfolding first_of in_number
+one_number Less keys later key none = refl
+one_number Equal keys later key none = ap (λ (o : Option (BTreeMap Key ℕ)). first_of (at_key keys.entries key) (in_number o key)) (none refl) ∙ first_of_none (at_key keys.entries key)
+one_number Greater keys later key none = refl
+
+-- what the flat list finds stands at the number and the key
+pub at_flat : (es : List (ℤ × BTreeMap Key ℕ)) → IsStrictlySortedBy int_cmp (keys_of es) → (pid : ℤ) (key : List ℕ) → find pair_cmp (pid, key) (flat es) ≡ at_pair es pid key
+unfolding flat at_pair in_number
+at_flat [] sorted pid key = refl
+at_flat (e ∷ es) sorted pid key =
+    found_in_two (pid, key) (pairs_of e.0 e.1.entries) (flat es)
+    ∙ ap (λ (o : Option ℕ). first_of o (find pair_cmp (pid, key) (flat es))) (found_in_number (int_cmp pid e.0) pid e.0 key refl e.1.entries)
+    ∙ ap (λ (o : Option ℕ). first_of (cond (is_eq (int_cmp pid e.0)) (at_key e.1.entries key) None) o) (at_flat es (sorted_tail int_cmp e.0 (keys_of es) sorted) pid key)
+    ∙ one_number (int_cmp pid e.0) e.1 (lookup (is_at (int_cmp pid)) es) key (λ t. none_later pid e.0 es t (sorted_head int_cmp e.0 (keys_of es) sorted))
+
+-- ---- one key of a number
+
+abbrev plain : List (Key × ℕ) → List (List ℕ × ℕ)
+plain ks = map (λ k. (k.0.items, k.1)) ks
+
+at_plain : (ks : List (Key × ℕ)) (key : List ℕ) → at_key ks key ≡ find bytes_cmp key (plain ks)
+unfolding at_key
+at_plain [] key = refl
+at_plain (k ∷ ks) key = ap (cond (eq_by_cmp bytes_cmp key k.0.items) (Some k.1)) (at_plain ks key)
+
+abbrev key_cmp : Key → Key → Ordering
+key_cmp x y = bytes_cmp x.items y.items
+
+plain_inserted : (ks : List (Key × ℕ)) (k : Key) (h : ℕ) → plain (insert_entry key_cmp ks k h) ≡ put bytes_cmp k.items h (plain ks)
+plain_inserted [] k h = refl
+plain_inserted (e ∷ ks) k h = rw (sym (plain_inserted ks k h)) (elim (bytes_cmp k.items e.0.items) as (λ o. plain (match_ordering o ((k, h) ∷ e ∷ ks) ((e.0, h) ∷ ks) (e ∷ insert_entry key_cmp ks k h)) ≡ map.Entries.by_order o ((k.items, h) ∷ plain (e ∷ ks)) ((e.0.items, h) ∷ plain ks) ((e.0.items, e.1) ∷ plain (insert_entry key_cmp ks k h))) [
+  | Less ↦ refl
+  | Equal ↦ refl
+  | Greater ↦ refl
+])
+
+-- a key is written
+pub key_written : (ks : List (Key × ℕ)) (k : Key) (h : ℕ) (q : List ℕ) → at_key (insert_entry key_cmp ks k h) q ≡ cond (eq_by_cmp bytes_cmp k.items q) (Some h) (at_key ks q)
+key_written ks k h q =
+    at_plain (insert_entry key_cmp ks k h) q
+    ∙ ap (find bytes_cmp q) (plain_inserted ks k h)
+    ∙ find-put bytes_cmp nat_list_cmp_total q k.items h (plain ks)
+    ∙ ap (λ (b : Bool). cond b (Some h) (find bytes_cmp q (plain ks))) ((eq_by_cmp_equiv nat_list_cmp_total).symm q k.items)
+    ∙ ap (cond (eq_by_cmp bytes_cmp k.items q) (Some h)) (sym (at_plain ks q))
+
+-- another key stays
+key_stays : (ks : List (Key × ℕ)) (key q : List ℕ) → eq_by_cmp bytes_cmp key q ≡ false → at_key (remove_entry (is_at (λ k. bytes_cmp key k.items)) ks) q ≡ at_key ks q
+unfolding at_key
+key_stays [] key q apart = refl
+key_stays (e ∷ ks) key q apart = by (bytes_cmp key e.0.items) refl (key_stays ks key q apart)
+  where
+    by : (r : Ordering) → bytes_cmp key e.0.items ≡ r → at_key (remove_entry (is_at (λ k. bytes_cmp key k.items)) ks) q ≡ at_key ks q → at_key (cond (is_eq r) ks (e ∷ remove_entry (is_at (λ k. bytes_cmp key k.items)) ks)) q ≡ at_key (e ∷ ks) q
+    by Less t rest = ap (cond (eq_by_cmp bytes_cmp q e.0.items) (Some e.1)) rest
+    by Equal t rest = ap (λ (b : Bool). cond b (Some e.1) (at_key ks q))
+        (sym apart ∙ ap is_eq (nat_list_cmp_total.congr key e.0.items q t) ∙ (eq_by_cmp_equiv nat_list_cmp_total).symm e.0.items q)
+    by Greater t rest = ap (cond (eq_by_cmp bytes_cmp q e.0.items) (Some e.1)) rest
+
+tied_is : (x y : List ℕ) → eq_by_cmp bytes_cmp x y ≡ true → x ≡ y
+tied_is x y t = bytes_alone x y (by (bytes_cmp x y) t)
+  where
+    by : (r : Ordering) → is_eq r ≡ true → r ≡ Equal
+    by Less e = absurd (cc)
+    by Equal e = refl
+    by Greater e = absurd (cc)
+
+-- a key is taken
+pub key_taken : (old new : List (Key × ℕ)) (key : List ℕ) → new ≡ remove_entry (is_at (λ k. bytes_cmp key k.items)) old → at_key new key ≡ None → (q : List ℕ) → at_key new q ≡ cond (eq_by_cmp bytes_cmp key q) None (at_key old q)
+key_taken old new key is none q = by (eq_by_cmp bytes_cmp key q) refl
+  where
+    by : (b : Bool) → eq_by_cmp bytes_cmp key q ≡ b → at_key new q ≡ cond b None (at_key old q)
+    by true t = ap (at_key new) (sym (tied_is key q t)) ∙ none
+    by false t = ap (λ (ks : List (Key × ℕ)). at_key ks q) is ∙ key_stays old key q t
+
+-- ---- one number
+
+abbrev Held : Type 0
+Held = BTreeMap Key ℕ
+
+abbrev at_number : List (ℤ × Held) → ℤ → Option Held
+at_number es pid = lookup (is_at (int_cmp pid)) es
+
+-- the keys of a number are o, which are the old ones but for one
+pub changed : (old new : List (ℤ × Held)) (pid : ℤ) (key : List ℕ) (w : Option ℕ) (o : Option Held) → ((p : ℤ) → at_number new p ≡ cond (is_at (int_cmp pid) p) o (at_number old p))
+    → ((q : List ℕ) → in_number o q ≡ cond (eq_by_cmp bytes_cmp key q) w (in_number (at_number old pid) q)) → (p : ℤ) (q : List ℕ) → at_pair new p q ≡ cond (eq_by_cmp pair_cmp (pid, key) (p, q)) w (at_pair old p q)
+unfolding at_pair
+changed old new pid key w o outer inner p q = ap (λ (z : Option Held). in_number z q) (outer p) ∙ by (int_cmp pid p) refl
+  where
+    by : (r : Ordering) → int_cmp pid p ≡ r → in_number (cond (is_eq r) o (at_number old p)) q ≡ cond (is_eq (ordering_then r (bytes_cmp key q))) w (in_number (at_number old p) q)
+    by Less t = refl
+    by Equal t = inner q ∙ ap (λ (n : ℤ). cond (eq_by_cmp bytes_cmp key q) w (in_number (at_number old n) q)) (map.int_cmp-IsAntisymmetric pid p t)
+    by Greater t = refl
+
+-- a number without keys has none to take
+pub none_to_take : (old : List (ℤ × Held)) (pid : ℤ) (key : List ℕ) → at_number old pid ≡ None → (p : ℤ) (q : List ℕ) → at_pair old p q ≡ cond (eq_by_cmp pair_cmp (pid, key) (p, q)) None (at_pair old p q)
+unfolding at_pair in_number
+none_to_take old pid key none p q = by (int_cmp pid p) refl
+  where
+    same : (b : Bool) (x : Option ℕ) → x ≡ None → x ≡ cond b None x
+    same true x e = e
+    same false x e = refl
+
+    by : (r : Ordering) → int_cmp pid p ≡ r → in_number (at_number old p) q ≡ cond (is_eq (ordering_then r (bytes_cmp key q))) None (in_number (at_number old p) q)
+    by Less t = refl
+    by Equal t = same (eq_by_cmp bytes_cmp key q) (in_number (at_number old p) q) (ap (λ (z : Option Held). in_number z q) (ap (at_number old) (sym (map.int_cmp-IsAntisymmetric pid p t)) ∙ none))
+    by Greater t = refl
+
+-- a number's keys are not changed
+pub unchanged : (old new : List (ℤ × Held)) (pid : ℤ) (keys now : Held) → at_number old pid ≡ Some keys → now.entries ≡ keys.entries → ((p : ℤ) → at_number new p ≡ cond (is_at (int_cmp pid) p) (Some now) (at_number old p))
+    → (p : ℤ) (q : List ℕ) → at_pair new p q ≡ at_pair old p q
+unfolding at_pair in_number
+unchanged old new pid keys now there same outer p q = ap (λ (z : Option Held). in_number z q) (outer p) ∙ by (int_cmp pid p) refl
+  where
+    by : (r : Ordering) → int_cmp pid p ≡ r → in_number (cond (is_eq r) (Some now) (at_number old p)) q ≡ in_number (at_number old p) q
+    by Less t = refl
+    by Equal t = ap (λ (ks : List (Key × ℕ)). at_key ks q) same ∙ ap (λ (z : Option Held). in_number z q) (sym there ∙ ap (at_number old) (map.int_cmp-IsAntisymmetric pid p t))
+    by Greater t = refl
+
+pub in_some : (keys : Held) (q : List ℕ) → in_number (Some keys) q ≡ at_key keys.entries q
+unfolding in_number
+in_some keys q = refl
+
+pub in_none : (q : List ℕ) → in_number None q ≡ None
+unfolding in_number
+in_none q = refl
+
+pub at_nothing : (q : List ℕ) → at_key [] q ≡ None
+unfolding at_key
+at_nothing q = refl
+
+pub forgotten : (b : Bool) (w x : Option Held) → cond b None (cond b w x) ≡ cond b None x
+forgotten true w x = refl
+forgotten false w x = refl
+
+-- ---- what a call ensures
+
+pub on_ok_from : {A E : Type 0} {P Q : Type 0} (r : Result A E) → (P → Q) → OnOk r P → OnOk r Q
+on_ok_from (Ok x) f p = f p
+on_ok_from (Err e) f p = tt
+
+pub on_err_from : {A E : Type 0} {P Q : Type 0} (r : Result A E) → (P → Q) → OnErr r P → OnErr r Q
+on_err_from (Ok x) f p = tt
+on_err_from (Err e) f p = f p

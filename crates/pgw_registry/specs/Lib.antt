@@ -1,0 +1,10 @@
+pub mod Numbers
+pub mod Seats
+pub mod Key
+pub mod Generator
+pub mod Pairs
+pub mod Nested
+pub mod Sequential
+pub mod Registry
+pub mod BookCode
+pub mod Laws

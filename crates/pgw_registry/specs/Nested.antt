@@ -1,0 +1,32 @@
+-- A map of pairs as a map by number of maps by key.
+use Rattle.std.specs.Prelude.{ℕ, ℤ, List, [], ◌∷◌, ◌++◌, map, Option, None, Some, Vec}
+use Rattle.std.specs.declared.alloc.Global.{Global}
+use Rattle.std.specs.Ordering.{int_cmp}
+use Rattle.std.specs.BTreeMap.{BTreeMap, is_at}
+use Rattle.std.specs.Map.{lookup}
+use Rattle.pgw_registry.specs.Pairs.{bytes_cmp}
+
+abbrev pub Key : Type 0
+Key = Vec ℕ Global
+
+-- the pairs of one number
+abbrev pub pairs_of : ℤ → List (Key × ℕ) → List ((ℤ × List ℕ) × ℕ)
+pairs_of pid keys = map (λ k. ((pid, k.0.items), k.1)) keys
+
+-- the pairs of each number
+unfoldable pub flat : List (ℤ × BTreeMap Key ℕ) → List ((ℤ × List ℕ) × ℕ)
+flat [] = []
+flat (e ∷ es) = pairs_of e.0 e.1.entries ++ flat es
+
+-- what stands at the key
+unfoldable pub at_key : List (Key × ℕ) → List ℕ → Option ℕ
+at_key keys key = lookup (is_at (λ k. bytes_cmp key k.items)) keys
+
+-- what stands at the key of a number that may have none
+unfoldable pub in_number : Option (BTreeMap Key ℕ) → List ℕ → Option ℕ
+in_number None key = None
+in_number (Some keys) key = at_key keys.entries key
+
+-- what stands at the number and the key
+unfoldable pub at_pair : List (ℤ × BTreeMap Key ℕ) → ℤ → List ℕ → Option ℕ
+at_pair numbers pid key = in_number (lookup (is_at (int_cmp pid)) numbers) key

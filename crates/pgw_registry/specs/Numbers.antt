@@ -1,0 +1,89 @@
+-- The rule of the word, and what each step tells.
+use Rattle.std.specs.Prelude.{◌≡◌, ◌⊎◌, ℕ, ◌+◌, ◌<◌, ◌≤◌, Bool, false, cond, eqb, ltb, leb, ◌||◌, min, max, List, [], ◌∷◌, ◌++◌, length, slice_index}
+use mathlib.Core.Option.{some}
+use lib.ListN.{get_elem?}
+use Rattle.atomic_table.specs.Table.{State, Me, Step}
+use Rattle.pgw_registry.specs.declared.numbers.Hand.{Hand}
+
+-- f of each, added up
+abbrev pub total : (Hand → ℕ) → List Hand → ℕ
+total f [] = 0
+total f (v ∷ vs) = f v + total f vs
+
+-- how often x stands in the list
+abbrev pub times : ℕ → List ℕ → ℕ
+times x [] = 0
+times x (y ∷ ys) = cond (eqb y x) 1 0 + times x ys
+
+-- how many of the numbers are no process numbers
+abbrev pub above : List ℕ → ℕ
+above [] = 0
+above (y ∷ ys) = cond (ltb 2147483647 y) 1 0 + above ys
+
+-- no number stands twice
+abbrev pub IsDistinct : List ℕ → Type 0
+IsDistinct xs = (x : ℕ) → times x xs ≤ 1
+
+-- one where it holds
+abbrev pub weight : Bool → ℕ
+weight b = cond b 1 0
+
+abbrev pub hand : ℕ → List ℕ → ℕ → ℕ → Bool → Hand
+hand begins drawn seen seats owes = record { begins = begins; drawn = drawn; seen = seen; seats = seats; owes = owes }
+
+-- a seat that has drawn nothing, of numbers that begin here
+abbrev pub newcomer : ℕ → Hand
+newcomer begins = hand begins [] 0 1 false
+
+-- a seat that another one took in
+abbrev pub spent : Hand
+spent = hand 0 [] 0 0 false
+
+-- no seat is owed any more
+abbrev pub settled : Hand → Hand
+settled v = hand v.begins v.drawn v.seen v.seats false
+
+-- what two seats know together
+abbrev pub both_of : Hand → Hand → Hand
+both_of v w = hand v.begins (v.drawn ++ w.drawn) (max v.seen w.seen) (v.seats + w.seats) (v.owes || w.owes)
+
+-- the word was seen
+abbrev pub saw : Hand → ℕ → Hand
+saw v n = hand v.begins v.drawn n v.seats v.owes
+
+-- a number was drawn
+abbrev pub drew : Hand → ℕ → Bool → Hand
+drew v n owes = hand v.begins (v.drawn ++ n ∷ []) n v.seats owes
+
+-- The numbers from the first up to the word are drawn, each once, and no others.
+-- The seats made and the marks set are together at most one more than the process numbers drawn, and no view has more numbers above them than seats. So the word never wraps
+pub record Kept (first word : ℕ) (views : List Hand) : Type 0 where
+  pub begins : first ≤ 2147483647
+  pub grows : first ≤ word
+  pub none : (x : ℕ) → (x < first) ⊎ (word ≤ x) → total (λ v. times x v.drawn) views ≡ 0
+  pub once : (x : ℕ) → first ≤ x → x < word → total (λ v. times x v.drawn) views ≡ 1
+  pub each : (i : ℕ) (v : Hand) → get_elem? views i ≡ some v → (v.seen ≤ word) × (above v.drawn ≤ v.seats) × (v.begins ≤ first)
+  pub seated : total (λ v. v.seats + weight v.owes) views + first ≤ min word 2147483648 + 1
+  pub over : total (λ v. above v.drawn) views + 2147483648 ≡ max word 2147483648
+
+abbrev pub Ruled : ℕ → State (Unit {0}) Hand → Type 0
+Ruled first s = (length s.words ≡ 1) × Kept first (slice_index s.words 0) s.views
+
+abbrev Sat : Type 0
+Sat = Me (Unit {0}) Hand
+
+-- the word was seen. Where it is a process number, so is each number drawn
+abbrev pub Looked : Step (Unit {0}) → Sat → ℕ → Sat → Type 0
+Looked s m n w = (w.0 ≡ saw m.0 n) × (w.1 ≡ m.1) × (m.0.seen ≤ n) × (n ≤ 2147483647 → above m.0.drawn ≡ 0)
+
+-- the numbers that it holds were compared
+abbrev pub Compared : Step (Unit {0}) → Sat → ℕ → Sat → Type 0
+Compared s m n w = (w.0 ≡ m.0) × (w.1 ≡ m.1) × IsDistinct m.0.drawn
+
+-- the number was drawn
+abbrev pub Drew : Step (Unit {0}) → Sat → ℕ → Sat → Type 0
+Drew s m n w = (w.0 ≡ drew m.0 n m.0.owes) × (w.1 ≡ m.1) × (m.0.seen ≤ n) × IsDistinct w.0.drawn × (m.0.begins ≤ n)
+
+-- the number was drawn for a seat, which is owed where it is a process number
+abbrev pub DrewForSeat : Step (Unit {0}) → Sat → ℕ → Sat → Type 0
+DrewForSeat s m n w = (w.0 ≡ drew m.0 n (leb n 2147483647)) × (w.1 ≡ m.1) × (m.0.seen ≤ n) × IsDistinct w.0.drawn × (m.0.begins ≤ n)

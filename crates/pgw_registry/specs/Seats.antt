@@ -1,0 +1,19 @@
+-- What contracts see of a seat.
+use Rattle.std.specs.Prelude.{◌≡◌, ℕ, ◌<◌, Bool, List, []}
+use Rattle.atomic_table.specs.Table.{Me}
+use Rattle.atomic_table.specs.Seated.{TableId}
+use Rattle.pgw_registry.specs.declared.numbers.Hand.{Hand}
+use Rattle.pgw_registry.specs.Numbers.{IsDistinct}
+
+-- whose seat it is, where the numbers begin, the numbers that it drew, the greatest that it has
+-- loaded or drawn, and the mark that it owes a seat
+pub record Numbers : Type 0 where
+  pub of : TableId
+  pub begins : ℕ
+  pub drawn : List ℕ
+  pub seen : ℕ
+  pub owes : Bool
+
+-- a seat that holds nothing but its view, whose mark is the one that it runs by
+abbrev pub IsSeated : Me (Unit {0}) Hand → Bool → Type 0
+IsSeated me owes = (me.1 ≡ []) × (0 < me.0.seats) × (owes ≡ me.0.owes) × IsDistinct me.0.drawn

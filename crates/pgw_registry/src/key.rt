@@ -1,0 +1,30 @@
+//! Keys of connections.
+ghost use Rattle.std.specs.Prelude.{◌≡◌, IfOk, IsOk};
+ghost use Rattle.pgw_registry.specs.Key.{key_of};
+ghost use Rattle.pgw_wire.specs.declared.context.ProtocolVersion.TheVariants.{PROTOCOL3_0};
+
+use pgw_wire::context::ProtocolVersion;
+use pgw_wire::memory::OutOfMemory;
+use pgw_wire::octets::Octets;
+use pgw_wire::secret_key::SecretKey;
+use std::alloc::Global;
+
+/// The key that a version and random words give.
+pub fn key_for(
+    alloc: Global,
+    version: ProtocolVersion,
+    words: &[u8; 32],
+) -> Result<SecretKey, OutOfMemory>
+    ensures value { IfOk result (λ key. key ≡ key_of version words.now) }
+    ensures free { version ≡ PROTOCOL3_0 → IsOk result }
+{
+    match version {
+        ProtocolVersion::PROTOCOL3_0 => {
+            let first = [words[0], words[1], words[2], words[3]];
+            Ok(SecretKey::I32(i32::from_be_bytes(first)))
+        }
+        ProtocolVersion::PROTOCOL3_2 | ProtocolVersion::PROTOCOL3_9999 => {
+            Ok(SecretKey::Bytes(Octets::from_slice(alloc, words)?))
+        }
+    }
+}

@@ -1,0 +1,14 @@
+//! Which query of which connection is to be canceled, and the process numbers of connections.
+#![tactic(auto)]
+
+pub mod call;
+pub mod error;
+pub mod generator;
+pub mod key;
+pub mod laws;
+mod numbered;
+mod numbers;
+mod pairs;
+pub mod registry;
+#[cfg(test)]
+mod tests;

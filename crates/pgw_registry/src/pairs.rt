@@ -1,0 +1,157 @@
+//! Process numbers with keys.
+ghost use Rattle.std.specs.Prelude.{◌≡◌, ℕ, ℤ, true, List, [], OnOk, OnErr, Some, None, cond};
+ghost use Rattle.std.specs.Ordering.{int_cmp, eq_by_cmp};
+ghost use Rattle.std.specs.FinMap as map;
+ghost use Rattle.std.specs.BTreeMap.{IsOrdered, is_at};
+ghost use Rattle.std.specs.Map.{lookup};
+ghost use Rattle.pgw_registry.specs.Pairs.{bytes_cmp, pair_cmp};
+ghost use Rattle.pgw_registry.specs.Nested.{at_key, at_pair};
+
+use pgw_wire::memory::OutOfMemory;
+use pgw_wire::octets::Octets;
+use std::alloc::Global;
+use std::collections::BTreeMap;
+use std::marker::Model;
+
+/// A process number and a key.
+#[derive(Debug, Drop, PartialEq, Eq)]
+pub struct Pair {
+    pub pid: i32,
+    pub key: Octets,
+}
+
+type Keys = BTreeMap<Vec<u8>, u64>;
+
+/// Pairs of a process number and a key, each with a handle. A contract sees a finite map.
+#[derive(Drop)]
+pub struct Pairs {
+    numbers: BTreeMap<i32, Keys>,
+    alloc: Global,
+}
+
+impl Model for Pairs {
+    ghost use Rattle.std.specs.Prelude.{ℕ};
+    ghost use Rattle.std.specs.Ordering.{int_cmp};
+    ghost use Rattle.std.specs.Coded.{coded×, coded_ℕ, coded_ℤ, coded_list};
+    ghost use Rattle.std.specs.FinMap as map;
+    ghost use Rattle.std.specs.BTreeMap.{IsOrdered};
+    ghost use Rattle.pgw_registry.specs.Pairs.{pair_cmp};
+    ghost use Rattle.pgw_registry.specs.Nested.{flat};
+
+    ghost Value = { map.FinMap pair_cmp ℕ };
+
+    ghost coded = { map.code (coded× coded_ℤ (coded_list coded_ℕ)) coded_ℕ };
+
+    ghost view = { λ p. map.from_entries (flat p.numbers.entries) };
+
+    ghost invariant = { λ p. IsOrdered int_cmp p.numbers };
+}
+
+impl Pairs {
+    pub fn new(alloc: Global) -> Pairs
+        ensures { result ≡ map.empty }
+    {
+        Pairs {
+            numbers: BTreeMap::new(alloc),
+            alloc,
+        }
+    }
+
+    pub fn get(&self, pid: i32, key: &[u8]) -> Option<u64>
+        ensures { result ≡ map.get self.now (pid, key.now) }
+    {
+        find_in(&self.numbers, &pid, key)
+    }
+
+    /// Puts a handle in the place of the one that stands there, if any.
+    pub fn insert(&mut self, pid: i32, key: &[u8], handle: u64) -> Result<(), OutOfMemory>
+        ensures ok { OnOk result (self.new ≡ map.insert self.old (pid, key.now) handle) }
+        ensures err { OnErr result (self.new ≡ self.old) }
+    {
+        let key = Vec::from_slice(self.alloc, key)?;
+        add_to(&mut self.numbers, self.alloc, &pid, key, handle)
+    }
+
+    pub fn remove(&mut self, pid: i32, key: &[u8])
+        ensures { self.new ≡ map.remove self.old (pid, key.now) }
+    {
+        take_from(&mut self.numbers, &pid, key);
+    }
+}
+
+fn find_in(numbers: &BTreeMap<i32, Keys>, pid: &i32, key: &[u8]) -> Option<u64>
+    ensures { result ≡ at_pair numbers.now.entries pid.now key.now }
+{
+    match numbers.get(pid) {
+        Some(keys) => keys.get(key).copied(),
+        None => None,
+    }
+}
+
+// Adds a key to those of a number.
+fn add_to(
+    numbers: &mut BTreeMap<i32, Keys>,
+    alloc: Global,
+    pid: &i32,
+    key: Vec<u8>,
+    handle: u64,
+) -> Result<(), OutOfMemory>
+    ensures ok { OnOk result ((p : ℤ) (k : List ℕ) → at_pair numbers.new.entries p k ≡ cond (eq_by_cmp pair_cmp (pid.now, key.items) (p, k)) (Some handle) (at_pair numbers.old.entries p k)) }
+    ensures err { OnErr result ((p : ℤ) (k : List ℕ) → at_pair numbers.new.entries p k ≡ at_pair numbers.old.entries p k) }
+    ensures ordered { IsOrdered int_cmp numbers.new }
+{
+    match numbers.get_mut(pid) {
+        Some(keys) => add_key(keys, key, handle),
+        None => add_number(numbers, alloc, pid, key, handle),
+    }
+}
+
+// Adds a number with its first key.
+fn add_number(
+    numbers: &mut BTreeMap<i32, Keys>,
+    alloc: Global,
+    pid: &i32,
+    key: Vec<u8>,
+    handle: u64,
+) -> Result<(), OutOfMemory>
+    requires { lookup (is_at (int_cmp pid.now)) numbers.old.entries ≡ None }
+    ensures ok { OnOk result ((p : ℤ) (k : List ℕ) → at_pair numbers.new.entries p k ≡ cond (eq_by_cmp pair_cmp (pid.now, key.items) (p, k)) (Some handle) (at_pair numbers.old.entries p k)) }
+    ensures err { OnErr result (numbers.new.entries ≡ numbers.old.entries) }
+    ensures ordered { IsOrdered int_cmp numbers.old → IsOrdered int_cmp numbers.new }
+{
+    let number = *pid;
+    let mut keys = BTreeMap::new(alloc);
+    add_key(&mut keys, key, handle)?;
+    numbers.insert(number, keys)?;
+    Ok(())
+}
+
+fn add_key(keys: &mut Keys, key: Vec<u8>, handle: u64) -> Result<(), OutOfMemory>
+    ensures ok { OnOk result ((k : List ℕ) → at_key keys.new.entries k ≡ cond (eq_by_cmp bytes_cmp key.items k) (Some handle) (at_key keys.old.entries k)) }
+    ensures err { OnErr result (keys.new.entries ≡ keys.old.entries) }
+{
+    keys.insert(key, handle)?;
+    Ok(())
+}
+
+// Takes a key from those of a number. A number keeps no empty map.
+fn take_from(numbers: &mut BTreeMap<i32, Keys>, pid: &i32, key: &[u8])
+    ensures taken { (p : ℤ) (k : List ℕ) → at_pair numbers.new.entries p k ≡ cond (eq_by_cmp pair_cmp (pid.now, key.now) (p, k)) None (at_pair numbers.old.entries p k) }
+    ensures ordered { IsOrdered int_cmp numbers.new }
+{
+    let Some(keys) = numbers.get_mut(pid) else {
+        return;
+    };
+    if is_last(keys, key) {
+        numbers.remove(pid);
+    }
+}
+
+// Takes a key, and tells whether none is left.
+fn is_last(keys: &mut Keys, key: &[u8]) -> bool
+    ensures taken { (k : List ℕ) → at_key keys.new.entries k ≡ cond (eq_by_cmp bytes_cmp key.now k) None (at_key keys.old.entries k) }
+    ensures last { result ≡ true → keys.new.entries ≡ [] }
+{
+    keys.remove(key);
+    keys.is_empty()
+}

@@ -1,0 +1,3 @@
+pub mod LoginLaws
+pub mod LoginWritten
+pub mod VersionLaws

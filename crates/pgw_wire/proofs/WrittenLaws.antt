@@ -1,0 +1,81 @@
+-- What is written spells what it was written of.
+use Rattle.std.proofs.Common.{◌≡◌, ℕ, ℤ, pos, ◌+◌, ◌<◌, ◌≤◌, ◌^◌, min, inl, inr, Bool, true, false, cond, ltb, List, [], ◌∷◌, ◌++◌, length, Option, Some, None, Result, Ok, Err, refl, sym, ap, subst, ◌∙◌, append_assoc, arith, IsUtf8, length-append}
+use Rattle.std.specs.List.{flat_map, list_any, AllByRecursion}
+use Rattle.std.specs.Int.{Width, w8, w16, w32, byte_len, from_be_bytes, to_be_bytes, cast_signed, cast_unsigned}
+use Rattle.std.specs.Prelude.{FitsSigned}
+use Rattle.std.proofs.lemmas.Bool.{ltb-false, or_parts}
+use Rattle.std.proofs.lemmas.Int.{to_z-of_z}
+use Rattle.std.proofs.lemmas.List.Concat.{flat_map-cons}
+use Rattle.std.proofs.Math.Facts.{Fits-of_z, Fits-lt-pow}
+use Rattle.std.proofs.lemmas.Str.{utf8_lossy-IsUtf8}
+use Rattle.bstr.proofs.lemmas.LossyLemmas.{lossy_chars-utf8_lossy}
+use mir.Val.{bits}
+use Rattle.pgw_wire.specs.declared.error.PgWireError.{PgWireError}
+use Rattle.pgw_wire.specs.declared.framing.Framing.{Framing}
+use Rattle.pgw_wire.specs.declared.framing.Framing.TheVariants.{Typed}
+use Rattle.pgw_wire.specs.Reading.{lossy}
+use Rattle.pgw_wire.specs.Writing.{text, has_zero, refused_if}
+use Rattle.pgw_wire.specs.Framing.{header, saturated, body_or, encoded}
+use Rattle.pgw_wire.specs.Formats.{SpellsText, SpellsNat, SpellsInt, SpellsMany, SpellsMarked, SpellsTyped}
+use Rattle.pgw_wire.proofs.Laws.{chosen}
+use Rattle.pgw_wire.proofs.FieldLaws.{IsWide, wide32}
+
+-- ---- fields
+
+-- UTF-8 is read as itself
+pub lossy-IsUtf8 : (t : List ℕ) → IsUtf8 t → lossy t ≡ t
+unfolding lossy
+lossy-IsUtf8 t h = lossy_chars-utf8_lossy t ∙ utf8_lossy-IsUtf8 t h
+
+pub text_written : (t : List ℕ) → has_zero t ≡ false → IsUtf8 t → SpellsText t (text t)
+unfolding text
+text_written t none utf8 = (t, refl, none, lossy-IsUtf8 t utf8)
+
+pub nat_written : (w : Width) → IsWide w → (n : ℕ) → n < 2 ^ bits w → SpellsNat w n (to_be_bytes w n)
+nat_written w wide n small = (wide.len n, wide.again n small)
+
+pub int_written : (w : Width) → IsWide w → (z : ℤ) → FitsSigned w z → SpellsInt w z (to_be_bytes w (cast_unsigned w z))
+int_written w wide z fits = (wide.len (cast_unsigned w z), ap (cast_signed w) (wide.again (cast_unsigned w z) (Fits-lt-pow (Fits-of_z fits))) ∙ to_z-of_z w z fits)
+
+-- ---- lists
+
+pub many_written : {A : Type 0} (Spells : A → List ℕ → Type 0) (spelled : A → List ℕ) (Sound : A → Type 0) (refused : A → Bool) → ((x : A) → Sound x → refused x ≡ false → Spells x (spelled x))
+    → (xs : List A) → AllByRecursion Sound xs → list_any refused xs ≡ false → SpellsMany Spells xs (flat_map spelled xs)
+many_written Spells spelled Sound refused one [] sound fine = refl
+many_written Spells spelled Sound refused one (x ∷ xs) sound fine =
+    let parts = or_parts (refused x) (list_any refused xs) fine in
+    (spelled x, flat_map spelled xs, flat_map-cons spelled x xs, one x sound.0 parts.0, many_written Spells spelled Sound refused one xs sound.1 parts.1)
+
+pub marked_written : {A : Type 0} (Spells : Option A → List ℕ → Type 0) (spelled : A → List ℕ) (mark : List ℕ) (Sound : A → Type 0) (refused : A → Bool) → Spells None mark → ((x : A) → Sound x → refused x ≡ false → Spells (Some x) (spelled x))
+    → (xs : List A) → AllByRecursion Sound xs → list_any refused xs ≡ false → SpellsMarked Spells xs (flat_map spelled xs ++ mark)
+marked_written Spells spelled mark Sound refused end one [] sound fine = end
+marked_written Spells spelled mark Sound refused end one (x ∷ xs) sound fine =
+    let parts = or_parts (refused x) (list_any refused xs) fine in
+    (spelled x, flat_map spelled xs ++ mark, ap (λ (f : List ℕ). f ++ mark) (flat_map-cons spelled x xs) ∙ append_assoc (spelled x) (flat_map spelled xs) mark, one x sound.0 parts.0, marked_written Spells spelled mark Sound refused end one xs sound.1 parts.1)
+
+-- ---- messages
+
+pub unrefused : (b : Bool) → refused_if b ≡ None → b ≡ false
+unfolding refused_if
+unrefused true is = absurd cc
+unrefused false is = refl
+
+body_is : (fault : Option PgWireError) (body g : List ℕ) → body_or fault body ≡ Ok g → (fault ≡ None) × (g ≡ body)
+body_is None body g is = (refl, cc)
+body_is (Some e) body g is = absurd cc
+
+-- what is written is within the limit, has no fault, and is a header and the body
+pub encoded_parts : (framing : Framing) (limit : ℕ) (fault : Option PgWireError) (body g : List ℕ) → limit < 2 ^ 31 → encoded framing limit fault body ≡ Ok g → (length body + 4 ≤ limit) × (fault ≡ None) × (g ≡ header framing (length body) ++ body)
+unfolding encoded
+encoded_parts framing limit fault body g small is = elim (chosen (ltb limit (saturated (length body + 4))) _ _ _ is) [
+  | inl h ↦ absurd cc
+  | inr h ↦
+      let within : saturated (length body + 4) ≤ limit = ltb-false _ _ h.0 in
+      let b = body_is fault (header framing (length body) ++ body) g h.1 in
+      (omega (arith, within, small), b.0, b.1)
+]
+
+pub typed_written : {M : Type 0} (byte limit : ℕ) (P : M → List ℕ → Type 0) (m : M) (fault : Option PgWireError) (body g : List ℕ) → limit < 2 ^ 31 → encoded (Typed byte) limit fault body ≡ Ok g → (fault ≡ None → P m body) → SpellsTyped byte limit P m g
+typed_written byte limit P m fault body g small is law =
+    let p = encoded_parts (Typed byte) limit fault body g small is in
+    (to_be_bytes w32 (length body + 4), body, p.2, nat_written w32 wide32 (length body + 4) (omega (arith, p.0, small)), p.0, law p.1)

@@ -1,0 +1,14 @@
+use Rattle.std.proofs.Common.{◌≡◌, ap, ◌∙◌, sym, Bool, ◌&&◌, nat_eq, List, ℕ}
+use Rattle.std.specs.FinMap as map
+use Rattle.std.specs.Cmp.Lexicographic.{pointwise}
+use Rattle.pgw_wire.proofs.ParamLaws.{Pairs, entries_of}
+use Rattle.pgw_wire.proofs.params.ParamsPartialEq.eq.Goals as goal
+
+abbrev same : Pairs → Pairs → Bool
+same a b = pointwise (λ (p q : List ℕ × List ℕ). pointwise nat_eq p.0 q.0 && pointwise nat_eq p.1 q.1) a b
+
+pub returns : goal.returns
+returns c =
+    let mine = sym (entries_of c.self.inside.held.entries c.self.invariant) ∙ ap (λ m. map.entries m) c.self.view_is in
+    let others = sym (entries_of c.other.inside.held.entries c.other.invariant) ∙ ap (λ m. map.entries m) c.other.view_is in
+    c.same_pairs.ensures ∙ ap (λ (es : Pairs). same es c.other.inside.held.entries) mine ∙ ap (same (map.entries c.args.self.now)) others
