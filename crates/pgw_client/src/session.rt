@@ -23,6 +23,7 @@ const CHUNK: usize = 8192;
 // Writes the bytes, all of them, and flushes.
 fn send<L: Link>(link: &mut L, bytes: &[u8]) -> Result<(), LinkFault>
     ensures cause { HasCause (L.faults link.old) (L.faults link.new) result }
+    ensures kept { L.plan link.new ≡ L.plan link.old }
     ensures sent { L.tells → OnOk result (Wrote (L.tape link.old) (L.tape link.new) bytes.now) }
     ensures failed { L.tells → OnErr result (WroteSome (L.tape link.old) (L.tape link.new) bytes.now) }
 {
@@ -44,6 +45,7 @@ fn take_all<L: Link>(
     buffer: &mut BytesMut,
 ) -> PgWireClientResult<bool>
     ensures cause { IoHasCause (L.faults link.old) (L.faults link.new) result }
+    ensures kept { L.plan link.new ≡ L.plan link.old }
     ensures talks { L.tells → (L.tape link.old).flushed ≡ length (L.tape link.old).wrote →
         TookAll (core_rules config.now requests.now) core.old core.new (L.tape link.old) (L.tape link.new) buffer.old.items buffer.new.items result }
 {
@@ -81,6 +83,7 @@ fn fill<L: Link>(link: &mut L, buffer: &mut BytesMut, room: u64) -> PgWireClient
     requires { 0 < room }
     ensures bound { IfOk result (λ n. n ≤ room) }
     ensures cause { IoHasCause (L.faults link.old) (L.faults link.new) result }
+    ensures kept { L.plan link.new ≡ L.plan link.old }
     ensures filled { L.tells → Filled (L.tape link.old) (L.tape link.new) buffer.old.items buffer.new.items room result }
 {
     let mut chunk = [0u8; CHUNK];
@@ -105,6 +108,7 @@ fn converse<L: Link>(
     limit: u64,
 ) -> PgWireClientResult<()>
     ensures cause { IoHasCause (L.faults link.old) (L.faults link.new) result }
+    ensures kept { L.plan link.new ≡ L.plan link.old }
     ensures talks { L.tells → (L.tape link.old).flushed ≡ length (L.tape link.old).wrote →
         Conversed (core_rules config.now requests.now) core.old core.new limit (L.tape link.old) (L.tape link.new) result }
 {
@@ -141,6 +145,7 @@ fn hold_session<L: Link>(
     limit: u64,
 ) -> PgWireClientResult<SessionReport>
     ensures cause { IoHasCause (L.faults link.old) (L.faults link.new) result }
+    ensures kept { L.plan link.new ≡ L.plan link.old }
     ensures session { L.tells → Session config.now requests.now limit (L.tape link.old) (L.tape link.new) result }
 {
     let mut out = BytesMut::new(alloc);
@@ -182,6 +187,8 @@ pub fn run_session<L: Link>(
 ) -> PgWireClientResult<SessionReport>
     // IoError comes only where a call of the link failed.
     ensures cause { IoHasCause (L.faults link.old) (L.faults link.new) result }
+    // What the link was made with stays.
+    ensures kept { L.plan link.new ≡ L.plan link.old }
     // The answer is that of a completed session: a transcript for this input, whose bytes were read and written.
     ensures completed { L.tells → IfOk result (λ report. MovedBy (L.tape link.old) (L.tape link.new)
         (λ taken sent. Completed config.now requests.now taken sent report)) }

@@ -30,6 +30,7 @@ returns-then-n-eq0-clause-talks g c t f =
 pub reads-preserved : goal.reads-preserved
 reads-preserved g c = record {
   read_in = omega (arith, c.in-Ok-fill.ensures.bound);
+  kept = c.fill.ensures.kept ∙ c.take_all.ensures.kept ∙ c.reads.invariant.kept;
   later = omega (arith, c.reads.invariant.later, c.take_all.ensures.cause.later, c.fill.ensures.cause.later);
   reading = λ t f.
       let reading = c.reads.invariant.reading t f in

@@ -6,6 +6,7 @@ use Rattle.pgw_client.proofs.session.run_session.Goals as goal
 pub returns-in-Ok : goal.returns-in-Ok
 returns-in-Ok g c = record {
   cause = c.in-Ok.ensures.cause;
+  kept = c.in-Ok.ensures.kept;
   completed = λ t. completed _ _ _ _ _ (Ok c.in-Ok.report) (c.in-Ok.ensures.session t);
   causes = λ t. tt;
   told = λ t. told _ _ _ _ _ (Ok c.in-Ok.report) (c.in-Ok.ensures.session t);
@@ -25,6 +26,7 @@ returns-in-Err g c =
         later = c.in-Err.ensures.cause.later;
         io = λ is. c.in-Err.ensures.cause.io (ap Err (told_io e (sym c.told_error.ensures ∙ cc)));
       };
+      kept = c.in-Err.ensures.kept;
       completed = λ t. tt;
       causes = λ t.
           let caused = causes config requests limit old new (Err e) (c.in-Err.ensures.session t) in

@@ -9,6 +9,7 @@ loop-at-preserved g c =
     let m = e.moved in
     record {
       at_in = omega (arith, e.bound);
+      kept = e.kept ∙ i.kept;
       later = omega (arith, i.later, c.write.ensures.cause.later);
       reads_nothing = λ t. let p = e.moved t in let r = i.reads_nothing t in record { left = p.left ∙ r.left; ended = p.ended ∙ r.ended; reads = p.reads ∙ r.reads };
       wrote = λ t. put_on (g.L.Link.tape c.args.link.now) c.args.bytes.now c.loop-at.at c.in_ok-n.n (e.moved t) (i.wrote t);

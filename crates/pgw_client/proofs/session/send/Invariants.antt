@@ -5,6 +5,7 @@ use Rattle.pgw_client.proofs.session.send.Given as goal
 abbrev pub invariant-loop-at : goal.invariant-loop-at
 invariant-loop-at g l = record {
   at_in : l.at ≤ length l.fn.bytes;
+  kept : g.L.Link.plan l.link ≡ g.L.Link.plan l.fn.link;
   later : g.L.Link.faults l.fn.link ≤ g.L.Link.faults l.link;
   reads_nothing : g.L.Link.tells → ReadsNothing (g.L.Link.tape l.fn.link) (g.L.Link.tape l.link);
   wrote : g.L.Link.tells → (g.L.Link.tape l.link).wrote ≡ (g.L.Link.tape l.fn.link).wrote ++ take l.at l.fn.bytes;

@@ -5,6 +5,7 @@ use Rattle.pgw_client.proofs.session.take_all.Given as goal
 
 abbrev pub invariant-messages : goal.invariant-messages
 invariant-messages g l = record {
+  kept : g.L.Link.plan l.link ≡ g.L.Link.plan l.fn.link;
   later : g.L.Link.faults l.fn.link ≤ g.L.Link.faults l.link;
   empty : l.out.items ≡ [];
   going : g.L.Link.tells → (g.L.Link.tape l.fn.link).flushed ≡ length (g.L.Link.tape l.fn.link).wrote →
