@@ -1,6 +1,7 @@
 //! The session of a script.
-ghost use Rattle.std.specs.Prelude.{◌≡◌, ◌<◌, ◌≤◌, [], None, IfOk, map};
+ghost use Rattle.std.specs.Prelude.{◌≡◌, ◌<◌, ◌≤◌, ◌||◌, nat_lt, [], None, IfOk, map};
 ghost use Rattle.pgw_prog.specs.Held.{config_of as config_for, request_of, joined as join, requests_of as all_requests, status_of as status_for, Prints, Holds};
+ghost use Rattle.pgw_link.specs.Calls.{is_reached};
 ghost use Rattle.pgw_link.specs.Memory.{tape_of, faults_of, listing_of};
 ghost use Rattle.pgw_prog.specs.Printing.{session_text};
 
@@ -109,6 +110,7 @@ fn print_outcome(
 ) -> Result<Printed, OutOfMemory>
     ensures text { IfOk result (λ p. p.text.items ≡ session_text (tape_of link.now).wrote outcome.now) }
     ensures status { IfOk result (λ p. p.status ≡ status_for outcome.now) }
+    ensures fails { IfOk result (λ p. nat_lt 0 (faults_of link.now) ≡ (is_reached (listing_of link.now).reads (tape_of link.now).reads || is_reached (listing_of link.now).writes (tape_of link.now).writes)) }
 {
     if link.was_short_of_memory() {
         return Err(OutOfMemory);
@@ -129,7 +131,7 @@ fn run(
     limit: u64,
 ) -> Result<Printed, OutOfMemory>
     requires { faults_of link.old ≡ 0 }
-    ensures { IfOk result (Prints config.now requests.now limit (tape_of link.old)) }
+    ensures { IfOk result (Prints config.now requests.now limit (listing_of link.old) (tape_of link.old)) }
 {
     let outcome = run_session(alloc, link, config, requests, nonce, limit);
     print_outcome(alloc, link, &outcome)
