@@ -1,5 +1,6 @@
 -- What is printed of a session over a link in memory.
-use Rattle.std.proofs.Common.{◌≡◌, ◌<◌, ◌≤◌, ℕ, List, Bool, ◌||◌, nat_lt, Result, Ok, Err, arith}
+use Rattle.std.proofs.Common.{◌≡◌, ◌<◌, ◌≤◌, ℕ, List, Bool, ◌||◌, nat_lt, false, refl, ◌∙◌, Result, Ok, Err, arith}
+use Rattle.std.proofs.lemmas.Bool.Decides.{nat_tests}
 use Rattle.std.specs.Result.{IfOk, IsErrOf}
 use Rattle.pgw_link.specs.Tape.{Tape, Rose}
 use Rattle.pgw_link.specs.Calls.{is_reached}
@@ -24,12 +25,12 @@ FailsBy listing after faults = nat_lt 0 faults ≡ (is_reached listing.reads aft
 
 module _ (config : Config) (requests : List Request) (limit : ℕ) (listing : Listing) (first after : Tape) (outcome : Result SessionReport PgWireClientError) where
   pub session_of : (before now : ℕ) → before ≡ 0 → IoHasCause before now outcome
-    → IfOk outcome (λ report. MovedBy first after (λ taken sent. Completed config requests taken sent report))
-    → Causes config requests limit first after outcome
-    → MovedBy first after (λ taken sent. Told config requests taken sent × KeepsPace limit first after taken sent)
-    → ((segments : List (List Event)) → Completes config requests limit first.left segments → (Rose before now → ⊥) → Reports (report_of config segments) outcome)
-    → FailsBy listing after now
-    → Session config requests limit listing first after now outcome
+      → IfOk outcome (λ report. MovedBy first after (λ taken sent. Completed config requests taken sent report))
+      → Causes config requests limit first after outcome
+      → MovedBy first after (λ taken sent. Told config requests taken sent × KeepsPace limit first after taken sent)
+      → ((segments : List (List Event)) → Completes config requests limit first.left segments → (Rose before now → ⊥) → Reports (report_of config segments) outcome)
+      → FailsBy listing after now
+      → Session config requests limit listing first after now outcome
   session_of before now none io completed causes told reports fails = record {
     completed = completed;
     causes = causes;
@@ -37,10 +38,13 @@ module _ (config : Config) (requests : List Request) (limit : ℕ) (listing : Li
     reports = λ segments c clean. reports segments c (λ rose. clean (omega (arith, rose, none)));
     io = λ e. let rose = io.io e in omega (arith, rose, none);
     fails = fails;
+    no_io = λ reads writes e. let rose = io.io e in
+        let some : nat_lt 0 now ≡ false = fails ∙ rw (reads, writes) refl in
+        absurd (grind (arith, nat_tests, some, rose, none));
   }
 
   pub printed : (faults : ℕ) → (FailsBy listing after faults → Session config requests limit listing first after faults outcome) → (r : Result Printed OutOfMemory)
-    → IfOk r (λ p. p.text.items ≡ session_text after.wrote outcome) → IfOk r (λ p. p.status ≡ status_of outcome) → IfOk r (λ p. FailsBy listing after faults)
-    → IfOk r (Prints config requests limit listing first)
+      → IfOk r (λ p. p.text.items ≡ session_text after.wrote outcome) → IfOk r (λ p. p.status ≡ status_of outcome) → IfOk r (λ p. FailsBy listing after faults)
+      → IfOk r (Prints config requests limit listing first)
   printed faults session (Ok p) text status fails = record { after = after; faults = faults; outcome = outcome; session = session fails; text = text; status = status }
   printed faults session (Err e) text status fails = tt

@@ -2,3 +2,4 @@ pub mod LineLaws
 pub mod ScriptLaws
 pub mod TransferLaws
 pub mod HeldLaws
+pub mod GrammarLaws

@@ -52,6 +52,8 @@ pub record Session (config : Config) (requests : List Request) (limit : ℕ) (li
   pub io : IsErrOf outcome client.IoError → 0 < faults
   -- and a call failed exactly where one was made whose number is listed
   pub fails : nat_lt 0 faults ≡ (is_reached listing.reads after.reads || is_reached listing.writes after.writes)
+  -- so that error never comes where none is listed
+  pub no_io : listing.reads ≡ [] → listing.writes ≡ [] → IsErrOf outcome client.IoError → ⊥
 
 abbrev pub status_of : Result SessionReport PgWireClientError → ℕ
 status_of (Ok report) = 0

@@ -7,3 +7,4 @@ pub mod Transfer
 pub mod Held
 pub mod Command
 pub mod Program
+pub mod Grammar

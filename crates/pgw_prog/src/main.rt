@@ -3,6 +3,7 @@
 
 mod command;
 mod error_names;
+mod grammar;
 mod held;
 mod line;
 mod pieces;

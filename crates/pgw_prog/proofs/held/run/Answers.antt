@@ -15,4 +15,4 @@ returns c =
     let listing = listing_of c.args.link.now in
     let session = session_of config requests c.args.limit listing first (tape_of link) outcome (faults_of c.args.link.now) (faults_of link) c.requires e.cause (e.completed tt) (e.causes tt) (e.told tt) (e.reports tt) in
     printed config requests c.args.limit listing first (tape_of link) outcome (faults_of link) session c.print_outcome.result
-      c.print_outcome.ensures.text c.print_outcome.ensures.status (subst (λ (l : Listing). IfOk c.print_outcome.result (λ p. FailsBy l (tape_of link) (faults_of link))) e.kept c.print_outcome.ensures.fails)
+    c.print_outcome.ensures.text c.print_outcome.ensures.status (subst (λ (l : Listing). IfOk c.print_outcome.result (λ p. FailsBy l (tape_of link) (faults_of link))) e.kept c.print_outcome.ensures.fails)
