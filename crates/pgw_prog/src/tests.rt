@@ -138,13 +138,20 @@ server 4b 00000028 00000007 000102030405060708090A0B0C0D0E0F
 server 101112131415161718191a1b1c1d1e1f 5a0000000549
 ";
 
+const CUT_SHORT: &str = "simple SELECT 1
+server 52 00000008 00000000 5a 00000005 49
+server 54 0000001a 0001 6100 00000000 0000 00000017 0004 ffffffff 0000
+server 44 0000000b 0001 00000001 31 43 0000000d 53454c454354203100 5a 00000005
+";
+
 #[test]
 fn script_startups(rt: HostRuntime) -> Result<(), Fail> {
     let alloc = rt.alloc();
     let bob = "user=bob";
     let secret = "user=bob password=secret";
-    let cases: [(&str, &str, &str, &str, &str); 12] = [
+    let cases: [(&str, &str, &str, &str, &str); 13] = [
         (bob, "", "server 5a 00000005 49", STARTED, IDLE),
+        (bob, "", CUT_SHORT, SENT, "error UnexpectedEOF\n"),
         (bob, "", NEGOTIATED, STARTED, KEYED),
         (bob, "protocol 3.0\n", NEGOTIATED, STARTED, KEYED),
         (
