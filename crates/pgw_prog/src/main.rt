@@ -17,28 +17,39 @@ mod transfer;
 
 use pgw_link::standard::{StdSink, StdSource};
 use program::run_program;
+use rand::RngExt;
 use rand::rngs::StdRng;
-use rand::{Rng, RngExt};
 use std::process::ExitCode;
 use std::{env, io};
 
-fn main(rt: HostRuntime) -> io::Result<ExitCode> {
+fn main(rt: HostRuntime) -> ExitCode {
+    let status = match words_of(&rt) {
+        Ok(words) => run(&rt, &words),
+        Err(error) if error.kind() == io::ErrorKind::OutOfMemory => 4,
+        // A word that is no text is no command.
+        Err(_) => run(&rt, &[String::new(rt.alloc())]),
+    };
+    ExitCode::from(status)
+}
+
+/// The words behind the program's name.
+fn words_of(rt: &HostRuntime) -> io::Result<Vec<String>> {
     let mut words = Vec::new(rt.alloc());
-    for word in env::args(&rt)?.skip(1) {
+    for word in env::args(rt)?.skip(1) {
         words.push(word)?;
     }
-    let mut rng: StdRng = rand::make_rng(&rt)?;
+    Ok(words)
+}
+
+/// Runs a command over standard input and output, with fresh bytes.
+fn run(rt: &HostRuntime, words: &[String]) -> u8 {
+    let rng: io::Result<StdRng> = rand::make_rng(rt);
+    let Ok(mut rng) = rng else {
+        return 3;
+    };
     let nonce: [u8; 18] = rng.random();
     let words32: [u8; 32] = rng.random();
     let mut input = StdSource::new(rt.reader());
-    let mut output = StdSink::new(io::writer(&rt));
-    let status = run_program(
-        rt.alloc(),
-        &words,
-        &mut input,
-        &mut output,
-        &nonce,
-        &words32,
-    );
-    Ok(ExitCode::from(status))
+    let mut output = StdSink::new(io::writer(rt));
+    run_program(rt.alloc(), words, &mut input, &mut output, &nonce, &words32)
 }
