@@ -1,5 +1,5 @@
 -- What is read of a text is what the grammar says of it.
-use Rattle.std.proofs.Common.{◌≡◌, ◌∙◌, ◌↔◌, ℕ, zero, suc, ◌+◌, List, [], ◌∷◌, ◌++◌, Bool, true, false, ◌&&◌, length, map, fold, Option, Some, None, Result, Ok, Err, refl, sym, ap, arith, if◌then◌else◌}
+use Rattle.std.proofs.Common.{◌≡◌, ◌∙◌, ◌↔◌, ℕ, suc, ◌+◌, List, [], ◌∷◌, ◌++◌, Bool, true, false, ◌&&◌, length, fold, Option, Some, None, Result, Ok, Err, refl, sym, ap, arith, if◌then◌else◌}
 use Rattle.pgw_prog.specs.declared.line.Line.{Line}
 use Rattle.pgw_prog.specs.declared.script.Script.{Script}
 use Rattle.pgw_prog.specs.declared.script.Place.{Place}

@@ -1,7 +1,7 @@
 -- What is printed of a session over a link in memory.
-use Rattle.std.proofs.Common.{◌≡◌, ◌<◌, ◌≤◌, ℕ, List, Bool, ◌||◌, nat_lt, false, refl, ◌∙◌, Result, Ok, Err, arith}
+use Rattle.std.proofs.Common.{◌≡◌, ℕ, List, ◌||◌, nat_lt, false, refl, ◌∙◌, Result, Ok, Err, arith}
 use Rattle.std.proofs.lemmas.Bool.Decides.{nat_tests}
-use Rattle.std.specs.Result.{IfOk, IsErrOf}
+use Rattle.std.specs.Result.{IfOk}
 use Rattle.pgw_link.specs.Tape.{Tape, Rose}
 use Rattle.pgw_link.specs.Calls.{is_reached}
 use Rattle.pgw_link.specs.Memory.{Listing}

@@ -1,14 +1,13 @@
 -- Names and numbers are ASCII, and numbers are read as std reads them.
-use Rattle.std.proofs.Common.{◌≡◌, ◌∙◌, ℕ, zero, suc, ◌^◌, ◌<◌, List, [], ◌∷◌, Bool, true, false, not, ◌==◌, ◌&&◌, nat_lt, nat_eq, length, take, drop, Option, Some, None, Result, Ok, Err, refl, sym, ap, arith, rules, if◌then◌else◌, cond, lit<}
+use Rattle.std.proofs.Common.{◌≡◌, ◌∙◌, ℕ, zero, suc, ◌^◌, ◌<◌, List, [], ◌∷◌, Bool, true, false, not, ◌==◌, ◌&&◌, nat_lt, length, drop, Option, Some, None, Result, Ok, Err, refl, sym, ap, arith, if◌then◌else◌, cond, lit<}
 use Rattle.std.specs.List.{list_all, slice_index}
 use Rattle.std.specs.Str.{IsAscii, IsUtf8, is_utf8, all_ascii_digits}
-use Rattle.std.specs.Str.Parse.{without_leading_plus, digits_value, ParsesUnsigned, IsNumeral, AllDigits}
+use Rattle.std.specs.Str.Parse.{without_leading_plus, digits_value, ParsesUnsigned, IsNumeral}
 use Rattle.std.specs.Char.{is_ascii_alphanumeric}
 use Rattle.std.proofs.lemmas.Str.{IsUtf8-from_ascii, IsUtf8-from_is_utf8, is_utf8-from_IsUtf8}
 use Rattle.std.proofs.lemmas.Str.Parse.{IsNumeralModel, numerals_by_value, tells_all_ascii_digits}
 use Rattle.std.proofs.lemmas.Bool.Decides.{nat_tests}
 use Rattle.std.proofs.lemmas.Fmt.{IsAscii-from_digits}
-use Rattle.std.proofs.lemmas.Str.Ascii.{IsAscii-from_all}
 use Rattle.std.specs.Result.{MatchResult, result_ok}
 use Rattle.pgw_prog.specs.Line.{number_in, is_name, name_in, text_in}
 

@@ -1,5 +1,5 @@
 -- The grammar of session scripts, over the lines of a text.
-use Rattle.std.specs.Prelude.{◌≡◌, ◌↔◌, ℕ, ◌+◌, List, [], ◌∷◌, ◌++◌, Bool, true, false, ◌&&◌, length, map, fold, Option, Some, None, Result, Ok, Err}
+use Rattle.std.specs.Prelude.{◌≡◌, ◌↔◌, ℕ, ◌+◌, List, [], ◌∷◌, ◌++◌, Bool, true, false, ◌&&◌, length, map, fold, Option, Some, None, Ok, Err}
 use Rattle.pgw_prog.specs.declared.line.Line.{Line}
 use Rattle.pgw_prog.specs.declared.script.Script.{Script}
 use Rattle.pgw_prog.specs.declared.script.Place.{Place}

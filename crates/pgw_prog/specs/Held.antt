@@ -1,5 +1,5 @@
 -- The session of a script.
-use Rattle.std.specs.Prelude.{◌≡◌, ◌<◌, ◌||◌, nat_lt, ℕ, List, [], map, Option, Some, None, Result, Ok, Err, IfOk, IsErrOf}
+use Rattle.std.specs.Prelude.{◌≡◌, ◌<◌, ◌||◌, nat_lt, ℕ, List, [], map, Some, None, Result, Ok, Err, IfOk, IsErrOf}
 use Rattle.std.specs.List.{flat_map}
 use Rattle.pgw_link.specs.Tape.{Tape}
 use Rattle.pgw_link.specs.Calls.{is_reached}

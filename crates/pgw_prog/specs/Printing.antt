@@ -1,5 +1,5 @@
 -- The printed text of a session.
-use Rattle.std.specs.Prelude.{ℕ, suc, ℤ, List, [], ◌∷◌, ◌++◌, ◌+◌, length, codes, decimal, Option, Some, None, Result, Ok, Err}
+use Rattle.std.specs.Prelude.{ℕ, suc, ℤ, List, [], ◌∷◌, ◌++◌, length, codes, decimal, Option, Some, None, Result, Ok, Err}
 use Rattle.std.specs.Fmt.{signed_decimal}
 use Rattle.std.specs.List.{flat_map}
 use Rattle.std.specs.FinMap as map
@@ -10,7 +10,6 @@ use Rattle.pgw_wire.specs.declared.secret_key.SecretKey.{SecretKey}
 use Rattle.pgw_wire.specs.declared.secret_key.SecretKey.TheVariants as key
 use Rattle.pgw_msg.specs.declared.response.TransactionStatus.{TransactionStatus}
 use Rattle.pgw_msg.specs.declared.response.TransactionStatus.TheVariants as status
-use Rattle.pgw_msg.specs.declared.response.ErrorResponse.{ErrorResponse}
 use Rattle.pgw_msg.specs.declared.data.DataRow.{DataRow}
 use Rattle.pgw_msg.specs.declared.tag.Tag.{Tag}
 use Rattle.pgw_msg.specs.declared.field_info.FieldInfo.{FieldInfo}

@@ -1,4 +1,3 @@
-use Rattle.std.proofs.Common.{sym, refl}
 use Rattle.pgw_prog.proofs.LineLaws.{name_is}
 use Rattle.pgw_prog.proofs.line.read_name.Goals as goal
 

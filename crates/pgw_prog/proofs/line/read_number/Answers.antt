@@ -1,5 +1,5 @@
 use Rattle.pgw_prog.proofs.LineLaws.{ok_is, number_from, number_utf8}
-use Rattle.std.proofs.Common.{sym, refl}
+use Rattle.std.proofs.Common.{sym}
 use Rattle.pgw_prog.proofs.line.read_number.Goals as goal
 
 pub returns-in-Ok : goal.returns-in-Ok

@@ -1,4 +1,4 @@
-use Rattle.std.proofs.Common.{sym, ◌∙◌}
+use Rattle.std.proofs.Common.{sym}
 use Rattle.pgw_prog.proofs.ScriptLaws.{last_line, cut_line}
 use Rattle.pgw_prog.proofs.script.first_line.Goals as goal
 
