@@ -1,18 +1,10 @@
 -- What a session leaves, in the terms of transcripts.
-use Rattle.std.proofs.Common.{◌≡◌, ℕ, List, [], ◌++◌, length, ◌∷◌, ◌⊎◌, Option, Some, None, Result, Ok, Err, Bool, true, false, cond, inl, inr, refl, ◌∙◌, ap, sym, subst}
+use Rattle.std.proofs.Common.{◌≡◌, ◌<◌, ◌+◌, ℕ, List, [], ◌++◌, length, ◌∷◌, ◌⊎◌, Option, Some, None, Result, Ok, Err, Bool, true, false, cond, inl, inr, refl, ◌∙◌, ap, sym, subst}
 use Rattle.std.proofs.lemmas.List.{append-nil}
 use Rattle.std.specs.Prelude.{IfOk, IsErrOf}
-use Rattle.pgw_wire.specs.declared.error.PgWireError.{PgWireError}
-use Rattle.pgw_wire.specs.declared.error.PgWireError.TheVariants as wire
-use Rattle.pgw_wire.specs.declared.framing.Framing.{Framing}
-use Rattle.pgw_wire.specs.Framing.{encoded, body_or}
-use Rattle.pgw_wire.specs.Writing.{refused_if}
-use Rattle.pgw_startup.specs.declared.password.PasswordMessageFamily.TheVariants as family
-use Rattle.pgw_msg.specs.Frontend.{encoding, encodings, both}
-use Rattle.pgw_msg.specs.declared.frontend.PgWireFrontendMessage.{PgWireFrontendMessage as Frontend}
-use Rattle.pgw_msg.specs.declared.frontend.PgWireFrontendMessage.TheVariants as frontend
+use Rattle.pgw_types.specs.declared.error.PgWireError.{PgWireError}
 use Rattle.pgw_msg.specs.declared.backend.PgWireBackendMessage.{PgWireBackendMessage as Backend}
-use Rattle.pgw_msg.specs.declared.response.ErrorResponse.{ErrorResponse}
+use Rattle.pgw_query.specs.declared.response.ErrorResponse.{ErrorResponse}
 use Rattle.pgw_msg.specs.declared.client_error.PgWireClientError.{PgWireClientError as ClientError}
 use Rattle.pgw_msg.specs.declared.client_error.PgWireClientError.TheVariants as client
 use Rattle.pgw_link.specs.Tape.{Tape}
@@ -22,21 +14,21 @@ use Rattle.pgw_session.specs.declared.types.SessionReport.{SessionReport}
 use Rattle.pgw_session.specs.Events.{Event}
 use Rattle.pgw_session.specs.Answers.{tally_of}
 use Rattle.pgw_session.specs.Transcript.{Completed, Completes, report_of}
-use Rattle.pgw_session.specs.Failures.{IsHopeless, LeftWith, StoppedCause, Told}
+use Rattle.pgw_session.specs.Failures.{HasEnded, IsHopeless, LeftWith, StoppedCause, Told}
 use Rattle.pgw_session.specs.Course.{Waits, Over, sent_of}
 use Rattle.pgw_session.specs.Talk.{Talk, Ending, Outcome, Complete, Unencoded, Stopped, error_of, end_with, conversation, first_skipped}
 use Rattle.pgw_session.proofs.Complete.{ended_whole, never_waits}
 use Rattle.pgw_session.proofs.FailureLaws.{complete_is_completed, unencoded, waits_at, unfinished, misplaced_left, left_with}
 use Rattle.pgw_session.proofs.FailureLaws as failures
 use Rattle.pgw_client.specs.Outcome.{Session, Waiting, Reason, memory, unsent, stopped, failed, unread, at_limit, at_end, ending_why, talk_end}
-use Rattle.pgw_client.specs.Sessions.{ErrorCause, Causes, KeepsPace, MovedBy, Reports, WaitsStill, told_error}
+use Rattle.pgw_client.specs.Sessions.{ErrorCause, Causes, KeepsPace, MovedBy, Reports, WaitsStill}
 
 -- the cause of a stopped conversation is that of the error
-stopped_as : (config : Config) (requests : List Request) (limit before : ℕ) (new : Tape) (taken sent : List ℕ) (e : ClientError) → StoppedCause config requests taken sent new.left e × IsHopeless config requests taken → ErrorCause config requests limit before new taken sent e
+stopped_as : (config : Config) (requests : List Request) (limit before : ℕ) (new : Tape) (taken sent : List ℕ) (e : ClientError) → StoppedCause config requests limit taken sent new.left e × IsHopeless config requests taken → ErrorCause config requests limit before new taken sent e
 stopped_as config requests limit before new taken sent (client.UnexpectedMessage m) c = c
 stopped_as config requests limit before new taken sent (client.PgWireError why) c = (inl c.0, c.1)
 stopped_as config requests limit before new taken sent (client.RemoteError e) c = inl c
-stopped_as config requests limit before new taken sent client.NotYetBuilt c = (inl c.0, c.1)
+stopped_as config requests limit before new taken sent client.NotYetBuilt c = c
 stopped_as config requests limit before new taken sent e c = absurd c.0
 
 -- an error with which the conversation ended
@@ -49,7 +41,7 @@ ended_as config requests limit before new taken sent ending (Unencoded w) e is o
     subst (ErrorCause config requests limit before new taken sent) same (inr u.0, u.1)
 ended_as config requests limit before new taken sent ending (Stopped x) e is outcome why =
     let same : x ≡ e = cc in
-    subst (ErrorCause config requests limit before new taken sent) same (stopped_as config requests limit before new taken sent x (failures.stopped config requests taken sent new.left ending x is outcome))
+    subst (ErrorCause config requests limit before new taken sent) same (stopped_as config requests limit before new taken sent x (failures.stopped config requests limit taken sent new.left ending x is outcome))
 
 waits_still : (config : Config) (requests : List Request) (taken sent : List ℕ) → Waiting (conversation config requests taken) sent → WaitsStill config requests taken sent
 waits_still config requests taken sent w =
@@ -57,8 +49,8 @@ waits_still config requests taken sent w =
 
 -- the error of the link's end
 end_as : (config : Config) (requests : List Request) (limit before : ℕ) (new : Tape) (taken sent pending : List ℕ) (t : Talk) (o : Option Backend) (r : Option ErrorResponse) → first_skipped t.skipped ≡ o → (tally_of t.open_events).remote ≡ r
-    → conversation config requests taken ≡ Waits t sent pending → new.left ≡ [] → ErrorCause config requests limit before new taken sent (end_with o r)
-end_as config requests limit before new taken sent pending t (Some m) r first remote is none = misplaced_left config requests taken sent pending new.left t m is first none
+    → conversation config requests taken ≡ Waits t sent pending → HasEnded limit taken new.left → ErrorCause config requests limit before new taken sent (end_with o r)
+end_as config requests limit before new taken sent pending t (Some m) r first remote is none = misplaced_left config requests limit taken sent pending new.left t m is first none
 end_as config requests limit before new taken sent pending t None (Some e) first remote is none =
     inr (subst (LeftWith config requests taken sent) remote (left_with config requests taken sent pending t is first), unfinished config requests taken sent pending t is, none)
 end_as config requests limit before new taken sent pending t None None first remote is none =
@@ -68,13 +60,15 @@ caused_by : (config : Config) (requests : List Request) (limit before : ℕ) {ne
     → Reason ending_why talk_end (conversation config requests taken) sent before taken limit new e → ErrorCause config requests limit before new taken sent e
 caused_by config requests limit before {new} taken sent more begins (failed (memory is)) = subst (ErrorCause config requests limit before new taken sent) (sym is) tt
 caused_by config requests limit before {new} taken sent more begins (failed (unsent io short)) =
-    let u = failures.unflushed config requests taken in
-    subst (ErrorCause config requests limit before new taken sent) (sym io) (inl (record { es = u.0; bytes = sent_of (conversation config requests taken); put = u.1; legal = u.2; unsent = more; begins = begins; short = short }))
+    let t = failures.told_unsent config requests taken sent more begins in
+    let all : sent_of (conversation config requests taken) ≡ sent ++ (t.0).unsent = begins ∙ ap (λ (l : List ℕ). sent ++ l) (sym t.1) in
+    let less = subst (λ (l : List ℕ). new.flushed < before + length l) all short in
+    subst (ErrorCause config requests limit before new taken sent) (sym io) (inl (t.0, less))
 caused_by config requests limit before {new} taken sent more {e} begins (failed (stopped ending is why)) = ended_as config requests limit before new taken sent ending ending.outcome e is refl why
 caused_by config requests limit before {new} taken sent more begins (unread io waiting) = subst (ErrorCause config requests limit before new taken sent) (sym io) (inr (waits_still config requests taken sent waiting))
 caused_by config requests limit before {new} taken sent more begins (at_limit is waiting at) = subst (ErrorCause config requests limit before new taken sent) (sym is) (waits_still config requests taken sent waiting, at)
-caused_by config requests limit before {new} taken sent more begins (at_end state pending is none end) =
-    subst (ErrorCause config requests limit before new taken sent) (sym end) (end_as config requests limit before new taken sent pending state (first_skipped state.skipped) (tally_of state.open_events).remote refl refl is none)
+caused_by config requests limit before {new} taken sent more begins (at_end state pending is none short end) =
+    subst (ErrorCause config requests limit before new taken sent) (sym end) (end_as config requests limit before new taken sent pending state (first_skipped state.skipped) (tally_of state.open_events).remote refl refl is (none, short))
 
 -- each error has its cause
 pub causes : (config : Config) (requests : List Request) (limit : ℕ) (old new : Tape) (result : Result SessionReport ClientError) → Session config requests limit old new result → Causes config requests limit old new result
@@ -114,7 +108,7 @@ only_memory config requests limit before old {new} segments taken {sent} c left 
 only_memory config requests limit before old segments taken c left (unread io waiting) no_io = absurd (no_io io)
 only_memory config requests limit before old {new} segments taken {sent} c left (at_limit is waiting at) no_io =
     absurd (never_waits config requests limit old.left taken new.left sent waiting.1 waiting.0 segments left c (inl at) waiting.2)
-only_memory config requests limit before old {new} segments taken {sent} c left (at_end state pending is none end) no_io =
+only_memory config requests limit before old {new} segments taken {sent} c left (at_end state pending is none short end) no_io =
     absurd (never_waits config requests limit old.left taken new.left sent pending state segments left c (inr none) is)
 
 -- a session that can complete reports, or memory is wanting
@@ -125,57 +119,3 @@ reports config requests limit old new (Ok report) segments s c no_io =
     let h = s.held in
     let same = ended_whole config requests limit old.left s.taken new.left s.sent (record { talk = h.0; outcome = Complete }) segments s.left c h.1 in
     h.2 ∙ ap (λ (x : Ending). report_of config (x.talk).closed) same
-
--- only a text or a length refuses a message that is to be sent
-fault_is : (b : Bool) (e : PgWireError) → refused_if b ≡ Some e → e ≡ wire.InvalidMessageBody
-unfolding refused_if
-fault_is true e is = cc
-fault_is false e is = cc
-
-encoded_by : (b : Bool) (large : PgWireError) (fault : Option PgWireError) (bytes : List ℕ) (e : PgWireError) → cond b (Err large) (body_or fault bytes) ≡ Err e → (e ≡ large) ⊎ (fault ≡ Some e)
-encoded_by true large fault bytes e is = inl (cc)
-encoded_by false large None bytes e is = cc
-encoded_by false large (Some f) bytes e is = inr (ap Some (cc))
-
-built : (framing : Framing) (limit : ℕ) (fault : Option PgWireError) (body : List ℕ) → (fault ≡ Some wire.NotYetBuilt → ⊥) → encoded framing limit fault body ≡ Err wire.NotYetBuilt → ⊥
-unfolding encoded
-built framing limit fault body none is =
-    elim (encoded_by _ _ fault _ wire.NotYetBuilt is) [ inl large ↦ cc | inr f ↦ none f ]
-
-by_fault : (b : Bool) → refused_if b ≡ Some wire.NotYetBuilt → ⊥
-by_fault b is = let e = fault_is b wire.NotYetBuilt is in cc
-
-message_built : (m : Frontend) → encoding m ≡ Err wire.NotYetBuilt → ⊥
-unfolding encoding
-message_built (frontend.Startup m) is = built _ _ _ _ (by_fault _) is
-message_built (frontend.PasswordMessageFamily (family.Raw b)) is = built _ _ _ _ (λ e. cc) is
-message_built (frontend.PasswordMessageFamily (family.Password m)) is = built _ _ _ _ (by_fault _) is
-message_built (frontend.Query m) is = built _ _ _ _ (by_fault _) is
-
-both_built : (a b : Result (List ℕ) PgWireError) → (a ≡ Err wire.NotYetBuilt → ⊥) → (b ≡ Err wire.NotYetBuilt → ⊥) → both a b ≡ Err wire.NotYetBuilt → ⊥
-both_built (Err e) b no_a no_b is = no_a is
-both_built (Ok a) (Err e) no_a no_b is = no_b is
-both_built (Ok a) (Ok b) no_a no_b is = cc
-
-messages_built : (ms : List Frontend) → encodings ms ≡ Err wire.NotYetBuilt → ⊥
-messages_built [] is = cc
-messages_built (m ∷ ms) is = both_built (encoding m) (encodings ms) (message_built m) (messages_built ms) is
-
--- the cause stays under the name that is told
-told_cause : (config : Config) (requests : List Request) (limit before : ℕ) (new : Tape) (taken sent : List ℕ) (e : ClientError) → ErrorCause config requests limit before new taken sent e → ErrorCause config requests limit before new taken sent (told_error e)
-told_cause config requests limit before new taken sent (client.PgWireError wire.NotYetBuilt) c = (elim c.0 [ inl u ↦ inr u | inr u ↦ absurd (messages_built u.due u.unencoded) ], c.1)
-told_cause config requests limit before new taken sent e c = c
-
-pub told_causes : (config : Config) (requests : List Request) (limit : ℕ) (old new : Tape) (e : ClientError) → Causes config requests limit old new (Err e) → Causes config requests limit old new (Err (told_error e))
-told_causes config requests limit old new e c = (c.0, c.1, c.2, c.3, told_cause config requests limit (length old.wrote) new c.0 c.1 e c.4)
-
--- want of memory and a failing link keep their names
-told_memory : (e : ClientError) → e ≡ client.OutOfMemory → told_error e ≡ client.OutOfMemory
-told_memory e is = ap told_error is
-
-pub told_reports : (report : SessionReport) (e : ClientError) → Reports report (Err e) → Reports report (Err (told_error e))
-told_reports report e r = told_memory e r
-
-pub told_io : (e : ClientError) → told_error e ≡ client.IoError → e ≡ client.IoError
-told_io (client.PgWireError wire.NotYetBuilt) is = cc
-told_io e is = is

@@ -1,7 +1,7 @@
 -- From the run of the client's side to the conversation.
 use Rattle.std.proofs.Common.{◌≡◌, ◌<◌, ◌≤◌, ℕ, ◌+◌, List, [], ◌∷◌, ◌++◌, length, take, drop, Option, Some, None, Result, Ok, Err, Bool, true, false, cond, inl, inr, arith, refl, ◌∙◌, ap, sym, subst, length-append}
 use Rattle.std.proofs.lemmas.List.{append-nil, length-take-le, take-append-drop}
-use Rattle.pgw_wire.specs.declared.error.PgWireError.{PgWireError}
+use Rattle.pgw_types.specs.declared.error.PgWireError.{PgWireError}
 use Rattle.pgw_wire.specs.Framing.{encoded, body_or}
 use Rattle.pgw_msg.specs.Frontend.{encoding, encodings, both}
 use Rattle.pgw_msg.specs.declared.client_error.PgWireClientError.{PgWireClientError as ClientError}
@@ -68,9 +68,9 @@ lift_reason : (config : Config) (conv : Course Talk Ending) (before : List ℕ) 
 lift_reason config conv before grew (failed s) = failed (lift_stopping config conv before grew s)
 lift_reason config conv before grew (unread io waiting) = unread io (waiting_at config conv before waiting grew)
 lift_reason config conv before grew (at_limit is waiting at) = at_limit is (waiting_at config conv before waiting grew) at
-lift_reason config conv before {w = w} {m = m} grew (at_end core pending is none end) =
+lift_reason config conv before {w = w} {m = m} grew (at_end core pending is none short end) =
     let o = waits_in config before conv core w pending is in
-    at_end o.0 pending (o.2 ∙ ap (λ (s : List ℕ). Waits o.0 s pending) (cancel before o.1 m (sym o.3 ∙ grew))) none (end ∙ ap core_end o.4)
+    at_end o.0 pending (o.2 ∙ ap (λ (s : List ℕ). Waits o.0 s pending) (cancel before o.1 m (sym o.3 ∙ grew))) none short (end ∙ ap core_end o.4)
 
 pub lift_err : {next : Core} {old mid new : Tape} (config : Config) (requests : List Request) (core : Core) (limit : ℕ) (out : List ℕ) (e : ClientError)
     → started config ≡ On core out → Wrote old mid out → Conversed (core_rules config requests) core next limit mid new (Err e) → Session config requests limit old new (Err e)

@@ -172,7 +172,7 @@ unkept {rules} {old_core} {core} {old} {mid} {new} {buffer} {count} next limit e
 
 -- the link's end
 pub ended : {rules : Rules Core Stop} {old_core core : Core} {old mid new : Tape} {buffer : List ℕ} {count : ℕ} (next : Core) (limit : ℕ) (piece : List ℕ) (e : ClientError)
-    → Reading rules old_core core old mid buffer count → front (rules.version core) buffer ≡ More → count ≤ limit → Took mid new piece → length piece ≡ 0 → Unless e (e ≡ core_end core)
+    → Reading rules old_core core old mid buffer count → front (rules.version core) buffer ≡ More → count < limit → Took mid new piece → length piece ≡ 0 → Unless e (e ≡ core_end core)
     → Conversed rules old_core next limit old new (Err e)
 ended {rules} {old_core} {core} {old} {mid} {new} {buffer} {count} next limit piece e reading more within moved none is =
     let w = waits reading more ∙ ap (λ (o : List ℕ). Waits core o buffer) (sym moved.wrote) in
@@ -180,10 +180,10 @@ ended {rules} {old_core} {core} {old} {mid} {new} {buffer} {count} next limit pi
     record {
       taken = reading.taken;
       left = reading.left ∙ ap (λ (l : List ℕ). reading.taken ++ l) nothing;
-      within = omega (arith, reading.counts);
+      within = omega (arith, reading.counts, within);
       answered = record {
         begins = ([], ap sent_of w ∙ sym (append-nil new.wrote));
-        reason = elim (memory_or e) [ inl lack ↦ failed (memory lack) | inr ne ↦ at_end core buffer w (sym nothing ∙ moved.at_end none) (is ne) ];
+        reason = elim (memory_or e) [ inl lack ↦ failed (memory lack) | inr ne ↦ at_end core buffer w (sym nothing ∙ moved.at_end none) (omega (arith, reading.counts, within)) (is ne) ];
       };
       reads = omega (arith, reading.reads, moved.reads);
       no_shorter = omega (arith, reading.no_shorter, ap length moved.wrote);

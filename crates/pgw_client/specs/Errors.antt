@@ -7,8 +7,9 @@ use Rattle.pgw_msg.specs.declared.client_error.PgWireClientError.TheVariants as 
 abbrev pub Unless : ClientError → Type 0 → Type 0
 Unless e fact = (e ≡ client.OutOfMemory → ⊥) → fact
 
--- an error of the messages, and not of the link or the limit
+-- an error of the messages, and not of the configuration, the link or the limit
 abbrev pub IsOwn : ClientError → Type 0
+IsOwn (client.InvalidConfig key) = ⊥
 IsOwn client.UnexpectedEOF = ⊥
 IsOwn client.IoError = ⊥
 IsOwn client.ReadLimit = ⊥

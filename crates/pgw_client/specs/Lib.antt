@@ -1,4 +1,5 @@
 pub mod Errors
+pub mod Demands
 pub mod Wire
 pub mod Machine
 pub mod Outcome

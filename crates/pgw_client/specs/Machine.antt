@@ -1,6 +1,6 @@
 -- The steps of the client's side of a session.
 use Rattle.std.specs.Prelude.{◌≡◌, ◌<◌, ℕ, ◌+◌, List, [], ◌∷◌, ◌++◌, true, false, Bool, if◌then◌else◌, ◌==◌, slice_get, Option, Some, None, Result, Ok, Err}
-use Rattle.pgw_wire.specs.declared.error.PgWireError.{PgWireError}
+use Rattle.pgw_types.specs.declared.error.PgWireError.{PgWireError}
 use Rattle.pgw_msg.specs.Front.{front, More}
 use Rattle.pgw_msg.specs.Frontend.{encodings}
 use Rattle.pgw_msg.specs.declared.backend.PgWireBackendMessage.{PgWireBackendMessage as Backend}

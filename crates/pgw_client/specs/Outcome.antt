@@ -61,7 +61,7 @@ pub data Reason {S R : Type 0} (why : R → Option ClientError) (end : S → Cli
   failed : Stopping why course sent before new e → Reason why end course sent before taken limit new e
   unread : e ≡ client.IoError → Waiting course sent → Reason why end course sent before taken limit new e
   at_limit : e ≡ client.ReadLimit → Waiting course sent → length taken ≡ limit → Reason why end course sent before taken limit new e
-  at_end : (state : S) → (pending : List ℕ) → course ≡ Waits state sent pending → new.left ≡ [] → e ≡ end state → Reason why end course sent before taken limit new e
+  at_end : (state : S) → (pending : List ℕ) → course ≡ Waits state sent pending → new.left ≡ [] → length taken < limit → e ≡ end state → Reason why end course sent before taken limit new e
 
 abbrev pub talk_end : Talk → ClientError
 talk_end t = end_with (first_skipped t.skipped) (tally_of t.open_events).remote

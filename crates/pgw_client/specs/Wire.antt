@@ -1,7 +1,7 @@
 -- What reading and writing messages answers.
 use Rattle.std.specs.Prelude.{◌≡◌, ℕ, List, ◌++◌, drop, Option, Some, None, Result, Ok, Err}
-use Rattle.pgw_wire.specs.declared.error.PgWireError.{PgWireError}
-use Rattle.pgw_wire.specs.declared.context.ProtocolVersion.{ProtocolVersion}
+use Rattle.pgw_types.specs.declared.error.PgWireError.{PgWireError}
+use Rattle.pgw_types.specs.declared.context.ProtocolVersion.{ProtocolVersion}
 use Rattle.pgw_msg.specs.Front.{front, More, Bad, Whole}
 use Rattle.pgw_msg.specs.declared.backend.PgWireBackendMessage.{PgWireBackendMessage as Backend}
 use Rattle.pgw_msg.specs.declared.client_error.PgWireClientError.{PgWireClientError as ClientError}

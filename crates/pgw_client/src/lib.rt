@@ -1,6 +1,7 @@
 //! A client of a PostgreSQL server.
 #![tactic(auto)]
 
+mod demands;
 mod readings;
 mod responses;
 pub mod session;

@@ -4,12 +4,12 @@ ghost use Rattle.pgw_session.specs.Standings.{first_standing, standing_by};
 
 use pgw_config::config::Config;
 use pgw_msg::backend::PgWireBackendMessage;
-use pgw_msg::response::TransactionStatus;
+use pgw_query::response::TransactionStatus;
 use pgw_session::standing::Standing;
 use pgw_startup::backend_key_data::BackendKeyData;
 use pgw_startup::negotiate::{NegotiateProtocolVersion, negotiated_version};
-use pgw_wire::listed::Duplicate;
-use pgw_wire::memory::OutOfMemory;
+use pgw_types::listed::Duplicate;
+use pgw_types::memory::OutOfMemory;
 use pgw_wire::params::Params;
 use pgw_wire::secret_key::SecretKey;
 use std::alloc::Global;

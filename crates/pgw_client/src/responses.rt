@@ -4,14 +4,14 @@ ghost use Rattle.pgw_msg.specs.Fields.{field_info_of};
 ghost use Rattle.pgw_session.specs.Answers.{answer_by, tally_after, no_tally, with_row, response_of};
 
 use pgw_msg::backend::PgWireBackendMessage;
-use pgw_msg::data::{DataRow, FieldDescription};
 use pgw_msg::field_info::FieldInfo;
 use pgw_msg::tag::Tag;
+use pgw_query::data::{DataRow, FieldDescription};
 use pgw_session::tally::{Opened, Tally};
 use pgw_session::types::{Answer, Response};
-use pgw_wire::listed::Listed;
-use pgw_wire::memory::OutOfMemory;
-use pgw_wire::text::Text;
+use pgw_types::listed::Listed;
+use pgw_types::memory::OutOfMemory;
+use pgw_types::text::Text;
 use std::alloc::Global;
 
 /// That of a segment of which nothing was got.
@@ -103,6 +103,21 @@ pub fn note(
         PgWireBackendMessage::NegotiateProtocolVersion(_version) => {}
         PgWireBackendMessage::ReadyForQuery(_ready) => {}
         PgWireBackendMessage::NoticeResponse(_notice) => {}
+        PgWireBackendMessage::NotificationResponse(_notification) => {}
+        PgWireBackendMessage::ParameterDescription(_types) => {}
+        PgWireBackendMessage::CopyData(_data) => {}
+        PgWireBackendMessage::CopyFail(_reason) => {}
+        PgWireBackendMessage::CopyInResponse(_formats) => {}
+        PgWireBackendMessage::CopyOutResponse(_formats) => {}
+        PgWireBackendMessage::CopyBothResponse(_formats) => {}
+        PgWireBackendMessage::SslResponse(_)
+        | PgWireBackendMessage::GssEncResponse(_)
+        | PgWireBackendMessage::ParseComplete(_)
+        | PgWireBackendMessage::BindComplete(_)
+        | PgWireBackendMessage::CloseComplete(_)
+        | PgWireBackendMessage::PortalSuspended(_)
+        | PgWireBackendMessage::NoData(_)
+        | PgWireBackendMessage::CopyDone(_) => {}
     }
     Ok(())
 }

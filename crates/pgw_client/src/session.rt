@@ -1,20 +1,22 @@
 //! A session over a link.
-ghost use Rattle.std.specs.Prelude.{◌≡◌, ◌<◌, ◌≤◌, ◌++◌, ℕ, List, length, IfOk, OnOk, OnErr};
+ghost use Rattle.std.specs.Prelude.{◌≡◌, ◌<◌, ◌≤◌, ◌++◌, ℕ, List, length, Option, Some, None, Err, IfOk, IfErr, IfSome, OnOk, OnErr};
 ghost use Rattle.pgw_link.specs.Tape.{HasCause, Rose};
 ghost use Rattle.pgw_session.specs.Events.{Event};
 ghost use Rattle.pgw_session.specs.Transcript.{Completed, Completes, report_of};
 ghost use Rattle.pgw_session.specs.Failures.{Told};
+ghost use Rattle.pgw_session.specs.Demands.{refused_config};
+ghost use Rattle.pgw_client.specs.Demands.{IsNoDemand, Refuses};
 ghost use Rattle.pgw_client.specs.Machine.{core_rules};
-ghost use Rattle.pgw_client.specs.Sessions.{MovedBy, Causes, Reports, KeepsPace, told_error};
+ghost use Rattle.pgw_client.specs.Sessions.{MovedBy, Causes, Reports, KeepsPace};
 ghost use Rattle.pgw_client.specs.Outcome.{IoHasCause, Wrote, WroteSome, TookAll, Filled, Conversed, Session};
 
+use crate::demands::check_config;
 use crate::session_core::{Core, Taken};
 use bytes::BytesMut;
 use pgw_config::config::Config;
 use pgw_link::link::{Link, LinkFault};
 use pgw_msg::client_error::{PgWireClientError, PgWireClientResult};
 use pgw_session::types::{Request, SessionReport};
-use pgw_wire::error::PgWireError;
 use std::alloc::Global;
 
 /// The most bytes that one read asks for.
@@ -45,6 +47,7 @@ fn take_all<L: Link>(
     buffer: &mut BytesMut,
 ) -> PgWireClientResult<bool>
     ensures cause { IoHasCause (L.faults link.old) (L.faults link.new) result }
+    ensures talk { IfErr result IsNoDemand }
     ensures kept { L.plan link.new ≡ L.plan link.old }
     ensures talks { L.tells → (L.tape link.old).flushed ≡ length (L.tape link.old).wrote →
         TookAll (core_rules config.now requests.now) core.old core.new (L.tape link.old) (L.tape link.new) buffer.old.items buffer.new.items result }
@@ -83,6 +86,7 @@ fn fill<L: Link>(link: &mut L, buffer: &mut BytesMut, room: u64) -> PgWireClient
     requires { 0 < room }
     ensures bound { IfOk result (λ n. n ≤ room) }
     ensures cause { IoHasCause (L.faults link.old) (L.faults link.new) result }
+    ensures talk { IfErr result IsNoDemand }
     ensures kept { L.plan link.new ≡ L.plan link.old }
     ensures filled { L.tells → Filled (L.tape link.old) (L.tape link.new) buffer.old.items buffer.new.items room result }
 {
@@ -108,6 +112,7 @@ fn converse<L: Link>(
     limit: u64,
 ) -> PgWireClientResult<()>
     ensures cause { IoHasCause (L.faults link.old) (L.faults link.new) result }
+    ensures talk { IfErr result IsNoDemand }
     ensures kept { L.plan link.new ≡ L.plan link.old }
     ensures talks { L.tells → (L.tape link.old).flushed ≡ length (L.tape link.old).wrote →
         Conversed (core_rules config.now requests.now) core.old core.new limit (L.tape link.old) (L.tape link.new) result }
@@ -145,6 +150,7 @@ fn hold_session<L: Link>(
     limit: u64,
 ) -> PgWireClientResult<SessionReport>
     ensures cause { IoHasCause (L.faults link.old) (L.faults link.new) result }
+    ensures talk { IfErr result IsNoDemand }
     ensures kept { L.plan link.new ≡ L.plan link.old }
     ensures session { L.tells → Session config.now requests.now limit (L.tape link.old) (L.tape link.new) result }
 {
@@ -163,16 +169,6 @@ fn hold_session<L: Link>(
     }
 }
 
-// A message that is not supported yet is told by the one name for it.
-fn told_error(error: PgWireClientError) -> PgWireClientError
-    ensures { result ≡ told_error error }
-{
-    match error {
-        PgWireClientError::PgWireError(PgWireError::NotYetBuilt) => PgWireClientError::NotYetBuilt,
-        error => error,
-    }
-}
-
 /// Holds a session over the link: logs in, makes each request in turn, and reports.
 ///
 /// A request is sent once the answer before it is whole. At most `limit` bytes are read. The
@@ -185,6 +181,11 @@ pub fn run_session<L: Link>(
     _nonce: &[u8; 18],
     limit: u64,
 ) -> PgWireClientResult<SessionReport>
+    // A configuration that demands an encrypted connection, or else a login bound to one, is refused by that key, or
+    // memory is wanting: the link is as it was.
+    ensures refused { IfSome (refused_config config.now) (λ key. Refuses key result × (link.new ≡ link.old)) }
+    // No other is refused so.
+    ensures demands { (key : List ℕ) → result ≡ Err (PgWireClientError.InvalidConfig key) → refused_config config.now ≡ Some key }
     // IoError comes only where a call of the link failed.
     ensures cause { IoHasCause (L.faults link.old) (L.faults link.new) result }
     // What the link was made with stays.
@@ -198,12 +199,14 @@ pub fn run_session<L: Link>(
     // in step and within the limit.
     ensures told { L.tells → MovedBy (L.tape link.old) (L.tape link.new)
         (λ taken sent. Told config.now requests.now taken sent × KeepsPace limit (L.tape link.old) (L.tape link.new) taken sent) }
-    // Where the bytes to come complete a transcript within the limit and no call of the link failed, its report is the answer.
-    ensures reports { L.tells → (segments : List (List Event)) → Completes config.now requests.now limit (L.tape link.old).left segments →
+    // Where nothing is demanded that is refused, the bytes to come complete a transcript within the limit and no call of
+    // the link failed, its report is the answer.
+    ensures reports { L.tells → refused_config config.now ≡ None → (segments : List (List Event)) → Completes config.now requests.now limit (L.tape link.old).left segments →
         (Rose (L.faults link.old) (L.faults link.new) → ⊥) → Reports (report_of config.now segments) result }
 {
-    match hold_session(alloc, link, config, requests, limit) {
-        Ok(report) => Ok(report),
-        Err(error) => Err(told_error(error)),
+    match check_config(alloc, config) {
+        Ok(()) => {}
+        Err(error) => return Err(error),
     }
+    hold_session(alloc, link, config, requests, limit)
 }

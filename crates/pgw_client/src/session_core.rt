@@ -1,6 +1,6 @@
 //! The client's side of a session: it takes a message at a time, and puts bytes out.
-ghost use Rattle.std.specs.Prelude.{◌≡◌, ◌<◌, [], List, ℕ, length, slice_get, IfOk, IfErr, OnOk};
-ghost use Rattle.pgw_session.specs.Segments.{startup_message, password_message, cleartext_of, sends_of, with_user};
+ghost use Rattle.std.specs.Prelude.{◌≡◌, ◌<◌, [], List, ℕ, length, slice_get, IfOk, IfErr, OnOk, false};
+ghost use Rattle.pgw_session.specs.Segments.{startup_message, password_message, cleartext_of, sends_of, is_ready, startup_parameters, with_set};
 ghost use Rattle.pgw_session.specs.Talk.{replies, refusal_of, end_with};
 ghost use Rattle.pgw_client.specs.Errors.{Unless, IsOwn, IsEnd};
 ghost use Rattle.pgw_client.specs.Machine.{core_after, Moved, Passed, Shortens, Started, Advanced, core_rules, core_turn, open_request, closed_core, core_end, report_at};
@@ -13,7 +13,7 @@ use pgw_config::config::Config;
 use pgw_msg::backend::PgWireBackendMessage;
 use pgw_msg::client_error::{PgWireClientError, unexpected};
 use pgw_msg::frontend::PgWireFrontendMessage;
-use pgw_msg::simplequery::Query;
+use pgw_query::simplequery::Query;
 use pgw_session::stage::{Next, Reply, Stage};
 use pgw_session::standing::Standing;
 use pgw_session::tally::Tally;
@@ -21,12 +21,12 @@ use pgw_session::types::{Answer, Request, SessionReport};
 use pgw_startup::authentication::Authentication;
 use pgw_startup::password::{Password, PasswordMessageFamily};
 use pgw_startup::startup::Startup;
-use pgw_wire::listed::{Duplicate, Listed};
-use pgw_wire::memory::OutOfMemory;
-use pgw_wire::octets::Octets;
+use pgw_types::listed::{Duplicate, Listed};
+use pgw_types::memory::OutOfMemory;
+use pgw_types::octets::Octets;
+use pgw_types::text::Text;
 use pgw_wire::params::Params;
 use pgw_wire::reader::lossy_text;
-use pgw_wire::text::Text;
 use std::alloc::Global;
 use std::mem::replace;
 
@@ -67,14 +67,34 @@ pub enum Taken {
     Done,
 }
 
+// Sets a parameter of that name, where there is a value.
+fn set_parameter(
+    alloc: Global,
+    parameters: &mut Params,
+    name: &str,
+    value: &Option<Text>,
+) -> Result<(), OutOfMemory>
+    ensures { OnOk result (parameters.new ≡ with_set name.now value.now parameters.old) }
+{
+    if let Some(value) = value {
+        parameters.insert(Text::from_str(alloc, name)?, value.duplicate()?)?;
+    }
+    Ok(())
+}
+
 // The parameters of the startup message.
 fn startup_parameters(alloc: Global, config: &Config) -> Result<Params, OutOfMemory>
-    ensures { IfOk result (λ parameters. parameters ≡ with_user config.now.user) }
+    ensures { IfOk result (λ parameters. parameters ≡ startup_parameters config.now) }
 {
     let mut parameters = Params::new(alloc);
-    if let Some(user) = &config.user {
-        parameters.insert(Text::from_str(alloc, "user")?, user.duplicate()?)?;
-    }
+    set_parameter(
+        alloc,
+        &mut parameters,
+        "application_name",
+        &config.application_name,
+    )?;
+    set_parameter(alloc, &mut parameters, "user", &config.user)?;
+    set_parameter(alloc, &mut parameters, "database", &config.dbname)?;
     Ok(parameters)
 }
 
@@ -273,6 +293,24 @@ impl Core {
         Ok(())
     }
 
+    // Passes a message over that does not end the segment.
+    fn keep_first(
+        &mut self,
+        first: PgWireBackendMessage,
+        message: &PgWireBackendMessage,
+    ) -> Result<bool, PgWireClientError>
+        requires { is_ready message.now ≡ false }
+        ensures own { IfErr result IsOwn }
+        ensures passed { Passed self.old self.new first message.now result }
+    {
+        match readings::note(&mut self.standing, message) {
+            Ok(()) => {}
+            Err(_) => return Err(PgWireClientError::OutOfMemory),
+        }
+        self.spoiled = Some(first);
+        Ok(false)
+    }
+
     // Passes a message over, behind the first that had no place.
     fn pass_over(
         &mut self,
@@ -286,12 +324,7 @@ impl Core {
         if is_ready(&message) {
             return Err(misplaced(alloc, first));
         }
-        match readings::note(&mut self.standing, &message) {
-            Ok(()) => {}
-            Err(_) => return Err(PgWireClientError::OutOfMemory),
-        }
-        self.spoiled = Some(first);
-        Ok(false)
+        self.keep_first(first, &message)
     }
 
     // Takes a message.

@@ -8,7 +8,7 @@ use pgw_session::stage::{Next, Reply, Stage};
 use pgw_session::types::Request;
 use pgw_startup::authentication::Authentication;
 use pgw_startup::negotiate::negotiated_version;
-use pgw_wire::context::ProtocolVersion;
+use pgw_types::context::ProtocolVersion;
 
 /// Whether the message is ReadyForQuery.
 pub fn is_ready(message: &PgWireBackendMessage) -> bool

@@ -9,7 +9,7 @@ use bytes::BytesMut;
 use pgw_msg::backend::PgWireBackendMessage;
 use pgw_msg::client_error::PgWireClientError;
 use pgw_msg::frontend::PgWireFrontendMessage;
-use pgw_wire::context::{DecodeContext, ProtocolVersion};
+use pgw_types::context::{DecodeContext, ProtocolVersion};
 use std::alloc::Global;
 
 // Each message has a type byte now.

@@ -1,4 +1,16 @@
 //! The configuration of a client.
 #![tactic(auto)]
 
+pub mod address;
+mod choices;
 pub mod config;
+mod host_addr;
+mod key_value;
+mod keys;
+mod lists;
+mod numbers;
+pub mod parse;
+pub mod setters;
+mod settings;
+#[cfg(test)]
+mod tests;

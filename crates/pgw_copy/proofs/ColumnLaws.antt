@@ -1,7 +1,7 @@
 -- Columns and their formats: what is read is what is spelled.
 use Rattle.std.proofs.Common.{◌≡◌, ℕ, ℤ, pos, ◌<◌, ◌^◌, List, ◌++◌, length, Result, Ok, refl, sym, ap, subst, ◌∙◌, append_assoc, arith, lit<}
 use Rattle.std.specs.Int.{w8, w16}
-use Rattle.pgw_wire.specs.declared.error.PgWireError.{PgWireError}
+use Rattle.pgw_types.specs.declared.error.PgWireError.{PgWireError}
 use Rattle.pgw_wire.specs.Reading.{◌>>=◌, int_at, list_at, extended_count}
 use Rattle.pgw_wire.specs.Formats.{counted_at, SpellsInt, SpellsCounted, Reads}
 use Rattle.pgw_wire.proofs.Laws.{bind_ok, ok_is, shorter_after}

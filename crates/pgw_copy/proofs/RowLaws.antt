@@ -1,6 +1,6 @@
 -- Each row of the message table is exact.
 use Rattle.std.proofs.Common.{◌≡◌, ℕ, List, [], ◌++◌, Ok, refl, subst, lit<}
-use Rattle.pgw_wire.specs.declared.context.DecodeContext.{DecodeContext}
+use Rattle.pgw_types.specs.declared.context.DecodeContext.{DecodeContext}
 use Rattle.pgw_wire.specs.Reading.{text_at, rest_at}
 use Rattle.pgw_wire.specs.Formats.{IsRow, SpellsText, IsRest}
 use Rattle.pgw_wire.proofs.Laws.{ok_is}

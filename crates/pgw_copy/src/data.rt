@@ -5,15 +5,15 @@ ghost use Rattle.pgw_wire.specs.Writing.{text, has_zero as holds_zero, refused_i
 ghost use Rattle.pgw_copy.specs.Rows.{copy_data_of, copy_done_of, copy_fail_of};
 
 use bytes::BytesMut;
-use pgw_wire::context::DecodeContext;
-use pgw_wire::error::{PgWireError, PgWireResult};
+use pgw_types::context::DecodeContext;
+use pgw_types::error::{PgWireError, PgWireResult};
+use pgw_types::listed::Duplicate;
+use pgw_types::memory::OutOfMemory;
+use pgw_types::octets::Octets;
+use pgw_types::text::Text;
 use pgw_wire::framing::Framing;
-use pgw_wire::listed::Duplicate;
-use pgw_wire::memory::OutOfMemory;
 use pgw_wire::message::Message;
-use pgw_wire::octets::Octets;
 use pgw_wire::reader::FieldReader;
-use pgw_wire::text::Text;
 use pgw_wire::writer::{append, has_zero, put_text};
 use std::alloc::Global;
 

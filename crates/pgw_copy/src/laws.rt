@@ -4,7 +4,7 @@ ghost use Rattle.pgw_wire.specs.declared.framing.Framing.TheVariants.{Typed};
 ghost use Rattle.pgw_wire.specs.Framing.{encoded};
 ghost use Rattle.pgw_wire.specs.Writing.{text, has_zero, refused_if};
 ghost use Rattle.pgw_wire.specs.Formats.{IsRow, SpellsTyped};
-ghost use Rattle.pgw_wire.specs.declared.context.DecodeContext.{DecodeContext as TheContext};
+ghost use Rattle.pgw_types.specs.declared.context.DecodeContext.{DecodeContext as TheContext};
 ghost use Rattle.pgw_copy.specs.declared.data.CopyData.{CopyData as TheCopyData};
 ghost use Rattle.pgw_copy.specs.declared.data.CopyFail.{CopyFail as TheCopyFail};
 ghost use Rattle.pgw_copy.specs.declared.response.CopyInResponse.{CopyInResponse as TheCopyInResponse};

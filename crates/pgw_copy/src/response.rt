@@ -7,13 +7,14 @@ ghost use Rattle.pgw_wire.specs.Writing.{refused_if};
 ghost use Rattle.pgw_copy.specs.Rows.{columns_at, formats, is_miscounted as is_miscounted_list, copy_in_response_of, copy_out_response_of, copy_both_response_of};
 
 use bytes::BytesMut;
-use pgw_wire::context::DecodeContext;
-use pgw_wire::error::{PgWireError, PgWireResult};
+use pgw_types::context::DecodeContext;
+use pgw_types::error::{PgWireError, PgWireResult};
+use pgw_types::listed::{Duplicate, Listed};
+use pgw_types::memory::OutOfMemory;
+use pgw_types::octets::Octets;
 use pgw_wire::field::{list_len, put_list, take_list, unsigned_count};
 use pgw_wire::framing::Framing;
-use pgw_wire::listed::Listed;
 use pgw_wire::message::Message;
-use pgw_wire::octets::Octets;
 use pgw_wire::reader::FieldReader;
 use pgw_wire::writer::{append, put_i16};
 use std::alloc::Global;
@@ -269,6 +270,36 @@ impl Message for CopyBothResponse {
             format,
             columns,
             column_formats,
+        })
+    }
+}
+
+impl Duplicate for CopyInResponse {
+    fn duplicate(&self) -> Result<CopyInResponse, OutOfMemory> {
+        Ok(CopyInResponse {
+            format: self.format,
+            columns: self.columns,
+            column_formats: self.column_formats.duplicate()?,
+        })
+    }
+}
+
+impl Duplicate for CopyOutResponse {
+    fn duplicate(&self) -> Result<CopyOutResponse, OutOfMemory> {
+        Ok(CopyOutResponse {
+            format: self.format,
+            columns: self.columns,
+            column_formats: self.column_formats.duplicate()?,
+        })
+    }
+}
+
+impl Duplicate for CopyBothResponse {
+    fn duplicate(&self) -> Result<CopyBothResponse, OutOfMemory> {
+        Ok(CopyBothResponse {
+            format: self.format,
+            columns: self.columns,
+            column_formats: self.column_formats.duplicate()?,
         })
     }
 }

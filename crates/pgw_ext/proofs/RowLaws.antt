@@ -1,26 +1,19 @@
 -- Each row of the message table is exact.
 use Rattle.std.proofs.Common.{◌≡◌, ℕ, ◌<◌, ◌^◌, List, [], ◌++◌, Ok, refl, subst, arith, lit<}
 use Rattle.std.specs.Int.{w8, w16, w32}
-use Rattle.pgw_wire.specs.declared.context.DecodeContext.{DecodeContext}
+use Rattle.pgw_types.specs.declared.context.DecodeContext.{DecodeContext}
 use Rattle.pgw_wire.specs.Reading.{nat_at, int_at, text_at, name_at, all_of}
-use Rattle.pgw_wire.specs.Formats.{IsRow, Reads, ReadsLast, SpellsText, SpellsNat, SpellsInt, SpellsName}
+use Rattle.pgw_wire.specs.Formats.{IsRow, NoBody, Reads, ReadsLast, SpellsText, SpellsNat, SpellsInt, SpellsName}
 use Rattle.pgw_wire.proofs.Laws.{pair_reads, ok_is}
 use Rattle.pgw_wire.proofs.FieldLaws.{text_reads, nat_reads, int_reads}
 use Rattle.pgw_wire.proofs.FrameLaws.{reads_last, made_last}
 use Rattle.pgw_wire.proofs.MarkLaws.{name_reads}
-use Rattle.pgw_wire.proofs.MessageLaws.{is_row}
-use Rattle.pgw_ext.specs.Kinds.{counted16_at, SpellsCounted16, parameter_at, SpellsParameter}
-use Rattle.pgw_ext.specs.Rows.{NoBody, parse_from, parse_of, SpellsParse, parse_complete_of, bind_from, parts_of, bind_of, SpellsBind, bind_complete_of, target_at, SpellsTarget, close_of, SpellsClose, close_complete_of, describe_of, SpellsDescribe, execute_of, SpellsExecute, portal_suspended_of, flush_of, sync_of}
-use Rattle.pgw_ext.proofs.KindLaws.{counted16_reads, parameter_reads, parameter_least}
-
--- a message of which there is one value, and whose body has no bytes
-empty_row : {M : Type 0} (byte limit : ℕ) → limit < 2 ^ 31 → (m : M) → ((n : M) → m ≡ n) → IsRow byte limit (λ bytes. all_of (Ok (m, bytes))) NoBody
-empty_row {M} byte limit small m one = is_row byte limit small (λ bytes. Ok (m, bytes)) NoBody (record {
-  found = λ bytes n rest short e.
-      let made : M × List ℕ = (m, bytes) in
-      subst (λ (y : M × List ℕ). (f : List ℕ) × (bytes ≡ f ++ y.1) × NoBody y.0 f) (ok_is made (n, rest) e) ([], refl, refl);
-  only = λ n front h. rw (h, one n) refl;
-})
+use Rattle.pgw_wire.proofs.MessageLaws.{is_row, no_body_row}
+use Rattle.pgw_ext.specs.Kinds.{parameter_at, SpellsParameter}
+use Rattle.pgw_wire.specs.Counted.{counted16_at, SpellsCounted16}
+use Rattle.pgw_ext.specs.Rows.{parse_from, parse_of, SpellsParse, parse_complete_of, bind_from, parts_of, bind_of, SpellsBind, bind_complete_of, target_at, SpellsTarget, close_of, SpellsClose, close_complete_of, describe_of, SpellsDescribe, execute_of, SpellsExecute, portal_suspended_of, flush_of, sync_of}
+use Rattle.pgw_ext.proofs.KindLaws.{parameter_reads, parameter_least}
+use Rattle.pgw_wire.proofs.CountedLaws.{counted16_reads}
 
 -- ---- Parse, ParseComplete
 
@@ -35,7 +28,7 @@ parse ctx = is_row 80 1073741822 (lit< tt) _ SpellsParse
 
 pub parse_complete : (ctx : DecodeContext) → IsRow 49 30000 (parse_complete_of ctx) NoBody
 unfolding parse_complete_of
-parse_complete ctx = empty_row 49 30000 (lit< tt) (record {}) (λ n. refl)
+parse_complete ctx = no_body_row 49 30000 (lit< tt) (record {}) (λ n. refl)
 
 -- ---- Bind, BindComplete
 
@@ -56,7 +49,7 @@ bind ctx = is_row 66 1073741822 (lit< tt) _ SpellsBind
 
 pub bind_complete : (ctx : DecodeContext) → IsRow 50 30000 (bind_complete_of ctx) NoBody
 unfolding bind_complete_of
-bind_complete ctx = empty_row 50 30000 (lit< tt) (record {}) (λ n. refl)
+bind_complete ctx = no_body_row 50 30000 (lit< tt) (record {}) (λ n. refl)
 
 -- ---- Close, CloseComplete, Describe
 
@@ -76,7 +69,7 @@ describe ctx = is_row 68 10000 (lit< tt) _ SpellsDescribe
 
 pub close_complete : (ctx : DecodeContext) → IsRow 51 30000 (close_complete_of ctx) NoBody
 unfolding close_complete_of
-close_complete ctx = empty_row 51 30000 (lit< tt) (record {}) (λ n. refl)
+close_complete ctx = no_body_row 51 30000 (lit< tt) (record {}) (λ n. refl)
 
 -- ---- Execute, PortalSuspended
 
@@ -88,14 +81,14 @@ execute ctx = is_row 69 10000 (lit< tt) _ SpellsExecute
 
 pub portal_suspended : (ctx : DecodeContext) → IsRow 115 30000 (portal_suspended_of ctx) NoBody
 unfolding portal_suspended_of
-portal_suspended ctx = empty_row 115 30000 (lit< tt) (record {}) (λ n. refl)
+portal_suspended ctx = no_body_row 115 30000 (lit< tt) (record {}) (λ n. refl)
 
 -- ---- Flush, Sync
 
 pub flush : (ctx : DecodeContext) → IsRow 72 10000 (flush_of ctx) NoBody
 unfolding flush_of
-flush ctx = empty_row 72 10000 (lit< tt) (record {}) (λ n. refl)
+flush ctx = no_body_row 72 10000 (lit< tt) (record {}) (λ n. refl)
 
 pub sync : (ctx : DecodeContext) → IsRow 83 10000 (sync_of ctx) NoBody
 unfolding sync_of
-sync ctx = empty_row 83 10000 (lit< tt) (record {}) (λ n. refl)
+sync ctx = no_body_row 83 10000 (lit< tt) (record {}) (λ n. refl)

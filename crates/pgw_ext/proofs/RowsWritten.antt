@@ -7,7 +7,7 @@ use Rattle.std.proofs.lemmas.Bool.{ltb-false, or_parts}
 use Rattle.std.proofs.lemmas.Int.{ints}
 use Rattle.std.proofs.lemmas.List.Concat.{flat_map-cons}
 use Rattle.std.proofs.lemmas.Str.{IsUtf8-nil}
-use Rattle.pgw_wire.specs.declared.error.PgWireError.{PgWireError}
+use Rattle.pgw_types.specs.declared.error.PgWireError.{PgWireError}
 use Rattle.pgw_wire.specs.declared.framing.Framing.TheVariants.{Typed}
 use Rattle.pgw_wire.specs.Framing.{encoded}
 use Rattle.pgw_wire.specs.Writing.{text, i16, i32, u16, u32, has_zero, refused_if}
@@ -17,8 +17,10 @@ use Rattle.pgw_wire.proofs.WrittenLaws.{text_written, int_written, nat_written, 
 use Rattle.pgw_ext.specs.declared.parse.Parse.{Parse}
 use Rattle.pgw_ext.specs.declared.bind.Bind.{Bind}
 use Rattle.pgw_ext.specs.declared.execute.Execute.{Execute}
-use Rattle.pgw_ext.specs.Kinds.{name, is_name_refused, counted16, SpellsCounted16, parameter, SpellsParameter}
-use Rattle.pgw_ext.specs.Rows.{parse, is_too_long, is_parse_refused, SpellsParse, bind, is_bind_refused, SpellsBind, SpellsTarget, SpellsExecute}
+use Rattle.pgw_ext.specs.Kinds.{name, is_name_refused, parameter, SpellsParameter}
+use Rattle.pgw_wire.specs.Counted.{counted16, SpellsCounted16, is_too_long}
+use Rattle.pgw_wire.proofs.CountedLaws.{count16_written, counted16_written}
+use Rattle.pgw_ext.specs.Rows.{parse, is_parse_refused, SpellsParse, bind, is_bind_refused, SpellsBind, SpellsTarget, SpellsExecute}
 use Rattle.pgw_ext.specs.Sound.{IsName, IsOid, IsCode, IsParse, IsBind, IsExecute}
 
 -- ---- kinds of fields
@@ -27,14 +29,6 @@ name_written : (o : Option (List ℕ)) → IsName o → is_name_refused o ≡ fa
 unfolding name
 name_written None sound fine = ([], refl, refl, lossy-IsUtf8 [] IsUtf8-nil)
 name_written (Some t) sound fine = (text_written t fine sound.0, sound.1)
-
-many_written : {A : Type 0} (Spells : A → List ℕ → Type 0) (spelled : A → List ℕ) (Sound : A → Type 0) → ((x : A) → Sound x → Spells x (spelled x)) → (xs : List A) → AllByRecursion Sound xs → SpellsMany Spells xs (flat_map spelled xs)
-many_written Spells spelled Sound one [] sound = refl
-many_written Spells spelled Sound one (x ∷ xs) sound = (spelled x, flat_map spelled xs, flat_map-cons spelled x xs, one x sound.0, many_written Spells spelled Sound one xs sound.1)
-
-count_written : (n : ℕ) → ltb 65535 n ≡ false → SpellsNat w16 n (u16 n)
-unfolding u16
-count_written n few = nat_written w16 wide16 n (omega (arith, ltb-false _ _ few))
 
 oid_written : (n : ℕ) → IsOid n → SpellsNat w32 n (u32 n)
 unfolding u32
@@ -71,13 +65,13 @@ parameters_written (v ∷ vs) small =
 -- ---- bodies
 
 oids_written : (ns : List ℕ) → AllByRecursion IsOid ns → is_too_long ns ≡ false → SpellsCounted16 (SpellsNat w32) ns (counted16 u32 ns)
-oids_written ns sound few = (u16 (length ns), flat_map u32 ns, refl, count_written (length ns) few, many_written (SpellsNat w32) u32 IsOid oid_written ns sound)
+oids_written = counted16_written (SpellsNat w32) u32 IsOid oid_written
 
 codes_written : (zs : List ℤ) → AllByRecursion IsCode zs → is_too_long zs ≡ false → SpellsCounted16 (SpellsInt w16) zs (counted16 i16 zs)
-codes_written zs sound few = (u16 (length zs), flat_map i16 zs, refl, count_written (length zs) few, many_written (SpellsInt w16) i16 IsCode code_written zs sound)
+codes_written = counted16_written (SpellsInt w16) i16 IsCode code_written
 
 values_written : (vs : List (Option (List ℕ))) → length (counted16 parameter vs) < 2 ^ 31 → is_too_long vs ≡ false → SpellsCounted16 SpellsParameter vs (counted16 parameter vs)
-values_written vs small few = (u16 (length vs), flat_map parameter vs, refl, count_written (length vs) few, parameters_written vs (omega (arith, length-append (u16 (length vs)) (flat_map parameter vs), small)))
+values_written vs small few = (u16 (length vs), flat_map parameter vs, refl, count16_written (length vs) few, parameters_written vs (omega (arith, length-append (u16 (length vs)) (flat_map parameter vs), small)))
 
 pub parse_written : (m : Parse) → IsParse m → refused_if (is_parse_refused m) ≡ None → SpellsParse m (parse m)
 parse_written m sound fine =

@@ -1,11 +1,10 @@
 -- Kinds of fields that the extended query has of its own (PostgreSQL 18, section 54.7, Message Formats).
 use Rattle.std.specs.Prelude.{◌≡◌, ℕ, ℤ, pos, negsuc, List, [], ◌∷◌, ◌++◌, length, Bool, false, Option, Some, None, Result, Ok}
-use Rattle.std.specs.List.{flat_map}
-use Rattle.std.specs.Int.{w16, w32}
-use Rattle.pgw_wire.specs.declared.error.PgWireError.{PgWireError}
-use Rattle.pgw_wire.specs.Reading.{◌>>=◌, nat_at, int_at, octets_at, list_at}
-use Rattle.pgw_wire.specs.Formats.{made_at, SpellsNat, SpellsInt, SpellsMany}
-use Rattle.pgw_wire.specs.Writing.{text, i32, u16, u32, has_zero}
+use Rattle.std.specs.Int.{w32}
+use Rattle.pgw_types.specs.declared.error.PgWireError.{PgWireError}
+use Rattle.pgw_wire.specs.Reading.{◌>>=◌, int_at, octets_at}
+use Rattle.pgw_wire.specs.Formats.{made_at, SpellsInt}
+use Rattle.pgw_wire.specs.Writing.{text, i32, u32, has_zero}
 
 -- ---- names
 
@@ -18,19 +17,6 @@ name (Some t) = text t
 abbrev pub is_name_refused : Option (List ℕ) → Bool
 is_name_refused None = false
 is_name_refused (Some t) = has_zero t
-
--- ---- lists with an unsigned count of 16 bits
-
-abbrev pub counted16_at : {A : Type 0} → ℕ → (List ℕ → Result (A × List ℕ) PgWireError) → List ℕ → Result (List A × List ℕ) PgWireError
-counted16_at least kind bytes = do
-  count ← nat_at w16 bytes
-  list_at kind least count.0 count.1
-
-abbrev pub SpellsCounted16 : {A : Type 0} → (A → List ℕ → Type 0) → List A → List ℕ → Type 0
-SpellsCounted16 Spells xs bytes = (count : List ℕ) × (rest : List ℕ) × (bytes ≡ count ++ rest) × SpellsNat w16 (length xs) count × SpellsMany Spells xs rest
-
-abbrev pub counted16 : {A : Type 0} → (A → List ℕ) → List A → List ℕ
-counted16 spelled xs = u16 (length xs) ++ flat_map spelled xs
 
 -- ---- values of parameters
 

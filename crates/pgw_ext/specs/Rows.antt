@@ -1,12 +1,13 @@
 -- The messages of the extended query (PostgreSQL 18, section 54.7, Message Formats).
 use Rattle.std.specs.Prelude.{◌≡◌, ℕ, ℤ, Bool, List, [], ◌++◌, length, Option, Result, Ok, nat_lt, ◌||◌}
 use Rattle.std.specs.Int.{w8, w16, w32}
-use Rattle.pgw_wire.specs.declared.error.PgWireError.{PgWireError}
-use Rattle.pgw_wire.specs.declared.context.DecodeContext.{DecodeContext}
+use Rattle.pgw_types.specs.declared.error.PgWireError.{PgWireError}
+use Rattle.pgw_types.specs.declared.context.DecodeContext.{DecodeContext}
 use Rattle.pgw_wire.specs.Reading.{nat_at, int_at, text_at, name_at, all_of}
 use Rattle.pgw_wire.specs.Formats.{pair_at, Pair, made_at, SpellsText, SpellsNat, SpellsInt, SpellsName}
 use Rattle.pgw_wire.specs.Writing.{text, i16, u32, has_zero}
-use Rattle.pgw_ext.specs.Kinds.{name, is_name_refused, counted16_at, SpellsCounted16, counted16, parameter_at, SpellsParameter, parameter}
+use Rattle.pgw_wire.specs.Counted.{counted16_at, SpellsCounted16, counted16, is_too_long}
+use Rattle.pgw_ext.specs.Kinds.{name, is_name_refused, parameter_at, SpellsParameter, parameter}
 use Rattle.pgw_ext.specs.declared.parse.Parse.{Parse}
 use Rattle.pgw_ext.specs.declared.parse.ParseComplete.{ParseComplete}
 use Rattle.pgw_ext.specs.declared.bind.Bind.{Bind}
@@ -18,14 +19,6 @@ use Rattle.pgw_ext.specs.declared.execute.Execute.{Execute}
 use Rattle.pgw_ext.specs.declared.execute.PortalSuspended.{PortalSuspended}
 use Rattle.pgw_ext.specs.declared.flush.Flush.{Flush}
 use Rattle.pgw_ext.specs.declared.flush.Sync.{Sync}
-
--- a message without a body
-abbrev pub NoBody : {M : Type 0} → M → List ℕ → Type 0
-NoBody m bytes = bytes ≡ []
-
--- more elements than a count of 16 bits tells
-abbrev pub is_too_long : {A : Type 0} → List A → Bool
-is_too_long xs = nat_lt 65535 (length xs)
 
 -- ---- Parse, ParseComplete
 

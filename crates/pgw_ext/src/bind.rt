@@ -3,21 +3,23 @@ ghost use Rattle.std.specs.Prelude.{◌≡◌, ◌||◌, [], None};
 ghost use Rattle.pgw_wire.specs.declared.framing.Framing.TheVariants.{Typed};
 ghost use Rattle.pgw_wire.specs.Writing.{refused_if};
 ghost use Rattle.pgw_ext.specs.Kinds.{is_name_refused as is_name_refused_list};
-ghost use Rattle.pgw_ext.specs.Rows.{bind_of, bind, is_bind_refused, is_too_long, bind_complete_of};
+ghost use Rattle.pgw_ext.specs.Rows.{bind_of, bind, is_bind_refused, bind_complete_of};
+ghost use Rattle.pgw_wire.specs.Counted.{is_too_long};
 
-use crate::kinds::{is_name_refused, name_len, put_counted16, put_name, take_counted16};
+use crate::kinds::{is_name_refused, name_len, put_name};
 use crate::parameter::{parameters_len, put_parameters, take_parameters};
 use bytes::BytesMut;
-use pgw_wire::context::DecodeContext;
-use pgw_wire::error::{PgWireError, PgWireResult};
+use pgw_types::context::DecodeContext;
+use pgw_types::error::{PgWireError, PgWireResult};
+use pgw_types::listed::{Duplicate, Listed};
+use pgw_types::memory::OutOfMemory;
+use pgw_types::octets::Octets;
+use pgw_types::text::Text;
+use pgw_wire::counted::{put_counted16, take_counted16};
 use pgw_wire::field::list_len;
 use pgw_wire::framing::Framing;
-use pgw_wire::listed::{Duplicate, Listed};
-use pgw_wire::memory::OutOfMemory;
 use pgw_wire::message::Message;
-use pgw_wire::octets::Octets;
 use pgw_wire::reader::FieldReader;
-use pgw_wire::text::Text;
 use pgw_wire::writer::append;
 use std::alloc::Global;
 
@@ -190,5 +192,17 @@ impl Message for BindComplete {
 impl Duplicate for BindComplete {
     fn duplicate(&self) -> Result<BindComplete, OutOfMemory> {
         Ok(BindComplete)
+    }
+}
+
+impl Duplicate for Bind {
+    fn duplicate(&self) -> Result<Bind, OutOfMemory> {
+        Ok(Bind {
+            portal_name: self.portal_name.duplicate()?,
+            statement_name: self.statement_name.duplicate()?,
+            parameter_format_codes: self.parameter_format_codes.duplicate()?,
+            parameters: self.parameters.duplicate()?,
+            result_column_format_codes: self.result_column_format_codes.duplicate()?,
+        })
     }
 }

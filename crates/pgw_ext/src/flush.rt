@@ -4,13 +4,13 @@ ghost use Rattle.pgw_wire.specs.declared.framing.Framing.TheVariants.{Typed};
 ghost use Rattle.pgw_ext.specs.Rows.{flush_of, sync_of};
 
 use bytes::BytesMut;
-use pgw_wire::context::DecodeContext;
-use pgw_wire::error::PgWireResult;
+use pgw_types::context::DecodeContext;
+use pgw_types::error::PgWireResult;
+use pgw_types::listed::Duplicate;
+use pgw_types::memory::OutOfMemory;
+use pgw_types::octets::Octets;
 use pgw_wire::framing::Framing;
-use pgw_wire::listed::Duplicate;
-use pgw_wire::memory::OutOfMemory;
 use pgw_wire::message::Message;
-use pgw_wire::octets::Octets;
 use pgw_wire::reader::FieldReader;
 use std::alloc::Global;
 

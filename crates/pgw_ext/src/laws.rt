@@ -3,8 +3,8 @@ ghost use Rattle.std.specs.Prelude.{◌≡◌, ◌∷◌, ◌++◌, ℕ, List, O
 ghost use Rattle.pgw_wire.specs.declared.framing.Framing.TheVariants.{Typed};
 ghost use Rattle.pgw_wire.specs.Framing.{encoded};
 ghost use Rattle.pgw_wire.specs.Writing.{i32, refused_if};
-ghost use Rattle.pgw_wire.specs.Formats.{IsRow, SpellsTyped};
-ghost use Rattle.pgw_wire.specs.declared.context.DecodeContext.{DecodeContext as TheContext};
+ghost use Rattle.pgw_wire.specs.Formats.{IsRow, SpellsTyped, NoBody};
+ghost use Rattle.pgw_types.specs.declared.context.DecodeContext.{DecodeContext as TheContext};
 ghost use Rattle.pgw_ext.specs.declared.parse.Parse.{Parse as TheParse};
 ghost use Rattle.pgw_ext.specs.declared.bind.Bind.{Bind as TheBind};
 ghost use Rattle.pgw_ext.specs.declared.target.Close.{Close as TheClose};
@@ -12,7 +12,7 @@ ghost use Rattle.pgw_ext.specs.declared.target.Describe.{Describe as TheDescribe
 ghost use Rattle.pgw_ext.specs.declared.execute.Execute.{Execute as TheExecute};
 ghost use Rattle.pgw_ext.specs.Kinds.{name, is_name_refused};
 ghost use Rattle.pgw_ext.specs.Sound.{IsParse, IsBind, IsClose, IsDescribe, IsExecute};
-ghost use Rattle.pgw_ext.specs.Rows.{parse, is_parse_refused, bind, is_bind_refused, parse_of, parse_complete_of, bind_of, bind_complete_of, close_of, close_complete_of, describe_of, execute_of, portal_suspended_of, flush_of, sync_of, SpellsParse, SpellsBind, SpellsClose, SpellsDescribe, SpellsExecute, NoBody};
+ghost use Rattle.pgw_ext.specs.Rows.{parse, is_parse_refused, bind, is_bind_refused, parse_of, parse_complete_of, bind_of, bind_complete_of, close_of, close_complete_of, describe_of, execute_of, portal_suspended_of, flush_of, sync_of, SpellsParse, SpellsBind, SpellsClose, SpellsDescribe, SpellsExecute};
 
 /// What is read at the front of some bytes is spelled so, and what is spelled so is read, whatever follows it.
 pub fn rows_are_exact()

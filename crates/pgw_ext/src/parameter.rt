@@ -3,12 +3,13 @@ ghost use Rattle.std.specs.Prelude.{◌≡◌, ◌+◌, ◌^◌, ◌<◌, ◌++�
 ghost use Rattle.std.specs.List.{flat_map};
 ghost use Rattle.pgw_wire.specs.Framing.{saturated};
 ghost use Rattle.pgw_wire.specs.Reading.{Reads, many_at};
-ghost use Rattle.pgw_ext.specs.Kinds.{counted16_at, counted16, parameter_at, parameter};
+ghost use Rattle.pgw_ext.specs.Kinds.{parameter_at, parameter};
+ghost use Rattle.pgw_wire.specs.Counted.{counted16_at, counted16};
 
-use pgw_wire::error::PgWireResult;
-use pgw_wire::listed::Listed;
-use pgw_wire::memory::OutOfMemory;
-use pgw_wire::octets::Octets;
+use pgw_types::error::PgWireResult;
+use pgw_types::listed::Listed;
+use pgw_types::memory::OutOfMemory;
+use pgw_types::octets::Octets;
 use pgw_wire::reader::FieldReader;
 use pgw_wire::writer::{put_i32, put_u16};
 use std::alloc::Global;

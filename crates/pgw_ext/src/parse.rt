@@ -4,18 +4,19 @@ ghost use Rattle.pgw_wire.specs.declared.framing.Framing.TheVariants.{Typed};
 ghost use Rattle.pgw_wire.specs.Writing.{refused_if};
 ghost use Rattle.pgw_ext.specs.Rows.{parse_of, parse, is_parse_refused, parse_complete_of};
 
-use crate::kinds::{is_name_refused, name_len, put_counted16, put_name, take_counted16};
+use crate::kinds::{is_name_refused, name_len, put_name};
 use bytes::BytesMut;
-use pgw_wire::context::DecodeContext;
-use pgw_wire::error::{PgWireError, PgWireResult};
+use pgw_types::context::DecodeContext;
+use pgw_types::error::{PgWireError, PgWireResult};
+use pgw_types::listed::{Duplicate, Listed};
+use pgw_types::memory::OutOfMemory;
+use pgw_types::octets::Octets;
+use pgw_types::text::Text;
+use pgw_wire::counted::{put_counted16, take_counted16};
 use pgw_wire::field::list_len;
 use pgw_wire::framing::Framing;
-use pgw_wire::listed::{Duplicate, Listed};
-use pgw_wire::memory::OutOfMemory;
 use pgw_wire::message::Message;
-use pgw_wire::octets::Octets;
 use pgw_wire::reader::FieldReader;
-use pgw_wire::text::Text;
 use pgw_wire::writer::{append, has_zero, put_text};
 use std::alloc::Global;
 
@@ -157,5 +158,15 @@ impl Message for ParseComplete {
 impl Duplicate for ParseComplete {
     fn duplicate(&self) -> Result<ParseComplete, OutOfMemory> {
         Ok(ParseComplete)
+    }
+}
+
+impl Duplicate for Parse {
+    fn duplicate(&self) -> Result<Parse, OutOfMemory> {
+        Ok(Parse {
+            name: self.name.duplicate()?,
+            query: self.query.duplicate()?,
+            type_oids: self.type_oids.duplicate()?,
+        })
     }
 }

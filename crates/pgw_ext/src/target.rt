@@ -9,15 +9,15 @@ ghost use Rattle.pgw_ext.specs.Rows.{target_at, close_of, close_complete_of, des
 
 use crate::kinds::{is_name_refused, name_len, put_name};
 use bytes::BytesMut;
-use pgw_wire::context::DecodeContext;
-use pgw_wire::error::{PgWireError, PgWireResult};
+use pgw_types::context::DecodeContext;
+use pgw_types::error::{PgWireError, PgWireResult};
+use pgw_types::listed::Duplicate;
+use pgw_types::memory::OutOfMemory;
+use pgw_types::octets::Octets;
+use pgw_types::text::Text;
 use pgw_wire::framing::Framing;
-use pgw_wire::listed::Duplicate;
-use pgw_wire::memory::OutOfMemory;
 use pgw_wire::message::Message;
-use pgw_wire::octets::Octets;
 use pgw_wire::reader::FieldReader;
-use pgw_wire::text::Text;
 use pgw_wire::writer::append;
 use std::alloc::Global;
 

@@ -5,12 +5,12 @@ use crate::extendedquery::{
     PortalSuspended, Sync, TARGET_TYPE_BYTE_PORTAL, TARGET_TYPE_BYTE_STATEMENT,
 };
 use bytes::BytesMut;
-use pgw_wire::context::{DecodeContext, ProtocolVersion};
-use pgw_wire::error::PgWireError;
-use pgw_wire::listed::Listed;
+use pgw_types::context::{DecodeContext, ProtocolVersion};
+use pgw_types::error::PgWireError;
+use pgw_types::listed::Listed;
+use pgw_types::octets::Octets;
+use pgw_types::text::Text;
 use pgw_wire::message::Message;
-use pgw_wire::octets::Octets;
-use pgw_wire::text::Text;
 use std::alloc::Global;
 use std::test::Fail;
 

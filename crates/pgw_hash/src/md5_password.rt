@@ -5,8 +5,8 @@ ghost use Rattle.hex.specs.Hex.{encode_lower};
 ghost use Rattle.pgw_hash.specs.Md5Password.{md5_hex, md5_password};
 
 use md5::{Digest, Md5};
-use pgw_wire::memory::OutOfMemory;
-use pgw_wire::text::Text;
+use pgw_types::memory::OutOfMemory;
+use pgw_types::text::Text;
 use std::alloc::Global;
 
 /// What a client sends for a password, given the salt that the server sent.

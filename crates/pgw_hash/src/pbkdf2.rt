@@ -5,7 +5,7 @@ ghost use Rattle.pgw_hash.specs.Pbkdf2.{hi, salted_password};
 use crate::hmac::HmacKey;
 use crate::saslprep::saslprep;
 use crate::xor::xor_into;
-use pgw_wire::memory::OutOfMemory;
+use pgw_types::memory::OutOfMemory;
 use std::alloc::Global;
 
 // The number of the one block that a key of 32 bytes has.

@@ -4,8 +4,8 @@ ghost use Rattle.std.specs.List.{list_any};
 ghost use Rattle.std.specs.Char.{is_ascii_control};
 ghost use Rattle.pgw_hash.specs.Saslprep.{prepared};
 
-use pgw_wire::memory::OutOfMemory;
-use pgw_wire::text::Text;
+use pgw_types::memory::OutOfMemory;
+use pgw_types::text::Text;
 use std::alloc::Global;
 use unicode_normalization::to_nfkc;
 

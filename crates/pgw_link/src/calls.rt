@@ -4,7 +4,7 @@ ghost use Rattle.std.specs.List.{list_any};
 ghost use Rattle.pgw_link.specs.Tape.{counted};
 ghost use Rattle.pgw_link.specs.Calls.{is_reached};
 
-use pgw_wire::listed::Listed;
+use pgw_types::listed::Listed;
 
 /// Calls of one kind. Those with the listed numbers, counted from 1, are to fail.
 #[derive(Drop)]

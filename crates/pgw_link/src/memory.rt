@@ -7,8 +7,8 @@ ghost use Rattle.pgw_link.specs.Calls.{is_reached};
 use crate::calls::Calls;
 use crate::link::{Link, LinkFault};
 use crate::piece::copy_from;
-use pgw_wire::listed::Listed;
-use pgw_wire::octets::Octets;
+use pgw_types::listed::Listed;
+use pgw_types::octets::Octets;
 use std::alloc::Global;
 
 /// A link in memory. Each call moves at most `cut` bytes. Reads and writes with the listed numbers, counted from 1,

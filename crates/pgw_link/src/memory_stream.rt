@@ -7,8 +7,8 @@ ghost use Rattle.pgw_link.specs.Stream.{Drew, NotDrawn, Poured, NotPoured};
 use crate::calls::Calls;
 use crate::piece::copy_from;
 use crate::stream::{Sink, SinkFault, Source, SourceFault};
-use pgw_wire::listed::Listed;
-use pgw_wire::octets::Octets;
+use pgw_types::listed::Listed;
+use pgw_types::octets::Octets;
 use std::alloc::Global;
 
 /// A source in memory. Each read moves at most `cut` bytes. Those with the listed numbers, counted from 1, fail.

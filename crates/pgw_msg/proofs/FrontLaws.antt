@@ -1,8 +1,8 @@
 -- What a client finds at the front of the bytes that came.
 use Rattle.std.proofs.Common.{◌≡◌, ℕ, ◌+◌, ◌-◌, ◌<◌, ◌≤◌, List, [], ◌∷◌, ◌++◌, length, take, drop, Option, Some, None, Result, Ok, Err, refl, sym, ap, subst, ◌∙◌, arith, length-append}
 use Rattle.std.proofs.lemmas.List.{take-take, take-append-le, take_at, length-take, length-drop}
-use Rattle.pgw_wire.specs.declared.error.PgWireError.{PgWireError}
-use Rattle.pgw_wire.specs.declared.context.ProtocolVersion.{ProtocolVersion}
+use Rattle.pgw_types.specs.declared.error.PgWireError.{PgWireError}
+use Rattle.pgw_types.specs.declared.context.ProtocolVersion.{ProtocolVersion}
 use Rattle.pgw_msg.specs.declared.backend.PgWireBackendMessage.{PgWireBackendMessage}
 use Rattle.pgw_msg.specs.Backend.{backend_front}
 use Rattle.pgw_msg.specs.Front.{Front, More, Bad, Whole, typed_phase, front_of, front, Spells}
@@ -28,7 +28,7 @@ bad_part bytes (Ok (Some x)) why is = absurd cc
 
 -- the message at the front takes n bytes, and is read wherever these bytes stand
 record Taken (v : ProtocolVersion) (bytes : List ℕ) (m : PgWireBackendMessage) (n : ℕ) : Type 0 where
-  some : 5 ≤ n
+  some : 1 ≤ n
   within : n ≤ length bytes
   again : (b : List ℕ) → take n b ≡ take n bytes → n ≤ length b → front v b ≡ Whole m n
 
@@ -83,7 +83,7 @@ pub spells_front : (v : ProtocolVersion) (m : PgWireBackendMessage) (g rest : Li
 unfolding front
 spells_front v m g rest h =
     let size : length (g ++ rest) - length rest ≡ length g = omega (arith, length-append g rest) in
-    rw (backend_again (typed_phase v) refl m g rest h) (ap (λ (k : ℕ). Whole m k) size)
+    rw (backend_again (typed_phase v) m g rest h) (ap (λ (k : ℕ). Whole m k) size)
 
 -- ---- what a decoder gave
 

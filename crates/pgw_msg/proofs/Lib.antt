@@ -1,6 +1,7 @@
-pub mod RowLaws
 pub mod BackendStable
 pub mod FrontLaws
 pub mod TagLaws
 pub mod BackendLaws
 pub mod BackendWritten
+pub mod FrontendLaws
+pub mod FrontendWritten

@@ -1,7 +1,7 @@
 -- What a client's errors hold.
 use Rattle.std.specs.Prelude.{◌≡◌, ℕ}
-use Rattle.pgw_wire.specs.declared.error.PgWireError.{PgWireError}
-use Rattle.pgw_wire.specs.declared.error.PgWireError.TheVariants as wire
+use Rattle.pgw_types.specs.declared.error.PgWireError.{PgWireError}
+use Rattle.pgw_types.specs.declared.error.PgWireError.TheVariants as wire
 use Rattle.pgw_msg.specs.declared.backend.PgWireBackendMessage.{PgWireBackendMessage}
 use Rattle.pgw_msg.specs.declared.client_error.PgWireClientError.{PgWireClientError}
 use Rattle.pgw_msg.specs.declared.client_error.PgWireClientError.TheVariants as client

@@ -1,6 +1,6 @@
 -- What a field description says of a column.
 use Rattle.std.specs.Prelude.{ℕ, ℤ, pos, negsuc, Option, Some, None, ◌==◌, if◌then◌else◌}
-use Rattle.pgw_msg.specs.declared.data.FieldDescription.{FieldDescription}
+use Rattle.pgw_query.specs.declared.data.FieldDescription.{FieldDescription}
 use Rattle.pgw_msg.specs.declared.field_info.FieldInfo.{FieldInfo}
 use Rattle.pgw_msg.specs.declared.field_info.FieldFormat.{FieldFormat}
 use Rattle.pgw_msg.specs.declared.field_info.FieldFormat.TheVariants as formats

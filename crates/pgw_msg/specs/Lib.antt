@@ -1,4 +1,3 @@
-pub mod Rows
 pub mod Backend
 pub mod ClientError
 pub mod Texts
@@ -6,3 +5,5 @@ pub mod Front
 pub mod Frontend
 pub mod Tags
 pub mod Fields
+pub mod FrontendSpells
+pub mod FrontendTexts

@@ -1,10 +1,10 @@
 -- What a command tag says.
-use Rattle.std.specs.Prelude.{ℕ, List, [], ◌∷◌, ◌++◌, length, fold, Bool, ◌&&◌, ◌^◌, Option, Some, None, nat_lt, ◌==◌, if◌then◌else◌}
+use Rattle.std.specs.Prelude.{ℕ, ◌<◌, ◌^◌, List, [], ◌∷◌, ◌++◌, length, fold, Option, Some, None, ◌==◌, if◌then◌else◌, IsTrue, IsUtf8}
 use Rattle.std.specs.List.{list_all}
-use Rattle.std.specs.Char.{is_whitespace, is_digit, encode_utf8}
+use Rattle.std.specs.Char.{is_whitespace, is_not_whitespace, encode_utf8}
 use Rattle.std.specs.Str.{chars}
-use Rattle.std.specs.Str.Parse.{without_leading_plus, digits_value}
 use Rattle.std.specs.Fmt.{decimal}
+use Rattle.pgw_types.specs.Numbers.{number_in}
 use Rattle.pgw_msg.specs.declared.tag.Tag.{Tag}
 
 -- ---- words
@@ -23,14 +23,6 @@ with_character w c = if is_whitespace c then (ended w, []) else (w.0, w.1 ++ enc
 -- the longest runs of characters that are not white space
 unfoldable pub words : List ℕ → List (List ℕ)
 words text = ended (fold with_character ([], []) (chars text))
-
--- ---- numbers
-
--- a whole number of so many bits: a plus or none, and decimal digits
-unfoldable pub number_in : ℕ → List ℕ → Option ℕ
-number_in bits text =
-    let digits = without_leading_plus text in
-    if nat_lt 0 (length digits) && (list_all (λ c. is_digit c 10) digits && nat_lt (digits_value 10 digits) (2 ^ bits)) then Some (digits_value 10 digits) else None
 
 -- ---- tags
 
@@ -71,3 +63,18 @@ counts oid (Some rows) = spaced oid ++ spaced (Some rows)
 
 unfoldable pub tag_text : Tag → List ℕ
 tag_text tag = tag.command ++ counts tag.oid tag.rows
+
+-- ---- tags that come back
+
+-- one word, without white space
+pub record IsWord (text : List ℕ) : Type 0 where
+  pub utf8 : IsUtf8 text
+  pub some : 0 < length text
+  pub whole : IsTrue (list_all is_not_whitespace (chars text))
+
+-- no counts, rows, or an object and rows
+abbrev pub AreCounts : Option ℕ → Option ℕ → Type 0
+AreCounts None None = Unit {0}
+AreCounts None (Some rows) = rows < 2 ^ 64
+AreCounts (Some oid) None = ⊥
+AreCounts (Some oid) (Some rows) = (oid < 2 ^ 32) × (rows < 2 ^ 64)

@@ -4,12 +4,13 @@ ghost use Rattle.pgw_msg.specs.ClientError.{IsUnexpected};
 
 use crate::backend::PgWireBackendMessage;
 use crate::pg_type::PgType;
-use crate::response::ErrorResponse;
-use pgw_wire::boxed::Boxed;
-use pgw_wire::error::PgWireError;
-use pgw_wire::listed::Listed;
-use pgw_wire::octets::Octets;
-use pgw_wire::text::Text;
+use pgw_query::response::ErrorResponse;
+use pgw_types::boxed::Boxed;
+use pgw_types::error::PgWireError;
+use pgw_types::listed::Listed;
+use pgw_types::memory::OutOfMemory;
+use pgw_types::octets::Octets;
+use pgw_types::text::Text;
 use std::alloc::Global;
 use thiserror::Error;
 
@@ -77,6 +78,16 @@ pub fn unexpected(alloc: Global, message: PgWireBackendMessage) -> PgWireClientE
     match Boxed::new(alloc, message) {
         Ok(message) => PgWireClientError::UnexpectedMessage(message),
         Err(_) => PgWireClientError::OutOfMemory,
+    }
+}
+
+impl From<OutOfMemory> for PgWireClientError {
+    ghost use Rattle.pgw_msg.specs.declared.client_error.PgWireClientError.TheVariants as client;
+
+    ghost from_gives = { λ e r. r ≡ client.OutOfMemory };
+
+    fn from(_e: OutOfMemory) -> PgWireClientError {
+        PgWireClientError::OutOfMemory
     }
 }
 

@@ -2,11 +2,11 @@
 ghost use Rattle.std.specs.Prelude.{◌≡◌};
 ghost use Rattle.pgw_msg.specs.Fields.{field_info_of, format_of};
 
-use crate::data::FieldDescription;
 use crate::pg_type::PgType;
-use pgw_wire::listed::Duplicate;
-use pgw_wire::memory::OutOfMemory;
-use pgw_wire::text::Text;
+use pgw_query::data::FieldDescription;
+use pgw_types::listed::Duplicate;
+use pgw_types::memory::OutOfMemory;
+use pgw_types::text::Text;
 
 /// How a value is written.
 #[derive(Clone, Copy, Debug, PartialEq, Eq)]

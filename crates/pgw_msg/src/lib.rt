@@ -3,13 +3,14 @@
 
 pub mod backend;
 pub mod client_error;
-pub mod data;
 pub mod field_info;
 pub mod frontend;
+pub mod frontend_laws;
+mod frontend_sound;
+#[cfg(test)]
+mod frontend_tests;
 pub mod laws;
 pub mod pg_type;
-pub mod response;
-pub mod simplequery;
 mod sound;
 pub mod tag;
 #[cfg(test)]

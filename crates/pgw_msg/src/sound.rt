@@ -2,18 +2,21 @@
 ghost use Rattle.std.specs.Prelude.{◌≡◌, IsUtf8};
 ghost use Rattle.std.specs.List.{AllByRecursion};
 ghost use Rattle.pgw_startup.specs.Sound.{IsAuthentication, IsParameterStatus, IsKey, IsBackendKeyData, IsNegotiate};
-ghost use Rattle.pgw_msg.specs.Texts.{IsField, IsCoded, IsSound};
+ghost use Rattle.pgw_query.specs.Sound.{IsField, IsCoded, IsOid, AreFields, AreCoded, IsNotification};
+ghost use Rattle.pgw_copy.specs.Sound.{IsCode, AreColumns};
+ghost use Rattle.pgw_msg.specs.Texts.{IsSound};
 
 use crate::backend::PgWireBackendMessage;
-use crate::data::FieldDescription;
+use pgw_query::data::FieldDescription;
+use pgw_query::notification::NotificationResponse;
 use pgw_startup::authentication::Authentication;
 use pgw_startup::backend_key_data::BackendKeyData;
 use pgw_startup::negotiate::NegotiateProtocolVersion;
 use pgw_startup::parameter_status::ParameterStatus;
+use pgw_types::text::Text;
 use pgw_wire::secret_key::SecretKey;
-use pgw_wire::text::Text;
 
-fn is_utf8(text: &Text)
+pub fn is_utf8(text: &Text)
     ensures { IsUtf8 text.now }
 {
     let _ = text.as_str();
@@ -35,7 +38,7 @@ fn is_coded(field: &(u8, Text))
 }
 
 fn are_coded(fields: &[(u8, Text)])
-    ensures { AllByRecursion IsCoded fields.now }
+    ensures { AreCoded fields.now }
 {
     for field in fields {
         is_coded(field);
@@ -55,14 +58,14 @@ fn is_field(f: &FieldDescription)
 }
 
 fn are_fields(fields: &[FieldDescription])
-    ensures { AllByRecursion IsField fields.now }
+    ensures { AreFields fields.now }
 {
     for field in fields {
         is_field(field);
     }
 }
 
-fn is_key(key: &SecretKey)
+pub fn is_key(key: &SecretKey)
     ensures { IsKey key.now }
 {
     match key {
@@ -103,6 +106,48 @@ fn is_negotiation(m: &NegotiateProtocolVersion)
     are_texts(m.unsupported_options.as_slice());
 }
 
+fn is_notification(m: &NotificationResponse)
+    ensures { IsNotification m.now }
+{
+    let _pid = m.pid;
+    is_utf8(&m.channel);
+    is_utf8(&m.payload);
+}
+
+fn is_oid(oid: &u32)
+    ensures { IsOid oid.now }
+{
+    let _oid = *oid;
+}
+
+pub fn are_oids(oids: &[u32])
+    ensures { AllByRecursion IsOid oids.now }
+{
+    for oid in oids {
+        is_oid(oid);
+    }
+}
+
+fn is_code(code: &i16)
+    ensures { IsCode code.now }
+{
+    let _code = *code;
+}
+
+pub fn are_codes(codes: &[i16])
+    ensures { AllByRecursion IsCode codes.now }
+{
+    for code in codes {
+        is_code(code);
+    }
+}
+
+fn are_columns(_format: i8, _columns: i16, codes: &[i16])
+    ensures { AreColumns _format _columns codes.now }
+{
+    are_codes(codes);
+}
+
 /// Every message is sound. This reads what the proof needs, and does nothing.
 pub fn is_sound(m: &PgWireBackendMessage)
     ensures { IsSound m.now }
@@ -113,13 +158,24 @@ pub fn is_sound(m: &PgWireBackendMessage)
         PgWireBackendMessage::BackendKeyData(m) => is_key_data(m),
         PgWireBackendMessage::NegotiateProtocolVersion(m) => is_negotiation(m),
         PgWireBackendMessage::CommandComplete(m) => is_utf8(&m.tag),
-        PgWireBackendMessage::EmptyQueryResponse(_) => {}
-        PgWireBackendMessage::ReadyForQuery(_) => {}
         PgWireBackendMessage::ErrorResponse(m) => are_coded(m.fields.as_slice()),
         PgWireBackendMessage::NoticeResponse(m) => are_coded(m.fields.as_slice()),
+        PgWireBackendMessage::NotificationResponse(m) => is_notification(m),
+        PgWireBackendMessage::ParameterDescription(m) => are_oids(m.types.as_slice()),
         PgWireBackendMessage::RowDescription(m) => are_fields(m.fields.as_slice()),
         PgWireBackendMessage::DataRow(m) => {
             let _count = m.field_count;
         }
+        PgWireBackendMessage::CopyFail(m) => is_utf8(&m.message),
+        PgWireBackendMessage::CopyInResponse(m) => {
+            are_columns(m.format, m.columns, m.column_formats.as_slice())
+        }
+        PgWireBackendMessage::CopyOutResponse(m) => {
+            are_columns(m.format, m.columns, m.column_formats.as_slice())
+        }
+        PgWireBackendMessage::CopyBothResponse(m) => {
+            are_columns(m.format, m.columns, m.column_formats.as_slice())
+        }
+        _ => {}
     }
 }

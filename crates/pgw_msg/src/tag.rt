@@ -1,11 +1,12 @@
 //! Command tags.
 ghost use Rattle.std.specs.Prelude.{◌≡◌, IfOk, None, Some, string_bytes};
-ghost use Rattle.pgw_msg.specs.Tags.{ended, words as words_of, number_in, counted_tag, inserted_tag, tag_of, tag_text};
+ghost use Rattle.pgw_types.specs.Numbers.{number_in};
+ghost use Rattle.pgw_msg.specs.Tags.{ended, words as words_of, counted_tag, inserted_tag, tag_of, tag_text};
 
-use crate::response::CommandComplete;
-use pgw_wire::listed::{Duplicate, Listed};
-use pgw_wire::memory::OutOfMemory;
-use pgw_wire::text::Text;
+use pgw_query::response::CommandComplete;
+use pgw_types::listed::{Duplicate, Listed};
+use pgw_types::memory::OutOfMemory;
+use pgw_types::text::Text;
 use std::alloc::Global;
 
 /// What a command did: its name, and how many rows it touched (CommandComplete).

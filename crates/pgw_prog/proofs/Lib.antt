@@ -3,3 +3,5 @@ pub mod ScriptLaws
 pub mod TransferLaws
 pub mod HeldLaws
 pub mod GrammarLaws
+pub mod TextLaws
+pub mod ProgramLaws

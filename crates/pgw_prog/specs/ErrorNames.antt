@@ -1,7 +1,7 @@
 -- The names of errors.
 use Rattle.std.specs.Prelude.{ℕ, List, ◌++◌, codes}
-use Rattle.pgw_wire.specs.declared.error.PgWireError.{PgWireError}
-use Rattle.pgw_wire.specs.declared.error.PgWireError.TheVariants as wire
+use Rattle.pgw_types.specs.declared.error.PgWireError.{PgWireError}
+use Rattle.pgw_types.specs.declared.error.PgWireError.TheVariants as wire
 use Rattle.pgw_msg.specs.declared.client_error.PgWireClientError.{PgWireClientError}
 use Rattle.pgw_msg.specs.declared.client_error.PgWireClientError.TheVariants as client
 
@@ -45,7 +45,6 @@ wire_name (wire.InvalidOptionValue a) = codes "InvalidOptionValue"
 wire_name (wire.FailedToParseParameter a) = codes "FailedToParseParameter"
 wire_name wire.QueryCanceled = codes "QueryCanceled"
 wire_name (wire.UserError a) = codes "UserError"
-wire_name wire.NotYetBuilt = codes "NotYetBuilt"
 
 -- a wrapped error has both names
 unfoldable pub client_name : PgWireClientError → List ℕ

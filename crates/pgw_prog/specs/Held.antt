@@ -1,25 +1,28 @@
 -- The session of a script.
-use Rattle.std.specs.Prelude.{◌≡◌, ◌<◌, ◌||◌, nat_lt, ℕ, List, [], map, Some, None, Result, Ok, Err, IfOk, IsErrOf}
-use Rattle.std.specs.List.{flat_map}
+use Rattle.std.specs.Prelude.{◌≡◌, ◌⊎◌, ◌<◌, ◌≤◌, ◌+◌, ◌++◌, ◌||◌, nat_lt, ℕ, List, [], length, map, Some, None, Result, Ok, Err, IfOk, IfSome, IsErrOf}
+use Rattle.std.specs.List.{flat_map, Any}
 use Rattle.pgw_link.specs.Tape.{Tape}
 use Rattle.pgw_link.specs.Calls.{is_reached}
 use Rattle.pgw_link.specs.Memory.{Listing}
 use Rattle.pgw_msg.specs.declared.client_error.PgWireClientError.{PgWireClientError}
 use Rattle.pgw_msg.specs.declared.client_error.PgWireClientError.TheVariants as client
 use Rattle.pgw_config.specs.declared.config.Config.{Config}
+use Rattle.pgw_config.specs.Config.{no_config}
 use Rattle.pgw_session.specs.declared.types.Request.{Request}
 use Rattle.pgw_session.specs.declared.types.Request.TheVariants as request
 use Rattle.pgw_session.specs.declared.types.SessionReport.{SessionReport}
+use Rattle.pgw_session.specs.Demands.{refused_config}
 use Rattle.pgw_session.specs.Events.{Event}
 use Rattle.pgw_session.specs.Transcript.{Completed, Completes, report_of}
 use Rattle.pgw_session.specs.Failures.{Told}
+use Rattle.pgw_client.specs.Demands.{Refuses}
 use Rattle.pgw_client.specs.Sessions.{MovedBy, Causes, Reports, KeepsPace}
 use Rattle.pgw_prog.specs.declared.script.Script.{Script}
 use Rattle.pgw_prog.specs.declared.printed.Printed.{Printed}
 use Rattle.pgw_prog.specs.Printing.{session_text}
 
 abbrev pub config_of : Script → Config
-config_of s = record { user = Some s.user; password = s.password; protocol_version = s.protocol_version }
+config_of s = record no_config { user = Some s.user; password = s.password; protocol_version = s.protocol_version }
 
 abbrev pub request_of : List ℕ → Request
 request_of query = request.Simple query
@@ -38,6 +41,14 @@ first_tape s = record { left = joined s.server; wrote = []; flushed = 0; ended =
 abbrev pub listing_of : Script → Listing
 listing_of s = record { reads = s.fail_reads; writes = s.fail_writes }
 
+-- one of these numbers is that of a call, counted from 1, and is at most this
+abbrev pub NamesCall : List ℕ → ℕ → Type 0
+NamesCall numbers most = Any (λ n. (0 < n) × (n ≤ most)) numbers
+
+-- a listed read is at most one more than the bytes read, or a listed write at most one more than the bytes written
+abbrev pub IsNear : Listing → Tape → List ℕ → List ℕ → Type 0
+IsNear listing first taken sent = NamesCall listing.reads (first.reads + length taken + 1) ⊎ NamesCall listing.writes (first.writes + length sent + 1)
+
 -- What a session over a link in memory gives: what the link told before and afterwards, how many calls failed, the answer.
 pub record Session (config : Config) (requests : List Request) (limit : ℕ) (listing : Listing) (first after : Tape) (faults : ℕ) (outcome : Result SessionReport PgWireClientError) : Type 0 where
   -- an answer is that of a completed transcript
@@ -46,28 +57,48 @@ pub record Session (config : Config) (requests : List Request) (limit : ℕ) (li
   pub causes : Causes config requests limit first after outcome
   -- what was read is a legal prefix, and what was written begins what is sent in it, in step
   pub told : MovedBy first after (λ taken sent. Told config requests taken sent × KeepsPace limit first after taken sent)
-  -- bytes that complete a transcript give its report, where no call failed
-  pub reports : (segments : List (List Event)) → Completes config requests limit first.left segments → (0 < faults → ⊥) → Reports (report_of config segments) outcome
+  -- a configuration that demands what a client can't do is refused, and nothing was read or written
+  pub refused : IfSome (refused_config config) (λ key. Refuses key outcome × (after ≡ first))
+  -- bytes that complete a transcript give its report, where nothing is refused and no call failed
+  pub reports : refused_config config ≡ None → (segments : List (List Event)) → Completes config requests limit first.left segments → (0 < faults → ⊥) → Reports (report_of config segments) outcome
   -- the error of the link comes only where a call failed
   pub io : IsErrOf outcome client.IoError → 0 < faults
   -- and a call failed exactly where one was made whose number is listed
   pub fails : nat_lt 0 faults ≡ (is_reached listing.reads after.reads || is_reached listing.writes after.writes)
-  -- so that error never comes where none is listed
+  -- so that error comes only where a listed call is near,
+  pub io_near : IsErrOf outcome client.IoError → MovedBy first after (IsNear listing first)
+  -- and never where none is listed
   pub no_io : listing.reads ≡ [] → listing.writes ≡ [] → IsErrOf outcome client.IoError → ⊥
 
 abbrev pub status_of : Result SessionReport PgWireClientError → ℕ
 status_of (Ok report) = 0
 status_of (Err e) = 1
 
--- what is printed is the text of such a session
+-- what is printed is the text of such a session, for which memory sufficed
 pub record Prints (config : Config) (requests : List Request) (limit : ℕ) (listing : Listing) (first : Tape) (p : Printed) : Type 0 where
   pub after : Tape
   pub faults : ℕ
   pub outcome : Result SessionReport PgWireClientError
   pub session : Session config requests limit listing first after faults outcome
+  pub memory : IsErrOf outcome client.OutOfMemory → ⊥
   pub text : p.text.items ≡ session_text after.wrote outcome
   pub status : p.status ≡ status_of outcome
 
 -- what is printed is the text of the script's session
 abbrev pub Holds : Script → Printed → Type 0
 Holds s p = Prints (config_of s) (requests_of s) s.limit (listing_of s) (first_tape s) p
+
+-- a script that lists no call to fail, whose server's bytes complete a transcript with these segments within the limit
+pub record CanComplete (s : Script) (segments : List (List Event)) : Type 0 where
+  pub no_reads : s.fail_reads ≡ []
+  pub no_writes : s.fail_writes ≡ []
+  pub completes : Completes (config_of s) (requests_of s) s.limit (joined s.server) segments
+
+-- what is printed of it: the bytes sent in the transcript, and its report
+abbrev pub completed_text : (s : Script) (segments : List (List Event)) → CanComplete s segments → List ℕ
+completed_text s segments can = session_text can.completes.sent (Ok (report_of (config_of s) segments))
+
+-- of the script's link a listed read is at most one more than some first bytes of the server's, or a listed write at
+-- most one more than these bytes sent
+abbrev pub FailsNear : Script → List ℕ → Type 0
+FailsNear s sent = (taken rest : List ℕ) × (joined s.server ≡ taken ++ rest) × IsNear (listing_of s) (first_tape s) taken sent

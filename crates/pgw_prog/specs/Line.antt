@@ -7,8 +7,8 @@ use Rattle.std.specs.Str.{is_utf8, all_ascii_digits}
 use Rattle.std.specs.Str.Parse.{without_leading_plus, digits_value}
 use Rattle.std.specs.Char.{is_ascii_alphanumeric}
 use Rattle.hex.specs.Hex.{decode_of, decode_sized}
-use Rattle.pgw_wire.specs.declared.context.ProtocolVersion.{ProtocolVersion}
-use Rattle.pgw_wire.specs.declared.context.ProtocolVersion.TheVariants as version
+use Rattle.pgw_types.specs.declared.context.ProtocolVersion.{ProtocolVersion}
+use Rattle.pgw_types.specs.declared.context.ProtocolVersion.TheVariants as version
 use Rattle.pgw_prog.specs.declared.line.Line.{Line}
 use Rattle.pgw_prog.specs.declared.line.Line.TheVariants as line
 

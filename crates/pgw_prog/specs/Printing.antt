@@ -4,13 +4,13 @@ use Rattle.std.specs.Fmt.{signed_decimal}
 use Rattle.std.specs.List.{flat_map}
 use Rattle.std.specs.FinMap as map
 use Rattle.pgw_wire.specs.Writing.{i32 as i32_bytes}
-use Rattle.pgw_wire.specs.declared.context.ProtocolVersion.{ProtocolVersion}
-use Rattle.pgw_wire.specs.declared.context.ProtocolVersion.TheVariants as version
+use Rattle.pgw_types.specs.declared.context.ProtocolVersion.{ProtocolVersion}
+use Rattle.pgw_types.specs.declared.context.ProtocolVersion.TheVariants as version
 use Rattle.pgw_wire.specs.declared.secret_key.SecretKey.{SecretKey}
 use Rattle.pgw_wire.specs.declared.secret_key.SecretKey.TheVariants as key
-use Rattle.pgw_msg.specs.declared.response.TransactionStatus.{TransactionStatus}
-use Rattle.pgw_msg.specs.declared.response.TransactionStatus.TheVariants as status
-use Rattle.pgw_msg.specs.declared.data.DataRow.{DataRow}
+use Rattle.pgw_query.specs.declared.response.TransactionStatus.{TransactionStatus}
+use Rattle.pgw_query.specs.declared.response.TransactionStatus.TheVariants as status
+use Rattle.pgw_query.specs.declared.data.DataRow.{DataRow}
 use Rattle.pgw_msg.specs.declared.tag.Tag.{Tag}
 use Rattle.pgw_msg.specs.declared.field_info.FieldInfo.{FieldInfo}
 use Rattle.pgw_msg.specs.declared.field_info.FieldFormat.{FieldFormat}

@@ -1,45 +1,68 @@
 -- What the program prints, and the status it ends with.
-use Rattle.std.specs.Prelude.{◌≡◌, ◌⊎◌, ◌<◌, ◌≤◌, ℕ, ◌+◌, List, ◌++◌, length, codes, decimal, Result, Ok, Err}
+use Rattle.std.specs.Prelude.{◌≡◌, ◌⊎◌, ◌<◌, ◌≤◌, ℕ, ◌+◌, List, ◌++◌, length, take, codes, decimal}
 use Rattle.pgw_link.specs.Tape.{Rose}
 use Rattle.pgw_link.specs.Stream.{SourceTape, SinkTape}
+use Rattle.pgw_session.specs.Events.{Event}
 use Rattle.pgw_prog.specs.declared.script.Script.{Script}
 use Rattle.pgw_prog.specs.declared.printed.Printed.{Printed}
 use Rattle.pgw_prog.specs.declared.command.Command.{Command}
 use Rattle.pgw_prog.specs.declared.command.Command.TheVariants as command
 use Rattle.pgw_prog.specs.declared.program.Stop.{Stop}
 use Rattle.pgw_prog.specs.declared.program.Stop.TheVariants as stop
-use Rattle.pgw_prog.specs.Script.{read_script}
-use Rattle.pgw_prog.specs.Held.{Holds}
+use Rattle.pgw_prog.specs.Grammar.{IsScript, IsFault}
+use Rattle.pgw_prog.specs.Held.{Holds, CanComplete, FailsNear, completed_text}
 use Rattle.pgw_prog.specs.Printing.{line_end}
 
 -- this text, and this status
 abbrev pub Says : Printed → List ℕ → ℕ → Type 0
 Says p text status = (p.text.items ≡ text) × (p.status ≡ status)
 
--- a script's session, or the number of its first line outside the grammar
-abbrev pub AnswersRead : Result Script ℕ → Printed → Type 0
-AnswersRead (Ok s) p = Holds s p
-AnswersRead (Err n) p = Says p (codes "line " ++ decimal n ++ line_end) 2
+-- a text in the grammar gives its script's session, and another the number of its first line outside the grammar
+abbrev pub AnswersText : List ℕ → Printed → Type 0
+AnswersText text p =
+    ((script : Script) × IsScript text script × Holds script p)
+    ⊎ ((n : ℕ) × IsFault text n × Says p (codes "line " ++ decimal n ++ line_end) 2)
 
 -- a script has at most 16777216 bytes
 abbrev pub AnswersScript : List ℕ → Printed → Type 0
 AnswersScript bytes p =
     ((16777216 < length bytes) × Says p (codes "script too long\n") 2)
-    ⊎ ((length bytes ≤ 16777216) × AnswersRead (read_script bytes) p)
+    ⊎ ((length bytes ≤ 16777216) × AnswersText bytes p)
 
--- what a command prints over the bytes of its source; help and version are fixed texts
-abbrev pub Answers : List ℕ → List ℕ → Command → List ℕ → Printed → Type 0
-Answers help version command.Help bytes p = Says p help 0
-Answers help version command.Version bytes p = Says p version 0
-Answers help version command.Script bytes p = AnswersScript bytes p
-Answers help version command.Usage bytes p = Says p (codes "usage\n") 2
+-- what a command prints; a script is read from the source, which has these bytes where it tells them, and help and
+-- version are fixed texts
+abbrev pub Answers : List ℕ → List ℕ → Command → Type 0 → List ℕ → Printed → Type 0
+Answers help version command.Help tells bytes p = Says p help 0
+Answers help version command.Version tells bytes p = Says p version 0
+Answers help version command.Script tells bytes p = tells → AnswersScript bytes p
+Answers help version command.Usage tells bytes p = Says p (codes "usage\n") 2
 
--- the text behind what was written before, and the status
-pub record Prints (help version : List ℕ) (command : Command) (bytes before now : List ℕ) (status : ℕ) : Type 0 where
+-- the whole text of the answer behind what was written before, and its status
+pub record Prints (help version : List ℕ) (command : Command) (source_tells sink_tells : Type 0) (bytes before now : List ℕ) (status : ℕ) : Type 0 where
   pub printed : Printed
-  pub answers : Answers help version command bytes printed
-  pub wrote : now ≡ before ++ printed.text.items
+  pub answers : Answers help version command source_tells bytes printed
+  pub wrote : sink_tells → now ≡ before ++ printed.text.items
   pub ends : status ≡ printed.status
+
+-- a front of the text of the answer behind what was written before
+pub record PrintsFront (help version : List ℕ) (command : Command) (source_tells sink_tells : Type 0) (bytes before now : List ℕ) : Type 0 where
+  pub printed : Printed
+  pub answers : Answers help version command source_tells bytes printed
+  pub wrote : sink_tells → (count : ℕ) × (count ≤ length printed.text.items) × (now ≡ before ++ take count printed.text.items)
+
+-- the text is a script that completes its session
+pub record Completing (text : List ℕ) (script : Script) (segments : List (List Event)) : Type 0 where
+  pub short : length text ≤ 16777216
+  pub is_script : IsScript text script
+  pub can : CanComplete script segments
+
+-- memory ran out, or the status is 0 and the whole text of the completed session is written
+abbrev pub PrintsWhole : (text : List ℕ) (script : Script) (segments : List (List Event)) → Completing text script segments → List ℕ → List ℕ → ℕ → Type 0
+PrintsWhole text script segments c before now status = (status ≡ 4) ⊎ ((status ≡ 0) × (now ≡ before ++ completed_text script segments c.can))
+
+-- the text is a script that lists a call to fail, near to what was read, or to these bytes sent
+abbrev pub ListsFailure : List ℕ → List ℕ → Type 0
+ListsFailure text sent = (script : Script) × IsScript text script × FailsNear script sent
 
 -- bytes were taken, with at most one read more than bytes
 pub record TookFront (old new : SourceTape) : Type 0 where

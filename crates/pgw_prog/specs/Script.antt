@@ -1,7 +1,7 @@
 -- Session scripts: which lines may follow one another, and what they say together.
 use Rattle.std.specs.Prelude.{◌≡◌, ℕ, ◌+◌, List, [], ◌∷◌, ◌++◌, Bool, true, false, ◌==◌, Option, Some, None, Result, Ok, Err, if◌then◌else◌}
 use Rattle.std.specs.List.{slice_split}
-use Rattle.pgw_wire.specs.declared.context.ProtocolVersion.TheVariants as version
+use Rattle.pgw_types.specs.declared.context.ProtocolVersion.TheVariants as version
 use Rattle.pgw_prog.specs.declared.line.Line.{Line}
 use Rattle.pgw_prog.specs.declared.line.Line.TheVariants as line
 use Rattle.pgw_prog.specs.declared.script.Script.{Script}

@@ -4,8 +4,8 @@ ghost use Rattle.pgw_prog.specs.ErrorNames.{wire_name, client_name};
 
 use crate::pieces::put;
 use pgw_msg::client_error::PgWireClientError;
-use pgw_wire::error::PgWireError;
-use pgw_wire::memory::OutOfMemory;
+use pgw_types::error::PgWireError;
+use pgw_types::memory::OutOfMemory;
 
 #[tactic(auto, unfolding(crate::specs::ErrorNames::wire_name))]
 pub fn put_wire_name(out: &mut Vec<u8>, error: &PgWireError) -> Result<(), OutOfMemory>
@@ -54,7 +54,6 @@ pub fn put_wire_name(out: &mut Vec<u8>, error: &PgWireError) -> Result<(), OutOf
         PgWireError::FailedToParseParameter(..) => put(out, b"FailedToParseParameter"),
         PgWireError::QueryCanceled => put(out, b"QueryCanceled"),
         PgWireError::UserError(..) => put(out, b"UserError"),
-        PgWireError::NotYetBuilt => put(out, b"NotYetBuilt"),
     }
 }
 

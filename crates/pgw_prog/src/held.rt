@@ -1,5 +1,6 @@
 //! The session of a script.
-ghost use Rattle.std.specs.Prelude.{◌≡◌, ◌<◌, ◌≤◌, ◌||◌, nat_lt, [], None, IfOk, map};
+ghost use Rattle.std.specs.Prelude.{◌≡◌, ◌<◌, ◌≤◌, ◌||◌, nat_lt, [], None, IfOk, OnOk, IsErrOf, map};
+ghost use Rattle.pgw_msg.specs.declared.client_error.PgWireClientError.TheVariants as client;
 ghost use Rattle.pgw_prog.specs.Held.{config_of as config_for, request_of, joined as join, requests_of as all_requests, status_of as status_for, Prints, Holds};
 ghost use Rattle.pgw_link.specs.Calls.{is_reached};
 ghost use Rattle.pgw_link.specs.Memory.{tape_of, faults_of, listing_of};
@@ -13,16 +14,16 @@ use pgw_config::config::Config;
 use pgw_link::memory::MemoryLink;
 use pgw_msg::client_error::{PgWireClientError, PgWireClientResult};
 use pgw_session::types::{Request, SessionReport};
-use pgw_wire::listed::Duplicate;
-use pgw_wire::memory::OutOfMemory;
-use pgw_wire::octets::Octets;
-use pgw_wire::text::Text;
+use pgw_types::listed::Duplicate;
+use pgw_types::memory::OutOfMemory;
+use pgw_types::octets::Octets;
+use pgw_types::text::Text;
 use std::alloc::Global;
 
 fn config_of(alloc: Global, script: &Script) -> Result<Config, OutOfMemory>
     ensures { IfOk result (λ c. c ≡ config_for script.now) }
 {
-    let mut config = Config::new();
+    let mut config = Config::new(alloc);
     config.user(alloc, script.user.as_str())?;
     if let Some(password) = &script.password {
         config.password(alloc, password.as_str().as_bytes())?;
@@ -55,6 +56,7 @@ fn joined(alloc: Global, pieces: &[Octets]) -> Result<Octets, OutOfMemory>
 fn status_of(outcome: &PgWireClientResult<SessionReport>) -> Result<u8, OutOfMemory>
     ensures value { IfOk result (λ status. status ≡ status_for outcome.now) }
     ensures bound { IfOk result (λ status. status ≤ 1) }
+    ensures memory { OnOk result (IsErrOf outcome.now client.OutOfMemory → ⊥) }
 {
     match outcome {
         Ok(_) => Ok(0),
@@ -110,6 +112,7 @@ fn print_outcome(
 ) -> Result<Printed, OutOfMemory>
     ensures text { IfOk result (λ p. p.text.items ≡ session_text (tape_of link.now).wrote outcome.now) }
     ensures status { IfOk result (λ p. p.status ≡ status_for outcome.now) }
+    ensures memory { OnOk result (IsErrOf outcome.now client.OutOfMemory → ⊥) }
     ensures fails { IfOk result (λ p. nat_lt 0 (faults_of link.now) ≡ (is_reached (listing_of link.now).reads (tape_of link.now).reads || is_reached (listing_of link.now).writes (tape_of link.now).writes)) }
 {
     if link.was_short_of_memory() {

@@ -6,10 +6,10 @@ ghost use Rattle.std.specs.Char.{is_ascii_alphanumeric};
 ghost use Rattle.pgw_prog.specs.Line.{value_behind, name_in, number_in, text_in, is_name as names, cut_at_space as spaced, config_in, version_in, nonce_in, cut_in, bytes_in, later_line_of, setting_of, line_of, Moves};
 
 use hex::{FromHex, FromHexError};
-use pgw_wire::context::ProtocolVersion;
-use pgw_wire::memory::OutOfMemory;
-use pgw_wire::octets::Octets;
-use pgw_wire::text::Text;
+use pgw_types::context::ProtocolVersion;
+use pgw_types::memory::OutOfMemory;
+use pgw_types::octets::Octets;
+use pgw_types::text::Text;
 use std::alloc::Global;
 use std::str;
 

@@ -5,7 +5,7 @@ ghost use Rattle.std.specs.List.{flat_map};
 ghost use Rattle.pgw_prog.specs.Pieces.{in_hex, quoted, quoted_byte};
 
 use itoa::Buffer;
-use pgw_wire::memory::OutOfMemory;
+use pgw_types::memory::OutOfMemory;
 
 pub fn put(out: &mut Vec<u8>, text: &[u8]) -> Result<(), OutOfMemory>
     ensures { OnOk result (out.new.items ≡ out.old.items ++ text.now) }

@@ -8,17 +8,17 @@ ghost use Rattle.pgw_prog.specs.Printing.{sent_line, version_line, process_line,
 use crate::error_names::put_client_name;
 use crate::pieces::{put, put_decimal, put_hex, put_quoted, put_signed};
 use pgw_msg::client_error::PgWireClientError;
-use pgw_msg::data::DataRow;
 use pgw_msg::field_info::{FieldFormat, FieldInfo};
 use pgw_msg::pg_type::PgType;
-use pgw_msg::response::{ErrorResponse, TransactionStatus};
 use pgw_msg::tag::Tag;
+use pgw_query::data::DataRow;
+use pgw_query::response::{ErrorResponse, TransactionStatus};
 use pgw_session::types::{Answer, Response, SessionReport};
-use pgw_wire::context::ProtocolVersion;
-use pgw_wire::memory::OutOfMemory;
+use pgw_types::context::ProtocolVersion;
+use pgw_types::memory::OutOfMemory;
+use pgw_types::text::Text;
 use pgw_wire::params::Params;
 use pgw_wire::secret_key::SecretKey;
-use pgw_wire::text::Text;
 
 #[tactic(auto, unfolding(crate::specs::Printing::sent_line))]
 pub fn put_sent(out: &mut Vec<u8>, bytes: &[u8]) -> Result<(), OutOfMemory>

@@ -1,11 +1,14 @@
 //! The program: the words of the command line, the source and the sink.
-ghost use Rattle.std.specs.Prelude.{◌≡◌, ◌≢◌, ◌⊎◌, ◌<◌, ◌≤◌, ◌++◌, map, codes, decimal, string_bytes, IfOk, IfErr, OnOk, OnErr};
+ghost use Rattle.std.specs.Prelude.{◌≡◌, ◌≢◌, ◌⊎◌, ◌<◌, ◌≤◌, ◌++◌, ℕ, List, Err, map, codes, decimal, string_bytes, IfOk, IfErr, OnOk, OnErr};
 ghost use Rattle.pgw_link.specs.Tape.{Rose};
 ghost use Rattle.pgw_prog.specs.declared.command.Command.TheVariants as kind;
+ghost use Rattle.pgw_prog.specs.declared.program.Stop.TheVariants as stop;
 ghost use Rattle.pgw_prog.specs.Command.{command_for};
-ghost use Rattle.pgw_prog.specs.Program.{Says, AnswersRead, AnswersScript, Answers, Prints, TookFront, Appended, CountsStop};
-ghost use Rattle.pgw_prog.specs.Printing.{line_end};
-ghost use Rattle.pgw_prog.specs.Script.{read_script};
+ghost use Rattle.pgw_msg.specs.declared.client_error.PgWireClientError.TheVariants as client;
+ghost use Rattle.pgw_session.specs.Events.{Event};
+ghost use Rattle.pgw_prog.specs.declared.script.Script.{Script as TheScript};
+ghost use Rattle.pgw_prog.specs.Program.{Says, AnswersText, AnswersScript, Answers, Prints, PrintsFront, Completing, PrintsWhole, ListsFailure, TookFront, Appended, CountsStop};
+ghost use Rattle.pgw_prog.specs.Printing.{line_end, session_text};
 
 use crate::command::{Command, command_of};
 use crate::held::hold;
@@ -14,7 +17,7 @@ use crate::printed::Printed;
 use crate::script::{ScriptFault, parse};
 use crate::transfer::{ReadFault, read_whole, write_whole};
 use pgw_link::stream::{Sink, Source};
-use pgw_wire::memory::OutOfMemory;
+use pgw_types::memory::OutOfMemory;
 use std::alloc::Global;
 
 const VERSION: &str = "pgw_prog 0.1.0\n";
@@ -85,7 +88,7 @@ fn says_line(alloc: Global, number: u64) -> Result<Printed, OutOfMemory>
 
 /// Reads a script, and holds its session.
 fn answer_text(alloc: Global, text: &[u8]) -> Result<Printed, OutOfMemory>
-    ensures { IfOk result (AnswersRead (read_script text.now)) }
+    ensures { IfOk result (AnswersText text.now) }
 {
     match parse(alloc, text) {
         Ok(script) => hold(alloc, script),
@@ -112,8 +115,9 @@ fn answer<I: Source>(alloc: Global, command: Command, input: &mut I) -> Result<P
     ensures no_fault { OnOk result (I.faults input.new ≡ I.faults input.old) }
     ensures cause { IfErr result (λ e. CountsStop e (I.faults input.old) (I.faults input.new)) }
     ensures took { I.tells → TookFront (I.tape input.old) (I.tape input.new) }
-    ensures answers { I.tells → IfOk result (Answers HELP.now VERSION.now command (I.tape input.old).left) }
+    ensures answers { IfOk result (Answers HELP.now VERSION.now command I.tells (I.tape input.old).left) }
     ensures unread { command ≢ kind.Script → input.new ≡ input.old }
+    ensures source { IfErr result (λ e. e ≡ stop.Source → command ≡ kind.Script) }
 {
     match command {
         Command::Script => answer_script(alloc, input),
@@ -135,16 +139,26 @@ pub fn run_program<I: Source, O: Sink>(
     _nonce: &[u8; 18],
     _words32: &[u8; 32],
 ) -> u8
-    // The text of the answer is written, and its status is returned.
-    ensures prints { I.tells → O.tells → ¬ (Rose (I.faults input.old) (I.faults input.new)) → ¬ (Rose (O.faults output.old) (O.faults output.new)) → result ≢ 4 →
-        Prints HELP.now VERSION.now (command_for (map string_bytes words.now)) (I.tape input.old).left (O.tape output.old).wrote (O.tape output.new).wrote result }
     ensures status { result ≤ 4 }
-    // Status 3 comes only where a call of the source or of the sink failed, and wherever one did.
-    ensures fault { result ≡ 3 → Rose (I.faults input.old) (I.faults input.new) ⊎ Rose (O.faults output.old) (O.faults output.new) }
+    // At 0, 1 and 2 the whole text of the answer is written, and the status is the answer's.
+    ensures prints { result ≤ 2 → Prints HELP.now VERSION.now (command_for (map string_bytes words.now)) I.tells O.tells (I.tape input.old).left (O.tape output.old).wrote (O.tape output.new).wrote result }
+    // 3 comes only where a read for a script failed, and then nothing is written, or where a write failed: what is
+    // written then is a front of the text.
+    ensures fault { result ≡ 3 →
+        ((command_for (map string_bytes words.now) ≡ kind.Script) × Rose (I.faults input.old) (I.faults input.new) × (output.new ≡ output.old))
+        ⊎ (Rose (O.faults output.old) (O.faults output.new) × PrintsFront HELP.now VERSION.now (command_for (map string_bytes words.now)) I.tells O.tells (I.tape input.old).left (O.tape output.old).wrote (O.tape output.new).wrote) }
+    // It comes wherever one failed.
     ensures source_fault { I.faults input.old < I.faults input.new → (result ≡ 3) × (output.new ≡ output.old) }
     ensures sink_fault { O.faults output.old < O.faults output.new → result ≡ 3 }
-    // Where memory ran out nothing is written.
+    // At 4 memory ran out, and nothing is written.
     ensures silent { result ≡ 4 → output.new ≡ output.old }
+    // A script that lists no call to fail, and whose server's bytes complete its session, is printed whole.
+    ensures completes { I.tells → O.tells → ¬ (Rose (I.faults input.old) (I.faults input.new)) → ¬ (Rose (O.faults output.old) (O.faults output.new)) → command_for (map string_bytes words.now) ≡ kind.Script →
+        (script : TheScript) (segments : List (List Event)) (c : Completing (I.tape input.old).left script segments) → PrintsWhole (I.tape input.old).left script segments c (O.tape output.old).wrote (O.tape output.new).wrote result }
+    // IoError is printed only of a script that lists a read at most one more than the bytes read, or a write at most one
+    // more than the bytes sent.
+    ensures io { I.tells → O.tells → command_for (map string_bytes words.now) ≡ kind.Script → result ≡ 1 → (sent : List ℕ) →
+        (O.tape output.new).wrote ≡ (O.tape output.old).wrote ++ session_text sent (Err client.IoError) → ListsFailure (I.tape input.old).left sent }
     // At most one read more than bytes read, and one write more than bytes written. Only a script is read.
     ensures reads { I.tells → TookFront (I.tape input.old) (I.tape input.new) }
     ensures writes { O.tells → Appended (O.tape output.old) (O.tape output.new) }

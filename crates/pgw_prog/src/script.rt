@@ -4,11 +4,11 @@ ghost use Rattle.pgw_prog.specs.Line.{Moves};
 ghost use Rattle.pgw_prog.specs.Script.{first_script, with_line, place_of as place_for, may_follow as follows, may_end as ends, lines_of, step, read_script, Reads};
 
 use crate::line::{Line, read_line};
-use pgw_wire::context::ProtocolVersion;
-use pgw_wire::listed::Listed;
-use pgw_wire::memory::OutOfMemory;
-use pgw_wire::octets::Octets;
-use pgw_wire::text::Text;
+use pgw_types::context::ProtocolVersion;
+use pgw_types::listed::Listed;
+use pgw_types::memory::OutOfMemory;
+use pgw_types::octets::Octets;
+use pgw_types::text::Text;
 use std::alloc::Global;
 
 /// A session to be held over a link in memory.

@@ -1,7 +1,7 @@
 use crate::program::run_program;
 use pgw_link::memory_stream::{MemorySink, MemorySource};
-use pgw_wire::listed::Listed;
-use pgw_wire::octets::Octets;
+use pgw_types::listed::Listed;
+use pgw_types::octets::Octets;
 use std::alloc::Global;
 use std::test::Fail;
 
@@ -9,7 +9,7 @@ use std::test::Fail;
 fn ran(
     alloc: Global,
     words: &[&str],
-    script: &str,
+    script: &[u8],
     fail_reads: &[u64],
     fail_writes: &[u64],
 ) -> Result<(Vec<u8>, u8), Fail> {
@@ -17,7 +17,7 @@ fn ran(
     for word in words {
         list.push(String::from_str(alloc, word)?)?;
     }
-    let bytes = Octets::from_slice(alloc, script.as_bytes())?;
+    let bytes = Octets::from_slice(alloc, script)?;
     let mut input = MemorySource::new(bytes, 100, numbers(alloc, fail_reads)?);
     let mut output = MemorySink::new(alloc, 7, numbers(alloc, fail_writes)?);
     let status = run_program(alloc, &list, &mut input, &mut output, &[0; 18], &[0; 32]);
@@ -97,7 +97,7 @@ fn script_select_one(rt: HostRuntime) -> Result<(), Fail> {
     for (middle, sent, rest, status) in cases {
         let script = joined(alloc, &[HEAD, middle, SELECT])?;
         let want = joined(alloc, &[sent, rest])?;
-        let (text, ended) = ran(alloc, &[], script.as_str(), &[], &[])?;
+        let (text, ended) = ran(alloc, &[], script.as_str().as_bytes(), &[], &[])?;
         assert_eq!(rt; text.as_slice(), want.as_str().as_bytes(), "{middle}");
         assert_eq!(rt; ended, status);
     }
@@ -221,7 +221,7 @@ fn script_startups(rt: HostRuntime) -> Result<(), Fail> {
     for (config, protocol, rest, sent, told_back) in cases {
         let script = told(alloc, config, protocol, rest)?;
         let want = joined(alloc, &[sent, told_back])?;
-        let (text, _) = ran(alloc, &["script"], script.as_str(), &[], &[])?;
+        let (text, _) = ran(alloc, &["script"], script.as_str().as_bytes(), &[], &[])?;
         assert_eq!(rt; text.as_slice(), want.as_str().as_bytes(), "{rest}");
     }
     Ok(())
@@ -255,8 +255,20 @@ done \"ROLLBACK\"
 #[test]
 fn script_answers(rt: HostRuntime) -> Result<(), Fail> {
     let alloc = rt.alloc();
-    let cases: [(&str, &str); 2] = [
+    let cases: [(&str, &str); 5] = [
         (TRANSACTION, ANSWERED),
+        (
+            "server 53 0000000f 612200 5c017fffc3a90a00 5a 00000005 54\n",
+            "parameter \"a\\\"\" \"\\\\\\x01\\x7f\u{fffd}é\\x0a\"\nstatus T\n",
+        ),
+        (
+            "simple \nserver 5a0000000549 43 00000008 22ff5c00 5a0000000549\n",
+            "answer 1 responses 1\ndone \"\\\"\u{fffd}\\\\\"\n",
+        ),
+        (
+            "simple \nserver 5a0000000549 45 00000009 4d 220a00 00 5a0000000549\n",
+            "answer 1 remote\nitem 4d \"\\\"\\x0a\"\n",
+        ),
         (
             "simple \nserver 52 00000008 00000000 5a 00000005 49 49 00000004 5a 00000005 45\n",
             "status E\nanswer 1 responses 1\nempty\n",
@@ -264,7 +276,7 @@ fn script_answers(rt: HostRuntime) -> Result<(), Fail> {
     ];
     for (rest, want) in cases {
         let script = told(alloc, "user=bob", "", rest)?;
-        let (text, status) = ran(alloc, &[], script.as_str(), &[], &[])?;
+        let (text, status) = ran(alloc, &[], script.as_str().as_bytes(), &[], &[])?;
         let (_, end) = text.split_at(text.len().saturating_sub(want.len()));
         assert_eq!(rt; end, want.as_bytes(), "{rest}");
         assert_eq!(rt; status, 0);
@@ -272,128 +284,120 @@ fn script_answers(rt: HostRuntime) -> Result<(), Fail> {
     Ok(())
 }
 
+// The last line, where the only query is answered with an error or with a message that has no place.
+#[test]
+fn failing_queries(rt: HostRuntime) -> Result<(), Fail> {
+    let alloc = rt.alloc();
+    let failed = "server 45 00000019 53 4552524f5200 43 585830303000 4d 626f6f6d00 00\n";
+    let cases: [(&str, &str, &str); 5] = [
+        (failed, "1000", "error RemoteError\n"),
+        (failed, "41", "error ReadLimit\n"),
+        (
+            "server 41 0000000a 00000007 00 00 5a 00000005 49\n",
+            "1000",
+            "error UnexpectedMessage\n",
+        ),
+        (
+            "server 41 0000000a 00000007 00 00\n",
+            "1000",
+            "error UnexpectedMessage\n",
+        ),
+        (
+            "server 41 0000000a 00000007 00 00 ff 00\n",
+            "1000",
+            "error PgWireError/InvalidMessageType\n",
+        ),
+    ];
+    for (rest, limit, want) in cases {
+        let script = joined(
+            alloc,
+            &[
+                HEAD,
+                "limit ",
+                limit,
+                "\ncut 1000\nsimple FAIL\nserver 52 00000008 00000000 5a 00000005 49\n",
+                rest,
+            ],
+        )?;
+        let want = joined(
+            alloc,
+            &[
+                "sent 00000012000300007573657200626f62000051000000094641494c00\n",
+                want,
+            ],
+        )?;
+        let (text, status) = ran(alloc, &[], script.as_str().as_bytes(), &[], &[])?;
+        assert_eq!(rt; text.as_slice(), want.as_str().as_bytes(), "{rest}");
+        assert_eq!(rt; status, 1);
+    }
+    Ok(())
+}
+
+const BOB: &[u8] = b"config user=bob\n";
+
+const NONCE: &[u8] = b"config user=bob\nnonce 000000000000000000000000000000000000\n";
+
+const CUT: &[u8] =
+    b"config user=bob\nnonce 000000000000000000000000000000000000\nlimit 1000\ncut 1\n";
+
+// Each kind of line wrong in turn, and the line that is missing.
 #[test]
 fn script_faults(rt: HostRuntime) -> Result<(), Fail> {
     let alloc = rt.alloc();
-    let nonce = "nonce 000000000000000000000000000000000000\n";
-    let cases: [(&[&str], &str); 34] = [
-        (&[], "line 1\n"),
-        (&["\n"], "line 1\n"),
-        (&["config user=\n"], "line 1\n"),
-        (&["config user=b-b\n"], "line 1\n"),
-        (&["config user=bob \n"], "line 1\n"),
-        (&["config user=bob password=\n"], "line 1\n"),
-        (&["config user=bob  password=a\n"], "line 1\n"),
-        (&["config user=bob password=a \n"], "line 1\n"),
-        (&["config user=bob\r\n"], "line 1\n"),
-        (&["config password=a user=bob\n"], "line 1\n"),
-        (&["nonce 00\n"], "line 1\n"),
-        (&["config user=bob\n"], "line 2\n"),
-        (&["config user=bob\nprotocol 3.1\n"], "line 2\n"),
+    let cases: [(&[u8], &[u8], &[u8]); 39] = [
+        (b"", b"", b"line 1\n"),
+        (b"", b"\n", b"line 1\n"),
+        (b"", b"config user=\n", b"line 1\n"),
+        (b"", b"config user=b-b\n", b"line 1\n"),
+        (b"", b"config user=bob \n", b"line 1\n"),
+        (b"", b"config user=bob password=\n", b"line 1\n"),
+        (b"", b"config user=bob  password=a\n", b"line 1\n"),
+        (b"", b"config user=bob password=a \n", b"line 1\n"),
+        (b"", b"config user=bob\r\n", b"line 1\n"),
+        (b"", b"config password=a user=bob\n", b"line 1\n"),
+        (b"", b"nonce 00\n", b"line 1\n"),
+        (BOB, b"", b"line 2\n"),
+        (BOB, b"protocol 3.1\n", b"line 2\n"),
+        (BOB, b"protocol 3.0 \n", b"line 2\n"),
+        (BOB, b"protocol 3.0\nprotocol 3.0\n", b"line 3\n"),
         (
-            &["config user=bob\nprotocol 3.0\nprotocol 3.0\n"],
-            "line 3\n",
+            BOB,
+            b"nonce 00000000000000000000000000000000000\n",
+            b"line 2\n",
         ),
         (
-            &["config user=bob\nnonce 00000000000000000000000000000000000\n"],
-            "line 2\n",
+            BOB,
+            b"nonce 00000000000000000000000000000000000g\n",
+            b"line 2\n",
         ),
-        (
-            &["config user=bob\nnonce 00000000000000000000000000000000000g\n"],
-            "line 2\n",
-        ),
-        (&["config user=bob\nnonce -\n"], "line 2\n"),
-        (&["config user=bob\n", nonce, "limit -1\n"], "line 3\n"),
-        (
-            &["config user=bob\n", nonce, "limit 18446744073709551616\n"],
-            "line 3\n",
-        ),
-        (&["config user=bob\n", nonce, "limit 1000\n"], "line 4\n"),
-        (
-            &["config user=bob\n", nonce, "limit 1000\ncut 0\n"],
-            "line 4\n",
-        ),
-        (
-            &["config user=bob\n", nonce, "limit 1000\ncut 65537\n"],
-            "line 4\n",
-        ),
-        (
-            &["config user=bob\n", nonce, "limit 1000\ncut +\n"],
-            "line 4\n",
-        ),
-        (
-            &["config user=bob\n", nonce, "limit 1000\ncut 1\n\n"],
-            "line 5\n",
-        ),
-        (
-            &["config user=bob\n", nonce, "limit 1000\ncut 1\nfail read\n"],
-            "line 5\n",
-        ),
-        (
-            &[
-                "config user=bob\n",
-                nonce,
-                "limit 1000\ncut 1\nfail flush 1\n",
-            ],
-            "line 5\n",
-        ),
-        (
-            &[
-                "config user=bob\n",
-                nonce,
-                "limit 1000\ncut 1\nfail write 1\nsimple\n",
-            ],
-            "line 6\n",
-        ),
-        (
-            &[
-                "config user=bob\n",
-                nonce,
-                "limit 1000\ncut 1\nsimple a\nfail read 1\n",
-            ],
-            "line 6\n",
-        ),
-        (
-            &["config user=bob\n", nonce, "limit 1000\ncut 1\nserver 5\n"],
-            "line 5\n",
-        ),
-        (
-            &[
-                "config user=bob\n",
-                nonce,
-                "limit 1000\ncut 1\nserver 5 a a\n",
-            ],
-            "line 5\n",
-        ),
-        (
-            &["config user=bob\n", nonce, "limit 1000\ncut 1\nserver -\n"],
-            "line 5\n",
-        ),
-        (
-            &[
-                "config user=bob\n",
-                nonce,
-                "limit 1000\ncut 1\nserver \nsimple a\n",
-            ],
-            "line 6\n",
-        ),
-        (
-            &[
-                "config user=bob\n",
-                nonce,
-                "limit 1000\ncut 1\nprepare - - a\n",
-            ],
-            "line 5\n",
-        ),
-        (
-            &["config user=bob\nlimit 1000\n", nonce, "cut 1\nserver x\n"],
-            "line 2\n",
-        ),
+        (BOB, b"nonce -\n", b"line 2\n"),
+        (BOB, b"limit 1000\nserver x\n", b"line 2\n"),
+        (NONCE, b"limit -1\n", b"line 3\n"),
+        (NONCE, b"limit 18446744073709551616\n", b"line 3\n"),
+        (NONCE, b"limit 1000\n", b"line 4\n"),
+        (NONCE, b"limit 1000\ncut 0\n", b"line 4\n"),
+        (NONCE, b"limit 1000\ncut 65537\n", b"line 4\n"),
+        (NONCE, b"limit 1000\ncut +\n", b"line 4\n"),
+        (CUT, b"\n", b"line 5\n"),
+        (CUT, b"fail read\n", b"line 5\n"),
+        (CUT, b"fail read 18446744073709551616\n", b"line 5\n"),
+        (CUT, b"fail write 1 \n", b"line 5\n"),
+        (CUT, b"fail flush 1\n", b"line 5\n"),
+        (CUT, b"fail write 1\nsimple\n", b"line 6\n"),
+        (CUT, b"simple a\nfail read 1\n", b"line 6\n"),
+        (CUT, b"server 5\n", b"line 5\n"),
+        (CUT, b"server 5 a a\n", b"line 5\n"),
+        (CUT, b"server 5g\n", b"line 5\n"),
+        (CUT, b"server -\n", b"line 5\n"),
+        (CUT, b"server \nsimple a\n", b"line 6\n"),
+        (CUT, b"prepare - - a\n", b"line 5\n"),
+        (CUT, b"simple \xff\n", b"line 5\n"),
     ];
-    for (parts, want) in cases {
-        let script = joined(alloc, parts)?;
-        let (text, status) = ran(alloc, &["script"], script.as_str(), &[], &[])?;
-        assert_eq!(rt; text.as_slice(), want.as_bytes(), "{}", script.as_str());
+    for (front, rest, want) in cases {
+        let mut script = front.to_vec(alloc)?;
+        script.extend_from_slice(rest)?;
+        let (text, status) = ran(alloc, &["script"], &script, &[], &[])?;
+        assert_eq!(rt; text.as_slice(), want);
         assert_eq!(rt; status, 2);
     }
     Ok(())
@@ -402,11 +406,13 @@ fn script_faults(rt: HostRuntime) -> Result<(), Fail> {
 #[test]
 fn other_commands(rt: HostRuntime) -> Result<(), Fail> {
     let alloc = rt.alloc();
-    let cases: [(&[&str], &str, u8); 6] = [
+    let cases: [(&[&str], &str, u8); 8] = [
         (&["usage"], "usage\n", 2),
         (&["script", "script"], "usage\n", 2),
         (&["--help", "script"], "usage\n", 2),
+        (&["--version", "--version"], "usage\n", 2),
         (&["Script"], "usage\n", 2),
+        (&[""], "usage\n", 2),
         (&["--version"], "pgw_prog 0.1.0\n", 0),
         (
             &["--help"],
@@ -415,7 +421,7 @@ fn other_commands(rt: HostRuntime) -> Result<(), Fail> {
         ),
     ];
     for (words, want, status) in cases {
-        let (text, ended) = ran(alloc, words, "", &[1], &[])?;
+        let (text, ended) = ran(alloc, words, b"", &[1], &[])?;
         let (front, _) = text.split_at(want.len().min(text.len()));
         assert_eq!(rt; front, want.as_bytes());
         assert_eq!(rt; ended, status);
@@ -423,8 +429,9 @@ fn other_commands(rt: HostRuntime) -> Result<(), Fail> {
     Ok(())
 }
 
+// The second read of the source, and the third write to the sink, move what is left.
 #[test]
-fn failing_source_and_sink(rt: HostRuntime) -> Result<(), Fail> {
+fn sink_fault(rt: HostRuntime) -> Result<(), Fail> {
     let alloc = rt.alloc();
     let script = joined(alloc, &[HEAD, "limit 1000\ncut 1000\n", SELECT])?;
     let cases: [(&[u64], &[u64], &str); 4] = [
@@ -434,25 +441,69 @@ fn failing_source_and_sink(rt: HostRuntime) -> Result<(), Fail> {
         (&[], &[3], "sent 000000120"),
     ];
     for (fail_reads, fail_writes, want) in cases {
-        let (text, status) = ran(alloc, &[], script.as_str(), fail_reads, fail_writes)?;
+        let (text, status) = ran(
+            alloc,
+            &[],
+            script.as_str().as_bytes(),
+            fail_reads,
+            fail_writes,
+        )?;
         assert_eq!(rt; text.as_slice(), want.as_bytes());
         assert_eq!(rt; status, 3);
     }
     Ok(())
 }
 
+const ROW: &str = "server 44 0000000b 0001 00000001 31\n";
+
+const ROWS: usize = 10000;
+
+// A script of this length, whose server sends many rows. Its last line is filled up with spaces.
+fn long_script(alloc: Global, length: usize) -> Result<Vec<u8>, Fail> {
+    let mut text = joined(
+        alloc,
+        &[
+            HEAD,
+            "limit 100000000\ncut 65536\nsimple SELECT 1\nserver 52 00000008 00000000 5a 00000005 49\n",
+            "server 54 0000001a 0001 6100 00000000 0000 00000017 0004 ffffffff 0000\n",
+        ],
+    )?;
+    for _ in 0..ROWS {
+        text.push_str(ROW)?;
+    }
+    text.push_str("server 43 0000000d 53454c454354203100 5a 00000005 49\nserver ")?;
+    let mut bytes = text.as_bytes().to_vec(alloc)?;
+    let blanks = vec![in alloc; b' '; length.saturating_sub(text.len())]?;
+    bytes.extend_from_slice(&blanks)?;
+    Ok(bytes)
+}
+
+// What is printed of it.
+fn long_report(alloc: Global) -> Result<String, Fail> {
+    let mut text = joined(alloc, &[SENT, REPORT])?;
+    for _ in 1..ROWS {
+        text.push_str("row 1 0000000131\n")?;
+    }
+    Ok(text)
+}
+
 #[test]
 fn script_too_long(rt: HostRuntime) -> Result<(), Fail> {
     let alloc = rt.alloc();
-    let cases: [(usize, &str); 2] = [(16777216, "line 1\n"), (16777217, "script too long\n")];
-    for (length, want) in cases {
-        let bytes = vec![in alloc; b' '; length]?;
-        let bytes = Octets::from_slice(alloc, &bytes)?;
+    let report = long_report(alloc)?;
+    let cases: [(usize, &str, u8); 2] = [
+        (16777216, report.as_str(), 0),
+        (16777217, "script too long\n", 2),
+    ];
+    for (length, want, ended) in cases {
+        let script = long_script(alloc, length)?;
+        assert_eq!(rt; script.len(), length);
+        let bytes = Octets::from_slice(alloc, &script)?;
         let mut input = MemorySource::new(bytes, 65536, Listed::new(alloc));
-        let mut output = MemorySink::new(alloc, 1000, Listed::new(alloc));
+        let mut output = MemorySink::new(alloc, 65536, Listed::new(alloc));
         let status = run_program(alloc, &[], &mut input, &mut output, &[0; 18], &[0; 32]);
-        assert_eq!(rt; output.written(), want.as_bytes());
-        assert_eq!(rt; status, 2);
+        assert!(rt; output.written() == want.as_bytes());
+        assert_eq!(rt; status, ended);
     }
     Ok(())
 }

@@ -3,8 +3,8 @@ use Rattle.std.specs.Prelude.{ℕ, List, [], ◌∷◌, slice_index}
 use Rattle.std.specs.Int.{w32, cast_signed, from_be_bytes}
 use Rattle.pgw_wire.specs.declared.secret_key.SecretKey.{SecretKey}
 use Rattle.pgw_wire.specs.declared.secret_key.SecretKey.TheVariants.{I32, Bytes}
-use Rattle.pgw_wire.specs.declared.context.ProtocolVersion.{ProtocolVersion}
-use Rattle.pgw_wire.specs.declared.context.ProtocolVersion.TheVariants.{PROTOCOL3_0, PROTOCOL3_2, PROTOCOL3_9999}
+use Rattle.pgw_types.specs.declared.context.ProtocolVersion.{ProtocolVersion}
+use Rattle.pgw_types.specs.declared.context.ProtocolVersion.TheVariants.{PROTOCOL3_0, PROTOCOL3_2, PROTOCOL3_9999}
 
 -- the first four of the words
 abbrev pub first_four : List ℕ → List ℕ

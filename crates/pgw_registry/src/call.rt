@@ -1,6 +1,6 @@
 //! Calls of the registry and what it answers, and the parts of its state.
 
-use pgw_wire::octets::Octets;
+use pgw_types::octets::Octets;
 
 /// How far a query is.
 #[derive(Clone, Copy, Debug, PartialEq, Eq)]

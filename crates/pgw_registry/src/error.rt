@@ -1,7 +1,7 @@
 //! Why a call is refused.
 ghost use Rattle.std.specs.Prelude.{◌≡◌};
 
-use pgw_wire::memory::OutOfMemory;
+use pgw_types::memory::OutOfMemory;
 
 /// Why the registry refuses a call.
 #[derive(Clone, Copy, Debug, PartialEq, Eq)]

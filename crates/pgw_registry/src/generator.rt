@@ -1,6 +1,6 @@
 //! Process numbers and keys, which threads draw through seats of their own.
 ghost use Rattle.std.specs.Prelude.{◌≡◌, ◌⊎◌, ℕ, ◌+◌, ◌<◌, ◌≤◌, Bool, true, false, leb, List, [], ◌∷◌, ◌++◌, IfOk, IfErr, pos, ◌≤ℤ◌};
-ghost use Rattle.pgw_wire.specs.declared.context.ProtocolVersion.TheVariants.{PROTOCOL3_0};
+ghost use Rattle.pgw_types.specs.declared.context.ProtocolVersion.TheVariants.{PROTOCOL3_0};
 ghost use Rattle.pgw_registry.specs.declared.error.PidError.TheVariants.{PidsExhausted};
 ghost use Rattle.pgw_registry.specs.Numbers.{IsDistinct, above, saw, drew, settled, newcomer, both_of};
 ghost use Rattle.pgw_registry.specs.Seats.{Numbers as Listing};
@@ -11,8 +11,8 @@ use crate::error::PidError;
 use crate::key::key_for;
 use crate::numbers::{Compares, Draws, DrawsForSeat, Looks, Place, Seats, Word};
 use atomic_table::Table;
-use pgw_wire::context::ProtocolVersion;
-use pgw_wire::memory::OutOfMemory;
+use pgw_types::context::ProtocolVersion;
+use pgw_types::memory::OutOfMemory;
 use pgw_wire::secret_key::SecretKey;
 use std::alloc::Global;
 use std::marker::Model;

@@ -1,11 +1,11 @@
 //! Keys of connections.
 ghost use Rattle.std.specs.Prelude.{◌≡◌, IfOk, IsOk};
 ghost use Rattle.pgw_registry.specs.Key.{key_of};
-ghost use Rattle.pgw_wire.specs.declared.context.ProtocolVersion.TheVariants.{PROTOCOL3_0};
+ghost use Rattle.pgw_types.specs.declared.context.ProtocolVersion.TheVariants.{PROTOCOL3_0};
 
-use pgw_wire::context::ProtocolVersion;
-use pgw_wire::memory::OutOfMemory;
-use pgw_wire::octets::Octets;
+use pgw_types::context::ProtocolVersion;
+use pgw_types::memory::OutOfMemory;
+use pgw_types::octets::Octets;
 use pgw_wire::secret_key::SecretKey;
 use std::alloc::Global;
 

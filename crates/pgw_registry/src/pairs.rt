@@ -7,8 +7,8 @@ ghost use Rattle.std.specs.Map.{lookup};
 ghost use Rattle.pgw_registry.specs.Pairs.{bytes_cmp, pair_cmp};
 ghost use Rattle.pgw_registry.specs.Nested.{at_key, at_pair};
 
-use pgw_wire::memory::OutOfMemory;
-use pgw_wire::octets::Octets;
+use pgw_types::memory::OutOfMemory;
+use pgw_types::octets::Octets;
 use std::alloc::Global;
 use std::collections::BTreeMap;
 use std::marker::Model;

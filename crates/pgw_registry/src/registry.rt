@@ -12,8 +12,8 @@ use crate::call::{Handle, Phase};
 use crate::error::{LookError, RegistryError};
 use crate::numbered::Numbered;
 use crate::pairs::{Pair, Pairs};
-use pgw_wire::listed::Duplicate;
-use pgw_wire::octets::Octets;
+use pgw_types::listed::Duplicate;
+use pgw_types::octets::Octets;
 use std::alloc::Global;
 use std::marker::Model;
 

@@ -1,6 +1,6 @@
 -- The next message is refused exactly where it makes no legal prefix.
 use Rattle.std.proofs.Common.{◌≡◌, ℕ, List, [], ◌∷◌, ◌++◌, length, drop, map, inr, refl, ◌∙◌, ap, sym, subst, append_assoc}
-use Rattle.pgw_wire.specs.declared.context.ProtocolVersion.{ProtocolVersion}
+use Rattle.pgw_types.specs.declared.context.ProtocolVersion.{ProtocolVersion}
 use Rattle.pgw_msg.specs.declared.backend.PgWireBackendMessage.{PgWireBackendMessage as Backend}
 use Rattle.pgw_msg.specs.Front.{front, More, Spells}
 use Rattle.pgw_config.specs.declared.config.Config.{Config}

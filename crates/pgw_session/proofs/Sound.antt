@@ -2,14 +2,14 @@
 use Rattle.std.proofs.Common.{◌≡◌, ℕ, List, [], ◌∷◌, ◌++◌, length, take, drop, map, zero, suc, Option, Some, None, Result, Ok, Err, slice_get, Bool, true, false, inl, inr, arith, refl, ◌∙◌, ap, sym, subst, append_assoc, length-append}
 use Rattle.std.proofs.lemmas.List.{append-nil, length_push, take-append-le, take-append-drop, take_all}
 use Rattle.std.proofs.lemmas.Bool.{cases_lt}
-use Rattle.pgw_wire.specs.declared.error.PgWireError.{PgWireError}
-use Rattle.pgw_wire.specs.declared.context.ProtocolVersion.{ProtocolVersion}
+use Rattle.pgw_types.specs.declared.error.PgWireError.{PgWireError}
+use Rattle.pgw_types.specs.declared.context.ProtocolVersion.{ProtocolVersion}
 use Rattle.pgw_startup.specs.declared.authentication.Authentication.TheVariants as authentication
 use Rattle.pgw_msg.specs.declared.backend.PgWireBackendMessage.{PgWireBackendMessage as Backend}
 use Rattle.pgw_msg.specs.declared.backend.PgWireBackendMessage.TheVariants as backend
 use Rattle.pgw_msg.specs.declared.frontend.PgWireFrontendMessage.{PgWireFrontendMessage as Frontend}
 use Rattle.pgw_msg.specs.declared.frontend.PgWireFrontendMessage.TheVariants as frontend
-use Rattle.pgw_msg.specs.declared.response.ReadyForQuery.{ReadyForQuery}
+use Rattle.pgw_query.specs.declared.response.ReadyForQuery.{ReadyForQuery}
 use Rattle.pgw_msg.specs.declared.client_error.PgWireClientError.TheVariants as client
 use Rattle.pgw_msg.specs.Front.{front, Front, More, Bad, Whole, Spells}
 use Rattle.pgw_msg.specs.Frontend.{encodings}
@@ -23,14 +23,14 @@ use Rattle.pgw_session.specs.declared.stage.Next.{Next}
 use Rattle.pgw_session.specs.declared.stage.Next.TheVariants.{Goes, Closes, Wrong, Refuses, Spoils}
 use Rattle.pgw_session.specs.Events.{Event, Sent, Got, joined}
 use Rattle.pgw_session.specs.Standings.{first_standing, standing_of}
-use Rattle.pgw_session.specs.Segments.{IsStartupSegment, IsQuiet, IsSimple, startup_message, sends_of, is_ready}
+use Rattle.pgw_session.specs.Segments.{IsQuiet, IsSimple, startup_message, sends_of, is_ready}
 use Rattle.pgw_session.specs.Transcript.{AreSegments, IsTranscript, IsLegalPrefix, SpellsGot, EncodesSent, opening_at, opened_by}
-use Rattle.pgw_session.specs.Failures.{IsUnsupportedLogin}
+use Rattle.pgw_session.specs.Failures.{Awaits, PassedOver, HasLogin, HasError, IsUnsupportedLogin}
 use Rattle.pgw_session.specs.Course.{Move, On, Ends, Course, Waits, Over, onto, eat, feed, run}
 use Rattle.pgw_session.specs.Talk.{Talk, Ending, Outcome, Complete, Unencoded, Stopped, between, said, after, stage_for, moves, opens, opening, sending, replies, drains, turn, heard_of, refusal_of, talk_rules, beginning, conversation, HasRefused}
 use Rattle.pgw_session.proofs.Hears.{hear, hear_append, gots, gots_append, gots_sends}
 use Rattle.pgw_session.proofs.Events.{clean_heard, joined_more, got_more, got_sends, put_on_sends, Grown, turn_grown}
-use Rattle.pgw_session.proofs.Grammar.{Rest, RestBy, by_rest, rest_nil, some_rest, is_segment, IsLogin, login_before, request_stage, IsRefusal, refuses_error, IsSimpleStage, simple_goes, simple_not_wrong, simple_request, reply_before}
+use Rattle.pgw_session.proofs.Grammar.{Rest, RestBy, by_rest, some_got, some_rest, is_segment, IsLogin, login_before, request_stage, IsRefusal, refuses_error, IsSimpleStage, simple_goes, simple_from, simple_spoils, simple_opening, simple_not_wrong, simple_request, LoginAt, login_goes, request_login, wrong_unnamed, unsupported_first, reply_before}
 use Rattle.pgw_session.proofs.Whole.{Heard, no_place}
 
 -- a segment is open: what ends it and segments of the requests behind it make a transcript with what has come
@@ -38,7 +38,9 @@ pub record Open (config : Config) (requests : List Request) (t : Talk) : Type 0 
   pub completes : (es : List Event) (segments : List (List Event)) → Rest config t.stage es → AreSegments (drop (length t.closed) requests) segments
       → IsTranscript config requests (t.closed ++ (t.open_events ++ es) ∷ segments)
   pub simple : IsSimple t.open_events → IsSimpleStage t.stage
+  pub simple_events : IsSimpleStage t.stage → IsSimple t.open_events
   pub first : IsLogin t.stage → t.closed ≡ []
+  pub login : LoginAt t.stage t.open_events
   pub begins : (more : List Event) × (t.open_events ≡ map Sent (opening_at config requests (length t.closed)) ++ more)
 
 pub some_segments : (config : Config) (qs : List Request) → (segments : List (List Event)) × AreSegments qs segments
@@ -62,21 +64,26 @@ open_legal config requests t is_open =
       opening = inr is_open.begins;
     })
 
--- the messages passed over: the first had no place, and none of the others is ReadyForQuery
+-- what comes next in it is a message of the server
+pub open_awaits : (config : Config) (requests : List Request) (t : Talk) → Open config requests t → Awaits config requests t.closed t.open_events
+open_awaits config requests t is_open =
+    let got = some_got config t.stage in
+    let later = some_segments config (drop (length t.closed) requests) in
+    record { next = got.0; rest = got.1; later = later.0; transcript = is_open.completes (Got got.0 ∷ got.1) later.0 got.2 later.1; opening = is_open.begins }
+
+-- the messages passed over
 abbrev pub Skipped : Config → List Request → Talk → List Backend → Type 0
-Skipped config requests t [] = Unit {0}
-Skipped config requests t (m ∷ ms) = (IsLegalPrefix config requests (said t ++ Got m ∷ []) → ⊥) × IsQuiet ms
+Skipped config requests t ms = PassedOver config requests t.closed t.open_events ms
 
 -- why a message had no place: it is next; or it was passed over, and ReadyForQuery is next
 abbrev pub Misplaces : Config → List Request → Talk → List ℕ → Backend → List Backend → Type 0
-Misplaces config requests t rest m [] = (len : ℕ) × (front (standing_of config (heard_of t)).version rest ≡ Whole m len) × (IsLegalPrefix config requests (said t ++ Got m ∷ []) → ⊥) × (IsSimple t.open_events → ⊥)
+Misplaces config requests t rest m [] = (len : ℕ) × (front (standing_of config (heard_of t)).version rest ≡ Whole m len) × (IsLegalPrefix config requests (said t ++ Got m ∷ []) → ⊥) × (IsSimple t.open_events → ⊥) × (HasError t.open_events m → ⊥)
 Misplaces config requests t rest m (x ∷ ms) =
-    (x ≡ m) × (IsLegalPrefix config requests (said t ++ Got m ∷ []) → ⊥) × IsQuiet ms × (ready : ReadyForQuery) × (len : ℕ) × (front (standing_of config (heard_of t)).version rest ≡ Whole (backend.ReadyForQuery ready) len)
+    (x ≡ m) × (IsLegalPrefix config requests (said t ++ Got m ∷ []) → ⊥) × IsQuiet ms × IsSimple t.open_events × (ready : ReadyForQuery) × (len : ℕ) × (front (standing_of config (heard_of t)).version rest ≡ Whole (backend.ReadyForQuery ready) len)
 
 -- a message is next while the startup segment is open
 abbrev pub FirstAtStartup : Config → Talk → List ℕ → Backend → Type 0
-FirstAtStartup config t rest m =
-    (len : ℕ) × (front (standing_of config (heard_of t)).version rest ≡ Whole m len) × (more : List Event) × IsStartupSegment config (said t ++ more) × (more ≡ [] → ⊥) × (t.skipped ≡ [])
+FirstAtStartup config t rest m = (len : ℕ) × (front (standing_of config (heard_of t)).version rest ≡ Whole m len) × (t.closed ≡ []) × (t.skipped ≡ [])
 
 -- why a conversation ended, behind its events and before these bytes
 abbrev pub Cause : Config → List Request → Talk → List ℕ → Outcome → Type 0
@@ -85,8 +92,19 @@ Cause config requests t rest (Unencoded e) = (due : List Frontend) × IsLegalPre
 Cause config requests t rest (Stopped (client.UnexpectedMessage m)) = Misplaces config requests t rest m t.skipped
 Cause config requests t rest (Stopped (client.PgWireError why)) = front (standing_of config (heard_of t)).version rest ≡ Bad why
 Cause config requests t rest (Stopped (client.RemoteError r)) = FirstAtStartup config t rest (backend.ErrorResponse r)
-Cause config requests t rest (Stopped client.NotYetBuilt) = (m : Backend) × IsUnsupportedLogin m × FirstAtStartup config t rest m
+Cause config requests t rest (Stopped client.NotYetBuilt) = (m : Backend) × IsUnsupportedLogin m × FirstAtStartup config t rest m × (HasLogin t.open_events → ⊥)
 Cause config requests t rest (Stopped e) = ⊥
+
+-- where a conversation stopped, a segment was open
+abbrev pub OpenIf : Config → List Request → Talk → Outcome → Type 0
+OpenIf config requests t Complete = Unit {0}
+OpenIf config requests t (Unencoded e) = Unit {0}
+OpenIf config requests t (Stopped e) = Open config requests t × Skipped config requests t t.skipped
+
+open_if : (config : Config) (requests : List Request) (t : Talk) (o : Outcome) → Open config requests t → Skipped config requests t t.skipped → OpenIf config requests t o
+open_if config requests t Complete is_open skipped = tt
+open_if config requests t (Unencoded e) is_open skipped = tt
+open_if config requests t (Stopped e) is_open skipped = (is_open, skipped)
 
 -- the bytes done gave the events so far
 pub record Sofar (config : Config) (requests : List Request) (t : Talk) (done sent : List ℕ) : Type 0 where
@@ -104,6 +122,7 @@ pub record Final (config : Config) (requests : List Request) (e : Ending) (bytes
   pub got : SpellsGot (first_standing config) (heard_of e.talk) done
   pub put : EncodesSent (heard_of e.talk) sent
   pub legal : IsLegalPrefix config requests (said e.talk)
+  pub is_open : OpenIf config requests e.talk e.outcome
   pub cause : Cause config requests e.talk rest e.outcome
 
 abbrev pub SoundAt : Config → List Request → List ℕ → Course Talk Ending → Type 0
@@ -115,7 +134,7 @@ abbrev Takes : Talk → Backend → Talk → Type 0
 Takes t m next = heard_of next ≡ heard_of t ++ Got m ∷ []
 
 abbrev RefusesBy : Config → List Request → Talk → Backend → Backend → List Backend → Type 0
-RefusesBy config requests t m x [] = (x ≡ m) × (IsLegalPrefix config requests (said t ++ Got m ∷ []) → ⊥) × (IsSimple t.open_events → ⊥)
+RefusesBy config requests t m x [] = (x ≡ m) × (IsLegalPrefix config requests (said t ++ Got m ∷ []) → ⊥) × (IsSimple t.open_events → ⊥) × (HasError t.open_events m → ⊥)
 RefusesBy config requests t m x (first ∷ ms) = (first ≡ x) × ((ready : ReadyForQuery) × (m ≡ backend.ReadyForQuery ready))
 
 abbrev Stops : Config → List Request → Talk → Backend → Talk → Outcome → Type 0
@@ -123,7 +142,7 @@ Stops config requests t m next Complete = Takes t m next × IsLegalPrefix config
 Stops config requests t m next (Unencoded e) = Takes t m next × IsLegalPrefix config requests (said next) × ((due : List Frontend) × IsLegalPrefix config requests (said next ++ map Sent due) × (encodings due ≡ Err e) × (next.skipped ≡ []))
 Stops config requests t m next (Stopped (client.UnexpectedMessage x)) = (next ≡ t) × RefusesBy config requests t m x t.skipped
 Stops config requests t m next (Stopped (client.RemoteError r)) = (m ≡ backend.ErrorResponse r) × (next ≡ t) × IsLogin t.stage × (t.skipped ≡ [])
-Stops config requests t m next (Stopped client.NotYetBuilt) = IsUnsupportedLogin m × (next ≡ t) × IsLogin t.stage × (t.skipped ≡ [])
+Stops config requests t m next (Stopped client.NotYetBuilt) = IsUnsupportedLogin m × (next ≡ t) × IsLogin t.stage × (t.skipped ≡ []) × (HasLogin t.open_events → ⊥)
 Stops config requests t m next (Stopped e) = ⊥
 
 abbrev Good : Config → List Request → Talk → Backend → Move Talk Ending → Type 0
@@ -186,7 +205,9 @@ opening_good config requests t m closed k q (Ok out) is are count asked closes =
         closes ((map Sent (sends_of q) ++ es) ∷ segments)
         (subst (λ (qs : List Request). AreSegments qs ((map Sent (sends_of q) ++ es) ∷ segments)) (sym (drop_next requests k q asked)) (is_segment config q es rest, subst (λ n. AreSegments (drop n requests) segments) count segs));
     simple = λ l. simple_request q l;
+    simple_events = λ l. simple_opening q;
     first = λ l. absurd (request_stage q l);
+    login = request_login q (map Sent (sends_of q));
     begins = ([], subst (λ n. map Sent (sends_of q) ≡ map Sent (opening_at config requests n) ++ []) (sym count) (ap (λ o. map Sent (opened_by o)) (sym asked) ∙ sym (append-nil _)));
   },
   tt,
@@ -212,6 +233,12 @@ simple_before [] m more l = l
 simple_before (Got x ∷ es) m more l = l
 simple_before (Sent (frontend.Query q) ∷ es) m more l = tt
 simple_before (Sent f ∷ es) m more l = l
+
+simple_behind : (es : List Event) (m : Backend) (more : List Event) → IsSimple es → IsSimple (es ++ Got m ∷ more)
+simple_behind [] m more l = absurd l
+simple_behind (Got x ∷ es) m more l = l
+simple_behind (Sent (frontend.Query q) ∷ es) m more l = tt
+simple_behind (Sent f ∷ es) m more l = l
 
 reply_good : (config : Config) (requests : List Request) (t : Talk) (m : Backend) (stage : Stage) (reply : Reply) (o : Result (List ℕ) PgWireError) → encodings (replies config reply) ≡ o → t.skipped ≡ [] → after t.stage m ≡ Goes stage reply → Open config requests t
     → Good config requests t m (sending (record { closed = t.closed; open_events = t.open_events ++ Got m ∷ []; stage = stage; skipped = [] }) (record { closed = t.closed; open_events = t.open_events ++ Got m ∷ map Sent (replies config reply); stage = stage; skipped = [] }) o)
@@ -260,7 +287,9 @@ reply_good config requests t m stage reply (Ok out) some clean is is_open =
             subst (λ (l : List Event). IsTranscript config requests (t.closed ++ l ∷ segments)) (sym (append_assoc t.open_events (Got m ∷ map Sent fs) es))
             (is_open.completes (Got m ∷ (map Sent fs ++ es)) segments (by_rest config s m (map Sent fs ++ es) (subst (λ x. RestBy config x (map Sent fs ++ es)) (sym is) (reply_before config stage reply es rest))) segs);
         simple = λ l. simple_goes s m stage reply is (is_open.simple (simple_before t.open_events m (map Sent fs) l));
+        simple_events = λ l. simple_behind t.open_events m (map Sent fs) (is_open.simple_events (simple_from s m stage reply is l));
         first = λ l. is_open.first (login_before s m stage reply is l);
+        login = login_goes config s m stage reply t.open_events is is_open.login;
         begins = (is_open.begins.0 ++ Got m ∷ map Sent fs, ap (λ (l : List Event). l ++ Got m ∷ map Sent fs) is_open.begins.1 ∙ append_assoc _ is_open.begins.0 (Got m ∷ map Sent fs));
       },
       tt,
@@ -271,9 +300,9 @@ unsupported_refusal (backend.Authentication (authentication.MD5Password salt)) u
 unsupported_refusal (backend.Authentication (authentication.SASL methods)) u = refl
 unsupported_refusal m u = absurd u
 
-refusal_stops : (config : Config) (requests : List Request) (t : Talk) (m : Backend) → t.skipped ≡ [] → IsLogin t.stage → IsRefusal m → Stops config requests t m t (Stopped (refusal_of m))
-refusal_stops config requests t m clean login (inl r) = subst (λ x. Stops config requests t x t (Stopped (refusal_of x))) (sym r.1) (refl, refl, login, clean)
-refusal_stops config requests t m clean login (inr u) = subst (λ e. Stops config requests t m t (Stopped e)) (sym (unsupported_refusal m u)) (u, refl, login, clean)
+refusal_stops : (config : Config) (requests : List Request) (t : Talk) (m : Backend) → t.skipped ≡ [] → IsLogin t.stage → (IsUnsupportedLogin m → HasLogin t.open_events → ⊥) → IsRefusal m → Stops config requests t m t (Stopped (refusal_of m))
+refusal_stops config requests t m clean login first (inl r) = subst (λ x. Stops config requests t x t (Stopped (refusal_of x))) (sym r.1) (refl, refl, login, clean)
+refusal_stops config requests t m clean login first (inr u) = subst (λ e. Stops config requests t m t (Stopped e)) (sym (unsupported_refusal m u)) (u, refl, login, clean, first u)
 
 moves_good : (config : Config) (requests : List Request) (t : Talk) (m : Backend) (sent : List ℕ) (n : Next) → t.skipped ≡ [] → (HasRefused (onto sent (moves config requests t m n)) → IsLegalPrefix config requests (said t ++ Got m ∷ []) → ⊥)
     → after t.stage m ≡ n → Open config requests t → Good config requests t m (moves config requests t m n)
@@ -287,18 +316,18 @@ moves_good config requests t m sent Closes clean nowhere is is_open =
     refl
     (λ segments segs. subst (IsTranscript config requests) (sym (append_assoc t.closed (es ∷ []) segments)) (is_open.completes (Got m ∷ []) segments (by_rest config s m [] (subst (λ x. RestBy config x []) (sym is) refl)) segs))
 moves_good config requests t m sent Wrong clean nowhere is is_open =
-    (refl, (refl, subst (RefusesBy config requests t m m) (sym clean) (refl, nowhere (_, refl), λ l. simple_not_wrong t.stage m is (is_open.simple l))))
+    (refl, (refl, subst (RefusesBy config requests t m m) (sym clean) (refl, nowhere (_, refl), λ l. simple_not_wrong t.stage m is (is_open.simple l), wrong_unnamed t.stage m t.open_events is is_open.login)))
 moves_good config requests t m sent Refuses clean nowhere is is_open =
     let r = refuses_error t.stage m is in
-    (refl, refusal_stops config requests t m clean r.0 r.1)
+    (refl, refusal_stops config requests t m clean r.0 (unsupported_first t.stage m t.open_events is is_open.login) r.1)
 moves_good config requests t m sent Spoils clean nowhere is is_open =
-    (record { completes = is_open.completes; simple = is_open.simple; first = is_open.first; begins = is_open.begins }, (nowhere (m, [], refl), tt))
+    (record { completes = is_open.completes; simple = is_open.simple; simple_events = is_open.simple_events; first = is_open.first; login = is_open.login; begins = is_open.begins }, (nowhere (m, [], refl), tt, is_open.simple_events (simple_spoils t.stage m is)))
 
 drains_good : (config : Config) (requests : List Request) (t : Talk) (m first : Backend) (ms : List Backend) (b : Bool) → t.skipped ≡ first ∷ ms → is_ready m ≡ b → Skipped config requests t (first ∷ ms) → Open config requests t → Good config requests t m (drains t first m b)
 drains_good config requests t m first ms true are is skipped is_open = (refl, (refl, subst (RefusesBy config requests t m first) (sym are) (refl, ready_is m is)))
 drains_good config requests t m first ms false are is skipped is_open = (
-  record { completes = is_open.completes; simple = is_open.simple; first = is_open.first; begins = is_open.begins },
-  subst (λ (l : List Backend). Skipped config requests t (l ++ m ∷ [])) (sym are) (skipped.0, quiet_more ms m skipped.1 is),
+  record { completes = is_open.completes; simple = is_open.simple; simple_events = is_open.simple_events; first = is_open.first; login = is_open.login; begins = is_open.begins },
+  subst (λ (l : List Backend). Skipped config requests t (l ++ m ∷ [])) (sym are) (skipped.0, quiet_more ms m skipped.1 is, skipped.2),
 )
 
 turn_good : (config : Config) (requests : List Request) (t : Talk) (m : Backend) (done sent : List ℕ) (skipped : List Backend) → t.skipped ≡ skipped → Sofar config requests t done sent → Good config requests t m (turn config requests t m skipped)
@@ -343,25 +372,13 @@ put_one t m sent put =
 refused_sound : (config : Config) (requests : List Request) (done sent message : List ℕ) (t : Talk) (m x : Backend) (skipped : List Backend) → t.skipped ≡ skipped → Sofar config requests t done sent → Spells (standing_of config (heard_of t)).version m message
     → RefusesBy config requests t m x skipped → Skipped config requests t skipped → Misplaces config requests t message x skipped
 refused_sound config requests done sent message t m x [] are s spells r k =
-    (length message, spelled_front (standing_of config (heard_of t)).version m message spells ∙ ap (λ y. Whole y (length message)) (sym r.0), subst (λ y. IsLegalPrefix config requests (said t ++ Got y ∷ []) → ⊥) (sym r.0) r.1, r.2)
+    (length message, spelled_front (standing_of config (heard_of t)).version m message spells ∙ ap (λ y. Whole y (length message)) (sym r.0), subst (λ y. IsLegalPrefix config requests (said t ++ Got y ∷ []) → ⊥) (sym r.0) r.1, r.2, subst (λ y. HasError t.open_events y → ⊥) (sym r.0) r.3)
 refused_sound config requests done sent message t m x (first ∷ ms) are s spells r k =
-    (r.0, subst (λ y. IsLegalPrefix config requests (said t ++ Got y ∷ []) → ⊥) r.0 k.0, k.1, r.1.0, length message, spelled_front (standing_of config (heard_of t)).version m message spells ∙ ap (λ y. Whole y (length message)) r.1.1)
+    (r.0, subst (λ y. IsLegalPrefix config requests (said t ++ Got y ∷ []) → ⊥) r.0 k.0, k.1, k.2, r.1.0, length message, spelled_front (standing_of config (heard_of t)).version m message spells ∙ ap (λ y. Whole y (length message)) r.1.1)
 
 -- a message that is refused at startup
 first_at_startup : (config : Config) (requests : List Request) (done sent message : List ℕ) (t : Talk) (m : Backend) → Sofar config requests t done sent → Spells (standing_of config (heard_of t)).version m message → IsLogin t.stage → t.skipped ≡ [] → FirstAtStartup config t message m
-first_at_startup config requests done sent message t m s spells login clean =
-    let answer = some_rest config t.stage in
-    let later = some_segments config (drop (length t.closed) requests) in
-    let none = s.is_open.first login in
-    let transcript : IsTranscript config requests ([] ++ (t.open_events ++ answer.0) ∷ later.0) = subst (λ (c : List (List Event)). IsTranscript config requests (c ++ (t.open_events ++ answer.0) ∷ later.0)) none (s.is_open.completes answer.0 later.0 answer.1 later.1) in
-    let all : t.open_events ≡ said t = ap (λ (c : List (List Event)). joined c ++ t.open_events) (sym none) in (
-      length message,
-      spelled_front (standing_of config (heard_of t)).version m message spells,
-      answer.0,
-      subst (λ (l : List Event). IsStartupSegment config (l ++ answer.0)) all transcript.0,
-      (λ is. rest_nil config t.stage (subst (Rest config t.stage) is answer.1)),
-      clean,
-    )
+first_at_startup config requests done sent message t m s spells login clean = (length message, spelled_front (standing_of config (heard_of t)).version m message spells, s.is_open.first login, clean)
 
 -- an end before the message
 stays : (config : Config) (requests : List Request) (bytes done sent message : List ℕ) (t next : Talk) (outcome : Outcome) → bytes ≡ done ++ message → Sofar config requests t done sent → next ≡ t → Cause config requests t message outcome
@@ -375,6 +392,7 @@ stays config requests bytes done sent message t next outcome are s is cause =
       got = s.got;
       put = s.put;
       legal = open_legal config requests t s.is_open;
+      is_open = open_if config requests t outcome s.is_open s.skipped;
       cause = cause;
     })
 
@@ -388,6 +406,7 @@ stops_sound config requests bytes done sent message t next m Complete are s spel
   got = subst (λ (l : List Event). SpellsGot (first_standing config) l (done ++ message)) (sym stops.0) (got_one config t m done message s.got spells);
   put = subst (λ (l : List Event). EncodesSent l sent) (sym stops.0) (put_one t m sent s.put);
   legal = stops.1;
+  is_open = tt;
   cause = (stops.2, stops.3, stops.4);
 }
 stops_sound config requests bytes done sent message t next m (Unencoded e) are s spells stops = record {
@@ -397,6 +416,7 @@ stops_sound config requests bytes done sent message t next m (Unencoded e) are s
   got = subst (λ (l : List Event). SpellsGot (first_standing config) l (done ++ message)) (sym stops.0) (got_one config t m done message s.got spells);
   put = subst (λ (l : List Event). EncodesSent l sent) (sym stops.0) (put_one t m sent s.put);
   legal = stops.1;
+  is_open = tt;
   cause = stops.2;
 }
 stops_sound config requests bytes done sent message t next m (Stopped (client.UnexpectedMessage x)) are s spells stops =
@@ -405,7 +425,7 @@ stops_sound config requests bytes done sent message t next m (Stopped (client.Re
     stays config requests bytes done sent message t next (Stopped (client.RemoteError r)) are s stops.1
     (subst (FirstAtStartup config t message) stops.0 (first_at_startup config requests done sent message t m s spells stops.2 stops.3))
 stops_sound config requests bytes done sent message t next m (Stopped client.NotYetBuilt) are s spells stops =
-    stays config requests bytes done sent message t next (Stopped client.NotYetBuilt) are s stops.1 (m, stops.0, first_at_startup config requests done sent message t m s spells stops.2 stops.3)
+    stays config requests bytes done sent message t next (Stopped client.NotYetBuilt) are s stops.1 (m, stops.0, first_at_startup config requests done sent message t m s spells stops.2 stops.3, stops.4)
 stops_sound config requests bytes done sent message t next m (Stopped e) are s spells stops = absurd stops
 
 onto_sound : (config : Config) (requests : List Request) (bytes done sent message : List ℕ) (t : Talk) (m : Backend) (move : Move Talk Ending) → turn config requests t m t.skipped ≡ move
@@ -428,16 +448,16 @@ onto_sound config requests bytes done sent message t m (Ends e out) is are s spe
 eat_sound : (config : Config) (requests : List Request) (bytes done sent pending : List ℕ) (t : Talk) (b : ℕ) (f : Front) → bytes ≡ done ++ (pending ++ b ∷ []) → front (standing_of config (heard_of t)).version pending ≡ More → front (standing_of config (heard_of t)).version (pending ++ b ∷ []) ≡ f
     → Sofar config requests t done sent → SoundAt config requests bytes (eat (talk_rules config requests) t sent (pending ++ b ∷ []) f)
 eat_sound config requests bytes done sent pending t b More are more is s = (done, are, s, is)
-eat_sound config requests bytes done sent pending t b (Bad why) are more is s = record { done = done; rest = pending ++ b ∷ []; begins = are; got = s.got; put = s.put; legal = open_legal config requests t s.is_open; cause = is }
+eat_sound config requests bytes done sent pending t b (Bad why) are more is s = record { done = done; rest = pending ++ b ∷ []; begins = are; got = s.got; put = s.put; legal = open_legal config requests t s.is_open; is_open = (s.is_open, s.skipped); cause = is }
 eat_sound config requests bytes done sent pending t b (Whole m n) are more is s =
     onto_sound config requests bytes done sent (pending ++ b ∷ []) t m _ refl are s (whole_all (standing_of config (heard_of t)).version pending b m n more is) (turn_grown config requests t m t.skipped refl) (turn_good config requests t m done sent t.skipped refl s)
 
 misplaces_more : (config : Config) (requests : List Request) (t : Talk) (rest more : List ℕ) (m : Backend) (skipped : List Backend) → Misplaces config requests t rest m skipped → Misplaces config requests t (rest ++ more) m skipped
-misplaces_more config requests t rest more m [] c = (c.0, front_whole_more (standing_of config (heard_of t)).version rest more m c.0 c.1, c.2, c.3)
-misplaces_more config requests t rest more m (x ∷ ms) c = (c.0, c.1, c.2, c.3, c.4, front_whole_more (standing_of config (heard_of t)).version rest more (backend.ReadyForQuery c.3) c.4 c.5)
+misplaces_more config requests t rest more m [] c = (c.0, front_whole_more (standing_of config (heard_of t)).version rest more m c.0 c.1, c.2, c.3, c.4)
+misplaces_more config requests t rest more m (x ∷ ms) c = (c.0, c.1, c.2, c.3, c.4, c.5, front_whole_more (standing_of config (heard_of t)).version rest more (backend.ReadyForQuery c.4) c.5 c.6)
 
 first_more : (config : Config) (t : Talk) (rest more : List ℕ) (m : Backend) → FirstAtStartup config t rest m → FirstAtStartup config t (rest ++ more) m
-first_more config t rest more m c = (c.0, front_whole_more (standing_of config (heard_of t)).version rest more m c.0 c.1, c.2, c.3, c.4, c.5)
+first_more config t rest more m c = (c.0, front_whole_more (standing_of config (heard_of t)).version rest more m c.0 c.1, c.2, c.3)
 
 -- more bytes change no cause
 cause_more : (config : Config) (requests : List Request) (t : Talk) (rest more : List ℕ) (outcome : Outcome) → Cause config requests t rest outcome → Cause config requests t (rest ++ more) outcome
@@ -446,7 +466,7 @@ cause_more config requests t rest more (Unencoded e) c = c
 cause_more config requests t rest more (Stopped (client.UnexpectedMessage m)) c = misplaces_more config requests t rest more m t.skipped c
 cause_more config requests t rest more (Stopped (client.PgWireError why)) c = front_bad_more (standing_of config (heard_of t)).version rest more why c
 cause_more config requests t rest more (Stopped (client.RemoteError r)) c = first_more config t rest more (backend.ErrorResponse r) c
-cause_more config requests t rest more (Stopped client.NotYetBuilt) c = (c.0, c.1, first_more config t rest more c.0 c.2)
+cause_more config requests t rest more (Stopped client.NotYetBuilt) c = (c.0, c.1, first_more config t rest more c.0 c.2, c.3)
 cause_more config requests t rest more (Stopped e) c = absurd c
 
 feed_sound : (config : Config) (requests : List Request) (bytes : List ℕ) (c : Course Talk Ending) (b : ℕ) → SoundAt config requests bytes c → SoundAt config requests (bytes ++ b ∷ []) (feed (talk_rules config requests) c b)
@@ -459,6 +479,7 @@ feed_sound config requests bytes (Over e sent) b s = record {
   got = s.got;
   put = s.put;
   legal = s.legal;
+  is_open = s.is_open;
   cause = cause_more config requests e.talk s.rest (b ∷ []) e.outcome s.cause;
 }
 
@@ -489,6 +510,7 @@ start_sound config requests (Err e) is =
         transcript = ((answer.0, refl, answer.1), later.1);
         opening = inl refl;
       });
+      is_open = tt;
       cause = (
         startup_message config ∷ [],
         inr (record {
@@ -513,7 +535,9 @@ start_sound config requests (Ok out) is = (
     is_open = record {
       completes = λ es segments rest segs. ((es, refl, rest), segs);
       simple = λ l. absurd l;
+      simple_events = λ l. absurd l;
       first = λ l. refl;
+      login = λ l. l;
       begins = ([], refl);
     };
     skipped = tt;

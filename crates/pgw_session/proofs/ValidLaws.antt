@@ -1,28 +1,32 @@
 -- Each message of a valid input can be sent.
 use Rattle.std.proofs.Common.{◌≡◌, ◌≢◌, ◌≤◌, ◌+◌, ℕ, zero, suc, Bool, true, false, List, [], ◌∷◌, ◌++◌, length, map, Option, Some, None, Result, Ok, Err, inl, inr, arith, refl, ◌∙◌, ap, sym, subst, length-append, IfSome}
-use Rattle.std.specs.Prelude.{◌==◌, codes, get_or}
-use Rattle.std.specs.List.{All}
+use Rattle.std.specs.Prelude.{◌==◌, ◌||◌, not, codes, get_or}
+use Rattle.std.specs.List.{All, flat_map, list_any}
 use Rattle.std.specs.FinMap as finite
 use Rattle.std.specs.Cmp.Lexicographic.{slice_cmp, nat_list_cmp_total}
 use Rattle.std.proofs.lemmas.Bool.{le-ltb}
 use Rattle.std.proofs.lemmas.Bool.Decides.{eqb_tells}
 use Rattle.std.proofs.lemmas.List.{nil_from_length}
 use Rattle.std.proofs.lemmas.List.Elements.{All-head, All-tail}
-use Rattle.std.proofs.lemmas.List.Folds.{list_any_none}
+use Rattle.std.proofs.lemmas.List.Folds.{list_any_none, list_any-append}
+use Rattle.std.proofs.lemmas.Grind.{flat_map-append}
 use Rattle.std.specs.Ordering.{nat_cmp}
-use Rattle.pgw_wire.specs.Versions.{version_number}
-use Rattle.pgw_startup.specs.declared.startup.Startup.{Startup}
-use Rattle.pgw_wire.specs.declared.context.ProtocolVersion.{ProtocolVersion}
-use Rattle.pgw_wire.specs.declared.context.ProtocolVersion.TheVariants.{PROTOCOL3_0, PROTOCOL3_2, PROTOCOL3_9999}
-use Rattle.pgw_wire.specs.declared.error.PgWireError.{PgWireError}
+use Rattle.pgw_types.specs.Versions.{version_number}
+use Rattle.pgw_types.specs.declared.context.ProtocolVersion.{ProtocolVersion}
+use Rattle.pgw_types.specs.declared.context.ProtocolVersion.TheVariants.{PROTOCOL3_0, PROTOCOL3_2, PROTOCOL3_9999}
+use Rattle.pgw_types.specs.declared.error.PgWireError.{PgWireError}
 use Rattle.pgw_wire.specs.declared.framing.Framing.{Framing}
 use Rattle.pgw_wire.specs.declared.framing.Framing.TheVariants.{Typed, Untyped}
-use Rattle.pgw_wire.specs.Framing.{encoded, header, saturated}
+use Rattle.pgw_wire.specs.Framing.{encoded, header, length_field, saturated}
 use Rattle.pgw_wire.specs.Writing.{text, u16, has_zero, refused_if}
-use Rattle.pgw_startup.specs.Startup.{startup, is_startup_refused}
+use Rattle.pgw_wire.specs.Pairs.{Held, pair_written, pairs_written, is_pair_refused}
 use Rattle.pgw_msg.specs.declared.frontend.PgWireFrontendMessage.{PgWireFrontendMessage as Frontend}
 use Rattle.pgw_msg.specs.Frontend.{encoding, encodings, both}
 use Rattle.pgw_config.specs.declared.config.Config.{Config}
+use Rattle.pgw_config.specs.declared.config.SslMode.{SslMode}
+use Rattle.pgw_config.specs.declared.config.SslMode.TheVariants as ssl_mode
+use Rattle.pgw_config.specs.declared.config.ChannelBinding.{ChannelBinding}
+use Rattle.pgw_config.specs.declared.config.ChannelBinding.TheVariants as channel_binding
 use Rattle.pgw_session.specs.declared.types.Request.{Request}
 use Rattle.pgw_session.specs.declared.types.Request.TheVariants.{Simple}
 use Rattle.pgw_session.specs.declared.stage.Stage.{Stage}
@@ -32,9 +36,10 @@ use Rattle.pgw_session.specs.declared.stage.Reply.TheVariants.{Silent, Passes}
 use Rattle.pgw_session.specs.declared.stage.Next.{Next}
 use Rattle.pgw_session.specs.declared.stage.Next.TheVariants.{Goes, Closes, Wrong, Refuses, Spoils}
 use Rattle.pgw_session.specs.Events.{Event, Sent, Got, joined, sents}
-use Rattle.pgw_session.specs.Segments.{IsRequestSegment, startup_message, password_message, sends_of, with_user, cleartext_of}
+use Rattle.pgw_session.specs.Segments.{IsRequestSegment, startup_message, password_message, sends_of, with_set, startup_parameters, cleartext_of}
 use Rattle.pgw_session.specs.Transcript.{AreSegments, IsTranscript, IsLegalPrefix, EncodesSent, SpellsGot, Completes}
-use Rattle.pgw_session.specs.Valid.{HasNoZero, IsValidInput, IsValidRequest, startup_size}
+use Rattle.pgw_session.specs.Valid.{HasNoZero, IsValidInput, IsValidRequest, parameter_size, startup_size}
+use Rattle.pgw_session.specs.Demands.{refused_demand, refused_config}
 use Rattle.pgw_session.specs.Standings.{first_standing}
 use Rattle.pgw_session.specs.Course.{Over}
 use Rattle.pgw_session.proofs.FailureLaws.{unencoded}
@@ -58,11 +63,11 @@ nonzero b h =
 no_zero : (t : List ℕ) → HasNoZero t → has_zero t ≡ false
 no_zero t h = list_any_none (λ b. b == 0) t (λ k d lt. nonzero (get_or t k d) (h k d lt))
 
-written : (framing : Framing) (limit : ℕ) (fault : Option PgWireError) (body : List ℕ) → fault ≡ None → length body + 4 ≤ limit → Encodes (encoded framing limit fault body)
+written : (framing : Framing) (limit : ℕ) (fault : Option PgWireError) (body : List ℕ) → fault ≡ None → length body + length_field framing ≤ limit → Encodes (encoded framing limit fault body)
 unfolding encoded
 written framing limit fault body sound fits =
-    let within : saturated (length body + 4) ≤ limit = omega (arith, fits) in
-    (header framing (length body) ++ body, rw (le-ltb limit (saturated (length body + 4)) within, sound) refl)
+    let within : saturated (length body + length_field framing) ≤ limit = omega (arith, fits) in
+    (header framing (length body) ++ body, rw (le-ltb limit (saturated (length body + length_field framing)) within, sound) refl)
 
 no_fault : (b : Bool) → b ≡ false → refused_if b ≡ None
 unfolding refused_if
@@ -72,36 +77,99 @@ text_length : (t : List ℕ) → length (text t) ≡ length t + 1
 unfolding text
 text_length t = length-append t (0 ∷ [])
 
--- the parameters as they are written
-entries_of_none : finite.entries (with_user None) ≡ []
-entries_of_none = nil_from_length _ (sym (finite.len-entries _) ∙ finite.len-empty _ _)
+-- nothing demanded is refused
+no_encryption : (mode : SslMode) (binding : ChannelBinding) → mode ≢ ssl_mode.Require → binding ≢ channel_binding.Require → refused_demand mode binding ≡ None
+no_encryption ssl_mode.Require binding open_mode open_binding = absurd (open_mode refl)
+no_encryption ssl_mode.Disable channel_binding.Require open_mode open_binding = absurd (open_binding refl)
+no_encryption ssl_mode.Disable channel_binding.Disable open_mode open_binding = refl
+no_encryption ssl_mode.Disable channel_binding.Prefer open_mode open_binding = refl
+no_encryption ssl_mode.Prefer channel_binding.Require open_mode open_binding = absurd (open_binding refl)
+no_encryption ssl_mode.Prefer channel_binding.Disable open_mode open_binding = refl
+no_encryption ssl_mode.Prefer channel_binding.Prefer open_mode open_binding = refl
 
-entries_of_user : (user : List ℕ) → finite.entries (with_user (Some user)) ≡ (codes "user", user) ∷ []
-entries_of_user user = finite.entries-insert nat_list_cmp_total (with_user None) (codes "user") user ∙ ap (finite.put (slice_cmp nat_cmp) (codes "user") user) entries_of_none
+pub no_demand : (config : Config) (requests : List Request) → IsValidInput config requests → refused_config config ≡ None
+no_demand config requests valid = no_encryption config.ssl_mode config.channel_binding valid.encryption valid.binding
+
+-- ---- the parameters as they are written
+
+-- a parameter where it is set
+entry : List ℕ → Option (List ℕ) → List (List ℕ × List ℕ)
+entry name None = []
+entry name (Some value) = (name, value) ∷ []
+
+put_set : List ℕ → Option (List ℕ) → List (List ℕ × List ℕ) → List (List ℕ × List ℕ)
+put_set name None pairs = pairs
+put_set name (Some value) pairs = finite.put (slice_cmp nat_cmp) name value pairs
+
+entries_set : (name : List ℕ) (o : Option (List ℕ)) (held : Held) → finite.entries (with_set name o held) ≡ put_set name o (finite.entries held)
+unfolding put_set
+entries_set name None held = refl
+entries_set name (Some value) held = finite.entries-insert nat_list_cmp_total held name value
+
+entries_none : finite.entries {X = List ℕ} {R = slice_cmp nat_cmp} finite.empty ≡ []
+entries_none = nil_from_length _ (sym (finite.len-entries _) ∙ finite.len-empty _ _)
+
+-- in the order of their names
+three : (a u d : Option (List ℕ)) → put_set (codes "database") d (put_set (codes "user") u (put_set (codes "application_name") a [])) ≡ entry (codes "application_name") a ++ (entry (codes "database") d ++ entry (codes "user") u)
+unfolding put_set entry
+three None None None = refl
+three None None (Some d) = refl
+three None (Some u) None = refl
+three None (Some u) (Some d) = refl
+three (Some a) None None = refl
+three (Some a) None (Some d) = refl
+three (Some a) (Some u) None = refl
+three (Some a) (Some u) (Some d) = refl
+
+startup_entries : (config : Config) → finite.entries (startup_parameters config) ≡ entry (codes "application_name") config.application_name ++ (entry (codes "database") config.dbname ++ entry (codes "user") config.user)
+startup_entries config =
+    entries_set (codes "database") config.dbname _
+    ∙ ap (put_set (codes "database") config.dbname) (entries_set (codes "user") config.user _ ∙ ap (put_set (codes "user") config.user) (entries_set (codes "application_name") config.application_name _ ∙ ap (put_set (codes "application_name") config.application_name) entries_none))
+    ∙ three config.application_name config.user config.dbname
+
+-- their bytes
+entry_length : (name : List ℕ) (o : Option (List ℕ)) → length (flat_map pair_written (entry name o)) ≡ parameter_size name o
+unfolding entry text
+entry_length name None = refl
+entry_length name (Some value) = omega (arith, length-append ((name ++ 0 ∷ []) ++ (value ++ 0 ∷ [])) [], length-append (name ++ 0 ∷ []) (value ++ 0 ∷ []), length-append name (0 ∷ []), length-append value (0 ∷ []))
+
+pairs_length : (xs ys : List (List ℕ × List ℕ)) → length (flat_map pair_written (xs ++ ys)) ≡ length (flat_map pair_written xs) + length (flat_map pair_written ys)
+pairs_length xs ys = ap length (flat_map-append pair_written xs ys) ∙ length-append (flat_map pair_written xs) (flat_map pair_written ys)
+
+entry_sound : (name : List ℕ) (o : Option (List ℕ)) → (length name == 0) ≡ false → has_zero name ≡ false → IfSome o HasNoZero → list_any is_pair_refused (entry name o) ≡ false
+unfolding entry
+entry_sound name None some sound valid = refl
+entry_sound name (Some value) some sound valid = rw (some, sound, no_zero value valid) refl
 
 version_is : (v : ProtocolVersion) → ((version_number v).0 == 3) ≡ true
 version_is PROTOCOL3_0 = refl
 version_is PROTOCOL3_2 = refl
 version_is PROTOCOL3_9999 = refl
 
--- the startup message of a version and a user
-startup_for : ProtocolVersion → Option (List ℕ) → Startup
-startup_for v user = record { protocol_number_major = (version_number v).0; protocol_number_minor = (version_number v).1; parameters = with_user user }
+startup_length : (config : Config) → length (pairs_written (startup_parameters config)) + 9 ≡ startup_size config
+startup_length config =
+    let a = entry (codes "application_name") config.application_name in
+    let d = entry (codes "database") config.dbname in
+    let u = entry (codes "user") config.user in
+    let all : length (pairs_written (startup_parameters config)) ≡ length (flat_map pair_written (a ++ (d ++ u))) = ap (λ l. length (flat_map pair_written l)) (startup_entries config) in
+    omega (arith, all, pairs_length a (d ++ u), pairs_length d u, entry_length (codes "application_name") config.application_name, entry_length (codes "database") config.dbname, entry_length (codes "user") config.user)
 
-startup_length : (v : ProtocolVersion) (user : Option (List ℕ)) → length (startup (startup_for v user)) + 4 ≡ startup_size user
-unfolding startup_for u16 text
-startup_length v None = rw entries_of_none refl
-startup_length v (Some user) = rw (entries_of_user user) (omega (arith, length-append (text user ++ []) (0 ∷ []), length-append (text user) [], length-append user (0 ∷ [])))
+either : (xs ys : List (List ℕ × List ℕ)) → list_any is_pair_refused xs ≡ false → list_any is_pair_refused ys ≡ false → list_any is_pair_refused (xs ++ ys) ≡ false
+either xs ys x y = list_any-append is_pair_refused xs ys ∙ rw (x, y) refl
 
-startup_sound : (v : ProtocolVersion) (user : Option (List ℕ)) → IfSome user HasNoZero → is_startup_refused (startup_for v user) ≡ false
-unfolding startup_for
-startup_sound v None valid = rw (version_is v, entries_of_none) refl
-startup_sound v (Some user) valid = rw (version_is v, entries_of_user user, no_zero user valid) refl
+startup_sound : (config : Config) (requests : List Request) → IsValidInput config requests → list_any is_pair_refused (finite.entries (startup_parameters config)) ≡ false
+startup_sound config requests valid =
+    ap (list_any is_pair_refused) (startup_entries config)
+    ∙ either (entry (codes "application_name") config.application_name) (entry (codes "database") config.dbname ++ entry (codes "user") config.user) (entry_sound (codes "application_name") config.application_name refl refl valid.application_name)
+    (either (entry (codes "database") config.dbname) (entry (codes "user") config.user) (entry_sound (codes "database") config.dbname refl refl valid.database) (entry_sound (codes "user") config.user refl refl valid.user))
+
+startup_fault : (config : Config) (requests : List Request) → IsValidInput config requests → (not ((version_number config.protocol_version).0 == 3) || list_any is_pair_refused (finite.entries (startup_parameters config))) ≡ false
+startup_fault config requests valid = rw (version_is config.protocol_version, startup_sound config requests valid) refl
 
 startup_encodes : (config : Config) (requests : List Request) → IsValidInput config requests → Encodes (encoding (startup_message config))
-unfolding encoding startup_for
+unfolding encoding u16
 startup_encodes config requests valid =
-    written Untyped 10000 _ (startup (startup_for config.protocol_version config.user)) (no_fault _ (startup_sound config.protocol_version config.user valid.user)) (omega (arith, startup_length config.protocol_version config.user, valid.startup))
+    written Untyped 10000 _ _ (no_fault _ (startup_fault config requests valid)) (omega (arith, startup_length config, length-append (pairs_written (startup_parameters config)) (0 ∷ []), valid.startup))
 
 password_encodes : (config : Config) (requests : List Request) → IsValidInput config requests → Encodes (encoding (password_message config))
 unfolding encoding

@@ -2,7 +2,7 @@
 use Rattle.std.proofs.Common.{◌≡◌, ◌≤◌, ℕ, ◌+◌, zero, suc, List, [], ◌∷◌, ◌++◌, length, map, Some, None, Result, Ok, Err, slice_get, Bool, true, false, inl, inr, arith, refl, sym, ◌∙◌, ap, subst, append_assoc, length-append}
 use Rattle.std.proofs.lemmas.List.{append-nil, length_push}
 use Rattle.std.proofs.lemmas.Option.{slice_get_past}
-use Rattle.pgw_wire.specs.declared.error.PgWireError.{PgWireError}
+use Rattle.pgw_types.specs.declared.error.PgWireError.{PgWireError}
 use Rattle.pgw_msg.specs.declared.backend.PgWireBackendMessage.{PgWireBackendMessage as Backend}
 use Rattle.pgw_msg.specs.declared.frontend.PgWireFrontendMessage.{PgWireFrontendMessage as Frontend}
 use Rattle.pgw_msg.specs.Front.{front, Front, More, Bad, Whole}

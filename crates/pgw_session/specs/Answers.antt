@@ -2,8 +2,8 @@
 use Rattle.std.specs.Prelude.{ℕ, List, [], ◌∷◌, ◌++◌, fold, map, Option, Some, None}
 use Rattle.pgw_msg.specs.Tags.{tag_of}
 use Rattle.pgw_msg.specs.Fields.{field_info_of}
-use Rattle.pgw_msg.specs.declared.data.DataRow.{DataRow}
-use Rattle.pgw_msg.specs.declared.response.ErrorResponse.{ErrorResponse}
+use Rattle.pgw_query.specs.declared.data.DataRow.{DataRow}
+use Rattle.pgw_query.specs.declared.response.ErrorResponse.{ErrorResponse}
 use Rattle.pgw_msg.specs.declared.backend.PgWireBackendMessage.{PgWireBackendMessage as Backend}
 use Rattle.pgw_msg.specs.declared.backend.PgWireBackendMessage.TheVariants as backend
 use Rattle.pgw_session.specs.declared.types.Response.{Response}

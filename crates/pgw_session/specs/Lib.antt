@@ -6,4 +6,5 @@ pub mod Transcript
 pub mod Course
 pub mod Talk
 pub mod Failures
+pub mod Demands
 pub mod Valid

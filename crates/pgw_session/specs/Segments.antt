@@ -3,8 +3,8 @@ use Rattle.std.specs.Prelude.{◌≡◌, ℕ, Bool, true, false, List, [], ◌�
 use Rattle.std.specs.FinMap as map
 use Rattle.pgw_wire.specs.Pairs.{Held}
 use Rattle.pgw_wire.specs.Reading.{lossy}
-use Rattle.pgw_wire.specs.Versions.{version_number}
-use Rattle.pgw_wire.specs.declared.context.ProtocolVersion.{ProtocolVersion}
+use Rattle.pgw_types.specs.Versions.{version_number}
+use Rattle.pgw_types.specs.declared.context.ProtocolVersion.{ProtocolVersion}
 use Rattle.pgw_startup.specs.Negotiate.{negotiated_version}
 use Rattle.pgw_startup.specs.declared.authentication.Authentication.TheVariants as authentication
 use Rattle.pgw_startup.specs.declared.password.PasswordMessageFamily.TheVariants as family
@@ -19,16 +19,20 @@ use Rattle.pgw_session.specs.Events.{Event, Sent, Got}
 
 -- ---- what the client sends
 
-abbrev pub with_user : Option (List ℕ) → Held
-with_user None = map.empty
-with_user (Some user) = map.insert map.empty (codes "user") user
+-- a parameter of that name, where a value is set
+abbrev pub with_set : List ℕ → Option (List ℕ) → Held → Held
+with_set name None held = held
+with_set name (Some value) held = map.insert held name value
 
--- the startup message: the configured version, and the user where it is set (StartupMessage)
+abbrev pub startup_parameters : Config → Held
+startup_parameters config = with_set (codes "database") config.dbname (with_set (codes "user") config.user (with_set (codes "application_name") config.application_name map.empty))
+
+-- the startup message: the configured version, and application name, user and database where they are set (StartupMessage)
 abbrev pub startup_message : Config → Frontend
 startup_message config = frontend.Startup (record {
   protocol_number_major = (version_number config.protocol_version).0;
   protocol_number_minor = (version_number config.protocol_version).1;
-  parameters = with_user config.user;
+  parameters = startup_parameters config;
 })
 
 -- the bytes of a password, read as UTF-8; where none is set, the empty text

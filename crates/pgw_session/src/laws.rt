@@ -1,8 +1,8 @@
 //! What holds of sessions.
-ghost use Rattle.std.specs.Prelude.{◌≡◌, ◌≤◌, ℕ, List, [], ◌∷◌, ◌++◌, length, Option, Some};
+ghost use Rattle.std.specs.Prelude.{◌≡◌, ◌≤◌, ℕ, List, [], ◌∷◌, ◌++◌, length, Option, Some, None};
 ghost use Rattle.std.specs.FinMap as map;
-ghost use Rattle.pgw_wire.specs.declared.context.ProtocolVersion.{ProtocolVersion as TheVersion};
-ghost use Rattle.pgw_wire.specs.declared.error.PgWireError.{PgWireError as TheRefusal};
+ghost use Rattle.pgw_types.specs.declared.context.ProtocolVersion.{ProtocolVersion as TheVersion};
+ghost use Rattle.pgw_types.specs.declared.error.PgWireError.{PgWireError as TheRefusal};
 ghost use Rattle.pgw_startup.specs.Negotiate.{negotiated_version};
 ghost use Rattle.pgw_startup.specs.declared.backend_key_data.BackendKeyData.{BackendKeyData as TheKey};
 ghost use Rattle.pgw_startup.specs.declared.negotiate.NegotiateProtocolVersion.{NegotiateProtocolVersion as TheOffer};
@@ -10,7 +10,7 @@ ghost use Rattle.pgw_startup.specs.declared.parameter_status.ParameterStatus.{Pa
 ghost use Rattle.pgw_msg.specs.declared.backend.PgWireBackendMessage.{PgWireBackendMessage as Backend};
 ghost use Rattle.pgw_msg.specs.declared.backend.PgWireBackendMessage.TheVariants as backend;
 ghost use Rattle.pgw_msg.specs.declared.client_error.PgWireClientError.{PgWireClientError as ClientError};
-ghost use Rattle.pgw_msg.specs.declared.response.ReadyForQuery.{ReadyForQuery as TheReady};
+ghost use Rattle.pgw_query.specs.declared.response.ReadyForQuery.{ReadyForQuery as TheReady};
 ghost use Rattle.pgw_msg.specs.Front.{Spells};
 ghost use Rattle.pgw_config.specs.declared.config.Config.{Config as TheConfig};
 ghost use Rattle.pgw_session.specs.declared.types.Request.{Request as TheRequest};
@@ -19,6 +19,7 @@ ghost use Rattle.pgw_session.specs.Standings.{first_standing, standing_of, IsSam
 ghost use Rattle.pgw_session.specs.Answers.{tally_of, first_error};
 ghost use Rattle.pgw_session.specs.Transcript.{IsTranscript, IsLegalPrefix, SpellsGot, EncodesSent, Completed, Completes, report_of};
 ghost use Rattle.pgw_session.specs.Failures.{StoppedCause, Unsendable, WaitsAt, IsHopeless, IsUnfinished};
+ghost use Rattle.pgw_session.specs.Demands.{refused_config};
 ghost use Rattle.pgw_session.specs.Valid.{IsValidInput};
 ghost use Rattle.pgw_session.specs.Course.{Waits, Over};
 ghost use Rattle.pgw_session.specs.Talk.{Talk, Ending, Complete, Unencoded, Stopped, said, conversation, whole_talk, HasRefused};
@@ -49,8 +50,8 @@ pub fn messages_without_a_place_are_refused()
 /// A conversation that ends otherwise has its cause, and whatever follows completes no session; one that waits is
 /// within a message, and no front of its bytes completes a session.
 pub fn other_conversations_have_causes()
-    ensures stopped { (config : TheConfig) (requests : List TheRequest) (taken sent left : List ℕ) (ending : Ending) (e : ClientError) → conversation config requests taken ≡ Over ending sent → ending.outcome ≡ Stopped e →
-        StoppedCause config requests taken sent left e × IsHopeless config requests taken }
+    ensures stopped { (config : TheConfig) (requests : List TheRequest) (limit : ℕ) (taken sent left : List ℕ) (ending : Ending) (e : ClientError) → conversation config requests taken ≡ Over ending sent → ending.outcome ≡ Stopped e →
+        StoppedCause config requests limit taken sent left e × IsHopeless config requests taken }
     ensures unencoded { (config : TheConfig) (requests : List TheRequest) (taken sent : List ℕ) (ending : Ending) (e : TheRefusal) → conversation config requests taken ≡ Over ending sent → ending.outcome ≡ Unencoded e →
         Unsendable config requests taken sent e × IsHopeless config requests taken }
     ensures waits { (config : TheConfig) (requests : List TheRequest) (taken sent pending : List ℕ) (t : Talk) → conversation config requests taken ≡ Waits t sent pending →
@@ -59,6 +60,8 @@ pub fn other_conversations_have_causes()
 
 /// Each message of a valid input can be sent.
 pub fn valid_input_can_be_sent()
+    // It demands nothing that is refused.
+    ensures demands { (config : TheConfig) (requests : List TheRequest) → IsValidInput config requests → refused_config config ≡ None }
     ensures transcripts { (config : TheConfig) (requests : List TheRequest) (segments : List (List Event)) → IsValidInput config requests → IsTranscript config requests segments →
         (bytes : List ℕ) × EncodesSent (joined segments) bytes }
     ensures prefixes { (config : TheConfig) (requests : List TheRequest) (es : List Event) → IsValidInput config requests → IsLegalPrefix config requests es → (bytes : List ℕ) × EncodesSent es bytes }

@@ -1,10 +1,10 @@
 //! The responses of a segment so far.
 
 use crate::types::Response;
-use pgw_msg::data::DataRow;
 use pgw_msg::field_info::FieldInfo;
-use pgw_msg::response::ErrorResponse;
-use pgw_wire::listed::Listed;
+use pgw_query::data::DataRow;
+use pgw_query::response::ErrorResponse;
+use pgw_types::listed::Listed;
 
 /// A result whose rows are still coming.
 #[derive(Debug, Drop)]

@@ -1,14 +1,14 @@
 //! What goes into a session and what comes out of it.
 
-use pgw_msg::data::DataRow;
 use pgw_msg::field_info::FieldInfo;
-use pgw_msg::response::{ErrorResponse, TransactionStatus};
 use pgw_msg::tag::Tag;
-use pgw_wire::context::ProtocolVersion;
-use pgw_wire::listed::Listed;
+use pgw_query::data::DataRow;
+use pgw_query::response::{ErrorResponse, TransactionStatus};
+use pgw_types::context::ProtocolVersion;
+use pgw_types::listed::Listed;
+use pgw_types::text::Text;
 use pgw_wire::params::Params;
 use pgw_wire::secret_key::SecretKey;
-use pgw_wire::text::Text;
 
 /// What a client asks for.
 #[derive(Debug, Drop)]

@@ -6,9 +6,9 @@ use Rattle.std.proofs.lemmas.Bool.{ltb-false, or_parts, eqb-true, eqb-false}
 use Rattle.std.proofs.lemmas.Int.{ints}
 use Rattle.std.proofs.lemmas.List.{append-nil}
 use Rattle.std.proofs.lemmas.Str.{IsUtf8-nil}
-use Rattle.pgw_wire.specs.declared.error.PgWireError.{PgWireError}
-use Rattle.pgw_wire.specs.declared.context.ProtocolVersion.{ProtocolVersion}
-use Rattle.pgw_wire.specs.declared.context.ProtocolVersion.TheVariants.{PROTOCOL3_0, PROTOCOL3_2, PROTOCOL3_9999}
+use Rattle.pgw_types.specs.declared.error.PgWireError.{PgWireError}
+use Rattle.pgw_types.specs.declared.context.ProtocolVersion.{ProtocolVersion}
+use Rattle.pgw_types.specs.declared.context.ProtocolVersion.TheVariants.{PROTOCOL3_0, PROTOCOL3_2, PROTOCOL3_9999}
 use Rattle.pgw_wire.specs.declared.secret_key.SecretKey.{SecretKey}
 use Rattle.pgw_wire.specs.declared.secret_key.SecretKey.TheVariants.{I32, Bytes}
 use Rattle.pgw_wire.specs.Writing.{text, i32, u32, has_zero, refused_if}
@@ -35,7 +35,7 @@ positive n h = omega (arith, eqb-false n 0 h)
 method_written : (t : List ℕ) → IsUtf8 t → is_method_refused t ≡ false → SpellsName (Some t) (text t)
 method_written t utf8 fine = let p = or_parts (eqb (length t) 0) (has_zero t) fine in (text_written t p.1 utf8, positive (length t) p.0)
 
-code_written : (n : ℕ) → n < 2 ^ 32 → SpellsNat w32 n (u32 n)
+pub code_written : (n : ℕ) → n < 2 ^ 32 → SpellsNat w32 n (u32 n)
 unfolding u32
 code_written n small = nat_written w32 wide32 n small
 
@@ -64,7 +64,7 @@ no_key : (b : Bool) (e : PgWireError) → cond b (Some e) None ≡ None → b �
 no_key true e is = absurd cc
 no_key false e is = refl
 
-key_written : (v : ProtocolVersion) (key : SecretKey) → IsKey key → SuitsKey v key → key_fault key ≡ None → SpellsKey v key (key_bytes key)
+pub key_written : (v : ProtocolVersion) (key : SecretKey) → IsKey key → SuitsKey v key → key_fault key ≡ None → SpellsKey v key (key_bytes key)
 unfolding i32
 key_written PROTOCOL3_0 (I32 n) sound suits fine = int_written w32 wide32 n sound
 key_written PROTOCOL3_0 (Bytes bytes) sound suits fine = absurd suits

@@ -1,7 +1,7 @@
 -- Versions that a server offers.
 use Rattle.std.proofs.Common.{◌≡◌, ℕ, pos, ◌+◌, ◌*◌, ◌/◌, ◌%◌, ◌<◌, ◌≤◌, true, false, ltb, Some, refl, arith}
 use Rattle.std.proofs.lemmas.Bool.{lt-ltb, le-ltb}
-use Rattle.pgw_wire.specs.declared.context.ProtocolVersion.TheVariants.{PROTOCOL3_0, PROTOCOL3_2}
+use Rattle.pgw_types.specs.declared.context.ProtocolVersion.TheVariants.{PROTOCOL3_0, PROTOCOL3_2}
 use Rattle.pgw_startup.specs.Negotiate.{negotiated_version}
 
 pub alike : (minor : ℕ) → minor < 65536 → negotiated_version (pos (3 * 65536 + minor)) ≡ negotiated_version (pos minor)

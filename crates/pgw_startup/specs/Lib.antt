@@ -3,3 +3,4 @@ pub mod Negotiate
 pub mod Password
 pub mod Login
 pub mod Sound
+pub mod Response

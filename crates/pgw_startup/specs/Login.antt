@@ -2,10 +2,10 @@
 use Rattle.std.specs.Prelude.{◌≡◌, ℕ, Bool, not, ◌||◌, List, [], ◌∷◌, ◌++◌, length, Option, None, Result, Ok, Err, nat_lt, ◌==◌, if◌then◌else◌}
 use Rattle.std.specs.List.{list_any, flat_map}
 use Rattle.std.specs.Int.{w32, cast_signed}
-use Rattle.pgw_wire.specs.declared.error.PgWireError.{PgWireError}
-use Rattle.pgw_wire.specs.declared.error.PgWireError.TheVariants.{InvalidAuthenticationMessageCode}
-use Rattle.pgw_wire.specs.declared.context.DecodeContext.{DecodeContext}
-use Rattle.pgw_wire.specs.declared.context.ProtocolVersion.{ProtocolVersion}
+use Rattle.pgw_types.specs.declared.error.PgWireError.{PgWireError}
+use Rattle.pgw_types.specs.declared.error.PgWireError.TheVariants.{InvalidAuthenticationMessageCode}
+use Rattle.pgw_types.specs.declared.context.DecodeContext.{DecodeContext}
+use Rattle.pgw_types.specs.declared.context.ProtocolVersion.{ProtocolVersion}
 use Rattle.pgw_wire.specs.Reading.{◌>>=◌, nat_at, int_at, text_at, name_at, octets_at, rest_at, all_of, marked_list_at}
 use Rattle.pgw_wire.specs.Formats.{pair_at, Pair, made_at, tried_at, counted_at, SpellsText, SpellsNat, SpellsInt, SpellsOctets, SpellsName, SpellsCounted, SpellsMarked}
 use Rattle.pgw_wire.specs.Writing.{text, i32, u32, has_zero, refused_if}

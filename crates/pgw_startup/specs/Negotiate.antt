@@ -1,7 +1,7 @@
 -- Which version a server offers.
 use Rattle.std.specs.Prelude.{ℕ, ℤ, pos, negsuc, ◌/◌, ◌%◌, ◌==◌, Option, Some, None, nat_lt, if◌then◌else◌}
-use Rattle.pgw_wire.specs.declared.context.ProtocolVersion.{ProtocolVersion}
-use Rattle.pgw_wire.specs.declared.context.ProtocolVersion.TheVariants.{PROTOCOL3_0, PROTOCOL3_2}
+use Rattle.pgw_types.specs.declared.context.ProtocolVersion.{ProtocolVersion}
+use Rattle.pgw_types.specs.declared.context.ProtocolVersion.TheVariants.{PROTOCOL3_0, PROTOCOL3_2}
 
 -- of major version 3: minor versions 0 and 1 are read as 3.0, later ones as 3.2
 abbrev pub known_version : ℕ → ℕ → Option ProtocolVersion

@@ -8,17 +8,17 @@ ghost use Rattle.pgw_wire.specs.Writing.{text as text_bytes, u32 as u32_bytes};
 ghost use Rattle.pgw_startup.specs.Login.{by_code, authentication_of, authentication, is_method_refused, authentication_fault};
 
 use bytes::BytesMut;
-use pgw_wire::context::DecodeContext;
-use pgw_wire::error::{PgWireError, PgWireResult};
+use pgw_types::context::DecodeContext;
+use pgw_types::error::{PgWireError, PgWireResult};
+use pgw_types::listed::{Duplicate, Listed};
+use pgw_types::memory::OutOfMemory;
+use pgw_types::octets::Octets;
+use pgw_types::text::Text;
 use pgw_wire::field::{list_len, put_list};
 use pgw_wire::framing::Framing;
 use pgw_wire::item::take_up_to_mark;
-use pgw_wire::listed::{Duplicate, Listed};
-use pgw_wire::memory::OutOfMemory;
 use pgw_wire::message::Message;
-use pgw_wire::octets::Octets;
 use pgw_wire::reader::FieldReader;
-use pgw_wire::text::Text;
 use pgw_wire::writer::{append, has_zero, put_u32};
 use std::alloc::Global;
 

@@ -5,13 +5,13 @@ ghost use Rattle.pgw_wire.specs.Keys.{key_fault};
 ghost use Rattle.pgw_startup.specs.Login.{backend_key_data_of, backend_key_data};
 
 use bytes::BytesMut;
-use pgw_wire::context::DecodeContext;
-use pgw_wire::error::PgWireResult;
+use pgw_types::context::DecodeContext;
+use pgw_types::error::PgWireResult;
+use pgw_types::listed::Duplicate;
+use pgw_types::memory::OutOfMemory;
+use pgw_types::octets::Octets;
 use pgw_wire::framing::Framing;
-use pgw_wire::listed::Duplicate;
-use pgw_wire::memory::OutOfMemory;
 use pgw_wire::message::Message;
-use pgw_wire::octets::Octets;
 use pgw_wire::reader::FieldReader;
 use pgw_wire::secret_key::SecretKey;
 use pgw_wire::writer::append;
@@ -24,6 +24,14 @@ pub const MESSAGE_TYPE_BYTE_BACKEND_KEY_DATA: u8 = b'K';
 pub struct BackendKeyData {
     pub pid: i32,
     pub secret_key: SecretKey,
+}
+
+impl BackendKeyData {
+    pub fn new(pid: i32, secret_key: SecretKey) -> BackendKeyData
+        ensures { result ≡ record { pid = pid; secret_key = secret_key } }
+    {
+        BackendKeyData { pid, secret_key }
+    }
 }
 
 impl Message for BackendKeyData {

@@ -3,8 +3,11 @@
 
 pub mod authentication;
 pub mod backend_key_data;
+pub mod client_laws;
 pub mod laws;
 pub mod negotiate;
 pub mod parameter_status;
 pub mod password;
+pub mod response;
+pub mod sasl;
 pub mod startup;

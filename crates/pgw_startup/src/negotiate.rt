@@ -7,16 +7,16 @@ ghost use Rattle.pgw_startup.specs.Login.{negotiate_of, negotiate, is_options_re
 ghost use Rattle.pgw_startup.specs.Negotiate.{known_version as version_known, negotiated_version as version_offered};
 
 use bytes::BytesMut;
-use pgw_wire::context::{DecodeContext, ProtocolVersion};
-use pgw_wire::error::{PgWireError, PgWireResult};
+use pgw_types::context::{DecodeContext, ProtocolVersion};
+use pgw_types::error::{PgWireError, PgWireResult};
+use pgw_types::listed::{Duplicate, Listed};
+use pgw_types::memory::OutOfMemory;
+use pgw_types::octets::Octets;
+use pgw_types::text::Text;
 use pgw_wire::field::{list_len, put_list, take_list, unsigned_count};
 use pgw_wire::framing::Framing;
-use pgw_wire::listed::{Duplicate, Listed};
-use pgw_wire::memory::OutOfMemory;
 use pgw_wire::message::Message;
-use pgw_wire::octets::Octets;
 use pgw_wire::reader::FieldReader;
-use pgw_wire::text::Text;
 use pgw_wire::writer::{append, has_zero, put_i32, put_u32};
 use std::alloc::Global;
 
@@ -27,6 +27,20 @@ pub const MESSAGE_TYPE_BYTE_NEGOTIATE_PROTOCOL_VERSION: u8 = b'v';
 pub struct NegotiateProtocolVersion {
     pub newest_minor_protocol: i32,
     pub unsupported_options: Listed<Text>,
+}
+
+impl NegotiateProtocolVersion {
+    pub fn new(
+        newest_minor_protocol: i32,
+        unsupported_options: Listed<Text>,
+    ) -> NegotiateProtocolVersion
+        ensures { result ≡ record { newest_minor_protocol = newest_minor_protocol; unsupported_options = unsupported_options } }
+    {
+        NegotiateProtocolVersion {
+            newest_minor_protocol,
+            unsupported_options,
+        }
+    }
 }
 
 fn any_has_zero(options: &[Text]) -> bool

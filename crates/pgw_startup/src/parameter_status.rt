@@ -4,15 +4,15 @@ ghost use Rattle.pgw_wire.specs.declared.framing.Framing.TheVariants.{Typed};
 ghost use Rattle.pgw_startup.specs.Login.{parameter_status_of, parameter_status, parameter_status_fault};
 
 use bytes::BytesMut;
-use pgw_wire::context::DecodeContext;
-use pgw_wire::error::{PgWireError, PgWireResult};
+use pgw_types::context::DecodeContext;
+use pgw_types::error::{PgWireError, PgWireResult};
+use pgw_types::listed::Duplicate;
+use pgw_types::memory::OutOfMemory;
+use pgw_types::octets::Octets;
+use pgw_types::text::Text;
 use pgw_wire::framing::Framing;
-use pgw_wire::listed::Duplicate;
-use pgw_wire::memory::OutOfMemory;
 use pgw_wire::message::Message;
-use pgw_wire::octets::Octets;
 use pgw_wire::reader::FieldReader;
-use pgw_wire::text::Text;
 use pgw_wire::writer::{append, has_zero, put_text};
 use std::alloc::Global;
 
@@ -23,6 +23,14 @@ pub const MESSAGE_TYPE_BYTE_PARAMETER_STATUS: u8 = b'S';
 pub struct ParameterStatus {
     pub name: Text,
     pub value: Text,
+}
+
+impl ParameterStatus {
+    pub fn new(name: Text, value: Text) -> ParameterStatus
+        ensures { result ≡ record { name = name; value = value } }
+    {
+        ParameterStatus { name, value }
+    }
 }
 
 impl Message for ParameterStatus {

@@ -1,19 +1,21 @@
 //! What a client answers to an authentication request.
 ghost use Rattle.std.specs.Prelude.{◌≡◌};
 ghost use Rattle.pgw_wire.specs.declared.framing.Framing.TheVariants.{Typed};
+ghost use Rattle.pgw_wire.specs.Reading.{Gives};
 ghost use Rattle.pgw_wire.specs.Writing.{text, has_zero as holds_zero, refused_if};
-ghost use Rattle.pgw_startup.specs.Password.{password_of, family_of, password_body, password_fault};
+ghost use Rattle.pgw_startup.specs.Password.{password_of, family_of, password_body, password_fault, as_password, as_initial_response, as_response};
 
+use crate::sasl::{SASLInitialResponse, SASLResponse, read_initial_response, read_response};
 use bytes::BytesMut;
-use pgw_wire::context::DecodeContext;
-use pgw_wire::error::{PgWireError, PgWireResult};
+use pgw_types::context::DecodeContext;
+use pgw_types::error::{PgWireError, PgWireResult};
+use pgw_types::listed::Duplicate;
+use pgw_types::memory::OutOfMemory;
+use pgw_types::octets::Octets;
+use pgw_types::text::Text;
 use pgw_wire::framing::Framing;
-use pgw_wire::listed::Duplicate;
-use pgw_wire::memory::OutOfMemory;
 use pgw_wire::message::Message;
-use pgw_wire::octets::Octets;
 use pgw_wire::reader::FieldReader;
-use pgw_wire::text::Text;
 use pgw_wire::writer::{append, has_zero, put_text};
 use std::alloc::Global;
 
@@ -25,12 +27,30 @@ pub struct Password {
     pub password: Text,
 }
 
+impl Password {
+    pub fn new(password: Text) -> Password
+        ensures { result ≡ record { password = password } }
+    {
+        Password { password }
+    }
+}
+
+#[tactic(auto, unfolding(crate::specs::Password::password_of))]
+fn read_password(alloc: Global, body: &Octets) -> PgWireResult<Password>
+    ensures { Gives result (password_of body.now) }
+{
+    let mut reader = FieldReader::new(body);
+    let password = reader.take_text(alloc)?;
+    reader.finish()?;
+    Ok(Password { password })
+}
+
 impl Message for Password {
     ghost row_framing = { Typed 112 };
 
     ghost limit = { 10000 };
 
-    ghost reading = { password_of };
+    ghost reading = { λ ctx. password_of };
 
     ghost written = { λ m. text m.password };
 
@@ -59,12 +79,8 @@ impl Message for Password {
         append(buf, &out)
     }
 
-    #[tactic(auto, unfolding(crate::specs::Password::password_of))]
     fn decode_body(alloc: Global, body: &Octets, _ctx: &DecodeContext) -> PgWireResult<Password> {
-        let mut reader = FieldReader::new(body);
-        let password = reader.take_text(alloc)?;
-        reader.finish()?;
-        Ok(Password { password })
+        read_password(alloc, body)
     }
 }
 
@@ -74,6 +90,43 @@ pub enum PasswordMessageFamily {
     /// A body that is not read yet.
     Raw(Octets),
     Password(Password),
+    SASLInitialResponse(SASLInitialResponse),
+    SASLResponse(SASLResponse),
+}
+
+impl PasswordMessageFamily {
+    /// The message as a password, whose body is read now if it was not before.
+    pub fn into_password(self, alloc: Global) -> PgWireResult<Password>
+        ensures { Gives result (as_password self) }
+    {
+        match self {
+            PasswordMessageFamily::Raw(body) => read_password(alloc, &body),
+            PasswordMessageFamily::Password(m) => Ok(m),
+            _ => Err(PgWireError::FailedToCoercePasswordMessage),
+        }
+    }
+
+    /// The message as the first one of SASL, whose body is read now if it was not before.
+    pub fn into_sasl_initial_response(self, alloc: Global) -> PgWireResult<SASLInitialResponse>
+        ensures { Gives result (as_initial_response self) }
+    {
+        match self {
+            PasswordMessageFamily::Raw(body) => read_initial_response(alloc, &body),
+            PasswordMessageFamily::SASLInitialResponse(m) => Ok(m),
+            _ => Err(PgWireError::FailedToCoercePasswordMessage),
+        }
+    }
+
+    /// The message as a further one of SASL, whose body is read now if it was not before.
+    pub fn into_sasl_response(self) -> PgWireResult<SASLResponse>
+        ensures { Gives result (as_response self) }
+    {
+        match self {
+            PasswordMessageFamily::Raw(body) => read_response(&body),
+            PasswordMessageFamily::SASLResponse(m) => Ok(m),
+            _ => Err(PgWireError::FailedToCoercePasswordMessage),
+        }
+    }
 }
 
 impl Message for PasswordMessageFamily {
@@ -99,6 +152,8 @@ impl Message for PasswordMessageFamily {
         match self {
             PasswordMessageFamily::Raw(body) => body.len() + 4,
             PasswordMessageFamily::Password(m) => m.message_length(),
+            PasswordMessageFamily::SASLInitialResponse(m) => m.message_length(),
+            PasswordMessageFamily::SASLResponse(m) => m.message_length(),
         }
     }
 
@@ -106,6 +161,8 @@ impl Message for PasswordMessageFamily {
         match self {
             PasswordMessageFamily::Raw(body) => append(buf, body.as_slice()),
             PasswordMessageFamily::Password(m) => m.encode_body(buf),
+            PasswordMessageFamily::SASLInitialResponse(m) => m.encode_body(buf),
+            PasswordMessageFamily::SASLResponse(m) => m.encode_body(buf),
         }
     }
 
@@ -135,6 +192,12 @@ impl Duplicate for PasswordMessageFamily {
         match self {
             PasswordMessageFamily::Raw(x) => Ok(PasswordMessageFamily::Raw(x.duplicate()?)),
             PasswordMessageFamily::Password(x) => Ok(PasswordMessageFamily::Password(
+                x.duplicate()?,
+            )),
+            PasswordMessageFamily::SASLInitialResponse(x) => Ok(
+                PasswordMessageFamily::SASLInitialResponse(x.duplicate()?),
+            ),
+            PasswordMessageFamily::SASLResponse(x) => Ok(PasswordMessageFamily::SASLResponse(
                 x.duplicate()?,
             )),
         }

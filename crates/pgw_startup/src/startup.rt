@@ -1,31 +1,56 @@
 //! The first message of a client.
 ghost use Rattle.std.specs.Prelude.{◌≡◌, IfOk, OnOk};
+ghost use Rattle.std.specs.FinMap as map;
 ghost use Rattle.pgw_wire.specs.Reading.{Gives};
-ghost use Rattle.pgw_wire.specs.Pairs.{pair_at, from_pairs};
+ghost use Rattle.pgw_wire.specs.Pairs.{from_pairs};
 ghost use Rattle.pgw_wire.specs.Writing.{refused_if};
 ghost use Rattle.pgw_wire.specs.declared.framing.Framing.TheVariants.{Untyped};
 ghost use Rattle.pgw_startup.specs.Startup.{startup_of, startup, is_startup_refused};
 
 use bytes::BytesMut;
-use pgw_wire::context::DecodeContext;
-use pgw_wire::error::{PgWireError, PgWireResult};
+use pgw_types::context::DecodeContext;
+use pgw_types::error::{PgWireError, PgWireResult};
+use pgw_types::listed::Duplicate;
+use pgw_types::memory::OutOfMemory;
+use pgw_types::octets::Octets;
+use pgw_types::text::Text;
 use pgw_wire::framing::Framing;
 use pgw_wire::item::take_up_to_mark;
-use pgw_wire::listed::Duplicate;
-use pgw_wire::memory::OutOfMemory;
 use pgw_wire::message::Message;
-use pgw_wire::octets::Octets;
 use pgw_wire::params::Params;
 use pgw_wire::reader::FieldReader;
-use pgw_wire::text::Text;
 use pgw_wire::writer::{append, put_u16};
 use std::alloc::Global;
 
+/// The version that a client asks for, and its parameters (StartupMessage).
 #[derive(Debug, Drop, PartialEq, Eq)]
 pub struct Startup {
     pub protocol_number_major: u16,
     pub protocol_number_minor: u16,
     pub parameters: Params,
+}
+
+impl Startup {
+    pub const PROTOCOL_VERSION_3_0: i32 = 196608;
+
+    pub const PROTOCOL_VERSION_3_2: i32 = 196610;
+
+    /// The first major version that is understood.
+    pub const PG_PROTOCOL_EARLIEST: u16 = 3;
+
+    /// The last major version that is understood.
+    pub const PG_PROTOCOL_LATEST: u16 = 3;
+
+    /// Version 3.0 without parameters.
+    pub fn new(alloc: Global) -> Startup
+        ensures { result ≡ record { protocol_number_major = 3; protocol_number_minor = 0; parameters = map.empty } }
+    {
+        Startup {
+            protocol_number_major: Startup::PG_PROTOCOL_LATEST,
+            protocol_number_minor: 0,
+            parameters: Params::new(alloc),
+        }
+    }
 }
 
 fn collected(alloc: Global, pairs: Vec<(Text, Text)>) -> Result<Params, OutOfMemory>

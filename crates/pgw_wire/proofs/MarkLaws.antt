@@ -1,17 +1,17 @@
 -- Lists that end with a mark, and keys: what is read is what is spelled.
-use Rattle.std.proofs.Common.{◌≡◌, ℕ, ℤ, zero, suc, ◌+◌, ◌<◌, ◌≤◌, ◌^◌, ◌⊎◌, inl, inr, Bool, true, false, cond, ltb, eqb, List, [], ◌∷◌, ◌++◌, length, Option, Some, None, Result, Ok, Err, refl, sym, ap, subst, ◌∙◌, append_assoc, arith, length-append}
-use Rattle.std.specs.Int.{w8, w32, from_be_bytes, cast_signed}
+use Rattle.std.proofs.Common.{◌≡◌, ℕ, zero, suc, ◌+◌, ◌<◌, ◌≤◌, ◌^◌, inl, inr, true, false, cond, ltb, eqb, List, [], ◌∷◌, ◌++◌, length, Option, Some, None, Result, Ok, Err, refl, sym, ap, subst, ◌∙◌, append_assoc, arith}
+use Rattle.std.specs.Int.{w8}
 use Rattle.std.proofs.lemmas.Bool.{ltb-false, le-ltb, eqb-true, eqb-false, ne_eqb, eq-eqb, or_parts}
-use Rattle.pgw_wire.specs.declared.error.PgWireError.{PgWireError}
-use Rattle.pgw_wire.specs.declared.error.PgWireError.TheVariants.{InvalidSecretKey, InvalidMessageBody}
-use Rattle.pgw_wire.specs.declared.context.ProtocolVersion.{ProtocolVersion}
-use Rattle.pgw_wire.specs.declared.context.ProtocolVersion.TheVariants.{PROTOCOL3_0, PROTOCOL3_2, PROTOCOL3_9999}
+use Rattle.pgw_types.specs.declared.error.PgWireError.{PgWireError}
+use Rattle.pgw_types.specs.declared.error.PgWireError.TheVariants.{InvalidSecretKey, InvalidMessageBody}
+use Rattle.pgw_types.specs.declared.context.ProtocolVersion.{ProtocolVersion}
+use Rattle.pgw_types.specs.declared.context.ProtocolVersion.TheVariants.{PROTOCOL3_0, PROTOCOL3_2, PROTOCOL3_9999}
 use Rattle.pgw_wire.specs.declared.secret_key.SecretKey.{SecretKey}
 use Rattle.pgw_wire.specs.declared.secret_key.SecretKey.TheVariants.{I32, Bytes}
 use Rattle.pgw_wire.specs.Reading.{◌>>=◌, nat_at, text_at, name_at, name_of, rest_at, up_to_mark, marked, marked_list_at}
 use Rattle.pgw_wire.specs.Codes.{code_at, SpellsCode}
 use Rattle.pgw_wire.specs.Keys.{is_no_key, number_of, key_by, key_of, SpellsKey}
-use Rattle.pgw_wire.specs.Formats.{tried_at, Pair, SpellsText, SpellsNat, SpellsName, SpellsMarked, IsRest, Reads, ReadsLast}
+use Rattle.pgw_wire.specs.Formats.{tried_at, SpellsText, SpellsName, SpellsMarked, Reads, ReadsLast}
 use Rattle.pgw_wire.proofs.Laws.{bind_ok, ok_is, chosen, shorter_after}
 use Rattle.pgw_wire.proofs.FieldLaws.{text_reads, nat_reads}
 use Rattle.pgw_wire.proofs.FrameLaws.{rest_reads, tried_last}

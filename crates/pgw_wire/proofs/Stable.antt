@@ -1,12 +1,11 @@
 -- What follows a message, or a refusal, at the front of some bytes changes nothing.
-use Rattle.std.proofs.Common.{◌≡◌, ◌⊎◌, inl, inr, ℕ, zero, suc, ◌+◌, ◌-◌, ◌<◌, ◌≤◌, Bool, true, false, cond, ltb, eqb, List, [], ◌∷◌, ◌++◌, length, take, drop, slice_range, Option, Some, None, option_map, Result, Ok, Err, refl, sym, ap, subst, ◌∙◌, arith, length-append}
+use Rattle.std.proofs.Common.{◌≡◌, ◌⊎◌, inl, inr, ℕ, ◌+◌, ◌-◌, ◌≤◌, Bool, true, false, cond, ltb, eqb, List, ◌++◌, length, take, drop, slice_range, Option, Some, None, Result, Ok, Err, refl, sym, ap, subst, ◌∙◌, arith, length-append}
 use Rattle.std.specs.Int.{w32, from_be_bytes}
-use Rattle.std.proofs.lemmas.Bool.{ltb-false, le-ltb, eqb-false, eqb-true, ne_eqb}
-use Rattle.std.proofs.lemmas.List.{take-take, take-append-le, drop-take, length-take, length-drop}
-use Rattle.pgw_wire.specs.declared.error.PgWireError.{PgWireError}
-use Rattle.pgw_wire.specs.declared.error.PgWireError.TheVariants.{InvalidMessageBody, MessageTooLarge}
+use Rattle.std.proofs.lemmas.Bool.{ltb-false, le-ltb, eqb-false, ne_eqb}
+use Rattle.std.proofs.lemmas.List.{take-take, take-append-le, drop-take}
+use Rattle.pgw_types.specs.declared.error.PgWireError.{PgWireError}
 use Rattle.pgw_wire.specs.declared.framing.Framing.{Framing}
-use Rattle.pgw_wire.specs.declared.framing.Framing.TheVariants.{Typed, Untyped, Code, Reply}
+use Rattle.pgw_wire.specs.declared.framing.Framing.TheVariants.{Typed, Untyped, Request, Code, Reply}
 use Rattle.pgw_wire.specs.Reading.{◌>>=◌}
 use Rattle.pgw_wire.specs.Framing.{sign_extended, stated_length, length_frame, frame, framed, front}
 use Rattle.pgw_wire.proofs.Laws.{bind_ok, chosen}
@@ -102,20 +101,30 @@ length_frame_bad at limit a more e is =
 abbrev pub fewest : Framing → ℕ
 fewest (Typed byte) = 5
 fewest Untyped = 4
+fewest Request = 8
 fewest Code = 8
 fewest Reply = 1
 
-frame_ends : (framing : Framing) (limit : ℕ) (a : List ℕ) (f : ℕ × ℕ) → frame framing limit a ≡ Ok (Some f) → FrameEnds (frame framing limit) (fewest framing) a f
+-- a length of four to seven bytes ends before the eight bytes that are awaited, and no message of that framing has one
+abbrev pub IsWhole : Framing → Type 0
+IsWhole (Typed byte) = Unit {0}
+IsWhole Untyped = Unit {0}
+IsWhole Request = ⊥
+IsWhole Code = Unit {0}
+IsWhole Reply = Unit {0}
+
+frame_ends : (framing : Framing) (limit : ℕ) (a : List ℕ) (f : ℕ × ℕ) → IsWhole framing → frame framing limit a ≡ Ok (Some f) → FrameEnds (frame framing limit) (fewest framing) a f
 unfolding frame
-frame_ends (Typed byte) limit a f e = let h = length_frame_ends 1 limit a f e in record { some = h.some; ordered = h.ordered; within = h.within; again = h.again }
-frame_ends Untyped limit a f e = let h = length_frame_ends 0 limit a f e in record { some = h.some; ordered = h.ordered; within = h.within; again = h.again }
-frame_ends Code limit a f e =
+frame_ends (Typed byte) limit a f is e = let h = length_frame_ends 1 limit a f e in record { some = h.some; ordered = h.ordered; within = h.within; again = h.again }
+frame_ends Untyped limit a f is e = let h = length_frame_ends 0 limit a f e in record { some = h.some; ordered = h.ordered; within = h.within; again = h.again }
+frame_ends Request limit a f is e = absurd is
+frame_ends Code limit a f is e =
     elim (chosen (ltb (length a) 8) _ _ _ e) [
       | inl h ↦ absurd cc
       | inr h ↦ subst (λ (f : ℕ × ℕ). FrameEnds (frame Code limit) 8 a f) (some_is (4, 8) f h.1)
           (record { some = omega arith; ordered = omega arith; within = ltb-false _ _ h.0; again = λ b same long. let one : ltb (length b) 8 ≡ false = le-ltb _ _ long in rw one refl })
     ]
-frame_ends Reply limit a f e =
+frame_ends Reply limit a f is e =
     elim (chosen (eqb (length a) 0) _ _ _ e) [
       | inl h ↦ absurd cc
       | inr h ↦
@@ -131,6 +140,12 @@ frame_bad : (framing : Framing) (limit : ℕ) (a more : List ℕ) (e : PgWireErr
 unfolding frame
 frame_bad (Typed byte) limit a more e is = length_frame_bad 1 limit a more e is
 frame_bad Untyped limit a more e is = length_frame_bad 0 limit a more e is
+frame_bad Request limit a more e is = elim (chosen (ltb (length a) 8) _ _ _ is) [
+  | inl h ↦ absurd cc
+  | inr h ↦
+      let long : ltb (length (a ++ more)) 8 ≡ false = le-ltb _ _ (omega (arith, ltb-false _ _ h.0, length-append a more)) in
+      rw long (length_frame_bad 0 limit a more e h.1)
+]
 frame_bad Code limit a more e is = elim (chosen (ltb (length a) 8) _ _ _ is) [ inl h ↦ absurd cc | inr h ↦ absurd cc ]
 frame_bad Reply limit a more e is = elim (chosen (eqb (length a) 0) _ _ _ is) [ inl h ↦ absurd cc | inr h ↦ absurd cc ]
 
@@ -150,24 +165,24 @@ front_again : {M : Type 0} (framing : Framing) (limit : ℕ) (read : List ℕ �
 unfolding front
 front_again framing limit read b f m one two = rw (one, two) refl
 
-front_bad : {M : Type 0} (framing : Framing) (limit : ℕ) (read : List ℕ → Result M PgWireError) (a more : List ℕ) (e : PgWireError) → front framing limit read a ≡ Err e → front framing limit read (a ++ more) ≡ Err e
+front_bad : {M : Type 0} (framing : Framing) (limit : ℕ) (read : List ℕ → Result M PgWireError) (a more : List ℕ) (e : PgWireError) → IsWhole framing → front framing limit read a ≡ Err e → front framing limit read (a ++ more) ≡ Err e
 unfolding front
-front_bad framing limit read a more e is = elim (bind_err (frame framing limit a) (framed read a) e is) [
+front_bad framing limit read a more e plain is = elim (bind_err (frame framing limit a) (framed read a) e is) [
   | inl h ↦ rw (frame_bad framing limit a more e h) refl
   | inr h ↦
       let f = framed_bad read a e h.0 h.2 in
-      let ends = frame_ends framing limit a f.0 (h.1 ∙ ap (λ (o : Option (ℕ × ℕ)). Ok o) f.1) in
+      let ends = frame_ends framing limit a f.0 plain (h.1 ∙ ap (λ (o : Option (ℕ × ℕ)). Ok o) f.1) in
       let same : take f.0.1 (a ++ more) ≡ take f.0.1 a = take-append-le f.0.1 a more ends.within in
       rw (ends.again (a ++ more) same (omega (arith, ends.within, length-append a more)), body_local f.0 a (a ++ more) ends.ordered same, f.2) refl
 ]
 
-pub front_stable : {M : Type 0} (framing : Framing) (limit : ℕ) (read : List ℕ → Result M PgWireError) → Stable (fewest framing) (front framing limit read)
+pub front_stable : {M : Type 0} (framing : Framing) (limit : ℕ) (read : List ℕ → Result M PgWireError) → IsWhole framing → Stable (fewest framing) (front framing limit read)
 unfolding front
-front_stable framing limit read = record {
+front_stable framing limit read plain = record {
   whole = λ a m rest e.
       let h = bind_ok (frame framing limit a) (framed read a) (Some (m, rest)) e in
       let f = framed_found read a m rest h.0 h.2 in
-      let ends = frame_ends framing limit a f.0 (h.1 ∙ ap (λ (o : Option (ℕ × ℕ)). Ok o) f.1) in
+      let ends = frame_ends framing limit a f.0 plain (h.1 ∙ ap (λ (o : Option (ℕ × ℕ)). Ok o) f.1) in
       record {
         len = f.0.1;
         some = ends.some;
@@ -175,7 +190,7 @@ front_stable framing limit read = record {
         left = sym f.3;
         again = λ b same long. front_again framing limit read b f.0 m (ends.again b same long) (ap read (body_local f.0 a b ends.ordered same) ∙ f.2);
       };
-  bad = front_bad framing limit read;
+  bad = λ a more e is. front_bad framing limit read a more e plain is;
 }
 
 -- ---- one of several readings

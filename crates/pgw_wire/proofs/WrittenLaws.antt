@@ -1,7 +1,7 @@
 -- What is written spells what it was written of.
-use Rattle.std.proofs.Common.{◌≡◌, ℕ, ℤ, pos, ◌+◌, ◌<◌, ◌≤◌, ◌^◌, min, inl, inr, Bool, true, false, cond, ltb, List, [], ◌∷◌, ◌++◌, length, Option, Some, None, Result, Ok, Err, refl, sym, ap, subst, ◌∙◌, append_assoc, arith, IsUtf8, length-append}
+use Rattle.std.proofs.Common.{◌≡◌, ℕ, ℤ, ◌+◌, ◌<◌, ◌≤◌, ◌^◌, inl, inr, Bool, true, false, ltb, List, [], ◌∷◌, ◌++◌, length, Option, Some, None, Ok, refl, ap, ◌∙◌, append_assoc, arith, IsUtf8}
 use Rattle.std.specs.List.{flat_map, list_any, AllByRecursion}
-use Rattle.std.specs.Int.{Width, w8, w16, w32, byte_len, from_be_bytes, to_be_bytes, cast_signed, cast_unsigned}
+use Rattle.std.specs.Int.{Width, w32, to_be_bytes, cast_signed, cast_unsigned}
 use Rattle.std.specs.Prelude.{FitsSigned}
 use Rattle.std.proofs.lemmas.Bool.{ltb-false, or_parts}
 use Rattle.std.proofs.lemmas.Int.{to_z-of_z}
@@ -10,12 +10,12 @@ use Rattle.std.proofs.Math.Facts.{Fits-of_z, Fits-lt-pow}
 use Rattle.std.proofs.lemmas.Str.{utf8_lossy-IsUtf8}
 use Rattle.bstr.proofs.lemmas.LossyLemmas.{lossy_chars-utf8_lossy}
 use mir.Val.{bits}
-use Rattle.pgw_wire.specs.declared.error.PgWireError.{PgWireError}
+use Rattle.pgw_types.specs.declared.error.PgWireError.{PgWireError}
 use Rattle.pgw_wire.specs.declared.framing.Framing.{Framing}
 use Rattle.pgw_wire.specs.declared.framing.Framing.TheVariants.{Typed}
 use Rattle.pgw_wire.specs.Reading.{lossy}
 use Rattle.pgw_wire.specs.Writing.{text, has_zero, refused_if}
-use Rattle.pgw_wire.specs.Framing.{header, saturated, body_or, encoded}
+use Rattle.pgw_wire.specs.Framing.{header, saturated, length_field, body_or, encoded}
 use Rattle.pgw_wire.specs.Formats.{SpellsText, SpellsNat, SpellsInt, SpellsMany, SpellsMarked, SpellsTyped}
 use Rattle.pgw_wire.proofs.Laws.{chosen}
 use Rattle.pgw_wire.proofs.FieldLaws.{IsWide, wide32}
@@ -65,12 +65,12 @@ body_is None body g is = (refl, cc)
 body_is (Some e) body g is = absurd cc
 
 -- what is written is within the limit, has no fault, and is a header and the body
-pub encoded_parts : (framing : Framing) (limit : ℕ) (fault : Option PgWireError) (body g : List ℕ) → limit < 2 ^ 31 → encoded framing limit fault body ≡ Ok g → (length body + 4 ≤ limit) × (fault ≡ None) × (g ≡ header framing (length body) ++ body)
+pub encoded_parts : (framing : Framing) (limit : ℕ) (fault : Option PgWireError) (body g : List ℕ) → limit < 2 ^ 31 → encoded framing limit fault body ≡ Ok g → (length body + length_field framing ≤ limit) × (fault ≡ None) × (g ≡ header framing (length body) ++ body)
 unfolding encoded
-encoded_parts framing limit fault body g small is = elim (chosen (ltb limit (saturated (length body + 4))) _ _ _ is) [
+encoded_parts framing limit fault body g small is = elim (chosen (ltb limit (saturated (length body + length_field framing))) _ _ _ is) [
   | inl h ↦ absurd cc
   | inr h ↦
-      let within : saturated (length body + 4) ≤ limit = ltb-false _ _ h.0 in
+      let within : saturated (length body + length_field framing) ≤ limit = ltb-false _ _ h.0 in
       let b = body_is fault (header framing (length body) ++ body) g h.1 in
       (omega (arith, within, small), b.0, b.1)
 ]

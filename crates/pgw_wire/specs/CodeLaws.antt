@@ -1,9 +1,8 @@
 -- A text with a code, or a name, takes bytes.
-use Rattle.std.proofs.Common.{◌≡◌, inl, inr, ℕ, ◌+◌, ◌<◌, ◌≤◌, Bool, true, false, cond, eqb, ltb, List, [], ◌∷◌, ◌++◌, length, take, drop, Option, Some, None, Result, Ok, Err, refl, sym, ap, subst, ◌∙◌, arith, length-append}
+use Rattle.std.proofs.Common.{◌≡◌, inl, inr, ℕ, ◌<◌, cond, eqb, ltb, List, length, take, drop, Option, Some, None, Ok, ap, arith}
 use Rattle.std.proofs.lemmas.List.{length-drop}
 use Rattle.std.proofs.lemmas.Bool.{ltb-false}
 use Rattle.std.specs.Int.{w8, from_be_bytes}
-use Rattle.pgw_wire.specs.declared.error.PgWireError.{PgWireError}
 use Rattle.pgw_wire.specs.Reading.{◌>>=◌, text_at, name_at, name_of, nat_at}
 use Rattle.pgw_wire.specs.Codes.{code_at}
 use Rattle.pgw_wire.specs.PairLaws.{text_shrinks}

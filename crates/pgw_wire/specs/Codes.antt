@@ -1,7 +1,7 @@
 -- Texts with a code, as the fields of errors and notices are.
-use Rattle.std.specs.Prelude.{ℕ, ◌<◌, List, [], ◌∷◌, ◌++◌, length, Bool, ◌||◌, Option, Some, None, Result, Ok, Err, ◌==◌, if◌then◌else◌}
+use Rattle.std.specs.Prelude.{ℕ, ◌<◌, List, ◌∷◌, Bool, ◌||◌, Option, Some, None, Result, Ok, ◌==◌, if◌then◌else◌}
 use Rattle.std.specs.Int.{w8}
-use Rattle.pgw_wire.specs.declared.error.PgWireError.{PgWireError}
+use Rattle.pgw_types.specs.declared.error.PgWireError.{PgWireError}
 use Rattle.pgw_wire.specs.Reading.{◌>>=◌, nat_at, text_at}
 use Rattle.pgw_wire.specs.Writing.{text, has_zero}
 use Rattle.pgw_wire.specs.Formats.{Pair, SpellsNat, SpellsText}

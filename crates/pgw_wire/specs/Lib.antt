@@ -5,8 +5,7 @@ pub mod Formats
 pub mod Pairs
 pub mod PairLaws
 pub mod Steps
-pub mod Versions
 pub mod Codes
 pub mod CodeLaws
 pub mod Keys
-pub mod Infos
+pub mod Counted

@@ -1,12 +1,12 @@
 //! What lists with a mark at their end are made of.
 ghost use Rattle.std.specs.Prelude.{◌≡◌, ◌<◌, ℕ, List, Option, Result, Ok, length};
-ghost use Rattle.pgw_wire.specs.declared.error.PgWireError.{PgWireError as TheError};
+ghost use Rattle.pgw_types.specs.declared.error.PgWireError.{PgWireError as TheError};
 ghost use Rattle.pgw_wire.specs.Reading.{Reads, marked_list_at};
 
-use crate::error::PgWireResult;
-use crate::listed::Listed;
 use crate::reader::FieldReader;
-use crate::text::Text;
+use pgw_types::error::PgWireResult;
+use pgw_types::listed::Listed;
+use pgw_types::text::Text;
 use std::alloc::Global;
 
 /// What may stand in a list that ends with a mark.

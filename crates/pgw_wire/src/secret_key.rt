@@ -1,19 +1,17 @@
 //! The key of a connection, by which a query is canceled.
-ghost use Rattle.std.specs.Prelude.{◌≡◌, pos, IfOk};
-ghost use Rattle.std.specs.Cmp.Lexicographic.{pointwise};
-ghost use Rattle.std.specs.Prelude.{nat_eq};
+ghost use Rattle.std.specs.Prelude.{◌≡◌, ◌↔◌, pos, IsTrue, IfOk};
 ghost use Rattle.pgw_wire.specs.Reading.{Gives};
 ghost use Rattle.pgw_wire.specs.Framing.{Appends, body_or};
 ghost use Rattle.pgw_wire.specs.declared.secret_key.SecretKey.TheVariants.{I32, Bytes as KeyBytes};
 ghost use Rattle.pgw_wire.specs.Keys.{is_no_key as has_no_key, number_of, key_of, key_bytes, key_fault, key_number};
 
-use crate::context::{DecodeContext, ProtocolVersion};
-use crate::error::{PgWireError, PgWireResult};
-use crate::listed::Duplicate;
-use crate::memory::OutOfMemory;
-use crate::octets::Octets;
 use crate::writer::append;
 use bytes::BytesMut;
+use pgw_types::context::{DecodeContext, ProtocolVersion};
+use pgw_types::error::{PgWireError, PgWireResult};
+use pgw_types::listed::Duplicate;
+use pgw_types::memory::OutOfMemory;
+use pgw_types::octets::Octets;
 use std::alloc::Global;
 
 /// A key: four bytes under protocol 3.0, 4 to 256 bytes later.
@@ -52,7 +50,7 @@ impl SecretKey {
     /// Whether both are the same bytes.
     #[tactic(auto, unfolding(crate::specs::Writing::i32))]
     pub fn eq_value(&self, other: &SecretKey) -> bool
-        ensures { result ≡ pointwise nat_eq (key_bytes self.now) (key_bytes other.now) }
+        ensures { IsTrue result ↔ (key_bytes self.now ≡ key_bytes other.now) }
     {
         match (self, other) {
             (SecretKey::I32(a), SecretKey::I32(b)) => {

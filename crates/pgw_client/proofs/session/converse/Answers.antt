@@ -25,7 +25,7 @@ returns-then-n-eq0-clause-talks g c t f =
     let reading = c.reads.invariant.reading t f in
     let after = settled c.in-Ok.done reading c.if-done.false (c.in-Ok.ensures.talks t reading.flushed) in
     let filled = c.in-Ok-fill.ensures.filled t in
-    ended c.take_all.new.core c.args.limit filled.0 c.end_error.result after.0 after.1 c.reads.invariant.read_in filled.2 (filled.1 ∙ c.if-n-eq0.true) c.end_error.ensures.is
+    ended c.take_all.new.core c.args.limit filled.0 c.end_error.result after.0 after.1 (omega arith) filled.2 (filled.1 ∙ c.if-n-eq0.true) c.end_error.ensures.is
 
 pub reads-preserved : goal.reads-preserved
 reads-preserved g c = record {

@@ -1,17 +1,8 @@
-use Rattle.std.proofs.Common.{ap, sym, ◌∙◌, Ok, Err}
-use Rattle.pgw_client.proofs.Causes.{causes, told, completed, reports, told_causes, told_reports, told_io}
-use Rattle.pgw_session.specs.Transcript.{report_of}
+use Rattle.std.proofs.Common.{Ok, Err, refl, arith}
+use Rattle.pgw_session.specs.Demands.{refused_config}
+use Rattle.pgw_client.proofs.Causes.{causes, told, completed, reports}
+use Rattle.pgw_client.proofs.Refused.{refused_key, none_refused, same_key, no_demand_named, key_not_io, refused_causes, refused_told}
 use Rattle.pgw_client.proofs.session.run_session.Goals as goal
-
-pub returns-in-Ok : goal.returns-in-Ok
-returns-in-Ok g c = record {
-  cause = c.in-Ok.ensures.cause;
-  kept = c.in-Ok.ensures.kept;
-  completed = λ t. completed _ _ _ _ _ (Ok c.in-Ok.report) (c.in-Ok.ensures.session t);
-  causes = λ t. tt;
-  told = λ t. told _ _ _ _ _ (Ok c.in-Ok.report) (c.in-Ok.ensures.session t);
-  reports = λ t segments completes no_rise. reports _ _ _ _ _ (Ok c.in-Ok.report) segments (c.in-Ok.ensures.session t) completes (λ io. cc);
-}
 
 pub returns-in-Err : goal.returns-in-Err
 returns-in-Err g c =
@@ -19,20 +10,33 @@ returns-in-Err g c =
     let requests = c.args.requests.now in
     let limit = c.args.limit in
     let old = g.L.Link.tape c.args.link.now in
-    let new = g.L.Link.tape c.hold_session.new.link in
     let e = c.in-Err.error in
+    let named = refused_key (refused_config config) e c.in-Err.ensures in
+    let key = named.0 in
+    let is = named.1 in
     record {
-      cause = record {
-        later = c.in-Err.ensures.cause.later;
-        io = λ is. c.in-Err.ensures.cause.io (ap Err (told_io e (sym c.told_error.ensures ∙ cc)));
-      };
-      kept = c.in-Err.ensures.kept;
+      refused = rw is (named.2, refl);
+      demands = λ other same. same_key (refused_config config) e key other is named.2 (cc);
+      cause = record { later = omega arith; io = λ io. absurd (key_not_io e key named.2 (cc)) };
+      kept = refl;
       completed = λ t. tt;
-      causes = λ t.
-          let caused = causes config requests limit old new (Err e) (c.in-Err.ensures.session t) in
-          rw c.told_error.ensures (told_causes config requests limit old new e caused);
-      told = λ t. told config requests limit old new (Err e) (c.in-Err.ensures.session t);
-      reports = λ t segments completes no_rise.
-          let reported = reports config requests limit old new (Err e) segments (c.in-Err.ensures.session t) completes (λ io. no_rise (c.in-Err.ensures.cause.io io)) in
-          rw c.told_error.ensures (told_reports (report_of config segments) e reported);
+      causes = λ t. refused_causes config requests limit old old e key refl is named.2;
+      told = λ t. refused_told config requests limit old old refl;
+      reports = λ t none segments completes no_rise. absurd (cc);
+    }
+
+pub returns : goal.returns
+returns g c =
+    let none = none_refused (refused_config c.args.config.now) _ c.in-Ok.ensures in
+    let r = c.hold_session.result in
+    let held = c.hold_session.ensures in
+    record {
+      refused = rw none tt;
+      demands = λ key is. absurd (no_demand_named r key held.talk is);
+      cause = held.cause;
+      kept = held.kept;
+      completed = λ t. completed _ _ _ _ _ r (held.session t);
+      causes = λ t. causes _ _ _ _ _ r (held.session t);
+      told = λ t. told _ _ _ _ _ r (held.session t);
+      reports = λ t clear segments completes no_rise. reports _ _ _ _ _ r segments (held.session t) completes (λ io. no_rise (held.cause.io io));
     }

@@ -1,5 +1,5 @@
 use Rattle.std.proofs.Common.{take}
-use Rattle.pgw_msg.specs.Texts.{IsCoded}
+use Rattle.pgw_query.specs.Sound.{IsCoded}
 use Rattle.std.specs.List.{AllByRecursion}
 use Rattle.pgw_msg.proofs.sound.are_coded.Given as goal
 

@@ -1,5 +1,5 @@
 use Rattle.std.proofs.Common.{take}
-use Rattle.pgw_msg.specs.Texts.{IsField}
+use Rattle.pgw_query.specs.Sound.{IsField}
 use Rattle.std.specs.List.{AllByRecursion}
 use Rattle.pgw_msg.proofs.sound.are_fields.Given as goal
 

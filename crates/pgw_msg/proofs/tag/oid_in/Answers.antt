@@ -1,6 +1,6 @@
 use Rattle.std.proofs.Common.{ap, ◌∙◌}
-use Rattle.pgw_msg.proofs.TagLaws.{parsed}
-use Rattle.pgw_msg.specs.Tags.{number_in}
+use Rattle.pgw_types.proofs.NumberLaws.{parsed}
+use Rattle.pgw_types.specs.Numbers.{number_in}
 use Rattle.pgw_msg.proofs.tag.oid_in.Goals as goal
 
 pub returns : goal.returns

@@ -1,11 +1,12 @@
-use Rattle.std.proofs.Common.{arith, refl}
+use Rattle.std.proofs.Common.{arith, refl, inr, ◌∙◌}
+use Rattle.pgw_prog.proofs.ProgramLaws.{whole_written, listed_written}
 use Rattle.pgw_prog.proofs.program.run_program.Goals as goal
 
 pub returns-in-Ok-write_whole-clause-prints : goal.returns-in-Ok-write_whole-clause-prints
-returns-in-Ok-write_whole-clause-prints g c = λ reads writes still quiet some. record {
+returns-in-Ok-write_whole-clause-prints g c = λ some. record {
   printed = c.in-Ok.printed;
-  answers = rw c.command_of.ensures at (c.in-Ok.ensures.answers reads);
-  wrote = rw c.deref.ensures.value at ((c.in-Ok-write_whole.ensures.wrote writes).wrote);
+  answers = rw c.command_of.ensures at c.in-Ok.ensures.answers;
+  wrote = λ writes. rw c.deref.ensures.value at ((c.in-Ok-write_whole.ensures.wrote writes).wrote);
   ends = refl;
 }
 
@@ -14,3 +15,23 @@ returns-in-Ok-write_whole-clause-fault g c = λ e. absurd (omega (arith, e, c.in
 
 pub returns-in-Ok-write_whole-clause-silent : goal.returns-in-Ok-write_whole-clause-silent
 returns-in-Ok-write_whole-clause-silent g c = λ e. absurd (omega (arith, e, c.in-Ok.printed.bound))
+
+pub returns-in-Ok-write_whole-clause-completes : goal.returns-in-Ok-write_whole-clause-completes
+returns-in-Ok-write_whole-clause-completes g c = λ reads writes still quiet is script segments can.
+    let answers = rw (c.command_of.ensures ∙ is) at c.in-Ok.ensures.answers in
+    whole_written _ script segments can c.in-Ok.printed _ _ (answers reads) (rw c.deref.ensures.value at ((c.in-Ok-write_whole.ensures.wrote writes).wrote))
+
+pub returns-in-Ok-write_whole-clause-io : goal.returns-in-Ok-write_whole-clause-io
+returns-in-Ok-write_whole-clause-io g c = λ reads writes is one sent text.
+    let answers = rw (c.command_of.ensures ∙ is) at c.in-Ok.ensures.answers in
+    listed_written _ sent c.in-Ok.printed _ _ (answers reads) (rw c.deref.ensures.value at ((c.in-Ok-write_whole.ensures.wrote writes).wrote)) text
+
+pub returns-in-Ok-clause-fault : goal.returns-in-Ok-clause-fault
+returns-in-Ok-clause-fault g c = λ three. inr (
+  c.in-Err.ensures.cause.failed,
+  record {
+    printed = c.in-Ok.printed;
+    answers = rw c.command_of.ensures at c.in-Ok.ensures.answers;
+    wrote = λ writes. let front = rw c.deref.ensures.value at (c.in-Err.ensures.failed writes) in (front.count, front.count_in, front.wrote);
+  },
+)

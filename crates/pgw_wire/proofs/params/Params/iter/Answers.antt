@@ -1,4 +1,4 @@
-use Rattle.std.proofs.Common.{◌≡◌, ap, ◌∙◌, sym}
+use Rattle.std.proofs.Common.{ap, ◌∙◌, sym}
 use Rattle.std.specs.FinMap as map
 use Rattle.pgw_wire.proofs.ParamLaws.{entries_of}
 use Rattle.pgw_wire.proofs.params.Params.iter.Goals as goal

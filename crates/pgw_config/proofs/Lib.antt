@@ -1,0 +1,4 @@
+pub mod CutLaws
+pub mod DigitLaws
+pub mod NumberLaws
+pub mod PieceLaws

@@ -1,0 +1,93 @@
+-- Connection texts that are pairs of a key and a value. A text stands here as its characters.
+use Rattle.std.specs.Prelude.{◌≡◌, ℕ, ◌+◌, List, [], ◌∷◌, ◌++◌, length, take, drop, Bool, true, false, not, ◌||◌, ◌==◌, Option, Some, None, slice_index, if◌then◌else◌}
+use Rattle.std.specs.List.{position, flat_map}
+use Rattle.std.specs.Char.{is_whitespace, encode_utf8}
+use Rattle.pgw_config.specs.declared.settings.Part.{Part}
+use Rattle.pgw_config.specs.declared.settings.Part.TheVariants as part
+
+-- ---- cuts
+
+-- what stands before a place, and from it on
+abbrev pub before : Option ℕ → List ℕ → List ℕ
+before None text = text
+before (Some n) text = take n text
+
+abbrev pub from : Option ℕ → List ℕ → List ℕ
+from None text = []
+from (Some n) text = drop n text
+
+-- ---- white space and keys
+
+-- what stands behind the white space at the front
+unfoldable pub behind_blank : List ℕ → List ℕ
+behind_blank text = from (position (λ c. not (is_whitespace c)) text) text
+
+-- white space or an equals sign ends a key
+abbrev pub ends_key : ℕ → Bool
+ends_key c = is_whitespace c || c == 61
+
+-- the characters up to the end of a key, and those from there on
+unfoldable pub key_at : List ℕ → List ℕ
+key_at text = before (position ends_key text) text
+
+unfoldable pub behind_key : List ℕ → List ℕ
+behind_key text = from (position ends_key text) text
+
+-- ---- values
+
+-- what ends a value: a quote, or white space
+abbrev pub ends_value : Bool → ℕ → Bool
+ends_value quoted c = if quoted then c == 39 else is_whitespace c
+
+abbrev pub behind_text : List ℕ → List ℕ × Option ℕ → List ℕ × Option ℕ
+behind_text front value = (front ++ value.0, value.1)
+
+-- what a value stands for, and how many characters it has, where one that no backslash escapes ends it. A backslash stands for the character after it
+unfoldable pub value_at : (ℕ → Bool) → Bool → ℕ → List ℕ → List ℕ × Option ℕ
+value_at ends escaped before [] = ([], None)
+value_at ends true before (c ∷ cs) = behind_text (encode_utf8 c) (value_at ends false (before + 1) cs)
+value_at ends false before (c ∷ cs) =
+    if c == 92 then value_at ends true (before + 1) cs
+    else if ends c then ([], Some before)
+    else behind_text (encode_utf8 c) (value_at ends false (before + 1) cs)
+
+-- ---- a pair
+
+-- what stands at the front: nothing but white space, a pair and what is behind it, or neither
+pub data Front : Type 0 where
+  Nothing : Front
+  Faulty : Front
+  Pair : List ℕ → List ℕ → List ℕ → Front
+
+-- a value in quotes goes up to the quote that ends it
+abbrev pub quoted_by : List ℕ → List ℕ → List ℕ × Option ℕ → Front
+quoted_by key text (value, None) = Faulty
+quoted_by key text (value, Some n) = Pair key value (drop (n + 1) text)
+
+-- another value goes up to white space or the end, and is not empty
+abbrev pub bare_by : List ℕ → List ℕ → List ℕ × Option ℕ → Front
+bare_by key text value = if length value.0 == 0 then Faulty else Pair key value.0 (from value.1 text)
+
+abbrev pub with_value_at : List ℕ → List ℕ → Front
+with_value_at key text =
+    if slice_index text 0 == 39 then quoted_by key (drop 1 text) (value_at (ends_value true) false 0 (drop 1 text))
+    else bare_by key text (value_at (ends_value false) false 0 text)
+
+-- behind a key: white space, an equals sign, white space, a value
+abbrev pub with_key_at : List ℕ → List ℕ → Front
+with_key_at key text =
+    if length key == 0 || not (slice_index text 0 == 61) then Faulty else with_value_at (flat_map encode_utf8 key) (behind_blank (drop 1 text))
+
+abbrev pub from_key : List ℕ → Front
+from_key text = if length text == 0 then Nothing else with_key_at (key_at text) (behind_blank (behind_key text))
+
+unfoldable pub front_of : List ℕ → Front
+front_of text = from_key (behind_blank text)
+
+-- ---- whole texts
+
+-- a text is cut into these pairs, up to its end or up to the first fault of form
+pub data IsCut : List ℕ → List Part → Bool → Type 0 where
+  ended : {text : List ℕ} → front_of text ≡ Nothing → IsCut text [] true
+  stopped : {text : List ℕ} → front_of text ≡ Faulty → IsCut text [] false
+  paired : {text key value rest : List ℕ} {parts : List Part} {whole : Bool} → front_of text ≡ Pair key value rest → IsCut rest parts whole → IsCut text (part.Pair key value ∷ parts) whole

@@ -1,0 +1,77 @@
+-- What the program prints of a script that completes its session.
+use Rattle.std.proofs.Common.{◌≡◌, ℕ, ◌+◌, List, ◌++◌, codes, Result, length, refl, sym, ap, subst, ◌∙◌, inl, inr, Ok, Err, arith}
+use Rattle.std.specs.Prelude.{decimal}
+use Rattle.std.specs.Result.{IfOk}
+use Rattle.std.proofs.lemmas.List.{append_cancel_left}
+use Rattle.pgw_types.specs.declared.memory.OutOfMemory.{OutOfMemory}
+use Rattle.pgw_session.specs.Events.{Event}
+use Rattle.pgw_prog.specs.declared.script.Script.{Script}
+use Rattle.pgw_prog.specs.declared.printed.Printed.{Printed}
+use Rattle.pgw_prog.specs.Script.{read_script}
+use Rattle.pgw_prog.specs.Grammar.{IsScript, IsFault}
+use Rattle.pgw_link.specs.Memory.{Listing}
+use Rattle.pgw_link.specs.Tape.{Tape}
+use Rattle.pgw_msg.specs.declared.client_error.PgWireClientError.TheVariants as client
+use Rattle.pgw_prog.specs.Printing.{line_end, session_text}
+use Rattle.pgw_prog.specs.Held.{Holds, NamesCall, IsNear, FailsNear, config_of, requests_of, listing_of, first_tape, completed_text}
+use Rattle.pgw_prog.specs.Program.{Says, AnswersText, AnswersScript, Completing, PrintsWhole, ListsFailure}
+use Rattle.pgw_prog.proofs.TextLaws.{io_text, not_sent, no_line}
+use Rattle.pgw_prog.proofs.GrammarLaws.{scripts, faults}
+use Rattle.pgw_prog.proofs.HeldLaws.{completed_text_printed}
+
+-- a text is one script
+same_script : (text : List ℕ) (s t : Script) → IsScript text s → IsScript text t → s ≡ t
+same_script text s t one two =
+    let left = (scripts text s).1 one in
+    let right = (scripts text t).1 two in
+    cc
+
+no_fault : (text : List ℕ) (s : Script) (n : ℕ) → IsScript text s → IsFault text n → ⊥
+no_fault text s n one two =
+    let left = (scripts text s).1 one in
+    let right = (faults text n).1 two in
+    cc
+
+pub completes : (text : List ℕ) (script : Script) (segments : List (List Event)) (c : Completing text script segments) (p : Printed) → AnswersScript text p → (p.text.items ≡ completed_text script segments c.can) × (p.status ≡ 0)
+completes text script segments c p (inl long) = absurd (omega (arith, long.0, c.short))
+completes text script segments c p (inr (short, inl (other, is, holds))) =
+    let holds_it = subst (λ (s : Script). Holds s p) (same_script text other script is c.is_script) holds in
+    completed_text_printed (config_of script) (requests_of script) script.limit (listing_of script) (first_tape script) p segments refl c.can.no_reads c.can.no_writes refl c.can.completes holds_it
+completes text script segments c p (inr (short, inr (n, fault, says))) = absurd (no_fault text script n c.is_script fault)
+
+near_same : (listing : Listing) (first : Tape) (taken a b : List ℕ) → length a ≡ length b → IsNear listing first taken a → IsNear listing first taken b
+near_same listing first taken a b same (inl reads) = inl reads
+near_same listing first taken a b same (inr writes) = inr (subst (λ n. NamesCall listing.writes (first.writes + n + 1)) same writes)
+
+held_listed : (s : Script) (sent : List ℕ) (p : Printed) → Holds s p → p.text.items ≡ session_text sent (Err client.IoError) → FailsNear s sent
+held_listed s sent p h is =
+    let told = io_text h.after.wrote sent h.outcome (sym h.text ∙ is) in
+    let near = h.session.io_near told.1 in
+    let same : length near.1 ≡ length sent = ap length (sym near.3) ∙ told.0 in
+    (near.0, h.after.left, near.2, near_same (listing_of s) (first_tape s) near.0 near.1 sent same near.4)
+
+-- the text of a session that the link failed is that of a script that lists a call near to it
+pub listed : (text sent : List ℕ) (p : Printed) → AnswersScript text p → p.text.items ≡ session_text sent (Err client.IoError) → ListsFailure text sent
+listed text sent p (inl long) is = absurd (not_sent sent client.IoError (sym (long.1).0 ∙ is))
+listed text sent p (inr (short, inl (script, in_grammar, holds))) is = (script, in_grammar, held_listed script sent p holds is)
+listed text sent p (inr (short, inr (n, fault, says))) is = absurd (no_line sent _ client.IoError (sym says.0 ∙ is))
+
+-- what is printed of a text that was read, and of one that was not
+pub answers_ok : (text : List ℕ) (s : Script) (r : Result Printed OutOfMemory) → read_script text ≡ Ok s → IfOk r (Holds s) → IfOk r (AnswersText text)
+answers_ok text s (Ok p) is h = inl (s, (scripts text s).0 is, h)
+answers_ok text s (Err e) is h = tt
+
+pub answers_fault : (text : List ℕ) (n : ℕ) (r : Result Printed OutOfMemory) → read_script text ≡ Err n → IfOk r (λ p. Says p (codes "line " ++ decimal n ++ line_end) 2) → IfOk r (AnswersText text)
+answers_fault text n (Ok p) is h = inr (n, (faults text n).0 is, h)
+answers_fault text n (Err e) is h = tt
+
+-- the same behind what was written before
+pub whole_written : (text : List ℕ) (script : Script) (segments : List (List Event)) (c : Completing text script segments) (p : Printed) (before now : List ℕ) → AnswersScript text p → now ≡ before ++ p.text.items
+    → PrintsWhole text script segments c before now p.status
+whole_written text script segments c p before now answers wrote =
+    let whole = completes text script segments c p answers in
+    inr (whole.1, wrote ∙ ap (λ (t : List ℕ). before ++ t) whole.0)
+
+pub listed_written : (text sent : List ℕ) (p : Printed) (before now : List ℕ) → AnswersScript text p → now ≡ before ++ p.text.items → now ≡ before ++ session_text sent (Err client.IoError) → ListsFailure text sent
+listed_written text sent p before now answers wrote is =
+    listed text sent p answers (append_cancel_left before p.text.items (session_text sent (Err client.IoError)) (sym wrote ∙ is))

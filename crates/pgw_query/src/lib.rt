@@ -1,0 +1,9 @@
+//! The messages of queries: what a client asks, and what a server says to it.
+#![tactic(auto)]
+
+pub mod data;
+pub mod description;
+pub mod laws;
+pub mod notification;
+pub mod response;
+pub mod simplequery;

@@ -1,0 +1,435 @@
+//! What a server says.
+ghost use Rattle.std.specs.Prelude.{◌≡◌, ◌∷◌, [], None, IfOk};
+ghost use Rattle.pgw_types.specs.Infos.{fields_of, info_from};
+ghost use Rattle.pgw_wire.specs.declared.framing.Framing.TheVariants.{Typed};
+ghost use Rattle.pgw_wire.specs.Writing.{text, has_zero as holds_zero, refused_if};
+ghost use Rattle.std.specs.List.{list_any, flat_map};
+ghost use Rattle.pgw_wire.specs.Framing.{Appends, body_or};
+ghost use Rattle.pgw_wire.specs.Codes.{is_code_refused};
+ghost use Rattle.pgw_query.specs.Rows.{status_of, status_byte, ready_for_query_of, command_complete_of, empty_query_response_of, error_response_of, notice_response_of, codes_at, codes, codes_fault};
+ghost use Rattle.pgw_wire.specs.Reading.{Reads};
+
+use bytes::BytesMut;
+use pgw_types::context::DecodeContext;
+use pgw_types::error::{PgWireError, PgWireResult};
+use pgw_types::error_info::ErrorInfo;
+use pgw_types::listed::{Duplicate, Listed};
+use pgw_types::memory::OutOfMemory;
+use pgw_types::octets::Octets;
+use pgw_types::text::Text;
+use pgw_wire::field::{list_len, put_list};
+use pgw_wire::framing::Framing;
+use pgw_wire::item::take_up_to_mark;
+use pgw_wire::message::Message;
+use pgw_wire::reader::FieldReader;
+use pgw_wire::writer::{append, has_zero, put_text};
+use std::alloc::Global;
+
+pub const MESSAGE_TYPE_BYTE_COMMAND_COMPLETE: u8 = b'C';
+
+pub const MESSAGE_TYPE_BYTE_EMPTY_QUERY_RESPONSE: u8 = b'I';
+
+pub const MESSAGE_TYPE_BYTE_READY_FOR_QUERY: u8 = b'Z';
+
+pub const MESSAGE_TYPE_BYTE_ERROR_RESPONSE: u8 = b'E';
+
+pub const MESSAGE_TYPE_BYTE_NOTICE_RESPONSE: u8 = b'N';
+
+pub const READY_STATUS_IDLE: u8 = b'I';
+
+pub const READY_STATUS_TRANSACTION_BLOCK: u8 = b'T';
+
+pub const READY_STATUS_FAILED_TRANSACTION_BLOCK: u8 = b'E';
+
+/// Whether the session is in a transaction, and whether that has failed.
+#[derive(Clone, Copy, Debug, PartialEq, Eq)]
+pub enum TransactionStatus {
+    Idle,
+    Transaction,
+    Error,
+}
+
+#[tactic(auto, unfolding(crate::specs::Rows::status_of))]
+impl TryFrom<u8> for TransactionStatus {
+    type Error = PgWireError;
+
+    ghost try_from_gives = { λ byte r. r ≡ status_of byte };
+
+    fn try_from(byte: u8) -> Result<TransactionStatus, PgWireError> {
+        match byte {
+            b'I' => Ok(TransactionStatus::Idle),
+            b'T' => Ok(TransactionStatus::Transaction),
+            b'E' => Ok(TransactionStatus::Error),
+            _ => Err(PgWireError::InvalidTransactionStatus(byte)),
+        }
+    }
+}
+
+/// The server is ready for the next query (ReadyForQuery).
+#[derive(Debug, Drop, PartialEq, Eq)]
+pub struct ReadyForQuery {
+    pub status: TransactionStatus,
+}
+
+impl ReadyForQuery {
+    pub fn new(status: TransactionStatus) -> ReadyForQuery
+        ensures { result ≡ record { status = status } }
+    {
+        ReadyForQuery { status }
+    }
+}
+
+impl Message for ReadyForQuery {
+    ghost row_framing = { Typed 90 };
+
+    ghost limit = { 30000 };
+
+    ghost reading = { ready_for_query_of };
+
+    ghost written = { λ m. status_byte m.status ∷ [] };
+
+    ghost fault = { λ m. None };
+
+    fn framing() -> Framing {
+        Framing::Typed(MESSAGE_TYPE_BYTE_READY_FOR_QUERY)
+    }
+
+    fn max_message_length() -> usize {
+        30000
+    }
+
+    fn message_length(&self) -> usize {
+        5
+    }
+
+    fn encode_body(&self, buf: &mut BytesMut) -> PgWireResult<()> {
+        let byte = match self.status {
+            TransactionStatus::Idle => READY_STATUS_IDLE,
+            TransactionStatus::Transaction => READY_STATUS_TRANSACTION_BLOCK,
+            TransactionStatus::Error => READY_STATUS_FAILED_TRANSACTION_BLOCK,
+        };
+        append(buf, &[byte])
+    }
+
+    #[tactic(auto, unfolding(crate::specs::Rows::ready_for_query_of))]
+    fn decode_body(
+        _alloc: Global,
+        body: &Octets,
+        _ctx: &DecodeContext,
+    ) -> PgWireResult<ReadyForQuery> {
+        let mut reader = FieldReader::new(body);
+        let byte = reader.take_u8()?;
+        let status = TransactionStatus::try_from(byte)?;
+        reader.finish()?;
+        Ok(ReadyForQuery { status })
+    }
+}
+
+/// A command is done, with its tag (CommandComplete).
+#[derive(Debug, Drop, PartialEq, Eq)]
+pub struct CommandComplete {
+    pub tag: Text,
+}
+
+impl CommandComplete {
+    pub fn new(tag: Text) -> CommandComplete
+        ensures { result ≡ record { tag = tag } }
+    {
+        CommandComplete { tag }
+    }
+}
+
+impl Message for CommandComplete {
+    ghost row_framing = { Typed 67 };
+
+    ghost limit = { 30000 };
+
+    ghost reading = { command_complete_of };
+
+    ghost written = { λ m. text m.tag };
+
+    ghost fault = { λ m. refused_if (holds_zero m.tag) };
+
+    fn framing() -> Framing {
+        Framing::Typed(MESSAGE_TYPE_BYTE_COMMAND_COMPLETE)
+    }
+
+    fn max_message_length() -> usize {
+        30000
+    }
+
+    #[tactic(auto, unfolding(pgw_wire::specs::Writing::text))]
+    fn message_length(&self) -> usize {
+        self.tag.len() + 5
+    }
+
+    #[tactic(auto, unfolding(pgw_wire::specs::Writing::refused_if))]
+    fn encode_body(&self, buf: &mut BytesMut) -> PgWireResult<()> {
+        if has_zero(&self.tag) {
+            return Err(PgWireError::InvalidMessageBody);
+        }
+        let mut out = Vec::new(*buf.allocator());
+        put_text(&mut out, &self.tag)?;
+        append(buf, &out)
+    }
+
+    #[tactic(auto, unfolding(crate::specs::Rows::command_complete_of))]
+    fn decode_body(
+        alloc: Global,
+        body: &Octets,
+        _ctx: &DecodeContext,
+    ) -> PgWireResult<CommandComplete> {
+        let mut reader = FieldReader::new(body);
+        let tag = reader.take_text(alloc)?;
+        reader.finish()?;
+        Ok(CommandComplete { tag })
+    }
+}
+
+/// An answer to an empty query (EmptyQueryResponse).
+#[derive(Clone, Copy, Debug, PartialEq, Eq)]
+pub struct EmptyQueryResponse;
+
+impl EmptyQueryResponse {
+    pub fn new() -> EmptyQueryResponse
+        ensures { result ≡ record {} }
+    {
+        EmptyQueryResponse
+    }
+}
+
+impl Message for EmptyQueryResponse {
+    ghost row_framing = { Typed 73 };
+
+    ghost limit = { 30000 };
+
+    ghost reading = { empty_query_response_of };
+
+    ghost written = { λ m. [] };
+
+    ghost fault = { λ m. None };
+
+    fn framing() -> Framing {
+        Framing::Typed(MESSAGE_TYPE_BYTE_EMPTY_QUERY_RESPONSE)
+    }
+
+    fn max_message_length() -> usize {
+        30000
+    }
+
+    fn message_length(&self) -> usize {
+        4
+    }
+
+    fn encode_body(&self, _buf: &mut BytesMut) -> PgWireResult<()> {
+        Ok(())
+    }
+
+    #[tactic(auto, unfolding(crate::specs::Rows::empty_query_response_of))]
+    fn decode_body(
+        _alloc: Global,
+        body: &Octets,
+        _ctx: &DecodeContext,
+    ) -> PgWireResult<EmptyQueryResponse> {
+        FieldReader::new(body).finish()?;
+        Ok(EmptyQueryResponse)
+    }
+}
+
+// The fields up to the mark.
+#[tactic(auto, unfolding(crate::specs::Rows::codes_at))]
+fn take_codes(alloc: Global, reader: &mut FieldReader<'_>) -> PgWireResult<Listed<(u8, Text)>>
+    ensures { Reads result reader.new (codes_at reader.old) }
+{
+    take_up_to_mark(alloc, reader)
+}
+
+fn any_refused(fields: &[(u8, Text)]) -> bool
+    ensures { result ≡ list_any is_code_refused fields.now }
+{
+    fields.iter().any(|f| is_refused_field(f))
+}
+
+fn is_refused_field(field: &(u8, Text)) -> bool
+    ensures { result ≡ is_code_refused field.now }
+{
+    field.0 == 0 || has_zero(&field.1)
+}
+
+// Appends the fields and the mark.
+#[tactic(auto, unfolding(pgw_wire::specs::Writing::refused_if))]
+fn append_codes(buf: &mut BytesMut, fields: &[(u8, Text)]) -> PgWireResult<()>
+    ensures { Appends result buf.old.items buf.new.items (body_or (codes_fault fields.now) (codes fields.now)) }
+{
+    if any_refused(fields) {
+        return Err(PgWireError::InvalidMessageBody);
+    }
+    let mut out = Vec::new(*buf.allocator());
+    put_list(&mut out, fields)?;
+    out.push(0)?;
+    append(buf, &out)
+}
+
+/// An error, as fields with their codes (ErrorResponse).
+#[derive(Debug, Drop, PartialEq, Eq)]
+pub struct ErrorResponse {
+    pub fields: Listed<(u8, Text)>,
+}
+
+impl ErrorResponse {
+    pub fn new(fields: Listed<(u8, Text)>) -> ErrorResponse
+        ensures { result ≡ record { fields = fields } }
+    {
+        ErrorResponse { fields }
+    }
+
+    /// The parts that are set, as fields, from which `ErrorInfo::from_fields` leads back.
+    pub fn from_info(alloc: Global, info: ErrorInfo) -> Result<ErrorResponse, OutOfMemory>
+        ensures fields { IfOk result (λ m. m.fields ≡ fields_of info) }
+        ensures back { IfOk result (λ m. info_from m.fields ≡ info) }
+    {
+        let fields = info.into_fields(alloc)?;
+        Ok(ErrorResponse { fields })
+    }
+}
+
+impl Message for ErrorResponse {
+    ghost row_framing = { Typed 69 };
+
+    ghost limit = { 2147483647 };
+
+    ghost reading = { error_response_of };
+
+    ghost written = { λ m. codes m.fields };
+
+    ghost fault = { λ m. codes_fault m.fields };
+
+    fn framing() -> Framing {
+        Framing::Typed(MESSAGE_TYPE_BYTE_ERROR_RESPONSE)
+    }
+
+    fn max_message_length() -> usize {
+        2147483647
+    }
+
+    fn message_length(&self) -> usize {
+        list_len(self.fields.as_slice(), 5)
+    }
+
+    fn encode_body(&self, buf: &mut BytesMut) -> PgWireResult<()> {
+        append_codes(buf, self.fields.as_slice())
+    }
+
+    #[tactic(auto, unfolding(crate::specs::Rows::error_response_of))]
+    fn decode_body(
+        alloc: Global,
+        body: &Octets,
+        _ctx: &DecodeContext,
+    ) -> PgWireResult<ErrorResponse> {
+        let mut reader = FieldReader::new(body);
+        let fields = take_codes(alloc, &mut reader)?;
+        reader.finish()?;
+        Ok(ErrorResponse { fields })
+    }
+}
+
+/// A notice, as fields with their codes (NoticeResponse).
+#[derive(Debug, Drop, PartialEq, Eq)]
+pub struct NoticeResponse {
+    pub fields: Listed<(u8, Text)>,
+}
+
+impl NoticeResponse {
+    pub fn new(fields: Listed<(u8, Text)>) -> NoticeResponse
+        ensures { result ≡ record { fields = fields } }
+    {
+        NoticeResponse { fields }
+    }
+
+    /// The parts that are set, as fields, from which `ErrorInfo::from_fields` leads back.
+    pub fn from_info(alloc: Global, info: ErrorInfo) -> Result<NoticeResponse, OutOfMemory>
+        ensures fields { IfOk result (λ m. m.fields ≡ fields_of info) }
+        ensures back { IfOk result (λ m. info_from m.fields ≡ info) }
+    {
+        let fields = info.into_fields(alloc)?;
+        Ok(NoticeResponse { fields })
+    }
+}
+
+impl Message for NoticeResponse {
+    ghost row_framing = { Typed 78 };
+
+    ghost limit = { 2147483647 };
+
+    ghost reading = { notice_response_of };
+
+    ghost written = { λ m. codes m.fields };
+
+    ghost fault = { λ m. codes_fault m.fields };
+
+    fn framing() -> Framing {
+        Framing::Typed(MESSAGE_TYPE_BYTE_NOTICE_RESPONSE)
+    }
+
+    fn max_message_length() -> usize {
+        2147483647
+    }
+
+    fn message_length(&self) -> usize {
+        list_len(self.fields.as_slice(), 5)
+    }
+
+    fn encode_body(&self, buf: &mut BytesMut) -> PgWireResult<()> {
+        append_codes(buf, self.fields.as_slice())
+    }
+
+    #[tactic(auto, unfolding(crate::specs::Rows::notice_response_of))]
+    fn decode_body(
+        alloc: Global,
+        body: &Octets,
+        _ctx: &DecodeContext,
+    ) -> PgWireResult<NoticeResponse> {
+        let mut reader = FieldReader::new(body);
+        let fields = take_codes(alloc, &mut reader)?;
+        reader.finish()?;
+        Ok(NoticeResponse { fields })
+    }
+}
+
+impl Duplicate for ReadyForQuery {
+    fn duplicate(&self) -> Result<ReadyForQuery, OutOfMemory> {
+        Ok(ReadyForQuery {
+            status: self.status,
+        })
+    }
+}
+
+impl Duplicate for CommandComplete {
+    fn duplicate(&self) -> Result<CommandComplete, OutOfMemory> {
+        Ok(CommandComplete {
+            tag: self.tag.duplicate()?,
+        })
+    }
+}
+
+impl Duplicate for EmptyQueryResponse {
+    fn duplicate(&self) -> Result<EmptyQueryResponse, OutOfMemory> {
+        Ok(*self)
+    }
+}
+
+impl Duplicate for ErrorResponse {
+    fn duplicate(&self) -> Result<ErrorResponse, OutOfMemory> {
+        Ok(ErrorResponse {
+            fields: self.fields.duplicate()?,
+        })
+    }
+}
+
+impl Duplicate for NoticeResponse {
+    fn duplicate(&self) -> Result<NoticeResponse, OutOfMemory> {
+        Ok(NoticeResponse {
+            fields: self.fields.duplicate()?,
+        })
+    }
+}

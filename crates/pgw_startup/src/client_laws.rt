@@ -1,0 +1,35 @@
+//! What holds of a client's messages.
+ghost use Rattle.std.specs.Prelude.{◌≡◌, ◌++◌, ℕ, List, Some, Ok, IsUtf8};
+ghost use Rattle.std.specs.FinMap as map;
+ghost use Rattle.pgw_types.specs.declared.context.DecodeContext.{DecodeContext as TheContext};
+ghost use Rattle.pgw_wire.specs.declared.framing.Framing.TheVariants.{Typed, Untyped};
+ghost use Rattle.pgw_wire.specs.Framing.{front, encoded};
+ghost use Rattle.pgw_wire.specs.Formats.{IsRow, SpellsTyped};
+ghost use Rattle.pgw_wire.specs.Writing.{has_zero, refused_if};
+ghost use Rattle.pgw_wire.specs.Pairs.{from_pairs, Held};
+ghost use Rattle.pgw_startup.specs.declared.startup.Startup.{Startup as TheStartup};
+ghost use Rattle.pgw_startup.specs.declared.sasl.SASLInitialResponse.{SASLInitialResponse as TheInitial};
+ghost use Rattle.pgw_startup.specs.Sound.{IsStartup};
+ghost use Rattle.pgw_startup.specs.Password.{password_of, SpellsPassword, initial_response_of, initial_response, SpellsInitialResponse, response_of, SpellsResponse, family_of, SpellsRaw};
+ghost use Rattle.pgw_startup.specs.Startup.{startup_of, startup, is_startup_refused, SpellsStartup, SpellsUntyped};
+
+/// A Startup that is read is spelled so, and what is spelled so is read; and parameters are made again from their pairs.
+pub fn startup_is_exact()
+    ensures found { (ctx : TheContext) (bytes : List ℕ) (m : TheStartup) (rest : List ℕ) → front Untyped 10000 (startup_of ctx) bytes ≡ Ok (Some (m, rest)) → (g : List ℕ) × (bytes ≡ g ++ rest) × SpellsUntyped 10000 SpellsStartup m g }
+    ensures only { (ctx : TheContext) (m : TheStartup) (g rest : List ℕ) → SpellsUntyped 10000 SpellsStartup m g → front Untyped 10000 (startup_of ctx) (g ++ rest) ≡ Ok (Some (m, rest)) }
+    ensures parameters { (m : Held) → from_pairs (map.entries m) ≡ m }
+{}
+
+/// What is read of a client's answers is spelled so, and what is spelled so is read.
+pub fn client_rows_are_exact()
+    ensures password { IsRow 112 10000 password_of SpellsPassword }
+    ensures initial_response { IsRow 112 10000 initial_response_of SpellsInitialResponse }
+    ensures response { IsRow 112 10000 response_of SpellsResponse }
+    ensures raw { (ctx : TheContext) → IsRow 112 10000 (family_of ctx) SpellsRaw }
+{}
+
+/// What is written of a message spells it.
+pub fn what_is_written_is_spelled()
+    ensures startup { (m : TheStartup) (g : List ℕ) → IsStartup m → encoded Untyped 10000 (refused_if (is_startup_refused m)) (startup m) ≡ Ok g → SpellsUntyped 10000 SpellsStartup m g }
+    ensures initial_response { (m : TheInitial) (g : List ℕ) → IsUtf8 m.auth_method → encoded (Typed 112) 10000 (refused_if (has_zero m.auth_method)) (initial_response m) ≡ Ok g → SpellsTyped 112 10000 SpellsInitialResponse m g }
+{}

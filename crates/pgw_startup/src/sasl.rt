@@ -1,0 +1,214 @@
+//! What a client says in an exchange by SASL.
+ghost use Rattle.std.specs.Prelude.{◌≡◌, ◌++◌, length, None, OnOk};
+ghost use Rattle.pgw_wire.specs.declared.framing.Framing.TheVariants.{Typed};
+ghost use Rattle.pgw_wire.specs.Reading.{Gives, Reads};
+ghost use Rattle.pgw_wire.specs.Writing.{text, has_zero as holds_zero, refused_if};
+ghost use Rattle.pgw_startup.specs.Password.{data_at, data_written, initial_response_of, initial_response, response_of};
+
+use crate::password::MESSAGE_TYPE_BYTE_PASSWORD_MESSAGE_FAMILY;
+use bytes::BytesMut;
+use pgw_types::context::DecodeContext;
+use pgw_types::error::{PgWireError, PgWireResult};
+use pgw_types::listed::Duplicate;
+use pgw_types::memory::OutOfMemory;
+use pgw_types::octets::Octets;
+use pgw_types::text::Text;
+use pgw_wire::framing::Framing;
+use pgw_wire::message::Message;
+use pgw_wire::reader::FieldReader;
+use pgw_wire::writer::{append, has_zero, put_i32, put_text};
+use std::alloc::Global;
+
+/// The method that the client chose, and its first data, if there are any (SASLInitialResponse).
+#[derive(Debug, Drop, PartialEq, Eq)]
+pub struct SASLInitialResponse {
+    pub auth_method: Text,
+    pub payload: Option<Octets>,
+}
+
+impl SASLInitialResponse {
+    pub fn new(auth_method: Text, payload: Option<Octets>) -> SASLInitialResponse
+        ensures { result ≡ record { auth_method = auth_method; payload = payload } }
+    {
+        SASLInitialResponse {
+            auth_method,
+            payload,
+        }
+    }
+}
+
+// A length and as many bytes, or a length of -1.
+#[tactic(auto, unfolding(crate::specs::Password::data_at))]
+fn take_data(reader: &mut FieldReader<'_>) -> PgWireResult<Option<Octets>>
+    ensures { Reads result reader.new (data_at reader.old) }
+{
+    let len = reader.take_i32()?;
+    if len == -1 {
+        return Ok(None);
+    }
+    if len < 0 {
+        return Err(PgWireError::InvalidMessageBody);
+    }
+    let bytes = reader.take_octets(len as usize)?;
+    Ok(Some(bytes))
+}
+
+#[tactic(auto, unfolding(crate::specs::Password::data_written, pgw_wire::specs::Writing::u32))]
+fn put_data(out: &mut Vec<u8>, payload: &Option<Octets>) -> Result<(), OutOfMemory>
+    ensures { OnOk result (out.new.items ≡ out.old.items ++ data_written payload.now) }
+{
+    let Some(payload) = payload else {
+        return put_i32(out, -1);
+    };
+    let [_, _, _, _, a, b, c, d] = payload.len().to_be_bytes();
+    out.extend_from_slice(&[a, b, c, d])?;
+    out.extend_from_slice(payload.as_slice())?;
+    Ok(())
+}
+
+#[tactic(auto, unfolding(crate::specs::Password::data_written, pgw_wire::specs::Writing::u32, pgw_wire::specs::Writing::i32))]
+fn data_len(payload: &Option<Octets>) -> usize
+    ensures { result ≡ length (data_written payload.now) }
+{
+    match payload {
+        Some(payload) => payload.len() + 4,
+        None => 4,
+    }
+}
+
+/// Reads a body.
+#[tactic(auto, unfolding(crate::specs::Password::initial_response_of))]
+pub fn read_initial_response(alloc: Global, body: &Octets) -> PgWireResult<SASLInitialResponse>
+    ensures { Gives result (initial_response_of body.now) }
+{
+    let mut reader = FieldReader::new(body);
+    let auth_method = reader.take_text(alloc)?;
+    let payload = take_data(&mut reader)?;
+    reader.finish()?;
+    Ok(SASLInitialResponse {
+        auth_method,
+        payload,
+    })
+}
+
+impl Message for SASLInitialResponse {
+    ghost row_framing = { Typed 112 };
+
+    ghost limit = { 10000 };
+
+    ghost reading = { λ ctx. initial_response_of };
+
+    ghost written = { initial_response };
+
+    ghost fault = { λ m. refused_if (holds_zero m.auth_method) };
+
+    fn framing() -> Framing {
+        Framing::Typed(MESSAGE_TYPE_BYTE_PASSWORD_MESSAGE_FAMILY)
+    }
+
+    fn max_message_length() -> usize {
+        10000
+    }
+
+    #[tactic(auto, unfolding(pgw_wire::specs::Writing::text))]
+    fn message_length(&self) -> usize {
+        (self.auth_method.len() + 5).saturating_add(data_len(&self.payload))
+    }
+
+    #[tactic(auto, unfolding(pgw_wire::specs::Writing::refused_if))]
+    fn encode_body(&self, buf: &mut BytesMut) -> PgWireResult<()> {
+        if has_zero(&self.auth_method) {
+            return Err(PgWireError::InvalidMessageBody);
+        }
+        let mut out = Vec::new(*buf.allocator());
+        put_text(&mut out, &self.auth_method)?;
+        put_data(&mut out, &self.payload)?;
+        append(buf, &out)
+    }
+
+    fn decode_body(
+        alloc: Global,
+        body: &Octets,
+        _ctx: &DecodeContext,
+    ) -> PgWireResult<SASLInitialResponse> {
+        read_initial_response(alloc, body)
+    }
+}
+
+impl Duplicate for SASLInitialResponse {
+    fn duplicate(&self) -> Result<SASLInitialResponse, OutOfMemory> {
+        Ok(SASLInitialResponse {
+            auth_method: self.auth_method.duplicate()?,
+            payload: self.payload.duplicate()?,
+        })
+    }
+}
+
+/// The client's further data (SASLResponse).
+#[derive(Debug, Drop, PartialEq, Eq)]
+pub struct SASLResponse {
+    pub payload: Octets,
+}
+
+impl SASLResponse {
+    pub fn new(payload: Octets) -> SASLResponse
+        ensures { result ≡ record { payload = payload } }
+    {
+        SASLResponse { payload }
+    }
+}
+
+/// Reads a body.
+#[tactic(auto, unfolding(crate::specs::Password::response_of))]
+pub fn read_response(body: &Octets) -> PgWireResult<SASLResponse>
+    ensures { Gives result (response_of body.now) }
+{
+    let mut reader = FieldReader::new(body);
+    let payload = reader.take_rest()?;
+    reader.finish()?;
+    Ok(SASLResponse { payload })
+}
+
+impl Message for SASLResponse {
+    ghost row_framing = { Typed 112 };
+
+    ghost limit = { 10000 };
+
+    ghost reading = { λ ctx. response_of };
+
+    ghost written = { λ m. m.payload };
+
+    ghost fault = { λ m. None };
+
+    fn framing() -> Framing {
+        Framing::Typed(MESSAGE_TYPE_BYTE_PASSWORD_MESSAGE_FAMILY)
+    }
+
+    fn max_message_length() -> usize {
+        10000
+    }
+
+    fn message_length(&self) -> usize {
+        self.payload.len() + 4
+    }
+
+    fn encode_body(&self, buf: &mut BytesMut) -> PgWireResult<()> {
+        append(buf, self.payload.as_slice())
+    }
+
+    fn decode_body(
+        _alloc: Global,
+        body: &Octets,
+        _ctx: &DecodeContext,
+    ) -> PgWireResult<SASLResponse> {
+        read_response(body)
+    }
+}
+
+impl Duplicate for SASLResponse {
+    fn duplicate(&self) -> Result<SASLResponse, OutOfMemory> {
+        Ok(SASLResponse {
+            payload: self.payload.duplicate()?,
+        })
+    }
+}

@@ -1,0 +1,87 @@
+//! Bytes.
+ghost use Rattle.std.specs.Prelude.{◌≡◌, ◌↔◌, IsTrue, ◌<◌, ◌^◌, ◌≤◌, ◌==◌, length, slice_range, IfOk, nat_eq};
+ghost use Rattle.std.specs.Cmp.Lexicographic.{pointwise, nat_list_eq_equiv};
+ghost use Rattle.std.specs.Cmp.{partial_equiv_from_equiv};
+
+use crate::listed::Duplicate;
+use crate::memory::OutOfMemory;
+use bytes::Bytes;
+use std::alloc::Global;
+use std::marker::Model;
+
+/// Bytes, which a contract sees as a list.
+#[derive(Debug, Drop)]
+pub struct Octets {
+    bytes: Bytes,
+}
+
+impl Model for Octets {
+    ghost use Rattle.std.specs.Prelude.{ℕ, List};
+
+    ghost Value = { List ℕ };
+
+    ghost view = { λ o. o.bytes };
+}
+
+impl Octets {
+    pub fn from_slice(alloc: Global, bytes: &[u8]) -> Result<Octets, OutOfMemory>
+        ensures { IfOk result (λ o. o ≡ bytes.now) }
+    {
+        let bytes = Bytes::copy_from_slice(alloc, bytes)?;
+        Ok(Octets { bytes })
+    }
+
+    pub fn as_slice(&self) -> &[u8]
+        ensures { result.now ≡ self.now }
+    {
+        self.bytes.as_slice()
+    }
+
+    pub fn len(&self) -> usize
+        ensures value { result ≡ length self.now }
+        ensures bound { result < 2 ^ 63 }
+    {
+        self.bytes.len()
+    }
+
+    pub fn is_empty(&self) -> bool
+        ensures { result ≡ (length self.now == 0) }
+    {
+        self.bytes.is_empty()
+    }
+
+    /// The bytes from one place to another. It copies none.
+    pub fn slice(&self, from: usize, to: usize) -> Result<Octets, OutOfMemory>
+        requires ordered { from ≤ to }
+        requires within { to ≤ length self.now }
+        ensures { IfOk result (λ o. o ≡ slice_range self.now from to) }
+    {
+        let bytes = self.bytes.slice(from..to)?;
+        Ok(Octets { bytes })
+    }
+}
+
+/// The copy shares the bytes.
+impl Duplicate for Octets {
+    fn duplicate(&self) -> Result<Octets, OutOfMemory> {
+        let bytes = self.bytes.clone()?;
+        Ok(Octets { bytes })
+    }
+}
+
+impl PartialEq for Octets {
+    ghost eq = { pointwise nat_eq };
+
+    ghost laws = { partial_equiv_from_equiv nat_list_eq_equiv };
+
+    fn eq(&self, other: &Self) -> bool
+        ensures value { result ≡ pointwise nat_eq self.now other.now }
+        ensures same { IsTrue result ↔ (self.now ≡ other.now) }
+    {
+        self.as_slice() == other.as_slice()
+    }
+}
+
+impl Eq for Octets {
+    ghost laws = { nat_list_eq_equiv };
+}
