@@ -1,4 +1,4 @@
-pub mod CutLaws
 pub mod DigitLaws
 pub mod NumberLaws
+pub mod ParseLaws
 pub mod PieceLaws

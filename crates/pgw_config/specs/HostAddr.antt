@@ -3,7 +3,8 @@ use Rattle.std.specs.Prelude.{ℕ, zero, suc, ◌+◌, ◌-◌, ◌*◌, ◌^◌
 use Rattle.std.specs.List.{list_all}
 use Rattle.std.specs.Char.{is_digit}
 use Rattle.std.specs.Str.Parse.{digits_value}
-use Rattle.pgw_config.specs.Pieces.{pieces_at, pushed, all_read}
+use Rattle.pgw_conninfo.specs.Marks.{pieces_at}
+use Rattle.pgw_config.specs.Pieces.{pushed, all_read}
 use Rattle.pgw_config.specs.declared.config.HostAddr.{HostAddr}
 use Rattle.pgw_config.specs.declared.config.HostAddr.TheVariants.{V4, V6}
 

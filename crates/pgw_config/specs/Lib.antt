@@ -3,11 +3,9 @@ pub mod Answers
 pub mod Choices
 pub mod Config
 pub mod HostAddr
-pub mod KeyValue
 pub mod Keys
 pub mod Lists
 pub mod Numbers
 pub mod Parse
 pub mod Pieces
 pub mod Settings
-pub mod Shown

@@ -3,7 +3,8 @@ use Rattle.std.specs.Prelude.{ℕ, List, [], ◌∷◌, ◌++◌, length, map, c
 use Rattle.pgw_types.specs.Numbers.{number_in}
 use Rattle.pgw_config.specs.Config.{host_named}
 use Rattle.pgw_config.specs.Choices.{with_value}
-use Rattle.pgw_config.specs.Pieces.{pieces_at, read_onto}
+use Rattle.pgw_conninfo.specs.Marks.{pieces_at}
+use Rattle.pgw_config.specs.Pieces.{read_onto}
 use Rattle.pgw_config.specs.HostAddr.{addr_of}
 use Rattle.pgw_config.specs.declared.config.Config.{Config}
 use Rattle.pgw_config.specs.declared.config.Host.{Host}

@@ -1,23 +1,29 @@
 -- What a connection text says.
-use Rattle.std.specs.Prelude.{◌≡◌, ◌≢◌, ℕ, List, Bool, true, false, codes, Result, Ok, Err}
-use Rattle.std.specs.Str.{chars}
+use Rattle.std.specs.Prelude.{◌≡◌, ◌≢◌, ℕ, List, codes, Result, Ok, Err}
 use Rattle.pgw_msg.specs.declared.client_error.PgWireClientError.{PgWireClientError}
-use Rattle.pgw_msg.specs.declared.client_error.PgWireClientError.TheVariants.{InvalidConfig, OutOfMemory}
+use Rattle.pgw_msg.specs.declared.client_error.PgWireClientError.TheVariants.{InvalidConfig, InvalidUtf8ConfigValue, OutOfMemory}
+use Rattle.pgw_conninfo.specs.declared.part.Cut.{Cut}
+use Rattle.pgw_conninfo.specs.declared.part.End.{End}
+use Rattle.pgw_conninfo.specs.declared.part.End.TheVariants as end
+use Rattle.pgw_conninfo.specs.Text.{HasCut}
 use Rattle.pgw_config.specs.Config.{no_config}
-use Rattle.pgw_config.specs.KeyValue.{IsCut}
-use Rattle.pgw_config.specs.Settings.{all_applied}
+use Rattle.pgw_config.specs.Settings.{next_applied, all_applied}
 use Rattle.pgw_config.specs.declared.config.Config.{Config}
-use Rattle.pgw_config.specs.declared.settings.Part.{Part}
 
--- the first faulty pair decides; behind all pairs a fault of form
-abbrev pub ended_by : Bool → Result Config PgWireClientError → Result Config PgWireClientError
-ended_by whole (Err e) = Err e
-ended_by true (Ok config) = Ok config
-ended_by false (Ok config) = Err (InvalidConfig (codes "syntax"))
+-- what a text whose parts end so answers, where no part was refused
+abbrev pub ended_by : End → Config → Result Config PgWireClientError
+ended_by end.Whole config = Ok config
+ended_by end.Syntax config = Err (InvalidConfig (codes "syntax"))
+ended_by end.Host config = Err (InvalidConfig (codes "host"))
+ended_by (end.NotUtf8 bytes) config = Err (InvalidUtf8ConfigValue bytes)
 
--- the text is cut into pairs so, and they have this outcome
+-- the first faulty part decides; behind all parts a fault of form
+abbrev pub outcome_of : Cut → Result Config PgWireClientError
+outcome_of cut = next_applied (ended_by cut.end) (all_applied no_config cut.parts)
+
+-- the text is cut into parts that have this outcome
 abbrev pub HasOutcome : List ℕ → Result Config PgWireClientError → Type 0
-HasOutcome text outcome = (parts : List Part) × (whole : Bool) × IsCut (chars text) parts whole × (ended_by whole (all_applied no_config parts) ≡ outcome)
+HasOutcome text outcome = (cut : Cut) × HasCut text cut × (outcome_of cut ≡ outcome)
 
 -- what is answered is the text's outcome, or memory ran out
 abbrev pub IsParsed : List ℕ → Result Config PgWireClientError → Type 0

@@ -1,10 +1,5 @@
--- Texts that consist of pieces with a mark between them.
-use Rattle.std.specs.Prelude.{ℕ, List, [], ◌∷◌, ◌++◌, fold, Option, Some, None, ◌==◌}
-use Rattle.std.specs.List.{slice_split}
-
--- the pieces between the marks in a text
-abbrev pub pieces_at : ℕ → List ℕ → List (List ℕ)
-pieces_at mark text = slice_split (λ b. b == mark) text
+-- What the pieces of a text are read as.
+use Rattle.std.specs.Prelude.{ℕ, List, [], ◌∷◌, ◌++◌, fold, Option, Some, None}
 
 -- a list with one element more, if there are both
 abbrev pub pushed : {A : Type 0} → Option (List A) → Option A → Option (List A)

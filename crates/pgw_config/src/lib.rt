@@ -5,7 +5,6 @@ pub mod address;
 mod choices;
 pub mod config;
 mod host_addr;
-mod key_value;
 mod keys;
 mod lists;
 mod numbers;

@@ -4,7 +4,8 @@ ghost use Rattle.std.specs.List.{position_or_len, before_first, after_first};
 ghost use Rattle.pgw_config.specs.Lists.{port_of, with_list, hosts_of};
 ghost use Rattle.pgw_config.specs.Config.{host_named};
 ghost use Rattle.pgw_config.specs.HostAddr.{addr_of};
-ghost use Rattle.pgw_config.specs.Pieces.{pieces_at, pushed, read_onto};
+ghost use Rattle.pgw_config.specs.Pieces.{pushed, read_onto};
+ghost use Rattle.pgw_conninfo.specs.Marks.{pieces_at};
 
 use crate::config::{Config, Host, HostAddr};
 use crate::host_addr::read_addr;

@@ -9,23 +9,13 @@ use crate::config::Config;
 use crate::keys::{Key, TextKey, key_named};
 use crate::lists::{extend, named_host};
 use crate::numbers::count;
+use pgw_conninfo::part::Part;
 use pgw_msg::client_error::{PgWireClientError, PgWireClientResult};
 use pgw_types::listed::Duplicate;
 use pgw_types::memory::OutOfMemory;
 use pgw_types::octets::Octets;
 use pgw_types::text::Text;
 use std::alloc::Global;
-
-/// A part of a connection text.
-#[derive(Drop)]
-pub enum Part {
-    /// A key and its value.
-    Pair(Text, Text),
-    /// One host.
-    Host(Text),
-    /// A password in any bytes.
-    Password(Octets),
-}
 
 fn unknown(alloc: Global, key: &str) -> PgWireClientError
     ensures { IsUnknown key.now result }

@@ -3,7 +3,7 @@ use Rattle.std.specs.Str.{chars}
 use Rattle.std.proofs.lemmas.Iterator.{YieldsList-from_chars}
 use Rattle.std.proofs.lemmas.Iterator.Consumers.{YieldsList-end}
 use Rattle.std.proofs.lemmas.List.{map-id}
-use Rattle.pgw_config.proofs.key_value.characters.Goals as goal
+use Rattle.pgw_conninfo.proofs.key_value.characters.Goals as goal
 
 pub returns : goal.returns
 returns c =

@@ -1,17 +1,13 @@
--- Connection texts that are pairs of a key and a value. A text stands here as its characters.
+-- How a reader finds a pair at the front of a text. A text stands here as its characters.
 use Rattle.std.specs.Prelude.{◌≡◌, ℕ, ◌+◌, List, [], ◌∷◌, ◌++◌, length, take, drop, Bool, true, false, not, ◌||◌, ◌==◌, Option, Some, None, slice_index, if◌then◌else◌}
 use Rattle.std.specs.List.{position, flat_map}
 use Rattle.std.specs.Char.{is_whitespace, encode_utf8}
-use Rattle.pgw_config.specs.declared.settings.Part.{Part}
-use Rattle.pgw_config.specs.declared.settings.Part.TheVariants as part
+use Rattle.pgw_conninfo.specs.Marks.{before}
+use Rattle.pgw_conninfo.specs.KeyValue.{ends_key, ends_value}
 
 -- ---- cuts
 
--- what stands before a place, and from it on
-abbrev pub before : Option ℕ → List ℕ → List ℕ
-before None text = text
-before (Some n) text = take n text
-
+-- what stands from a place on
 abbrev pub from : Option ℕ → List ℕ → List ℕ
 from None text = []
 from (Some n) text = drop n text
@@ -22,10 +18,6 @@ from (Some n) text = drop n text
 unfoldable pub behind_blank : List ℕ → List ℕ
 behind_blank text = from (position (λ c. not (is_whitespace c)) text) text
 
--- white space or an equals sign ends a key
-abbrev pub ends_key : ℕ → Bool
-ends_key c = is_whitespace c || c == 61
-
 -- the characters up to the end of a key, and those from there on
 unfoldable pub key_at : List ℕ → List ℕ
 key_at text = before (position ends_key text) text
@@ -34,10 +26,6 @@ unfoldable pub behind_key : List ℕ → List ℕ
 behind_key text = from (position ends_key text) text
 
 -- ---- values
-
--- what ends a value: a quote, or white space
-abbrev pub ends_value : Bool → ℕ → Bool
-ends_value quoted c = if quoted then c == 39 else is_whitespace c
 
 abbrev pub behind_text : List ℕ → List ℕ × Option ℕ → List ℕ × Option ℕ
 behind_text front value = (front ++ value.0, value.1)
@@ -83,11 +71,3 @@ from_key text = if length text == 0 then Nothing else with_key_at (key_at text) 
 
 unfoldable pub front_of : List ℕ → Front
 front_of text = from_key (behind_blank text)
-
--- ---- whole texts
-
--- a text is cut into these pairs, up to its end or up to the first fault of form
-pub data IsCut : List ℕ → List Part → Bool → Type 0 where
-  ended : {text : List ℕ} → front_of text ≡ Nothing → IsCut text [] true
-  stopped : {text : List ℕ} → front_of text ≡ Faulty → IsCut text [] false
-  paired : {text key value rest : List ℕ} {parts : List Part} {whole : Bool} → front_of text ≡ Pair key value rest → IsCut rest parts whole → IsCut text (part.Pair key value ∷ parts) whole

@@ -3,10 +3,11 @@ ghost use Rattle.std.specs.Prelude.{◌≡◌, ◌<◌, ◌≤◌, ◌+◌, ◌�
 ghost use Rattle.std.specs.List.{position, flat_map};
 ghost use Rattle.std.specs.Char.{is_whitespace, encode_utf8};
 ghost use Rattle.std.specs.Str.{chars};
-ghost use Rattle.pgw_config.specs.KeyValue.{behind_blank, key_at, behind_key, ends_key, ends_value, value_at, quoted_by, bare_by, with_value_at, with_key_at, front_of, IsCut};
-ghost use Rattle.pgw_config.specs.Shown.{shown};
+ghost use Rattle.pgw_conninfo.specs.KeyValue.{ends_key, ends_value, IsCut};
+ghost use Rattle.pgw_conninfo.specs.Reader.{behind_blank, key_at, behind_key, value_at, quoted_by, bare_by, with_value_at, with_key_at, front_of};
+ghost use Rattle.pgw_conninfo.specs.Shown.{shown};
 
-use crate::settings::Part;
+use crate::part::{Cut, End, Part};
 use pgw_types::listed::Listed;
 use pgw_types::memory::OutOfMemory;
 use pgw_types::text::Text;
@@ -36,7 +37,7 @@ fn blank_end(text: &[char]) -> Option<usize>
     text.iter().position(|c| !is_blank(*c))
 }
 
-#[tactic(auto, unfolding(crate::specs::KeyValue::behind_blank))]
+#[tactic(auto, unfolding(crate::specs::Reader::behind_blank))]
 fn skip_blank(text: &[char]) -> &[char]
     ensures { result.now ≡ behind_blank text.now }
 {
@@ -60,7 +61,7 @@ fn key_end(text: &[char]) -> Option<usize>
     text.iter().position(|c| ends_a_key(*c))
 }
 
-#[tactic(auto, unfolding(crate::specs::KeyValue::key_at, crate::specs::KeyValue::behind_key))]
+#[tactic(auto, unfolding(crate::specs::Reader::key_at, crate::specs::Reader::behind_key))]
 fn cut_key(text: &[char]) -> (&[char], &[char])
     ensures key { result.0.now ≡ key_at text.now }
     ensures behind { result.1.now ≡ behind_key text.now }
@@ -95,7 +96,7 @@ fn value_up_to(text: String, end: Option<usize>) -> Value
 }
 
 /// What a value stands for, and how many characters of it there are before the one that ends it.
-#[tactic(auto, unfolding(crate::specs::KeyValue::value_at))]
+#[tactic(auto, unfolding(crate::specs::Reader::value_at))]
 fn read_value(alloc: Global, text: &[char], quoted: bool) -> Result<Value, OutOfMemory>
     ensures value { IfOk result (λ v. (v.text, v.end) ≡ value_at (ends_value quoted) false 0 text.now) }
     ensures bound { IfOk result (λ v. IfSome v.end (λ at. at < length text.now)) }
@@ -181,7 +182,7 @@ fn read_from_key(alloc: Global, text: &[char]) -> Result<Front<'_>, OutOfMemory>
     }
 }
 
-#[tactic(auto, unfolding(crate::specs::KeyValue::front_of))]
+#[tactic(auto, unfolding(crate::specs::Reader::front_of))]
 fn read_front(alloc: Global, text: &[char]) -> Result<Front<'_>, OutOfMemory>
     ensures { IfOk result (λ f. shown f ≡ front_of text.now) }
 {
@@ -193,36 +194,32 @@ fn read_front(alloc: Global, text: &[char]) -> Result<Front<'_>, OutOfMemory>
 }
 
 /// The pairs of a text up to its end, or up to the first fault of form.
-#[derive(Drop)]
-pub(crate) struct Cut {
-    pub parts: Listed<Part>,
-    pub whole: bool,
-}
-
 fn cut_all(alloc: Global, text: &[char]) -> Result<Cut, OutOfMemory>
-    ensures { IfOk result (λ r. IsCut text.now r.parts r.whole) }
+    ensures { IfOk result (λ r. IsCut text.now r.parts r.end) }
 {
     let mut parts = Listed::new(alloc);
     let mut rest = text;
-    for _ in 0..u64::MAX {
+    loop {
         match read_front(alloc, rest)? {
-            Front::Nothing => return Ok(Cut { parts, whole: true }),
-            Front::Faulty => return Ok(Cut {
-                parts,
-                whole: false,
-            }),
+            Front::Nothing => {
+                let end = End::Whole;
+                return Ok(Cut { parts, end });
+            }
+            Front::Faulty => {
+                let end = End::Syntax;
+                return Ok(Cut { parts, end });
+            }
             Front::Pair(key, value, behind) => {
                 parts.push(Part::Pair(key, value))?;
                 rest = behind;
             }
         }
     }
-    Err(OutOfMemory)
 }
 
 /// The pairs of a connection text.
 pub(crate) fn read_pairs(alloc: Global, text: &str) -> Result<Cut, OutOfMemory>
-    ensures { IfOk result (λ r. IsCut (chars text.now) r.parts r.whole) }
+    ensures { IfOk result (λ r. IsCut (chars text.now) r.parts r.end) }
 {
     let all = characters(alloc, text)?;
     cut_all(alloc, all.as_slice())

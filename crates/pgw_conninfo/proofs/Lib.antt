@@ -1,0 +1,4 @@
+pub mod CutLaws
+pub mod KeyValueLaws
+pub mod TextLaws
+pub mod UrlLaws

@@ -1,0 +1,7 @@
+pub mod KeyValue
+pub mod Marks
+pub mod Part
+pub mod Reader
+pub mod Shown
+pub mod Text
+pub mod Url
