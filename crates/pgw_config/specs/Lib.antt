@@ -4,6 +4,7 @@ pub mod Choices
 pub mod Config
 pub mod HostAddr
 pub mod Keys
+pub mod Later
 pub mod Lists
 pub mod Numbers
 pub mod Parse

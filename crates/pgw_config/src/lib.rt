@@ -6,6 +6,7 @@ mod choices;
 pub mod config;
 mod host_addr;
 mod keys;
+pub mod later;
 mod lists;
 mod numbers;
 pub mod parse;

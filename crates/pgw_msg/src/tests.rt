@@ -100,16 +100,22 @@ fn backend_refusals(rt: HostRuntime) -> Result<(), Fail> {
     Ok(())
 }
 
+// What the message in front is written as.
+fn written_again(alloc: Global, buf: &mut BytesMut) -> Result<BytesMut, Fail> {
+    let ctx = typed(ProtocolVersion::PROTOCOL3_2);
+    let found = PgWireBackendMessage::decode(alloc, buf, &ctx);
+    let mut out = BytesMut::new(alloc);
+    if let Ok(Some(message)) = &found {
+        message.encode(&mut out)?;
+    }
+    Ok(out)
+}
+
 // Whether the message is read, what follows it is left, and it is written again as it was.
 fn is_read_again(alloc: Global, bytes: &[u8]) -> Result<bool, Fail> {
     let mut buf = buffer(alloc, bytes)?;
     buf.extend_from_slice(b"rest")?;
-    let ctx = typed(ProtocolVersion::PROTOCOL3_2);
-    let found = PgWireBackendMessage::decode(alloc, &mut buf, &ctx);
-    let mut out = BytesMut::new(alloc);
-    if let Ok(Some(message)) = &found {
-        message.duplicate()?.encode(&mut out)?;
-    }
+    let out = written_again(alloc, &mut buf)?;
     Ok(buf.as_slice() == b"rest".as_slice() && out.as_slice() == bytes)
 }
 
