@@ -13,5 +13,4 @@ pub fn later_values()
     ensures hosts { HostsAreAppended }
     ensures addrs { AddrsAreAppended }
     ensures ports { PortsAreAppended }
-{
-}
+{}

@@ -90,7 +90,7 @@ impl Config {
     }
 
     /// Appends an address.
-    pub fn hostaddr(&mut self, _alloc: Global, addr: HostAddr) -> Result<&mut Config, OutOfMemory>
+    pub fn hostaddr(&mut self, addr: HostAddr) -> Result<&mut Config, OutOfMemory>
         ensures same { IfOk result (λ r. r.ghost_name ≡ self.entry.ghost_name) }
         ensures set { IfOk result (λ r. r.now ≡ record self.old { hostaddr = self.old.hostaddr ++ addr ∷ [] }) }
     {
@@ -99,7 +99,7 @@ impl Config {
     }
 
     /// Appends a port.
-    pub fn port(&mut self, _alloc: Global, port: u16) -> Result<&mut Config, OutOfMemory>
+    pub fn port(&mut self, port: u16) -> Result<&mut Config, OutOfMemory>
         ensures same { IfOk result (λ r. r.ghost_name ≡ self.entry.ghost_name) }
         ensures set { IfOk result (λ r. r.now ≡ record self.old { port = self.old.port ++ port ∷ [] }) }
     {

@@ -23,8 +23,8 @@ fn setters_keep(rt: HostRuntime) -> Result<(), Fail> {
         .host(alloc, "db")?
         .host(alloc, "/run")?
         .host_path(alloc, "run")?;
-    config.hostaddr(alloc, HostAddr::V4([127, 0, 0, 1]))?;
-    config.port(alloc, 5433)?.port(alloc, 5434)?;
+    config.hostaddr(HostAddr::V4([127, 0, 0, 1]))?;
+    config.port(5433)?.port(5434)?;
     config
         .ssl_mode(SslMode::Disable)
         .ssl_negotiation(SslNegotiation::Direct);
@@ -94,13 +94,13 @@ fn address_forms(rt: HostRuntime) -> Result<(), Fail> {
     config
         .host(alloc, "db")?
         .host(alloc, "/run")?
-        .port(alloc, 1)?
-        .port(alloc, 2)?;
+        .port(1)?
+        .port(2)?;
     assert_eq!(rt;
         config.address(alloc)?,
         Address::Host(Text::from_str(alloc, "db")?, 1)
     );
-    config.hostaddr(alloc, HostAddr::V6([0, 0, 0, 0, 0, 0, 0, 1]))?;
+    config.hostaddr(HostAddr::V6([0, 0, 0, 0, 0, 0, 0, 1]))?;
     assert_eq!(rt;
         config.address(alloc)?,
         Address::Ip(HostAddr::V6([0, 0, 0, 0, 0, 0, 0, 1]), 1)
@@ -144,11 +144,14 @@ fn texts_of_pairs(rt: HostRuntime) -> Result<(), Fail> {
     Ok(())
 }
 
-// The key that a refusal names; an unknown one has a question mark before it.
+// The key that a refusal names; an unknown one has a question mark before it, bytes that are no text an exclamation mark.
 fn refused_key(alloc: Global, text: &str) -> Result<String, Fail> {
     match Config::parse(alloc, text) {
         Err(PgWireClientError::InvalidConfig(key)) => Ok(String::from_str(alloc, key.as_str())?),
         Err(PgWireClientError::UnknownConfig(key)) => Ok(format!(in alloc; "?{}", key.as_str())?),
+        Err(PgWireClientError::InvalidUtf8ConfigValue(bytes)) => {
+            Ok(format!(in alloc; "!{:?}", bytes.as_slice())?)
+        }
         _ => Ok(String::new(alloc)),
     }
 }
@@ -168,6 +171,58 @@ fn refused_texts(rt: HostRuntime) -> Result<(), Fail> {
     ] {
         assert_eq!(rt; refused_key(alloc, text)?.as_str(), key);
     }
+    Ok(())
+}
+
+#[test]
+fn refused_urls(rt: HostRuntime) -> Result<(), Fail> {
+    let alloc = rt.alloc();
+    for (text, key) in [
+        ("postgres://%ff@", "![255]"),
+        ("postgres://h?colour=%fe", "![254]"),
+        ("postgres://h?%ff=red", "![255]"),
+        ("postgres://h?colour=red", "?colour"),
+        ("postgres://[::1", "host"),
+        ("postgres://[::1]5432", "host"),
+        ("postgres://h:x,%ff", "port"),
+        ("postgres://h:70000", "port"),
+        ("postgres://h/db?user", "syntax"),
+        ("postgres:h", "syntax"),
+    ] {
+        assert_eq!(rt; refused_key(alloc, text)?.as_str(), key);
+    }
+    Ok(())
+}
+
+#[test]
+fn urls(rt: HostRuntime) -> Result<(), Fail> {
+    let alloc = rt.alloc();
+    let config = Config::parse(alloc, "postgresql://user:p%00w@%2Fvar%2Flib/db?port=,5433")?;
+    assert_eq!(rt; config.get_user(), Some("user"));
+    assert_eq!(rt; config.get_password(), Some(b"p\0w".as_slice()));
+    assert_eq!(rt;
+        config.get_hosts(),
+        [Host::Unix(Text::from_str(alloc, "/var/lib")?)].as_slice()
+    );
+    assert_eq!(rt; config.get_dbname(), Some("db"));
+    assert_eq!(rt; config.get_ports(), [5432, 5432, 5433].as_slice());
+    assert_eq!(rt;
+        config.address(alloc)?,
+        Address::Unix(Text::from_str(alloc, "/var/lib/.s.PGSQL.5432")?)
+    );
+    assert!(rt; Config::parse(alloc, "postgres://")? == Config::new(alloc));
+    let hosts = Config::parse(alloc, "postgres://@[::1]:1,b?host=c,d")?;
+    assert_eq!(rt; hosts.get_user(), Some(""));
+    assert_eq!(rt; hosts.get_ports(), [1, 5432].as_slice());
+    assert_eq!(rt;
+        hosts.get_hosts(),
+        [
+            Host::Tcp(Text::from_str(alloc, "::1")?),
+            Host::Tcp(Text::from_str(alloc, "b")?),
+            Host::Tcp(Text::from_str(alloc, "c,d")?),
+        ]
+        .as_slice()
+    );
     Ok(())
 }
 

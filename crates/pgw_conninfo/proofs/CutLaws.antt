@@ -1,5 +1,5 @@
 -- A text of keys and values is cut from its front, and in one way.
-use Rattle.std.proofs.Common.{◌≡◌, ℕ, ◌+◌, ◌<◌, ◌≤◌, List, [], ◌∷◌, ◌++◌, length, true, false, Option, Some, None, refl, sym, ap, subst, ◌∙◌, arith}
+use Rattle.std.proofs.Common.{◌≡◌, ℕ, ◌<◌, ◌≤◌, List, [], ◌∷◌, ◌++◌, length, refl, sym, ap, subst, ◌∙◌, arith}
 use Rattle.std.proofs.lemmas.List.{append_assoc, append-nil, length-append}
 use Rattle.pgw_conninfo.specs.declared.key_value.Front as declared
 use Rattle.pgw_conninfo.specs.declared.key_value.Front.TheVariants as front
@@ -7,8 +7,8 @@ use Rattle.pgw_conninfo.specs.declared.part.Part.{Part}
 use Rattle.pgw_conninfo.specs.declared.part.Part.TheVariants as part
 use Rattle.pgw_conninfo.specs.declared.part.End.{End}
 use Rattle.pgw_conninfo.specs.declared.part.End.TheVariants as end
-use Rattle.pgw_conninfo.specs.KeyValue.{IsBlank, IsValue, quoted, bare, last, stopped, IsPair, IsCut, ended, no_pair, paired}
-use Rattle.pgw_conninfo.specs.Reader.{front_of, Front, Nothing, Faulty, Pair}
+use Rattle.pgw_conninfo.specs.KeyValue.{IsValue, quoted, bare, last, stopped, IsCut, ended, no_pair, paired}
+use Rattle.pgw_conninfo.specs.Reader.{front_of, Faulty, Pair}
 use Rattle.pgw_conninfo.specs.Shown.{shown}
 use Rattle.pgw_conninfo.proofs.KeyValueLaws.{blank_sound, blank_complete, pair_sound, pair_complete}
 

@@ -1,14 +1,13 @@
 -- What a reader finds at the front of a text is what the grammar says of it.
-use Rattle.std.proofs.Common.{◌≡◌, ℕ, suc, ◌+◌, ◌<◌, ◌≤◌, ◌==◌, Bool, true, false, not, cond, ◌||◌, ◌&&◌, ltb, ◌⊎◌, List, [], ◌∷◌, ◌++◌, length, take, drop, Option, Some, None, refl, sym, ap, subst, ◌∙◌, inl, inr, arith, if◌then◌else◌}
+use Rattle.std.proofs.Common.{◌≡◌, ℕ, ◌+◌, ◌<◌, ◌==◌, Bool, true, false, not, ◌||◌, ltb, List, [], ◌∷◌, ◌++◌, length, take, drop, Option, Some, None, refl, sym, ap, subst, ◌∙◌, arith, if◌then◌else◌}
 use Rattle.std.specs.List.{list_all, position, position_or_len, flat_map, slice_index}
 use Rattle.std.specs.Char.{is_whitespace, encode_utf8}
-use Rattle.std.proofs.lemmas.Bool.{lt-ltb, ltb-true, and_parts}
+use Rattle.std.proofs.lemmas.Bool.{lt-ltb, and_parts}
 use Rattle.std.proofs.lemmas.Bool.Decides.{nat_tests}
 use Rattle.std.proofs.lemmas.List.{append_assoc, append-nil, length-append}
 use Rattle.std.proofs.Math.Seq.{take-append_seam, drop-append_seam, drop-append-add}
-use Rattle.pgw_conninfo.specs.Marks.{before}
-use Rattle.pgw_conninfo.specs.Reader.{from, behind_blank, key_at, behind_key, behind_text, value_at, Front, Nothing, Faulty, Pair, quoted_by, bare_by, with_value_at, with_key_at, from_key, front_of}
-use Rattle.pgw_conninfo.specs.KeyValue.{IsBlank, ends_key, IsKey, ends_value, Writes, nothing, itself, escaped, IsBare, IsValue, quoted, bare, last, stopped, IsPair}
+use Rattle.pgw_conninfo.specs.Reader.{from, behind_blank, key_at, behind_key, behind_text, value_at, Nothing, Faulty, Pair, quoted_by, bare_by, with_value_at, with_key_at, from_key, front_of}
+use Rattle.pgw_conninfo.specs.KeyValue.{IsBlank, ends_key, IsKey, ends_value, Writes, nothing, itself, escaped, IsValue, quoted, bare, last, stopped, IsPair}
 
 -- ---- the first place where a test passes
 

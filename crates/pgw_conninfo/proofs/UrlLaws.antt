@@ -1,5 +1,5 @@
 -- The parts of a URL.
-use Rattle.std.proofs.Common.{◌≡◌, ℕ, ◌+◌, ◌-◌, ◌<◌, ◌≤◌, ◌==◌, Bool, true, false, not, List, [], ◌∷◌, length, drop, Option, Some, None, Result, Ok, Err, refl, sym, ap, subst, ◌∙◌, arith}
+use Rattle.std.proofs.Common.{◌≡◌, ℕ, ◌+◌, ◌-◌, ◌<◌, ◌≤◌, ◌==◌, Bool, true, false, List, [], ◌∷◌, length, drop, Option, Some, None, Result, Ok, Err, refl, sym, ap, subst, ◌∙◌, arith}
 use Rattle.std.specs.List.{position}
 use Rattle.std.specs.Result.{IfOk}
 use Rattle.std.specs.Str.{IsUtf8, is_utf8}
@@ -10,11 +10,10 @@ use Rattle.std.proofs.lemmas.Bool.Decides.{nat_tests}
 use Rattle.percent_encoding.specs.Percent.{percent_decode}
 use Rattle.pgw_types.specs.declared.memory.OutOfMemory.{OutOfMemory}
 use Rattle.pgw_conninfo.specs.declared.part.Cut.{Cut}
-use Rattle.pgw_conninfo.specs.declared.part.End.{End}
 use Rattle.pgw_conninfo.specs.declared.part.End.TheVariants as end
 use Rattle.pgw_conninfo.specs.Marks.{before_mark, behind, behind_mark, or_empty}
 use Rattle.pgw_conninfo.specs.Part.{next}
-use Rattle.pgw_conninfo.specs.Url.{text_or_bytes, text_of, with_pair, ArePairs, ended, no_pair, paired}
+use Rattle.pgw_conninfo.specs.Url.{text_of, with_pair, ArePairs, ended, no_pair, paired}
 
 -- ---- text
 

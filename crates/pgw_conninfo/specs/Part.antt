@@ -1,5 +1,5 @@
 -- The parts of a connection text, one after the other.
-use Rattle.std.specs.Prelude.{List, [], ◌∷◌, ◌++◌, Result, Ok, Err}
+use Rattle.std.specs.Prelude.{[], ◌∷◌, ◌++◌, Result, Ok, Err}
 use Rattle.pgw_conninfo.specs.declared.part.Part.{Part}
 use Rattle.pgw_conninfo.specs.declared.part.Cut.{Cut}
 use Rattle.pgw_conninfo.specs.declared.part.End.{End}

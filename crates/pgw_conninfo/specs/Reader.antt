@@ -1,5 +1,5 @@
 -- How a reader finds a pair at the front of a text. A text stands here as its characters.
-use Rattle.std.specs.Prelude.{◌≡◌, ℕ, ◌+◌, List, [], ◌∷◌, ◌++◌, length, take, drop, Bool, true, false, not, ◌||◌, ◌==◌, Option, Some, None, slice_index, if◌then◌else◌}
+use Rattle.std.specs.Prelude.{ℕ, ◌+◌, List, [], ◌∷◌, ◌++◌, length, drop, Bool, true, false, not, ◌||◌, ◌==◌, Option, Some, None, slice_index, if◌then◌else◌}
 use Rattle.std.specs.List.{position, flat_map}
 use Rattle.std.specs.Char.{is_whitespace, encode_utf8}
 use Rattle.pgw_conninfo.specs.Marks.{before}

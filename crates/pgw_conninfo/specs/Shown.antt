@@ -1,5 +1,4 @@
 -- What the reader tells of the front of a text.
-use Rattle.std.specs.Prelude.{ℕ, List}
 use Rattle.pgw_conninfo.specs.declared.key_value.Front as declared
 use Rattle.pgw_conninfo.specs.declared.key_value.Front.TheVariants as front
 use Rattle.pgw_conninfo.specs.Reader.{Front, Nothing, Faulty, Pair}

@@ -1,5 +1,5 @@
 -- Connection texts that are URLs, behind their scheme. A text stands here as its UTF-8.
-use Rattle.std.specs.Prelude.{◌≡◌, ◌<◌, ℕ, List, [], ◌∷◌, drop, length, codes, fold, slice_index, Option, Some, None, Result, Ok, Err, ◌==◌, nat_eq, if◌then◌else◌}
+use Rattle.std.specs.Prelude.{◌≡◌, ◌<◌, ℕ, List, [], drop, length, codes, fold, slice_index, Option, Some, None, Result, Ok, Err, ◌==◌, nat_eq, if◌then◌else◌}
 use Rattle.std.specs.Str.{is_utf8}
 use Rattle.std.specs.Cmp.Lexicographic.{pointwise}
 use Rattle.percent_encoding.specs.Percent.{percent_decode}

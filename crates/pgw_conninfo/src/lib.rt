@@ -3,7 +3,7 @@
 
 mod key_value;
 pub mod part;
-pub mod text;
-mod url;
 #[cfg(test)]
 mod tests;
+pub mod text;
+mod url;

@@ -11,7 +11,11 @@ fn shown(alloc: Global, text: &str) -> Result<String, Fail> {
     for part in cut.parts.as_slice() {
         match part {
             Part::Pair(key, value) => {
-                shown.push_str(format!(in alloc; "{}={};", key.as_str(), value.as_str())?.as_str())?;
+                shown.push_str(format!(in alloc;
+                    "{}={};",
+                    key.as_str(),
+                    value.as_str()
+                )?.as_str())?;
             }
             Part::Host(host) => {
                 shown.push_str(format!(in alloc; "[{}];", host.as_str())?.as_str())?;
@@ -56,7 +60,10 @@ fn urls(rt: HostRuntime) -> Result<(), Fail> {
     for (text, parts) in [
         ("postgres://", ""),
         ("postgresql://@h", "user=;[h];port=;"),
-        ("postgres://b:x@h:1,[::1]:2,", "user=b;[120];[h];port=1;[::1];port=2;[];port=;"),
+        (
+            "postgres://b:x@h:1,[::1]:2,",
+            "user=b;[120];[h];port=1;[::1];port=2;[];port=;",
+        ),
         ("postgres:///d%20b?a=b=c&d=", "dbname=d b;a=b=c;d=;"),
         ("postgres://h?host=a,b", "[h];port=;[a,b];"),
         ("postgres://h/d?x", "[h];port=;dbname=d;syntax"),

@@ -94,12 +94,7 @@ fn read_login(alloc: Global, text: &[u8]) -> Result<(Cut, &[u8]), OutOfMemory>
     }
 }
 
-fn add_host_and_port(
-    alloc: Global,
-    cut: Cut,
-    host: &[u8],
-    port: &[u8],
-) -> Result<Cut, OutOfMemory>
+fn add_host_and_port(alloc: Global, cut: Cut, host: &[u8], port: &[u8]) -> Result<Cut, OutOfMemory>
     ensures { IfOk result (λ r. r ≡ with_host_and_port cut host.now port.now) }
 {
     let cut = match read_text(alloc, host)? {

@@ -1,6 +1,6 @@
 use Rattle.std.proofs.Common.{sym, ap, ◌∙◌}
 use Rattle.pgw_conninfo.specs.Shown.{shown}
-use Rattle.pgw_conninfo.proofs.CutLaws.{ends_here, stops_here, goes_on, pair_is_less, same_cut}
+use Rattle.pgw_conninfo.proofs.CutLaws.{ends_here, stops_here, goes_on, pair_is_less}
 use Rattle.pgw_conninfo.proofs.key_value.cut_all.Goals as goal
 
 pub returns-in-Nothing : goal.returns-in-Nothing
