@@ -1,7 +1,7 @@
 -- What is printed of a session over a link in memory.
-use Rattle.std.proofs.Common.{◌≡◌, ◌<◌, ◌≤◌, ◌+◌, ℕ, suc, List, [], ◌∷◌, ◌++◌, length, Bool, ◌||◌, ◌&&◌, nat_lt, nat_le, true, false, refl, ◌∙◌, sym, ap, append_assoc, inl, inr, Option, Some, None, Result, Ok, Err, arith}
+use Rattle.std.proofs.Common.{◌≡◌, ◌≢◌, ◌<◌, ◌≤◌, ◌+◌, ℕ, suc, List, [], ◌∷◌, ◌++◌, length, Bool, ◌||◌, ◌&&◌, nat_lt, nat_le, true, false, refl, ◌∙◌, sym, ap, append_assoc, inl, inr, Option, Some, None, Result, Ok, Err, arith}
 use Rattle.std.proofs.lemmas.Bool.Decides.{nat_tests}
-use Rattle.std.specs.Result.{IfOk, IsErrOf}
+use Rattle.std.specs.Result.{IfOk, OnOk, IsErrOf}
 use Rattle.std.specs.Prelude.{IfSome}
 use Rattle.pgw_link.specs.Tape.{Tape, Rose}
 use Rattle.pgw_link.specs.Calls.{is_reached}
@@ -11,6 +11,8 @@ use Rattle.pgw_types.specs.declared.memory.OutOfMemory.{OutOfMemory}
 use Rattle.pgw_msg.specs.declared.client_error.PgWireClientError.{PgWireClientError}
 use Rattle.pgw_msg.specs.declared.client_error.PgWireClientError.TheVariants as client
 use Rattle.pgw_config.specs.declared.config.Config.{Config}
+use Rattle.pgw_config.specs.Answers.{Answers, IsRefusal}
+use Rattle.pgw_config.specs.Parse.{HasOutcome, IsParsed}
 use Rattle.pgw_session.specs.declared.types.Request.{Request}
 use Rattle.pgw_session.specs.declared.types.SessionReport.{SessionReport}
 use Rattle.pgw_session.specs.Demands.{refused_config}
@@ -24,7 +26,8 @@ use Rattle.pgw_prog.specs.declared.printed.Printed.{Printed}
 use Rattle.pgw_session.specs.Course.{Over}
 use Rattle.pgw_session.specs.Talk.{conversation, whole_talk}
 use Rattle.pgw_session.proofs.Whole.{conversation_completes}
-use Rattle.pgw_prog.specs.Held.{Session, Prints, NamesCall, IsNear, status_of}
+use Rattle.pgw_prog.specs.declared.script.Script.{Script}
+use Rattle.pgw_prog.specs.Held.{Session, Prints, Says, PrintsOutcome, Holds, NamesCall, IsNear, status_of}
 use Rattle.pgw_prog.specs.Printing.{session_text}
 
 -- which calls failed, of those made by then
@@ -110,3 +113,14 @@ completed_text_printed config requests limit listing first p segments clear read
     let s = prints.session in
     let none : nat_lt 0 prints.faults ≡ false = s.fails ∙ rw (reads, writes) refl in
     completed_by config requests limit segments first prints.after p.text.items p.status prints.outcome fresh c s.completed (s.reports clear segments c (λ rose. absurd (grind (arith, nat_tests, none, rose)))) prints.memory prints.text prints.status
+
+-- what is printed of a connection text that was read, and of one that was refused
+pub held : (s : Script) (config : Config) (r : Result Printed OutOfMemory) → HasOutcome s.config (Ok config) → ((other : Result Config PgWireClientError) → HasOutcome s.config other → Answers (Ok config) other)
+    → IfOk r (PrintsOutcome s (Ok config)) → IfOk r (Holds s)
+held s config (Ok p) has only prints = record { outcome = Ok config; has = has; only = only; prints = prints }
+held s config (Err e) has only prints = tt
+
+pub refused : (s : Script) (e : PgWireClientError) (r : Result Printed OutOfMemory) → IsParsed s.config (Err e) → ((other : Result Config PgWireClientError) → HasOutcome s.config other → Answers (Err e) other) → IsRefusal e
+    → OnOk r (e ≢ client.OutOfMemory) → IfOk r (λ p. Says p (session_text [] (Err e)) 1) → IfOk r (Holds s)
+refused s e (Ok p) parsed only refusal memory says = record { outcome = Err e; has = parsed memory; only = λ other has. only other has memory; prints = (refusal, memory, says) }
+refused s e (Err none) parsed only refusal memory says = tt

@@ -1,15 +1,14 @@
--- Names and numbers are ASCII, and numbers are read as std reads them.
-use Rattle.std.proofs.Common.{◌≡◌, ◌∙◌, ℕ, zero, suc, ◌^◌, ◌<◌, List, [], ◌∷◌, Bool, true, false, not, ◌==◌, ◌&&◌, nat_lt, length, drop, Option, Some, None, Result, Ok, Err, refl, sym, ap, arith, if◌then◌else◌, cond, lit<}
-use Rattle.std.specs.List.{list_all, slice_index}
+-- Numbers are ASCII, and are read as std reads them.
+use Rattle.std.proofs.Common.{◌≡◌, ◌∙◌, ℕ, zero, suc, ◌^◌, ◌<◌, List, [], ◌∷◌, Bool, true, false, not, ◌==◌, ◌&&◌, nat_lt, length, drop, Option, Some, None, Result, Ok, Err, refl, sym, ap, arith, if◌then◌else◌, cond}
+use Rattle.std.specs.List.{slice_index}
 use Rattle.std.specs.Str.{IsAscii, IsUtf8, is_utf8, all_ascii_digits}
 use Rattle.std.specs.Str.Parse.{without_leading_plus, digits_value, ParsesUnsigned, IsNumeral}
-use Rattle.std.specs.Char.{is_ascii_alphanumeric}
 use Rattle.std.proofs.lemmas.Str.{IsUtf8-from_ascii, IsUtf8-from_is_utf8, is_utf8-from_IsUtf8}
 use Rattle.std.proofs.lemmas.Str.Parse.{IsNumeralModel, numerals_by_value, tells_all_ascii_digits}
 use Rattle.std.proofs.lemmas.Bool.Decides.{nat_tests}
 use Rattle.std.proofs.lemmas.Fmt.{IsAscii-from_digits}
 use Rattle.std.specs.Result.{MatchResult, result_ok}
-use Rattle.pgw_prog.specs.Line.{number_in, is_name, name_in, text_in}
+use Rattle.pgw_prog.specs.Line.{number_in, text_in}
 
 own : IsNumeralModel (λ ds. all_ascii_digits ds ≡ true) (digits_value 10)
 own = numerals_by_value (λ ds. all_ascii_digits ds ≡ true) tells_all_ascii_digits
@@ -65,26 +64,6 @@ none_utf8 bs true e not_so = absurd (not_so (IsUtf8-from_is_utf8 bs e))
 pub text_none : (bs : List ℕ) → ¬ (IsUtf8 bs) → None ≡ text_in bs
 unfolding text_in
 text_none bs not_so = none_utf8 bs (is_utf8 bs) refl not_so
-
-both : (a b : Bool) → (a && b) ≡ true → (a ≡ true) × (b ≡ true)
-both true b h = (refl, h)
-both false b h = cc
-
-letter : (b : ℕ) → is_ascii_alphanumeric b ≡ true → b < 128
-letter b h = grind (arith, nat_tests)
-
-letters : (bs : List ℕ) → list_all is_ascii_alphanumeric bs ≡ true → (i : ℕ) → slice_index bs i < 128
-letters [] h i = lit< tt
-letters (b ∷ bs) h zero = letter b (both (is_ascii_alphanumeric b) (list_all is_ascii_alphanumeric bs) h).0
-letters (b ∷ bs) h (suc i) = letters bs (both (is_ascii_alphanumeric b) (list_all is_ascii_alphanumeric bs) h).1 i
-
-name_ascii : (bs : List ℕ) → is_name bs ≡ true → IsAscii bs
-unfolding is_name
-name_ascii bs h = letters bs (both (not (length bs == 0)) (list_all is_ascii_alphanumeric bs) h).1
-
-pub name_is : (bs : List ℕ) → true ≡ is_name bs → text_in bs ≡ name_in bs
-unfolding name_in
-name_is bs h = rw (← h) (sym (text_is bs bs refl (IsUtf8-from_ascii bs (name_ascii bs (sym h)))))
 
 pub ok_is : {E : Type 0} (r : Result ℕ E) → MatchResult r (λ n. result_ok r ≡ Some n) (λ e. result_ok r ≡ None)
 ok_is (Ok n) = refl

@@ -1,5 +1,5 @@
 -- What the program prints of a script that completes its session.
-use Rattle.std.proofs.Common.{◌≡◌, ℕ, ◌+◌, List, ◌++◌, codes, Result, length, refl, sym, ap, subst, ◌∙◌, inl, inr, Ok, Err, arith}
+use Rattle.std.proofs.Common.{◌≡◌, ℕ, ◌+◌, List, [], ◌++◌, codes, Result, length, refl, sym, ap, subst, ◌∙◌, inl, inr, Ok, Err, arith}
 use Rattle.std.specs.Prelude.{decimal}
 use Rattle.std.specs.Result.{IfOk}
 use Rattle.std.proofs.lemmas.List.{append_cancel_left}
@@ -11,10 +11,13 @@ use Rattle.pgw_prog.specs.Script.{read_script}
 use Rattle.pgw_prog.specs.Grammar.{IsScript, IsFault}
 use Rattle.pgw_link.specs.Memory.{Listing}
 use Rattle.pgw_link.specs.Tape.{Tape}
+use Rattle.pgw_msg.specs.declared.client_error.PgWireClientError.{PgWireClientError}
 use Rattle.pgw_msg.specs.declared.client_error.PgWireClientError.TheVariants as client
+use Rattle.pgw_config.specs.Answers.{IsRefusal}
+use Rattle.pgw_config.specs.declared.config.Config.{Config}
 use Rattle.pgw_prog.specs.Printing.{line_end, session_text}
-use Rattle.pgw_prog.specs.Held.{Holds, NamesCall, IsNear, FailsNear, config_of, requests_of, listing_of, first_tape, completed_text}
-use Rattle.pgw_prog.specs.Program.{Says, AnswersText, AnswersScript, Completing, PrintsWhole, ListsFailure}
+use Rattle.pgw_prog.specs.Held.{Says, Prints, PrintsOutcome, Holds, CanComplete, NamesCall, IsNear, FailsNear, with_version, requests_of, listing_of, first_tape, completed_text}
+use Rattle.pgw_prog.specs.Program.{AnswersText, AnswersScript, Completing, PrintsWhole, ListsFailure}
 use Rattle.pgw_prog.proofs.TextLaws.{io_text, not_sent, no_line}
 use Rattle.pgw_prog.proofs.GrammarLaws.{scripts, faults}
 use Rattle.pgw_prog.proofs.HeldLaws.{completed_text_printed}
@@ -32,28 +35,41 @@ no_fault text s n one two =
     let right = (faults text n).1 two in
     cc
 
+-- the one outcome is the configuration whose session completes
+outcome_completes : (s : Script) (segments : List (List Event)) (can : CanComplete s segments) (p : Printed) (outcome : Result Config PgWireClientError) → Ok can.config ≡ outcome → PrintsOutcome s outcome p → (p.text.items ≡ completed_text s segments can) × (p.status ≡ 0)
+outcome_completes s segments can p (Ok config) same prints =
+    let is : config ≡ can.config = cc in
+    let prints_it = subst (λ (c : Config). Prints (with_version s c) (requests_of s) s.limit (listing_of s) (first_tape s) p) is prints in
+    completed_text_printed (with_version s can.config) (requests_of s) s.limit (listing_of s) (first_tape s) p segments can.clear can.no_reads can.no_writes refl can.completes prints_it
+outcome_completes s segments can p (Err e) same prints = cc
+
 pub completes : (text : List ℕ) (script : Script) (segments : List (List Event)) (c : Completing text script segments) (p : Printed) → AnswersScript text p → (p.text.items ≡ completed_text script segments c.can) × (p.status ≡ 0)
 completes text script segments c p (inl long) = absurd (omega (arith, long.0, c.short))
 completes text script segments c p (inr (short, inl (other, is, holds))) =
     let holds_it = subst (λ (s : Script). Holds s p) (same_script text other script is c.is_script) holds in
-    completed_text_printed (config_of script) (requests_of script) script.limit (listing_of script) (first_tape script) p segments refl c.can.no_reads c.can.no_writes refl c.can.completes holds_it
+    outcome_completes script segments c.can p holds_it.outcome (holds_it.only (Ok c.can.config) c.can.means) holds_it.prints
 completes text script segments c p (inr (short, inr (n, fault, says))) = absurd (no_fault text script n c.is_script fault)
 
 near_same : (listing : Listing) (first : Tape) (taken a b : List ℕ) → length a ≡ length b → IsNear listing first taken a → IsNear listing first taken b
 near_same listing first taken a b same (inl reads) = inl reads
 near_same listing first taken a b same (inr writes) = inr (subst (λ n. NamesCall listing.writes (first.writes + n + 1)) same writes)
 
-held_listed : (s : Script) (sent : List ℕ) (p : Printed) → Holds s p → p.text.items ≡ session_text sent (Err client.IoError) → FailsNear s sent
-held_listed s sent p h is =
+-- a refusal is no error of the link
+held_listed : (s : Script) (sent : List ℕ) (p : Printed) (outcome : Result Config PgWireClientError) → PrintsOutcome s outcome p → p.text.items ≡ session_text sent (Err client.IoError) → FailsNear s sent
+held_listed s sent p (Ok config) h is =
     let told = io_text h.after.wrote sent h.outcome (sym h.text ∙ is) in
     let near = h.session.io_near told.1 in
     let same : length near.1 ≡ length sent = ap length (sym near.3) ∙ told.0 in
     (near.0, h.after.left, near.2, near_same (listing_of s) (first_tape s) near.0 near.1 sent same near.4)
+held_listed s sent p (Err e) h is =
+    let told = io_text [] sent (Err e) (sym (h.2).0 ∙ is) in
+    let io : e ≡ client.IoError = cc in
+    absurd (subst IsRefusal io h.0)
 
 -- the text of a session that the link failed is that of a script that lists a call near to it
 pub listed : (text sent : List ℕ) (p : Printed) → AnswersScript text p → p.text.items ≡ session_text sent (Err client.IoError) → ListsFailure text sent
 listed text sent p (inl long) is = absurd (not_sent sent client.IoError (sym (long.1).0 ∙ is))
-listed text sent p (inr (short, inl (script, in_grammar, holds))) is = (script, in_grammar, held_listed script sent p holds is)
+listed text sent p (inr (short, inl (script, in_grammar, holds))) is = (script, in_grammar, held_listed script sent p holds.outcome holds.prints is)
 listed text sent p (inr (short, inr (n, fault, says))) is = absurd (no_line sent _ client.IoError (sym says.0 ∙ is))
 
 -- what is printed of a text that was read, and of one that was not

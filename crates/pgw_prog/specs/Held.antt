@@ -1,5 +1,5 @@
 -- The session of a script.
-use Rattle.std.specs.Prelude.{◌≡◌, ◌⊎◌, ◌<◌, ◌≤◌, ◌+◌, ◌++◌, ◌||◌, nat_lt, ℕ, List, [], length, map, Some, None, Result, Ok, Err, IfOk, IfSome, IsErrOf}
+use Rattle.std.specs.Prelude.{◌≡◌, ◌≢◌, ◌⊎◌, ◌<◌, ◌≤◌, ◌+◌, ◌++◌, ◌||◌, nat_lt, ℕ, List, [], length, map, None, Result, Ok, Err, IfOk, IfSome, IsErrOf}
 use Rattle.std.specs.List.{flat_map, Any}
 use Rattle.pgw_link.specs.Tape.{Tape}
 use Rattle.pgw_link.specs.Calls.{is_reached}
@@ -7,7 +7,8 @@ use Rattle.pgw_link.specs.Memory.{Listing}
 use Rattle.pgw_msg.specs.declared.client_error.PgWireClientError.{PgWireClientError}
 use Rattle.pgw_msg.specs.declared.client_error.PgWireClientError.TheVariants as client
 use Rattle.pgw_config.specs.declared.config.Config.{Config}
-use Rattle.pgw_config.specs.Config.{no_config}
+use Rattle.pgw_config.specs.Answers.{IsRefusal}
+use Rattle.pgw_config.specs.Parse.{HasOutcome}
 use Rattle.pgw_session.specs.declared.types.Request.{Request}
 use Rattle.pgw_session.specs.declared.types.Request.TheVariants as request
 use Rattle.pgw_session.specs.declared.types.SessionReport.{SessionReport}
@@ -21,8 +22,9 @@ use Rattle.pgw_prog.specs.declared.script.Script.{Script}
 use Rattle.pgw_prog.specs.declared.printed.Printed.{Printed}
 use Rattle.pgw_prog.specs.Printing.{session_text}
 
-abbrev pub config_of : Script → Config
-config_of s = record no_config { user = Some s.user; password = s.password; protocol_version = s.protocol_version }
+-- the configuration that asks for the script's version
+abbrev pub with_version : Script → Config → Config
+with_version s config = record config { protocol_version = s.protocol_version }
 
 abbrev pub request_of : List ℕ → Request
 request_of query = request.Simple query
@@ -84,19 +86,36 @@ pub record Prints (config : Config) (requests : List Request) (limit : ℕ) (lis
   pub text : p.text.items ≡ session_text after.wrote outcome
   pub status : p.status ≡ status_of outcome
 
--- what is printed is the text of the script's session
-abbrev pub Holds : Script → Printed → Type 0
-Holds s p = Prints (config_of s) (requests_of s) s.limit (listing_of s) (first_tape s) p
+-- this text, and this status
+abbrev pub Says : Printed → List ℕ → ℕ → Type 0
+Says p text status = (p.text.items ≡ text) × (p.status ≡ status)
 
--- a script that lists no call to fail, whose server's bytes complete a transcript with these segments within the limit
+-- what is printed where the connection text has this outcome: the text of the session with its configuration, or the
+-- refusal, which is not want of memory, and that nothing was sent
+abbrev pub PrintsOutcome : Script → Result Config PgWireClientError → Printed → Type 0
+PrintsOutcome s (Ok config) p = Prints (with_version s config) (requests_of s) s.limit (listing_of s) (first_tape s) p
+PrintsOutcome s (Err e) p = IsRefusal e × (e ≢ client.OutOfMemory) × Says p (session_text [] (Err e)) 1
+
+-- what is printed is what the one outcome of the script's connection text gives
+pub record Holds (s : Script) (p : Printed) : Type 0 where
+  pub outcome : Result Config PgWireClientError
+  pub has : HasOutcome s.config outcome
+  pub only : (other : Result Config PgWireClientError) → HasOutcome s.config other → other ≡ outcome
+  pub prints : PrintsOutcome s outcome p
+
+-- a script whose connection text is a configuration that demands nothing that is refused, that lists no call to fail,
+-- and whose server's bytes complete a transcript with these segments within the limit
 pub record CanComplete (s : Script) (segments : List (List Event)) : Type 0 where
+  pub config : Config
+  pub means : HasOutcome s.config (Ok config)
+  pub clear : refused_config (with_version s config) ≡ None
   pub no_reads : s.fail_reads ≡ []
   pub no_writes : s.fail_writes ≡ []
-  pub completes : Completes (config_of s) (requests_of s) s.limit (joined s.server) segments
+  pub completes : Completes (with_version s config) (requests_of s) s.limit (joined s.server) segments
 
 -- what is printed of it: the bytes sent in the transcript, and its report
 abbrev pub completed_text : (s : Script) (segments : List (List Event)) → CanComplete s segments → List ℕ
-completed_text s segments can = session_text can.completes.sent (Ok (report_of (config_of s) segments))
+completed_text s segments can = session_text can.completes.sent (Ok (report_of (with_version s can.config) segments))
 
 -- of the script's link a listed read is at most one more than some first bytes of the server's, or a listed write at
 -- most one more than these bytes sent

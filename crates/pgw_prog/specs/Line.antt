@@ -1,11 +1,10 @@
 -- The lines of a session script: what each says. A line is a word, a space and a value.
-use Rattle.std.specs.Prelude.{ℕ, ◌+◌, ◌<◌, ◌^◌, List, Bool, not, ◌==◌, ◌&&◌, nat_lt, nat_le, nat_eq, length, take, drop, codes, Option, Some, None, if◌then◌else◌}
-use Rattle.std.specs.List.{filter, list_all, position}
+use Rattle.std.specs.Prelude.{ℕ, ◌<◌, ◌^◌, List, Bool, not, ◌==◌, ◌&&◌, nat_lt, nat_le, nat_eq, length, take, drop, codes, Option, Some, None, if◌then◌else◌}
+use Rattle.std.specs.List.{filter}
 use Rattle.std.specs.Result.{result_ok}
 use Rattle.std.specs.Cmp.Lexicographic.{pointwise}
 use Rattle.std.specs.Str.{is_utf8, all_ascii_digits}
 use Rattle.std.specs.Str.Parse.{without_leading_plus, digits_value}
-use Rattle.std.specs.Char.{is_ascii_alphanumeric}
 use Rattle.hex.specs.Hex.{decode_of, decode_sized}
 use Rattle.pgw_types.specs.declared.context.ProtocolVersion.{ProtocolVersion}
 use Rattle.pgw_types.specs.declared.context.ProtocolVersion.TheVariants as version
@@ -15,13 +14,6 @@ use Rattle.pgw_prog.specs.declared.line.Line.TheVariants as line
 -- the value behind a word
 unfoldable pub value_behind : List ℕ → List ℕ → Option (List ℕ)
 value_behind word bytes = if pointwise nat_eq (take (length word) bytes) word then Some (drop (length word) bytes) else None
-
--- one or more ASCII letters and digits
-unfoldable pub is_name : List ℕ → Bool
-is_name bytes = not (length bytes == 0) && list_all is_ascii_alphanumeric bytes
-
-unfoldable pub name_in : List ℕ → Option (List ℕ)
-name_in bytes = if is_name bytes then Some bytes else None
 
 -- any text in UTF-8
 unfoldable pub text_in : List ℕ → Option (List ℕ)
@@ -33,36 +25,10 @@ number_in bytes =
     let digits = without_leading_plus bytes in
     if not (length digits == 0) && all_ascii_digits digits && nat_lt (digits_value 10 digits) (2 ^ 64) then Some (digits_value 10 digits) else None
 
--- what stands before the first space and behind it
-abbrev pub cut_at : List ℕ → Option ℕ → Option (List ℕ × List ℕ)
-cut_at bytes None = None
-cut_at bytes (Some at) = Some (take at bytes, drop (at + 1) bytes)
-
-unfoldable pub cut_at_space : List ℕ → Option (List ℕ × List ℕ)
-cut_at_space bytes = cut_at bytes (position (λ b. b == 32) bytes)
-
 -- a line's kind, and its value
 abbrev pub known : {A : Type 0} → (A → Line) → Option A → Option Line
 known make None = None
 known make (Some value) = Some (make value)
-
--- a user and a password
-abbrev pub login : Option (List ℕ) → Option (List ℕ) → Option Line
-login (Some user) (Some password) = Some (line.Config user (Some password))
-login None password = None
-login (Some user) None = None
-
-abbrev pub password_in : Option (List ℕ) → Option (List ℕ)
-password_in None = None
-password_in (Some word) = name_in word
-
--- NAME, or NAME, a space, password= and WORD
-abbrev pub config_by : List ℕ → Option (List ℕ × List ℕ) → Option Line
-config_by value None = known (λ user. line.Config user None) (name_in value)
-config_by value (Some parts) = login (name_in parts.0) (password_in (value_behind (codes "password=") parts.1))
-
-unfoldable pub config_in : List ℕ → Option Line
-config_in value = config_by value (cut_at_space value)
 
 unfoldable pub version_in : List ℕ → Option ProtocolVersion
 version_in value =
@@ -108,9 +74,9 @@ setting_of bytes =
     (behind_or (value_behind (codes "limit ") bytes) (λ v. known line.Limit (number_in v))
     (behind_or (value_behind (codes "cut ") bytes) (λ v. known line.Cut (cut_in v)) (later_line_of bytes))))
 
--- config user=.., or another line
+-- config TEXT, or another line
 unfoldable pub line_of : List ℕ → Option Line
-line_of bytes = behind_or (value_behind (codes "config user=") bytes) config_in (setting_of bytes)
+line_of bytes = behind_or (value_behind (codes "config ") bytes) (λ v. known line.Config (text_in v)) (setting_of bytes)
 
 -- a cut lets a call move a byte
 abbrev pub Moves : Line → Type 0

@@ -10,12 +10,8 @@ use Rattle.pgw_prog.specs.declared.command.Command.TheVariants as command
 use Rattle.pgw_prog.specs.declared.program.Stop.{Stop}
 use Rattle.pgw_prog.specs.declared.program.Stop.TheVariants as stop
 use Rattle.pgw_prog.specs.Grammar.{IsScript, IsFault}
-use Rattle.pgw_prog.specs.Held.{Holds, CanComplete, FailsNear, completed_text}
+use Rattle.pgw_prog.specs.Held.{Says, Holds, CanComplete, FailsNear, completed_text}
 use Rattle.pgw_prog.specs.Printing.{line_end}
-
--- this text, and this status
-abbrev pub Says : Printed → List ℕ → ℕ → Type 0
-Says p text status = (p.text.items ≡ text) × (p.status ≡ status)
 
 -- a text in the grammar gives its script's session, and another the number of its first line outside the grammar
 abbrev pub AnswersText : List ℕ → Printed → Type 0

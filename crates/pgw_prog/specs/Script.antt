@@ -22,7 +22,7 @@ unfoldable pub lines_of : List ℕ → List (List ℕ)
 lines_of text = but_empty_end (slice_split (λ b. b == 10) text)
 
 abbrev pub place_of : Line → Place
-place_of (line.Config user password) = place.Config
+place_of (line.Config text) = place.Config
 place_of (line.Protocol v) = place.Protocol
 place_of (line.Nonce n) = place.Nonce
 place_of (line.Limit n) = place.Limit
@@ -61,8 +61,7 @@ may_end _ = false
 
 abbrev pub first_script : Script
 first_script = record {
-  user = [];
-  password = None;
+  config = [];
   protocol_version = version.PROTOCOL3_0;
   nonce = 0 ∷ 0 ∷ 0 ∷ 0 ∷ 0 ∷ 0 ∷ 0 ∷ 0 ∷ 0 ∷ 0 ∷ 0 ∷ 0 ∷ 0 ∷ 0 ∷ 0 ∷ 0 ∷ 0 ∷ 0 ∷ [];
   limit = 0;
@@ -75,7 +74,7 @@ first_script = record {
 
 -- what a line says is set, or stands behind what earlier lines of its kind said
 abbrev pub with_line : Script → Line → Script
-with_line s (line.Config user password) = record s { user = user; password = password }
+with_line s (line.Config text) = record s { config = text }
 with_line s (line.Protocol v) = record s { protocol_version = v }
 with_line s (line.Nonce n) = record s { nonce = n }
 with_line s (line.Limit n) = record s { limit = n }

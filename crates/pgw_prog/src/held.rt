@@ -1,7 +1,7 @@
 //! The session of a script.
-ghost use Rattle.std.specs.Prelude.{◌≡◌, ◌<◌, ◌≤◌, ◌||◌, nat_lt, [], None, IfOk, OnOk, IsErrOf, map};
+ghost use Rattle.std.specs.Prelude.{◌≡◌, ◌≢◌, ◌<◌, ◌≤◌, ◌||◌, nat_lt, [], None, Ok, Err, IfOk, OnOk, IsErrOf, map};
 ghost use Rattle.pgw_msg.specs.declared.client_error.PgWireClientError.TheVariants as client;
-ghost use Rattle.pgw_prog.specs.Held.{config_of as config_for, request_of, joined as join, requests_of as all_requests, status_of as status_for, Prints, Holds};
+ghost use Rattle.pgw_prog.specs.Held.{with_version, request_of, joined as join, requests_of as all_requests, status_of as status_for, Says, Prints, PrintsOutcome, Holds};
 ghost use Rattle.pgw_link.specs.Calls.{is_reached};
 ghost use Rattle.pgw_link.specs.Memory.{tape_of, faults_of, listing_of};
 ghost use Rattle.pgw_prog.specs.Printing.{session_text};
@@ -19,18 +19,6 @@ use pgw_types::memory::OutOfMemory;
 use pgw_types::octets::Octets;
 use pgw_types::text::Text;
 use std::alloc::Global;
-
-fn config_of(alloc: Global, script: &Script) -> Result<Config, OutOfMemory>
-    ensures { IfOk result (λ c. c ≡ config_for script.now) }
-{
-    let mut config = Config::new(alloc);
-    config.user(alloc, script.user.as_str())?;
-    if let Some(password) = &script.password {
-        config.password(alloc, password.as_str().as_bytes())?;
-    }
-    config.protocol_version(script.protocol_version);
-    Ok(config)
-}
 
 fn requests_of(alloc: Global, queries: &[Text]) -> Result<Vec<Request>, OutOfMemory>
     ensures { IfOk result (λ v. v.items ≡ map request_of queries.now) }
@@ -73,12 +61,12 @@ struct Staged {
     server: Octets,
 }
 
-fn stage(alloc: Global, script: &Script) -> Result<Staged, OutOfMemory>
-    ensures config { IfOk result (λ staged. staged.config ≡ config_for script.now) }
+fn stage(alloc: Global, script: &Script, mut config: Config) -> Result<Staged, OutOfMemory>
+    ensures config { IfOk result (λ staged. staged.config ≡ with_version script.now config) }
     ensures requests { IfOk result (λ staged. staged.requests.items ≡ all_requests script.now) }
     ensures server { IfOk result (λ staged. staged.server ≡ join script.now.server) }
 {
-    let config = config_of(alloc, script)?;
+    config.protocol_version(script.protocol_version);
     let requests = requests_of(alloc, script.queries.as_slice())?;
     let server = joined(alloc, script.server.as_slice())?;
     Ok(Staged {
@@ -140,18 +128,41 @@ fn run(
     print_outcome(alloc, link, &outcome)
 }
 
-/// Holds a script's session over a link in memory, and prints it.
-pub fn hold(alloc: Global, script: Script) -> Result<Printed, OutOfMemory>
+/// Holds the session of a script with the configuration of its connection text, and prints it.
+fn hold_with(alloc: Global, script: Script, config: Config) -> Result<Printed, OutOfMemory>
     requires { 0 < script.cut }
-    ensures { IfOk result (Holds script) }
+    ensures { IfOk result (PrintsOutcome script (Ok config)) }
 {
     let Staged {
         config,
         requests,
         server,
-    } = stage(alloc, &script)?;
+    } = stage(alloc, &script, config)?;
     let nonce = script.nonce;
     let limit = script.limit;
     let mut link = link_of(alloc, script, server);
     run(alloc, &mut link, &config, &requests, &nonce, limit)
+}
+
+/// Prints why a connection text is refused. Want of memory is no refusal to be printed.
+fn print_refusal(alloc: Global, error: PgWireClientError) -> Result<Printed, OutOfMemory>
+    ensures says { IfOk result (λ p. Says p (session_text [] (Err error)) 1) }
+    ensures memory { OnOk result (error ≢ client.OutOfMemory) }
+{
+    let outcome = Err(error);
+    let status = status_of(&outcome)?;
+    let mut text = Vec::new(alloc);
+    put_session(&mut text, b"", &outcome)?;
+    Ok(Printed { text, status })
+}
+
+/// Holds a script's session and prints it, or prints why its connection text is refused.
+pub fn hold(alloc: Global, script: Script) -> Result<Printed, OutOfMemory>
+    requires { 0 < script.cut }
+    ensures { IfOk result (Holds script) }
+{
+    match Config::parse(alloc, script.config.as_str()) {
+        Ok(config) => hold_with(alloc, script, config),
+        Err(error) => print_refusal(alloc, error),
+    }
 }

@@ -1,9 +1,8 @@
 //! The lines of a session script.
-ghost use Rattle.std.specs.Prelude.{◌≡◌, ◌<◌, ◌==◌, ◌&&◌, IfOk, IfSome, MatchOption, Some, None, length, not, nat_le, position};
+ghost use Rattle.std.specs.Prelude.{◌≡◌, ◌<◌, ◌==◌, ◌&&◌, IfOk, IfSome, not, nat_le};
 ghost use Rattle.std.specs.Option.{option_copied};
-ghost use Rattle.std.specs.List.{filter, list_all};
-ghost use Rattle.std.specs.Char.{is_ascii_alphanumeric};
-ghost use Rattle.pgw_prog.specs.Line.{value_behind, name_in, number_in, text_in, is_name as names, cut_at_space as spaced, config_in, version_in, nonce_in, cut_in, bytes_in, later_line_of, setting_of, line_of, Moves};
+ghost use Rattle.std.specs.List.{filter};
+ghost use Rattle.pgw_prog.specs.Line.{value_behind, number_in, text_in, version_in, nonce_in, cut_in, bytes_in, later_line_of, setting_of, line_of, Moves};
 
 use hex::{FromHex, FromHexError};
 use pgw_types::context::ProtocolVersion;
@@ -16,8 +15,8 @@ use std::str;
 /// What one line of a script says.
 #[derive(Debug, Drop)]
 pub enum Line {
-    /// The user and the password.
-    Config(Text, Option<Text>),
+    /// A connection text.
+    Config(Text),
     Protocol(ProtocolVersion),
     Nonce([u8; 18]),
     Limit(u64),
@@ -47,29 +46,6 @@ fn read_text(alloc: Global, value: &[u8]) -> Result<Option<Text>, OutOfMemory>
     }
 }
 
-#[tactic(auto, unfolding(crate::specs::Line::is_name))]
-fn is_name(value: &[u8]) -> bool
-    ensures { result ≡ names value.now }
-{
-    !value.is_empty() && is_alphanumeric(value)
-}
-
-fn is_alphanumeric(value: &[u8]) -> bool
-    ensures { result ≡ list_all is_ascii_alphanumeric value.now }
-{
-    value.iter().all(|byte| byte.is_ascii_alphanumeric())
-}
-
-#[tactic(auto, unfolding(crate::specs::Line::name_in, crate::specs::Line::text_in))]
-fn read_name(alloc: Global, value: &[u8]) -> Result<Option<Text>, OutOfMemory>
-    ensures { IfOk result (λ o. o ≡ name_in value.now) }
-{
-    if !is_name(value) {
-        return Ok(None);
-    }
-    read_text(alloc, value)
-}
-
 fn read_number(value: &[u8]) -> Option<u64>
     ensures { result ≡ number_in value.now }
 {
@@ -77,43 +53,6 @@ fn read_number(value: &[u8]) -> Option<u64>
         Ok(text) => text.parse::<u64>().ok(),
         Err(_) => None,
     }
-}
-
-#[tactic(auto, unfolding(crate::specs::Line::cut_at_space))]
-fn cut_at_space(bytes: &[u8]) -> Option<(&[u8], &[u8])>
-    ensures { MatchOption result (spaced bytes.now ≡ None) (λ p. spaced bytes.now ≡ Some (p.0.now, p.1.now)) }
-{
-    let at = space_in(bytes)?;
-    let (front, _) = bytes.split_at(at);
-    let (_, back) = bytes.split_at(at + 1);
-    Some((front, back))
-}
-
-/// The place of the first space.
-fn space_in(bytes: &[u8]) -> Option<usize>
-    ensures place { result ≡ position (λ b. b == 32) bytes.now }
-    ensures bound { IfSome result (λ at. at < length bytes.now) }
-{
-    bytes.iter().position(|byte| *byte == b' ')
-}
-
-#[tactic(auto, unfolding(crate::specs::Line::config_in))]
-fn read_config(alloc: Global, value: &[u8]) -> Result<Option<Line>, OutOfMemory>
-    ensures value { IfOk result (λ o. o ≡ config_in value.now) }
-    ensures moves { IfOk result (λ o. IfSome o Moves) }
-{
-    let Some((user, rest)) = cut_at_space(value) else {
-        return Ok(read_name(alloc, value)?.map(|user| Line::Config(user, None)));
-    };
-    let user = read_name(alloc, user)?;
-    let password = match behind(b"password=", rest) {
-        Some(word) => read_name(alloc, word)?,
-        None => None,
-    };
-    Ok(match (user, password) {
-        (Some(user), Some(password)) => Some(Line::Config(user, Some(password))),
-        _ => None,
-    })
 }
 
 #[tactic(auto, unfolding(crate::specs::Line::version_in))]
@@ -226,8 +165,8 @@ pub fn read_line(alloc: Global, line: &[u8]) -> Result<Option<Line>, OutOfMemory
     ensures value { IfOk result (λ o. o ≡ line_of line.now) }
     ensures moves { IfOk result (λ o. IfSome o Moves) }
 {
-    match behind(b"config user=", line) {
-        Some(value) => read_config(alloc, value),
-        None => read_setting(alloc, line),
+    if let Some(value) = behind(b"config ", line) {
+        return Ok(read_text(alloc, value)?.map(Line::Config));
     }
+    read_setting(alloc, line)
 }

@@ -7,7 +7,8 @@ ghost use Rattle.pgw_prog.specs.Command.{command_for};
 ghost use Rattle.pgw_msg.specs.declared.client_error.PgWireClientError.TheVariants as client;
 ghost use Rattle.pgw_session.specs.Events.{Event};
 ghost use Rattle.pgw_prog.specs.declared.script.Script.{Script as TheScript};
-ghost use Rattle.pgw_prog.specs.Program.{Says, AnswersText, AnswersScript, Answers, Prints, PrintsFront, Completing, PrintsWhole, ListsFailure, TookFront, Appended, CountsStop};
+ghost use Rattle.pgw_prog.specs.Held.{Says};
+ghost use Rattle.pgw_prog.specs.Program.{AnswersText, AnswersScript, Answers, Prints, PrintsFront, Completing, PrintsWhole, ListsFailure, TookFront, Appended, CountsStop};
 ghost use Rattle.pgw_prog.specs.Printing.{line_end, session_text};
 
 use crate::command::{Command, command_of};
@@ -33,8 +34,7 @@ pgw_prog --version   prints the version
 
 A script has these lines, in this order. N is a whole number, HEX is hex digits.
 
-config user=NAME                 the user; NAME has ASCII letters and digits
-config user=NAME password=WORD   the user and a password, instead
+config TEXT                      a connection text, as user=bob password=secret
 protocol 3.0                     or 3.2 or 3.9999; may be left out (3.0)
 nonce HEX                        36 digits: the bytes of a login's nonce
 limit N                          the most bytes to read from the server
@@ -44,9 +44,9 @@ fail write N                     the write with this number fails; any number
 simple SQL                       a query; any number
 server HEX                       bytes that the server sends; any number
 
-Status: 0 the session ended well, 1 it ended with an error, 2 the words or the
-script are wrong (usage, line N, script too long), 3 reading or writing failed,
-4 memory ran out.
+Status: 0 the session ended well, 1 it ended with an error or the connection
+text is refused, 2 the words or the script are wrong (usage, line N, script too
+long), 3 reading or writing failed, 4 memory ran out.
 ";
 
 /// Why nothing is printed.
@@ -128,7 +128,7 @@ fn answer<I: Source>(alloc: Global, command: Command, input: &mut I) -> Result<P
 }
 
 /// Runs the command that the words ask for, and says with which status to end: 0 all went well, 1 the session ended with
-/// an error, 2 the words or the script are outside their grammar, 3 the source or the sink failed, 4 memory ran out.
+/// an error or the connection text is refused, 2 the words or the script are outside their grammar, 3 the source or the sink failed, 4 memory ran out.
 ///
 /// A script has its own nonce: the fresh bytes are for commands over a network.
 pub fn run_program<I: Source, O: Sink>(

@@ -14,8 +14,8 @@ use std::alloc::Global;
 /// A session to be held over a link in memory.
 #[derive(Debug, Drop)]
 pub struct Script {
-    pub user: Text,
-    pub password: Option<Text>,
+    /// The connection text.
+    pub config: Text,
     pub protocol_version: ProtocolVersion,
     pub nonce: [u8; 18],
     pub limit: u64,
@@ -60,12 +60,11 @@ impl From<OutOfMemory> for ScriptFault {
 }
 
 impl Script {
-    fn new(alloc: Global) -> Result<Script, OutOfMemory>
-        ensures { IfOk result (λ s. s ≡ first_script) }
+    fn new(alloc: Global) -> Script
+        ensures { result ≡ first_script }
     {
-        Ok(Script {
-            user: Text::from_str(alloc, "")?,
-            password: None,
+        Script {
+            config: Text::new(alloc),
             protocol_version: ProtocolVersion::PROTOCOL3_0,
             nonce: [0; 18],
             limit: 0,
@@ -74,17 +73,14 @@ impl Script {
             fail_writes: Listed::new(alloc),
             queries: Listed::new(alloc),
             server: Listed::new(alloc),
-        })
+        }
     }
 
     fn take(&mut self, line: Line) -> Result<(), OutOfMemory>
         ensures { OnOk result (self.new ≡ with_line self.old line) }
     {
         match line {
-            Line::Config(user, password) => {
-                self.user = user;
-                self.password = password;
-            }
+            Line::Config(text) => self.config = text,
             Line::Protocol(version) => self.protocol_version = version,
             Line::Nonce(nonce) => self.nonce = nonce,
             Line::Limit(limit) => self.limit = limit,
@@ -102,7 +98,7 @@ fn place_of(line: &Line) -> Place
     ensures { result ≡ place_for line.now }
 {
     match line {
-        Line::Config(..) => Place::Config,
+        Line::Config(_) => Place::Config,
         Line::Protocol(_) => Place::Protocol,
         Line::Nonce(_) => Place::Nonce,
         Line::Limit(_) => Place::Limit,
@@ -190,10 +186,9 @@ pub fn parse(alloc: Global, text: &[u8]) -> Result<Script, ScriptFault>
     ensures exact { Reads result (read_script text.now) }
     ensures moves { IfOk result (λ s. 0 < s.cut) }
 {
-    let script = Script::new(alloc)?;
     let mut draft = Draft {
         place: Place::Start,
-        script,
+        script: Script::new(alloc),
     };
     let mut number = 0u64;
     let mut rest = text;

@@ -5,7 +5,7 @@ use Rattle.pgw_prog.proofs.script.parse.Goals as goal
 
 pub loop-rest-init : goal.loop-rest-init
 unfolding read_script
-loop-rest-init c = rw c.in_ok-script.ensures (record { same = refl; few = omega arith; moves = omega arith })
+loop-rest-init c = rw c.new.ensures (record { same = refl; few = omega arith; moves = omega arith })
 
 pub returns-then-may_end-clause-exact : goal.returns-then-may_end-clause-exact
 returns-then-may_end-clause-exact c =
