@@ -210,6 +210,12 @@ fn urls(rt: HostRuntime) -> Result<(), Fail> {
         config.address(alloc)?,
         Address::Unix(Text::from_str(alloc, "/var/lib/.s.PGSQL.5432")?)
     );
+    Ok(())
+}
+
+#[test]
+fn hosts_of_urls(rt: HostRuntime) -> Result<(), Fail> {
+    let alloc = rt.alloc();
     assert!(rt; Config::parse(alloc, "postgres://")? == Config::new(alloc));
     let hosts = Config::parse(alloc, "postgres://@[::1]:1,b?host=c,d")?;
     assert_eq!(rt; hosts.get_user(), Some(""));
