@@ -1,18 +1,17 @@
 -- What a later value does to an earlier one of the same key.
-use Rattle.std.proofs.Common.{◌≡◌, ℕ, zero, suc, ℤ, pos, negsuc, List, [], ◌∷◌, ◌++◌, fold, Bool, true, false, not, ◌==◌, Option, Some, None, Result, Ok, Err, refl, sym, ap, subst, ◌∙◌, append_assoc}
+use Rattle.std.proofs.Common.{◌≡◌, ℕ, zero, suc, ℤ, pos, negsuc, List, [], ◌∷◌, ◌++◌, fold, not, ◌==◌, Option, Some, None, Result, Ok, Err, refl, sym, ap, ◌∙◌, append_assoc}
 use Rattle.std.proofs.lemmas.List.{append-nil}
 use Rattle.pgw_msg.specs.declared.client_error.PgWireClientError.{PgWireClientError}
-use Rattle.pgw_conninfo.specs.declared.part.Part.{Part}
 use Rattle.pgw_conninfo.specs.Marks.{pieces_at}
-use Rattle.pgw_config.specs.Choices.{with_value, with_choice, ssl_mode_of, ssl_negotiation_of, target_of, channel_binding_of, load_balance_of}
+use Rattle.pgw_config.specs.Choices.{with_value, ssl_mode_of, ssl_negotiation_of, target_of, channel_binding_of, load_balance_of}
 use Rattle.pgw_config.specs.Config.{no_config}
 use Rattle.pgw_config.specs.HostAddr.{addr_of}
-use Rattle.pgw_config.specs.Later.{TakenInTurn, LaterTextWins, LaterChoiceWins, is_time, LaterNumberWins, LaterTimeWins, IsNoTime, NoTimeChangesNothing, HostsAreAppended, AddrsAreAppended, PortsAreAppended}
-use Rattle.pgw_config.specs.Lists.{hosts_of, port_of, with_list}
-use Rattle.pgw_config.specs.Numbers.{signed_in, later_time, later_idle, with_number}
+use Rattle.pgw_config.specs.Later.{TakenInTurn, LaterTextWins, LaterChoiceWins, LaterNumberWins, LaterTimeWins, IsNoTime, NoTimeChangesNothing, HostsAreAppended, AddrsAreAppended, PortsAreAppended}
+use Rattle.pgw_config.specs.Lists.{hosts_of, port_of}
+use Rattle.pgw_config.specs.Numbers.{signed_in, later_time, later_idle}
 use Rattle.pgw_types.specs.Numbers.{number_in}
 use Rattle.pgw_config.specs.Pieces.{pushed, read_onto, all_read}
-use Rattle.pgw_config.specs.Settings.{with_text, applied, next_applied, all_applied}
+use Rattle.pgw_config.specs.Settings.{applied, next_applied, all_applied}
 use Rattle.pgw_config.specs.declared.config.Config.{Config}
 use Rattle.pgw_config.specs.declared.config.HostAddr.{HostAddr}
 use Rattle.pgw_config.specs.declared.keys.TextKey.TheVariants as text

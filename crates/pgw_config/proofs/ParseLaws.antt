@@ -1,7 +1,6 @@
 -- What a connection text answers.
-use Rattle.std.proofs.Common.{◌≡◌, ◌≢◌, ℕ, List, [], ◌∷◌, Option, Some, None, Result, Ok, Err, refl, sym, ap, subst, ◌∙◌}
+use Rattle.std.proofs.Common.{◌≡◌, ◌≢◌, ℕ, List, [], ◌∷◌, Option, Some, None, Result, Ok, Err, sym, ap, subst, ◌∙◌}
 use Rattle.std.specs.Prelude.{IfErr}
-use Rattle.pgw_types.specs.declared.memory.OutOfMemory.{OutOfMemory as NoMemory}
 use Rattle.pgw_msg.specs.declared.client_error.PgWireClientError.{PgWireClientError}
 use Rattle.pgw_msg.specs.declared.client_error.PgWireClientError.TheVariants as client
 use Rattle.pgw_conninfo.specs.declared.part.Part.{Part}

@@ -1,5 +1,5 @@
 -- The keys whose value is a list with commas.
-use Rattle.std.specs.Prelude.{ℕ, List, [], ◌∷◌, ◌++◌, length, map, codes, Option, Some, None, slice_index, ◌==◌, if◌then◌else◌}
+use Rattle.std.specs.Prelude.{ℕ, List, ◌++◌, length, map, Option, Some, ◌==◌, if◌then◌else◌}
 use Rattle.pgw_types.specs.Numbers.{number_in}
 use Rattle.pgw_config.specs.Config.{host_named}
 use Rattle.pgw_config.specs.Choices.{with_value}
@@ -8,7 +8,6 @@ use Rattle.pgw_config.specs.Pieces.{read_onto}
 use Rattle.pgw_config.specs.HostAddr.{addr_of}
 use Rattle.pgw_config.specs.declared.config.Config.{Config}
 use Rattle.pgw_config.specs.declared.config.Host.{Host}
-use Rattle.pgw_config.specs.declared.config.HostAddr.{HostAddr}
 use Rattle.pgw_config.specs.declared.keys.ListKey.{ListKey}
 use Rattle.pgw_config.specs.declared.keys.ListKey.TheVariants as list
 

@@ -1,5 +1,4 @@
 use Rattle.std.proofs.Common.{◌≡◌, ℕ, List, length, Some, ap, sym, ◌∙◌, arith}
-use Rattle.pgw_config.specs.HostAddr.{exactly}
 use Rattle.pgw_config.proofs.DigitLaws.{eight, exactly_is}
 use Rattle.pgw_config.proofs.host_addr.all_eight.Goals as goal
 

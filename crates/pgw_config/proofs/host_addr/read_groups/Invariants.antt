@@ -1,4 +1,4 @@
-use Rattle.std.proofs.Common.{◌≡◌, [], take}
+use Rattle.std.proofs.Common.{◌≡◌, take}
 use Rattle.pgw_config.specs.Pieces.{all_read}
 use Rattle.pgw_config.specs.HostAddr.{group_of}
 use Rattle.pgw_config.proofs.host_addr.read_groups.Given as goal
