@@ -128,7 +128,8 @@ fn answer<I: Source>(alloc: Global, command: Command, input: &mut I) -> Result<P
 }
 
 /// Runs the command that the words ask for, and says with which status to end: 0 all went well, 1 the session ended with
-/// an error or the connection text is refused, 2 the words or the script are outside their grammar, 3 the source or the sink failed, 4 memory ran out.
+/// an error or the connection text is refused, 2 the words or the script are outside their grammar, 3 the source or the
+/// sink failed, 4 memory ran out.
 ///
 /// A script has its own nonce: the fresh bytes are for commands over a network.
 pub fn run_program<I: Source, O: Sink>(
