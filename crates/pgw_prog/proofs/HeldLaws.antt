@@ -1,5 +1,5 @@
 -- What is printed of a session over a link in memory.
-use Rattle.std.proofs.Common.{◌≡◌, ◌≢◌, ◌<◌, ◌≤◌, ◌+◌, ℕ, suc, List, [], ◌∷◌, ◌++◌, length, Bool, ◌||◌, ◌&&◌, nat_lt, nat_le, true, false, refl, ◌∙◌, sym, ap, append_assoc, inl, inr, Option, Some, None, Result, Ok, Err, arith}
+use Rattle.std.proofs.Common.{◌≡◌, ◌≢◌, ◌≤◌, ◌+◌, ℕ, suc, List, [], ◌∷◌, ◌++◌, length, Bool, ◌||◌, ◌&&◌, nat_lt, nat_le, true, false, refl, ◌∙◌, sym, ap, append_assoc, inl, inr, Option, Some, None, Result, Ok, Err, arith}
 use Rattle.std.proofs.lemmas.Bool.Decides.{nat_tests}
 use Rattle.std.specs.Result.{IfOk, OnOk, IsErrOf}
 use Rattle.std.specs.Prelude.{IfSome}

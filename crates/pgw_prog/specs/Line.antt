@@ -1,5 +1,5 @@
 -- The lines of a session script: what each says. A line is a word, a space and a value.
-use Rattle.std.specs.Prelude.{ℕ, ◌<◌, ◌^◌, List, Bool, not, ◌==◌, ◌&&◌, nat_lt, nat_le, nat_eq, length, take, drop, codes, Option, Some, None, if◌then◌else◌}
+use Rattle.std.specs.Prelude.{ℕ, ◌<◌, ◌^◌, List, not, ◌==◌, ◌&&◌, nat_lt, nat_le, nat_eq, length, take, drop, codes, Option, Some, None, if◌then◌else◌}
 use Rattle.std.specs.List.{filter}
 use Rattle.std.specs.Result.{result_ok}
 use Rattle.std.specs.Cmp.Lexicographic.{pointwise}
