@@ -11,9 +11,6 @@ use Rattle.pgw_conninfo.specs.KeyValue.{IsBlank, ends_key, IsKey, ends_value, Wr
 
 -- ---- the first place where a test passes
 
-fails : (ℕ → Bool) → List ℕ → Bool
-fails p text = list_all (λ c. not (p c)) text
-
 first_here : (p : ℕ → Bool) (front : List ℕ) (c : ℕ) (rest : List ℕ) → list_all (λ c. not (p c)) front ≡ true → p c ≡ true → position_or_len p (front ++ c ∷ rest) ≡ length front
 first_here p [] c rest none hit = rw hit refl
 first_here p (x ∷ front) c rest none hit =
@@ -26,13 +23,13 @@ first_nowhere p (x ∷ text) none =
     let q = and_parts (not (p x)) (list_all (λ c. not (p c)) text) none in
     rw (q.0, first_nowhere p text q.1) (omega arith)
 
-pub position_here : (p : ℕ → Bool) (front : List ℕ) (c : ℕ) (rest : List ℕ) → list_all (λ c. not (p c)) front ≡ true → p c ≡ true → position p (front ++ c ∷ rest) ≡ Some (length front)
+position_here : (p : ℕ → Bool) (front : List ℕ) (c : ℕ) (rest : List ℕ) → list_all (λ c. not (p c)) front ≡ true → p c ≡ true → position p (front ++ c ∷ rest) ≡ Some (length front)
 position_here p front c rest none hit =
     let less : length front < length (front ++ c ∷ rest) = omega (arith, length-append front (c ∷ rest)) in
     let within : ltb (length front) (length (front ++ c ∷ rest)) ≡ true = lt-ltb _ _ less in
     rw (first_here p front c rest none hit, within) refl
 
-pub position_nowhere : (p : ℕ → Bool) (text : List ℕ) → list_all (λ c. not (p c)) text ≡ true → position p text ≡ None
+position_nowhere : (p : ℕ → Bool) (text : List ℕ) → list_all (λ c. not (p c)) text ≡ true → position p text ≡ None
 position_nowhere p text none =
     let within : ltb (length text) (length text) ≡ false = grind (arith, nat_tests) in
     rw (first_nowhere p text none, within) refl
@@ -350,7 +347,7 @@ no_nothing_key : (name text : List ℕ) (b : Bool) → (if b then Faulty else wi
 no_nothing_key name text true e = cc
 no_nothing_key name text false e = let t = behind_blank (drop 1 text) in no_nothing_value (flat_map encode_utf8 name) t (slice_index t 0 == 39) e
 
-is_empty : (text : List ℕ) → (length text == 0) ≡ true → text ≡ []
+pub is_empty : (text : List ℕ) → (length text == 0) ≡ true → text ≡ []
 is_empty [] e = refl
 is_empty (x ∷ text) e = absurd (grind (arith, nat_tests, e))
 

@@ -1,5 +1,5 @@
 -- The parts of a URL.
-use Rattle.std.proofs.Common.{◌≡◌, ℕ, ◌+◌, ◌-◌, ◌<◌, ◌≤◌, ◌==◌, Bool, true, false, List, [], ◌∷◌, length, drop, Option, Some, None, Result, Ok, Err, refl, sym, ap, subst, ◌∙◌, arith}
+use Rattle.std.proofs.Common.{◌≡◌, ℕ, ◌+◌, ◌-◌, ◌<◌, ◌≤◌, ◌==◌, Bool, true, false, List, [], length, drop, Option, Some, None, Result, Ok, Err, refl, sym, ap, subst, ◌∙◌, arith}
 use Rattle.std.specs.List.{position}
 use Rattle.std.specs.Result.{IfOk}
 use Rattle.std.specs.Str.{IsUtf8, is_utf8}
@@ -14,6 +14,7 @@ use Rattle.pgw_conninfo.specs.declared.part.End.TheVariants as end
 use Rattle.pgw_conninfo.specs.Marks.{before_mark, behind, behind_mark, or_empty}
 use Rattle.pgw_conninfo.specs.Part.{next}
 use Rattle.pgw_conninfo.specs.Url.{text_of, with_pair, ArePairs, ended, no_pair, paired}
+use Rattle.pgw_conninfo.proofs.KeyValueLaws.{is_empty}
 
 -- ---- text
 
@@ -61,12 +62,8 @@ pub no_more_pairs : (start cut : Cut) (text rest : List ℕ) (r : Result Cut Out
 no_more_pairs start cut text rest (Ok x) some none is so_far = subst (λ (w : Cut). ArePairs start text w) (sym is) (so_far (next cut (Err end.Syntax)) (no_pair (grind (arith, nat_tests, some)) none))
 no_more_pairs start cut text rest (Err e) some none is so_far = tt
 
-nil_from_length : (text : List ℕ) → (length text == 0) ≡ true → text ≡ []
-nil_from_length [] e = refl
-nil_from_length (x ∷ text) e = absurd (grind (arith, nat_tests, e))
-
 pub pairs_end : (start cut : Cut) (text rest : List ℕ) → (length rest == 0) ≡ true → ((whole : Cut) → ArePairs cut rest whole → ArePairs start text whole) → ArePairs start text cut
-pairs_end start cut text rest none so_far = so_far cut (subst (λ (l : List ℕ). ArePairs cut l cut) (sym (nil_from_length rest none)) ended)
+pairs_end start cut text rest none so_far = so_far cut (subst (λ (l : List ℕ). ArePairs cut l cut) (sym (is_empty rest none)) ended)
 
 pub pairs_go_on : (start cut new whole : Cut) (text rest key written value more : List ℕ) → behind_mark 61 rest ≡ Some written → key ≡ before_mark 61 rest → value ≡ before_mark 38 written → more ≡ or_empty (behind_mark 38 written)
     → new ≡ with_pair cut key value → ((whole : Cut) → ArePairs cut rest whole → ArePairs start text whole) → ArePairs new more whole → ArePairs start text whole

@@ -1,7 +1,6 @@
 //! The parts of a connection text.
-ghost use Rattle.std.specs.Prelude.{◌≡◌, [], IfOk};
-ghost use Rattle.pgw_conninfo.specs.declared.part.End.TheVariants as end;
-ghost use Rattle.pgw_conninfo.specs.Part.{next};
+ghost use Rattle.std.specs.Prelude.{◌≡◌, IfOk};
+ghost use Rattle.pgw_conninfo.specs.Part.{no_parts, next};
 
 use pgw_types::listed::Listed;
 use pgw_types::memory::OutOfMemory;
@@ -42,7 +41,7 @@ pub struct Cut {
 
 impl Cut {
     pub(crate) fn new(alloc: Global) -> Cut
-        ensures { result ≡ record { parts = []; end = end.Whole } }
+        ensures { result ≡ no_parts }
     {
         Cut {
             parts: Listed::new(alloc),
