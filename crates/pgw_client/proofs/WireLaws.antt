@@ -6,14 +6,14 @@ use Rattle.pgw_types.specs.declared.error.PgWireError.TheVariants as wire
 use Rattle.pgw_types.specs.declared.context.ProtocolVersion.{ProtocolVersion}
 use Rattle.pgw_wire.specs.Reading.{◌>>=◌, Refuses}
 use Rattle.pgw_wire.specs.Framing.{Decodes}
-use Rattle.pgw_msg.specs.Backend.{backend_front}
-use Rattle.pgw_msg.specs.ClientError.{of_wire}
-use Rattle.pgw_msg.specs.Front.{typed_phase}
-use Rattle.pgw_msg.specs.Frontend.{encoding, encodings, both}
-use Rattle.pgw_msg.specs.declared.backend.PgWireBackendMessage.{PgWireBackendMessage as Backend}
-use Rattle.pgw_msg.specs.declared.frontend.PgWireFrontendMessage.{PgWireFrontendMessage as Frontend}
-use Rattle.pgw_msg.specs.declared.client_error.PgWireClientError.TheVariants as client
-use Rattle.pgw_msg.proofs.FrontLaws.{front_taken, front_none, front_refused}
+use Rattle.pgw_backend.specs.Backend.{backend_front}
+use Rattle.pgw_backend.specs.ClientError.{of_wire}
+use Rattle.pgw_backend.specs.Front.{typed_phase}
+use Rattle.pgw_frontend.specs.Frontend.{encoding, encodings, both}
+use Rattle.pgw_backend.specs.declared.backend.PgWireBackendMessage.{PgWireBackendMessage as Backend}
+use Rattle.pgw_frontend.specs.declared.frontend.PgWireFrontendMessage.{PgWireFrontendMessage as Frontend}
+use Rattle.pgw_backend.specs.declared.client_error.PgWireClientError.TheVariants as client
+use Rattle.pgw_backend.proofs.FrontLaws.{front_taken, front_none, front_refused}
 use Rattle.pgw_client.specs.Errors.{IsOwn, Unless}
 use Rattle.pgw_client.specs.Wire.{Decoded, PutOut}
 

@@ -1,7 +1,7 @@
 -- How a configuration is refused.
 use Rattle.std.specs.Prelude.{◌≡◌, ◌⊎◌, ℕ, List, Option, Some, None, Result, Ok, Err}
-use Rattle.pgw_msg.specs.declared.client_error.PgWireClientError.{PgWireClientError as ClientError}
-use Rattle.pgw_msg.specs.declared.client_error.PgWireClientError.TheVariants as client
+use Rattle.pgw_backend.specs.declared.client_error.PgWireClientError.{PgWireClientError as ClientError}
+use Rattle.pgw_backend.specs.declared.client_error.PgWireClientError.TheVariants as client
 
 -- the error names the key, or memory was wanting
 abbrev pub IsInvalidConfig : List ℕ → ClientError → Type 0
@@ -11,13 +11,8 @@ abbrev pub Refuses : {T : Type 0} → List ℕ → Result T ClientError → Type
 Refuses key (Ok value) = ⊥
 Refuses key (Err e) = IsInvalidConfig key e
 
--- a configuration is refused by the key of its demand, if it has one
+-- a configuration is refused by the key of its demand, if it has one; the proofs carry it, and no public clause cites it
 abbrev pub Checked : Option (List ℕ) → Result Unit ClientError → Type 0
 Checked None (Ok done) = Unit {0}
 Checked None (Err e) = ⊥
 Checked (Some key) result = Refuses key result
-
--- the configuration is not at fault
-abbrev pub IsNoDemand : ClientError → Type 0
-IsNoDemand (client.InvalidConfig key) = ⊥
-IsNoDemand e = Unit {0}

@@ -1,15 +1,12 @@
 -- What a session over a link answers, and why.
 use Rattle.std.specs.Prelude.{◌≡◌, ◌⊎◌, ◌<◌, ◌≤◌, ℕ, ◌+◌, List, [], ◌++◌, length, Some, None, Result, Ok, Err}
 use Rattle.pgw_link.specs.Tape.{Tape}
-use Rattle.pgw_msg.specs.declared.backend.PgWireBackendMessage.{PgWireBackendMessage as Backend}
-use Rattle.pgw_msg.specs.declared.client_error.PgWireClientError.{PgWireClientError as ClientError}
-use Rattle.pgw_msg.specs.declared.client_error.PgWireClientError.TheVariants as client
-use Rattle.pgw_config.specs.declared.config.Config.{Config}
-use Rattle.pgw_session.specs.declared.types.Request.{Request}
+use Rattle.pgw_backend.specs.declared.client_error.PgWireClientError.{PgWireClientError as ClientError}
+use Rattle.pgw_backend.specs.declared.client_error.PgWireClientError.TheVariants as client
 use Rattle.pgw_session.specs.declared.types.SessionReport.{SessionReport}
 use Rattle.pgw_session.specs.Demands.{refused_config}
-use Rattle.pgw_session.specs.Events.{Event}
-use Rattle.pgw_session.specs.Failures.{HasEnded, Told, Misplaced, FailsAtStartup, AsksUnsupported, WaitsAt, LeftWith, Unreadable, Unsendable, IsHopeless, IsUnfinished}
+use Rattle.pgw_session.specs.Input.{Input}
+use Rattle.pgw_session.specs.Failures.{Told, Misplaced, FailsAtStartup, LeftWith, Unreadable, Unsendable, IsHopeless, IsUnfinished, WaitsStill}
 
 -- a fact of the bytes that a call took from its link and of those that it wrote
 abbrev pub MovedBy : Tape → Tape → (List ℕ → List ℕ → Type 0) → Type 0
@@ -20,38 +17,61 @@ abbrev pub Reports : SessionReport → Result SessionReport ClientError → Type
 Reports report (Ok answer) = answer ≡ report
 Reports report (Err e) = e ≡ client.OutOfMemory
 
--- No more was read than the limit, with one read more than bytes at most, and one write more than bytes. Where the
--- link's end was first answered, all that was written had been flushed before.
+-- no more was read than the limit, with one read more than bytes at most, and one write more than bytes
 pub record KeepsPace (limit : ℕ) (old new : Tape) (taken sent : List ℕ) : Type 0 where
   pub within : length taken ≤ limit
   pub reads : new.reads ≤ old.reads + length taken + 1
   pub writes : new.writes ≤ old.writes + length sent + 1
-  pub lockstep : old.ended ≡ None → (n : ℕ) → new.ended ≡ Some n → n ≡ length new.wrote
+
+-- ---- what was written
+
+-- of what is due all was written, but for IoError and want of memory, which may leave a rest
+abbrev pub LeavesUnsent : Result SessionReport ClientError → List ℕ → Type 0
+LeavesUnsent (Err client.IoError) unsent = Unit {0}
+LeavesUnsent (Err client.OutOfMemory) unsent = Unit {0}
+LeavesUnsent result unsent = unsent ≡ []
+
+-- what the bytes taken tell, and what was written of all that is to be sent by then
+abbrev pub Tells : Input → Result SessionReport ClientError → List ℕ → List ℕ → Type 0
+Tells input result taken sent = (unsent : List ℕ) × Told input taken (sent ++ unsent) × LeavesUnsent result unsent
+
+-- where the link's end was first answered, all that is written had been flushed, and a message was still awaited
+abbrev pub InLockstep : Input → Tape → Tape → Type 0
+InLockstep input old new = old.ended ≡ None → (n : ℕ) → new.ended ≡ Some n → (n ≡ length new.wrote) × MovedBy old new (WaitsStill input)
+
+-- ---- causes
+
+-- the link has ended: it was asked for more, since fewer bytes than the limit were taken, and had none
+pub record HasEnded (limit : ℕ) (taken : List ℕ) (new : Tape) : Type 0 where
+  pub nothing_left : new.left ≡ []
+  pub below : length taken < limit
+  pub asked : (n : ℕ) × (new.ended ≡ Some n)
 
 -- not all that the bytes taken make due was written and flushed; before is how many bytes were written before the call
-abbrev pub Unflushed : Config → List Request → List ℕ → List ℕ → ℕ → ℕ → Type 0
-Unflushed config requests taken sent before flushed = (told : Told config requests taken sent) × (flushed < before + length (sent ++ told.unsent))
+abbrev pub Unflushed : Input → List ℕ → List ℕ → ℕ → ℕ → Type 0
+Unflushed input taken sent before flushed = (unsent : List ℕ) × Told input taken (sent ++ unsent) × (flushed < before + length (sent ++ unsent))
 
--- the bytes taken complete no transcript, and end within a message
-abbrev pub WaitsStill : Config → List Request → List ℕ → List ℕ → Type 0
-WaitsStill config requests taken sent =
-    ((closed : List (List Event)) × (part : List Event) × (drained : List Backend) × WaitsAt config requests taken sent closed part drained) × IsUnfinished config requests taken
+-- a message at startup for which this error stands
+abbrev pub IsRefused : Input → List ℕ → List ℕ → ClientError → Type 0
+IsRefused input taken sent e = FailsAtStartup input taken sent e × IsHopeless input taken
 
 -- The cause of each error, where these bytes were taken and written. No other error comes.
-abbrev pub ErrorCause : Config → List Request → ℕ → ℕ → Tape → List ℕ → List ℕ → ClientError → Type 0
-ErrorCause config requests limit before new taken sent client.OutOfMemory = Unit {0}
-ErrorCause config requests limit before new taken sent (client.InvalidConfig key) = (refused_config config ≡ Some key) × (taken ≡ []) × (sent ≡ [])
-ErrorCause config requests limit before new taken sent client.UnexpectedEOF = LeftWith config requests taken sent None × IsUnfinished config requests taken × HasEnded limit taken new.left
-ErrorCause config requests limit before new taken sent client.IoError = Unflushed config requests taken sent before new.flushed ⊎ WaitsStill config requests taken sent
-ErrorCause config requests limit before new taken sent client.ReadLimit = WaitsStill config requests taken sent × (length taken ≡ limit)
-ErrorCause config requests limit before new taken sent (client.PgWireError why) = (Unreadable config requests taken sent why ⊎ Unsendable config requests taken sent why) × IsHopeless config requests taken
-ErrorCause config requests limit before new taken sent (client.UnexpectedMessage m) = Misplaced config requests limit taken sent new.left m × IsHopeless config requests taken
-ErrorCause config requests limit before new taken sent (client.RemoteError e) =
-    (FailsAtStartup config requests taken sent e × IsHopeless config requests taken) ⊎ (LeftWith config requests taken sent (Some e) × IsUnfinished config requests taken × HasEnded limit taken new.left)
-ErrorCause config requests limit before new taken sent client.NotYetBuilt =
-    AsksUnsupported config requests taken sent × IsHopeless config requests taken
-ErrorCause config requests limit before new taken sent e = ⊥
+abbrev pub ErrorCause : Input → ℕ → ℕ → Tape → List ℕ → List ℕ → ClientError → Type 0
+ErrorCause input limit before new taken sent client.OutOfMemory = Unit {0}
+ErrorCause input limit before new taken sent (client.InvalidConfig key) =
+    ((refused_config input.config ≡ Some key) × (taken ≡ []) × (sent ≡ [])) ⊎ ((refused_config input.config ≡ None) × IsRefused input taken sent (client.InvalidConfig key))
+ErrorCause input limit before new taken sent client.UnexpectedEOF = LeftWith input taken sent None × IsUnfinished input taken × HasEnded limit taken new
+ErrorCause input limit before new taken sent client.IoError = Unflushed input taken sent before new.flushed ⊎ WaitsStill input taken sent
+ErrorCause input limit before new taken sent client.ReadLimit = WaitsStill input taken sent × (length taken ≡ limit)
+ErrorCause input limit before new taken sent (client.PgWireError why) =
+    ((Unreadable input taken sent why ⊎ Unsendable input taken sent why) × IsHopeless input taken) ⊎ IsRefused input taken sent (client.PgWireError why)
+ErrorCause input limit before new taken sent (client.UnexpectedMessage m) = Misplaced input (HasEnded limit taken new) taken sent m × IsHopeless input taken
+ErrorCause input limit before new taken sent (client.RemoteError e) =
+    IsRefused input taken sent (client.RemoteError e) ⊎ (LeftWith input taken sent (Some e) × IsUnfinished input taken × HasEnded limit taken new)
+ErrorCause input limit before new taken sent (client.ScramError fault) = IsRefused input taken sent (client.ScramError fault)
+ErrorCause input limit before new taken sent (client.UnsupportedSASLAuthMethods methods) = IsRefused input taken sent (client.UnsupportedSASLAuthMethods methods)
+ErrorCause input limit before new taken sent e = ⊥
 
-abbrev pub Causes : Config → List Request → ℕ → Tape → Tape → Result SessionReport ClientError → Type 0
-Causes config requests limit old new (Ok report) = Unit {0}
-Causes config requests limit old new (Err e) = MovedBy old new (λ taken sent. ErrorCause config requests limit (length old.wrote) new taken sent e)
+abbrev pub Causes : Input → ℕ → Tape → Tape → Result SessionReport ClientError → Type 0
+Causes input limit old new (Ok report) = Unit {0}
+Causes input limit old new (Err e) = MovedBy old new (λ taken sent. ErrorCause input limit (length old.wrote) new taken sent e)

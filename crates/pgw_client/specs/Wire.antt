@@ -1,11 +1,11 @@
--- What reading and writing messages answers.
+-- What reading and writing messages answers. The proofs carry it, and no public clause cites it.
 use Rattle.std.specs.Prelude.{◌≡◌, ℕ, List, ◌++◌, drop, Option, Some, None, Result, Ok, Err}
 use Rattle.pgw_types.specs.declared.error.PgWireError.{PgWireError}
 use Rattle.pgw_types.specs.declared.context.ProtocolVersion.{ProtocolVersion}
-use Rattle.pgw_msg.specs.Front.{front, More, Bad, Whole}
-use Rattle.pgw_msg.specs.declared.backend.PgWireBackendMessage.{PgWireBackendMessage as Backend}
-use Rattle.pgw_msg.specs.declared.client_error.PgWireClientError.{PgWireClientError as ClientError}
-use Rattle.pgw_msg.specs.declared.client_error.PgWireClientError.TheVariants as client
+use Rattle.pgw_backend.specs.Front.{front, More, Bad, Whole}
+use Rattle.pgw_backend.specs.declared.backend.PgWireBackendMessage.{PgWireBackendMessage as Backend}
+use Rattle.pgw_backend.specs.declared.client_error.PgWireClientError.{PgWireClientError as ClientError}
+use Rattle.pgw_backend.specs.declared.client_error.PgWireClientError.TheVariants as client
 use Rattle.pgw_client.specs.Errors.{Unless}
 
 -- what stood at the front, and what is left behind it

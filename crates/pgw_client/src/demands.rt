@@ -3,8 +3,8 @@ ghost use Rattle.std.specs.Prelude.{◌≡◌, IfErr};
 ghost use Rattle.pgw_session.specs.Demands.{refused_config};
 ghost use Rattle.pgw_client.specs.Demands.{IsInvalidConfig, Checked};
 
+use pgw_backend::client_error::{PgWireClientError, PgWireClientResult};
 use pgw_config::config::{ChannelBinding, Config, SslMode};
-use pgw_msg::client_error::{PgWireClientError, PgWireClientResult};
 use pgw_types::text::Text;
 use std::alloc::Global;
 

@@ -1,13 +1,43 @@
 //! A client of a PostgreSQL server.
 #![tactic(auto)]
 
+mod answers;
 mod demands;
-mod readings;
-mod responses;
+mod input;
+mod logins;
+mod machine;
+mod requests;
 pub mod session;
-mod session_core;
+mod standings;
 mod table;
 mod wire;
 
-pub use pgw_config::config::Config;
-pub use pgw_session::types::{Answer, Request, Response, SessionReport};
+pub use crate::session::run_session;
+pub use pgw_backend::backend::PgWireBackendMessage;
+pub use pgw_backend::client_error::{PgWireClientError, PgWireClientResult, ScramFault, SqlFault};
+pub use pgw_backend::field_info::{FieldFormat, FieldInfo};
+pub use pgw_backend::pg_type::PgType;
+pub use pgw_backend::tag::Tag;
+pub use pgw_config::address::Address;
+pub use pgw_config::config::{
+    ChannelBinding, Config, Host, HostAddr, LoadBalanceHosts, SslMode, SslNegotiation,
+    TargetSessionAttrs,
+};
+pub use pgw_link::link::{Link, LinkFault};
+pub use pgw_link::memory::MemoryLink;
+pub use pgw_query::data::DataRow;
+pub use pgw_query::response::{ErrorResponse, TransactionStatus};
+pub use pgw_session::types::{
+    Answer, DescribeResponse, ExecuteResult, PrepareResponse, Request, Response, SessionReport,
+    Target,
+};
+pub use pgw_types::boxed::Boxed;
+pub use pgw_types::context::ProtocolVersion;
+pub use pgw_types::error::{PgWireError, ScramMessageFault};
+pub use pgw_types::error_info::ErrorInfo;
+pub use pgw_types::listed::Listed;
+pub use pgw_types::memory::OutOfMemory;
+pub use pgw_types::octets::Octets;
+pub use pgw_types::text::Text;
+pub use pgw_wire::params::Params;
+pub use pgw_wire::secret_key::SecretKey;

@@ -1,21 +1,24 @@
 //! A session over a link.
-ghost use Rattle.std.specs.Prelude.{◌≡◌, ◌<◌, ◌≤◌, ◌++◌, ℕ, List, length, Option, Some, None, Err, IfOk, IfErr, IfSome, OnOk, OnErr};
+ghost use Rattle.std.specs.Prelude.{◌≡◌, ◌⊎◌, ◌<◌, ◌≤◌, ◌++◌, ℕ, List, codes, false, length, Some, None, Err, IfOk, IfErr, IfSome, IsErrOf, OnOk, OnErr};
 ghost use Rattle.pgw_link.specs.Tape.{HasCause, Rose};
+ghost use Rattle.pgw_session.specs.Demands.{refused_config};
 ghost use Rattle.pgw_session.specs.Events.{Event};
 ghost use Rattle.pgw_session.specs.Transcript.{Completed, Completes, report_of};
-ghost use Rattle.pgw_session.specs.Failures.{Told};
-ghost use Rattle.pgw_session.specs.Demands.{refused_config};
-ghost use Rattle.pgw_client.specs.Demands.{IsNoDemand, Refuses};
-ghost use Rattle.pgw_client.specs.Machine.{core_rules};
-ghost use Rattle.pgw_client.specs.Sessions.{MovedBy, Causes, Reports, KeepsPace};
-ghost use Rattle.pgw_client.specs.Outcome.{IoHasCause, Wrote, WroteSome, TookAll, Filled, Conversed, Session};
+ghost use Rattle.pgw_client.specs.Demands.{Refuses};
+ghost use Rattle.pgw_client.specs.Errors.{IoHasCause, IsNoDemand};
+ghost use Rattle.pgw_client.specs.Input.{input_of, input_with};
+ghost use Rattle.pgw_client.specs.Machine.{IsAble};
+ghost use Rattle.pgw_client.specs.Outcome.{Conversed, Filled, Session, TookAll, Wrote, WroteSome};
+ghost use Rattle.pgw_client.specs.Sessions.{Causes, InLockstep, KeepsPace, MovedBy, Reports, Tells};
 
 use crate::demands::check_config;
-use crate::session_core::{Core, Taken};
+use crate::input::Input;
+use crate::machine::{Taken, advance, end_error, into_report, start};
 use bytes::BytesMut;
+use pgw_backend::client_error::{PgWireClientError, PgWireClientResult};
 use pgw_config::config::Config;
 use pgw_link::link::{Link, LinkFault};
-use pgw_msg::client_error::{PgWireClientError, PgWireClientResult};
+use pgw_session::notes::Notes;
 use pgw_session::types::{Request, SessionReport};
 use std::alloc::Global;
 
@@ -25,6 +28,7 @@ const CHUNK: usize = 8192;
 // Writes the bytes, all of them, and flushes.
 fn send<L: Link>(link: &mut L, bytes: &[u8]) -> Result<(), LinkFault>
     ensures cause { HasCause (L.faults link.old) (L.faults link.new) result }
+    ensures clean { L.tells → OnOk result (L.faults link.new ≡ L.faults link.old) }
     ensures kept { L.plan link.new ≡ L.plan link.old }
     ensures sent { L.tells → OnOk result (Wrote (L.tape link.old) (L.tape link.new) bytes.now) }
     ensures failed { L.tells → OnErr result (WroteSome (L.tape link.old) (L.tape link.new) bytes.now) }
@@ -41,20 +45,22 @@ fn send<L: Link>(link: &mut L, bytes: &[u8]) -> Result<(), LinkFault>
 fn take_all<L: Link>(
     alloc: Global,
     link: &mut L,
-    core: &mut Core,
-    config: &Config,
-    requests: &[Request],
+    input: &Input<'_>,
+    notes: &mut Notes,
     buffer: &mut BytesMut,
 ) -> PgWireClientResult<bool>
+    requires { IsAble (input_of input.now) notes.old.stage }
+    ensures able { IfOk result (λ done. done ≡ false → IsAble (input_of input.now) notes.new.stage) }
     ensures cause { IoHasCause (L.faults link.old) (L.faults link.new) result }
     ensures talk { IfErr result IsNoDemand }
+    ensures clean { L.tells → (IsErrOf result PgWireClientError.IoError → ⊥) → L.faults link.new ≡ L.faults link.old }
     ensures kept { L.plan link.new ≡ L.plan link.old }
     ensures talks { L.tells → (L.tape link.old).flushed ≡ length (L.tape link.old).wrote →
-        TookAll (core_rules config.now requests.now) core.old core.new (L.tape link.old) (L.tape link.new) buffer.old.items buffer.new.items result }
+        TookAll (input_of input.now) notes.old notes.new (L.tape link.old) (L.tape link.new) buffer.old.items buffer.new.items result }
 {
     let mut out = BytesMut::new(alloc);
     'messages: loop {
-        match core.advance(alloc, config, requests, buffer, &mut out) {
+        match advance(alloc, input, notes, buffer, &mut out) {
             Ok(Taken::More) => return Ok(false),
             Ok(Taken::Went) => {
                 if out.len() > 0 {
@@ -87,6 +93,7 @@ fn fill<L: Link>(link: &mut L, buffer: &mut BytesMut, room: u64) -> PgWireClient
     ensures bound { IfOk result (λ n. n ≤ room) }
     ensures cause { IoHasCause (L.faults link.old) (L.faults link.new) result }
     ensures talk { IfErr result IsNoDemand }
+    ensures clean { L.tells → (IsErrOf result PgWireClientError.IoError → ⊥) → L.faults link.new ≡ L.faults link.old }
     ensures kept { L.plan link.new ≡ L.plan link.old }
     ensures filled { L.tells → Filled (L.tape link.old) (L.tape link.new) buffer.old.items buffer.new.items room result }
 {
@@ -106,21 +113,22 @@ fn fill<L: Link>(link: &mut L, buffer: &mut BytesMut, room: u64) -> PgWireClient
 fn converse<L: Link>(
     alloc: Global,
     link: &mut L,
-    core: &mut Core,
-    config: &Config,
-    requests: &[Request],
+    input: &Input<'_>,
+    notes: &mut Notes,
     limit: u64,
 ) -> PgWireClientResult<()>
+    requires { IsAble (input_of input.now) notes.old.stage }
     ensures cause { IoHasCause (L.faults link.old) (L.faults link.new) result }
     ensures talk { IfErr result IsNoDemand }
+    ensures clean { L.tells → (IsErrOf result PgWireClientError.IoError → ⊥) → L.faults link.new ≡ L.faults link.old }
     ensures kept { L.plan link.new ≡ L.plan link.old }
     ensures talks { L.tells → (L.tape link.old).flushed ≡ length (L.tape link.old).wrote →
-        Conversed (core_rules config.now requests.now) core.old core.new limit (L.tape link.old) (L.tape link.new) result }
+        Conversed (input_of input.now) notes.old notes.new limit (L.tape link.old) (L.tape link.new) result }
 {
     let mut buffer = BytesMut::new(alloc);
     let mut read: u64 = 0;
     'reads: loop {
-        let done = match take_all(alloc, link, core, config, requests, &mut buffer) {
+        let done = match take_all(alloc, link, input, notes, &mut buffer) {
             Ok(done) => done,
             Err(e) => return Err(e),
         };
@@ -135,7 +143,7 @@ fn converse<L: Link>(
             Err(e) => return Err(e),
         };
         if n == 0 {
-            return Err(core.end_error(alloc));
+            return Err(end_error(alloc, notes));
         }
         read += n as u64;
     }
@@ -145,26 +153,26 @@ fn converse<L: Link>(
 fn hold_session<L: Link>(
     alloc: Global,
     link: &mut L,
-    config: &Config,
-    requests: &[Request],
+    input: &Input<'_>,
     limit: u64,
 ) -> PgWireClientResult<SessionReport>
     ensures cause { IoHasCause (L.faults link.old) (L.faults link.new) result }
     ensures talk { IfErr result IsNoDemand }
+    ensures clean { L.tells → (IsErrOf result PgWireClientError.IoError → ⊥) → L.faults link.new ≡ L.faults link.old }
     ensures kept { L.plan link.new ≡ L.plan link.old }
-    ensures session { L.tells → Session config.now requests.now limit (L.tape link.old) (L.tape link.new) result }
+    ensures session { L.tells → Session (input_of input.now) limit (L.tape link.old) (L.tape link.new) result }
 {
     let mut out = BytesMut::new(alloc);
-    let mut core = match Core::start(alloc, config, &mut out) {
-        Ok(core) => core,
+    let mut notes = match start(alloc, input, &mut out) {
+        Ok(notes) => notes,
         Err(e) => return Err(e),
     };
     match send(link, out.as_slice()) {
         Ok(()) => {}
         Err(_) => return Err(PgWireClientError::IoError),
     }
-    match converse(alloc, link, &mut core, config, requests, limit) {
-        Ok(()) => Ok(core.into_report()),
+    match converse(alloc, link, input, &mut notes, limit) {
+        Ok(()) => Ok(into_report(notes)),
         Err(e) => Err(e),
     }
 }
@@ -178,35 +186,50 @@ pub fn run_session<L: Link>(
     link: &mut L,
     config: &Config,
     requests: &[Request],
-    _nonce: &[u8; 18],
+    nonce: &[u8; 18],
     limit: u64,
 ) -> PgWireClientResult<SessionReport>
     // A configuration that demands an encrypted connection, or else a login bound to one, is refused by that key, or
     // memory is wanting: the link is as it was.
     ensures refused { IfSome (refused_config config.now) (λ key. Refuses key result × (link.new ≡ link.old)) }
-    // No other is refused so.
-    ensures demands { (key : List ℕ) → result ≡ Err (PgWireClientError.InvalidConfig key) → refused_config config.now ≡ Some key }
+    // No other is refused so, but for a user name that has no prepared form.
+    ensures demands { (key : List ℕ) → result ≡ Err (PgWireClientError.InvalidConfig key) → (refused_config config.now ≡ Some key) ⊎ (key ≡ codes "user") }
     // IoError comes only where a call of the link failed.
     ensures cause { IoHasCause (L.faults link.old) (L.faults link.new) result }
+    // Where a call of the link failed, IoError is the answer.
+    ensures failing { L.tells → L.faults link.old < L.faults link.new → IsErrOf result PgWireClientError.IoError }
     // What the link was made with stays.
     ensures kept { L.plan link.new ≡ L.plan link.old }
     // The answer is that of a completed session: a transcript for this input, whose bytes were read and written.
     ensures completed { L.tells → IfOk result (λ report. MovedBy (L.tape link.old) (L.tape link.new)
-        (λ taken sent. Completed config.now requests.now taken sent report)) }
+        (λ taken sent. Completed (input_with config.now requests.now nonce.now) taken sent report)) }
     // Each error has its cause, and no other comes.
-    ensures causes { L.tells → Causes config.now requests.now limit (L.tape link.old) (L.tape link.new) result }
-    // Whatever the answer: the bytes taken are those of a legal prefix, what was written begins what is sent in it,
-    // in step and within the limit.
-    ensures told { L.tells → MovedBy (L.tape link.old) (L.tape link.new)
-        (λ taken sent. Told config.now requests.now taken sent × KeepsPace limit (L.tape link.old) (L.tape link.new) taken sent) }
+    ensures causes { L.tells → Causes (input_with config.now requests.now nonce.now) limit (L.tape link.old) (L.tape link.new) result }
+    // Where nothing is demanded that is refused, whatever the answer: the bytes taken are those of a legal prefix. What
+    // was written are the encodings of the messages sent in it, all of them, or a front of them after IoError and want of
+    // memory.
+    ensures told { L.tells → refused_config config.now ≡ None → MovedBy (L.tape link.old) (L.tape link.new) (Tells (input_with config.now requests.now nonce.now) result) }
+    // It is within the limit, in few calls.
+    ensures paced { L.tells → MovedBy (L.tape link.old) (L.tape link.new) (KeepsPace limit (L.tape link.old) (L.tape link.new)) }
+    // Where the link's end was first answered in this call then, whatever the answer, all that was written had been
+    // flushed, the bytes taken complete no transcript and end within a message, and nothing is due. No body can know
+    // which of its reads the end will answer. So this refuses every read that waits for nothing wanted: one before a
+    // message that is due was written and flushed, and one behind the last ReadyForQuery.
+    ensures lockstep { L.tells → InLockstep (input_with config.now requests.now nonce.now) (L.tape link.old) (L.tape link.new) }
     // Where nothing is demanded that is refused, the bytes to come complete a transcript within the limit and no call of
     // the link failed, its report is the answer.
-    ensures reports { L.tells → refused_config config.now ≡ None → (segments : List (List Event)) → Completes config.now requests.now limit (L.tape link.old).left segments →
-        (Rose (L.faults link.old) (L.faults link.new) → ⊥) → Reports (report_of config.now segments) result }
+    ensures reports { L.tells → refused_config config.now ≡ None → (segments : List (List Event)) →
+        Completes (input_with config.now requests.now nonce.now) limit (L.tape link.old).left segments →
+        (Rose (L.faults link.old) (L.faults link.new) → ⊥) → Reports (report_of (input_with config.now requests.now nonce.now) segments) result }
 {
     match check_config(alloc, config) {
         Ok(()) => {}
         Err(error) => return Err(error),
     }
-    hold_session(alloc, link, config, requests, limit)
+    let input = Input {
+        config,
+        requests,
+        nonce,
+    };
+    hold_session(alloc, link, &input, limit)
 }

@@ -1,14 +1,14 @@
 //! Messages from and to buffers, with the client's errors.
 ghost use Rattle.std.specs.Prelude.{◌≡◌, IfErr};
-ghost use Rattle.pgw_msg.specs.Front.{typed_phase};
-ghost use Rattle.pgw_msg.specs.Frontend.{encodings};
+ghost use Rattle.pgw_backend.specs.Front.{typed_phase};
+ghost use Rattle.pgw_frontend.specs.Frontend.{encodings};
 ghost use Rattle.pgw_client.specs.Wire.{Decoded, PutOut};
 ghost use Rattle.pgw_client.specs.Errors.{IsOwn};
 
 use bytes::BytesMut;
-use pgw_msg::backend::PgWireBackendMessage;
-use pgw_msg::client_error::PgWireClientError;
-use pgw_msg::frontend::PgWireFrontendMessage;
+use pgw_backend::backend::PgWireBackendMessage;
+use pgw_backend::client_error::PgWireClientError;
+use pgw_frontend::frontend::PgWireFrontendMessage;
 use pgw_types::context::{DecodeContext, ProtocolVersion};
 use std::alloc::Global;
 

@@ -1,5 +1,5 @@
 pub mod DigitLaws
-pub mod LaterLaws
+pub mod GivenLaws
 pub mod NumberLaws
 pub mod ParseLaws
 pub mod PieceLaws

@@ -1,19 +1,21 @@
 -- What a connection text answers.
 use Rattle.std.proofs.Common.{◌≡◌, ◌≢◌, ℕ, List, [], ◌∷◌, Option, Some, None, Result, Ok, Err, sym, ap, subst, ◌∙◌}
-use Rattle.std.specs.Prelude.{IfErr}
-use Rattle.pgw_msg.specs.declared.client_error.PgWireClientError.{PgWireClientError}
-use Rattle.pgw_msg.specs.declared.client_error.PgWireClientError.TheVariants as client
+use Rattle.std.specs.Prelude.{IfOk, IfErr}
+use Rattle.pgw_backend.specs.declared.client_error.PgWireClientError.{PgWireClientError}
+use Rattle.pgw_backend.specs.declared.client_error.PgWireClientError.TheVariants as client
 use Rattle.pgw_conninfo.specs.declared.part.Part.{Part}
 use Rattle.pgw_conninfo.specs.declared.part.Part.TheVariants as part
 use Rattle.pgw_conninfo.specs.declared.part.Cut.{Cut}
-use Rattle.pgw_conninfo.specs.declared.part.End.{End}
-use Rattle.pgw_conninfo.specs.declared.part.End.TheVariants as end
+use Rattle.pgw_conninfo.specs.declared.part.Fault.{Fault}
+use Rattle.pgw_conninfo.specs.declared.part.Fault.TheVariants as fault
 use Rattle.pgw_conninfo.specs.Text.{HasCut}
 use Rattle.pgw_config.specs.Answers.{Answers, IsRefusal}
 use Rattle.pgw_config.specs.Config.{no_config}
 use Rattle.pgw_config.specs.Keys.{key_of}
 use Rattle.pgw_config.specs.Parse.{ended_by, outcome_of, HasOutcome, IsParsed}
 use Rattle.pgw_config.specs.Settings.{taken, set_by, value_set, applied, next_applied, all_applied}
+use Rattle.pgw_config.specs.Given.{Gives}
+use Rattle.pgw_config.proofs.GivenLaws.{gives}
 use Rattle.pgw_config.specs.declared.config.Config.{Config}
 use Rattle.pgw_config.specs.declared.keys.Key.{Key}
 
@@ -50,14 +52,14 @@ all_refuse : (config : Config) (parts : List Part) → IfErr (all_applied config
 all_refuse config [] = tt
 all_refuse config (p ∷ parts) = next_refuses (λ c. all_applied c parts) (applied config p) (λ c. all_refuse c parts) (applied_refuses config p)
 
-end_refuses : (e : End) (config : Config) → IfErr (ended_by e config) IsRefusal
-end_refuses end.Whole config = tt
-end_refuses end.Syntax config = tt
-end_refuses end.Host config = tt
-end_refuses (end.NotUtf8 bytes) config = tt
+end_refuses : (e : Option Fault) (config : Config) → IfErr (ended_by e config) IsRefusal
+end_refuses None config = tt
+end_refuses (Some fault.Syntax) config = tt
+end_refuses (Some fault.Host) config = tt
+end_refuses (Some (fault.NotUtf8 bytes)) config = tt
 
 outcome_refuses : (cut : Cut) → IfErr (outcome_of cut) IsRefusal
-outcome_refuses cut = next_refuses (ended_by cut.end) (all_applied no_config cut.parts) (end_refuses cut.end) (all_refuse no_config cut.parts)
+outcome_refuses cut = next_refuses (ended_by cut.fault) (all_applied no_config cut.parts) (end_refuses cut.fault) (all_refuse no_config cut.parts)
 
 as_outcome : (e : PgWireClientError) (outcome : Result Config PgWireClientError) → outcome ≡ Err e → IfErr outcome IsRefusal → IsRefusal e
 as_outcome e outcome is all = subst (λ (o : Result Config PgWireClientError). IfErr o IsRefusal) is all
@@ -78,7 +80,6 @@ error_refuses (client.UnsupportedSASLAuthMethods m) outcome is all = as_outcome 
 error_refuses client.ReadLimit outcome is all = as_outcome client.ReadLimit outcome (is (λ k. cc)) all
 error_refuses client.Broken outcome is all = as_outcome client.Broken outcome (is (λ k. cc)) all
 error_refuses client.OutOfMemory outcome is all = tt
-error_refuses client.NotYetBuilt outcome is all = as_outcome client.NotYetBuilt outcome (is (λ k. cc)) all
 
 result_refuses : (result outcome : Result Config PgWireClientError) → Answers result outcome → IfErr outcome IsRefusal → IfErr result IsRefusal
 result_refuses (Ok config) outcome is all = tt
@@ -86,3 +87,21 @@ result_refuses (Err e) outcome is all = error_refuses e outcome is all
 
 pub refuses : (cut : Cut) (result : Result Config PgWireClientError) → Answers result (outcome_of cut) → IfErr result IsRefusal
 refuses cut result is = result_refuses result (outcome_of cut) is (outcome_refuses cut)
+
+-- ---- what it gives
+
+-- a text that gives a configuration has taken all its parts
+ended_ok : (e : Option Fault) (d config : Config) → ended_by e d ≡ Ok config → d ≡ config
+ended_ok None d config h = cc
+ended_ok (Some fault.Syntax) d config h = cc
+ended_ok (Some fault.Host) d config h = cc
+ended_ok (Some (fault.NotUtf8 bytes)) d config h = cc
+
+all_taken : (e : Option Fault) (r : Result Config PgWireClientError) (config : Config) → next_applied (ended_by e) r ≡ Ok config → r ≡ Ok config
+all_taken e (Ok d) config h = ap Ok (ended_ok e d config h)
+all_taken e (Err why) config h = cc
+
+pub given : (text : List ℕ) (cut : Cut) (result : Result Config PgWireClientError) → ((other : Cut) → HasCut text other → other ≡ cut) → Answers result (outcome_of cut)
+    → IfOk result (λ config. (other : Cut) → HasCut text other → Gives other.parts config)
+given text cut (Ok config) one is = λ other has. gives other.parts config (all_taken other.fault (all_applied no_config other.parts) config (ap outcome_of (one other has) ∙ is))
+given text cut (Err e) one is = tt

@@ -1,14 +1,14 @@
 -- Where a configuration connects to.
 use Rattle.std.specs.Prelude.{ℕ, ◌-◌, List, [], ◌∷◌, ◌++◌, length, codes, Result, Ok, Err, ◌==◌, ◌||◌, if◌then◌else◌, slice_index}
 use Rattle.std.specs.Fmt.{decimal}
-use Rattle.pgw_msg.specs.declared.client_error.PgWireClientError.{PgWireClientError}
-use Rattle.pgw_msg.specs.declared.client_error.PgWireClientError.TheVariants.{InvalidConfig}
+use Rattle.pgw_backend.specs.declared.client_error.PgWireClientError.{PgWireClientError}
+use Rattle.pgw_backend.specs.declared.client_error.PgWireClientError.TheVariants.{InvalidConfig}
 use Rattle.pgw_config.specs.declared.config.Config.{Config}
-use Rattle.pgw_config.specs.declared.config.Host.{Host}
-use Rattle.pgw_config.specs.declared.config.Host.TheVariants as host
-use Rattle.pgw_config.specs.declared.config.HostAddr.{HostAddr}
-use Rattle.pgw_config.specs.declared.address.Address.{Address}
-use Rattle.pgw_config.specs.declared.address.Address.TheVariants as address
+use Rattle.pgw_conninfo.specs.declared.address.Host.{Host}
+use Rattle.pgw_conninfo.specs.declared.address.Host.TheVariants as host
+use Rattle.pgw_conninfo.specs.declared.address.HostAddr.{HostAddr}
+use Rattle.pgw_conninfo.specs.declared.address.Address.{Address}
+use Rattle.pgw_conninfo.specs.declared.address.Address.TheVariants as address
 
 abbrev pub first_port : List ℕ → ℕ
 first_port [] = 5432

@@ -1,7 +1,7 @@
 -- What a call answers.
 use Rattle.std.specs.Prelude.{◌≡◌, ◌≢◌, ℕ, List, ⊤, Result, Ok, Err}
-use Rattle.pgw_msg.specs.declared.client_error.PgWireClientError.{PgWireClientError}
-use Rattle.pgw_msg.specs.declared.client_error.PgWireClientError.TheVariants.{InvalidConfig, UnknownConfig, InvalidUtf8ConfigValue, OutOfMemory}
+use Rattle.pgw_backend.specs.declared.client_error.PgWireClientError.{PgWireClientError}
+use Rattle.pgw_backend.specs.declared.client_error.PgWireClientError.TheVariants.{InvalidConfig, UnknownConfig, InvalidUtf8ConfigValue, OutOfMemory}
 
 -- the answer is this value, or this refusal, or memory ran out
 abbrev pub Answers : {A : Type 0} → Result A PgWireClientError → Result A PgWireClientError → Type 0

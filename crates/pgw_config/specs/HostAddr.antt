@@ -5,8 +5,8 @@ use Rattle.std.specs.Char.{is_digit}
 use Rattle.std.specs.Str.Parse.{digits_value}
 use Rattle.pgw_conninfo.specs.Marks.{pieces_at}
 use Rattle.pgw_config.specs.Pieces.{pushed, all_read}
-use Rattle.pgw_config.specs.declared.config.HostAddr.{HostAddr}
-use Rattle.pgw_config.specs.declared.config.HostAddr.TheVariants.{V4, V6}
+use Rattle.pgw_conninfo.specs.declared.address.HostAddr.{HostAddr}
+use Rattle.pgw_conninfo.specs.declared.address.HostAddr.TheVariants.{V4, V6}
 
 -- digits alone, whose number has so many bits
 unfoldable pub digits_in : ℕ → ℕ → List ℕ → Option ℕ

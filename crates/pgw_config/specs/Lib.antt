@@ -2,9 +2,9 @@ pub mod Address
 pub mod Answers
 pub mod Choices
 pub mod Config
+pub mod Given
 pub mod HostAddr
 pub mod Keys
-pub mod Later
 pub mod Lists
 pub mod Numbers
 pub mod Parse

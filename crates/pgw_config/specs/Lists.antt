@@ -7,7 +7,7 @@ use Rattle.pgw_conninfo.specs.Marks.{pieces_at}
 use Rattle.pgw_config.specs.Pieces.{read_onto}
 use Rattle.pgw_config.specs.HostAddr.{addr_of}
 use Rattle.pgw_config.specs.declared.config.Config.{Config}
-use Rattle.pgw_config.specs.declared.config.Host.{Host}
+use Rattle.pgw_conninfo.specs.declared.address.Host.{Host}
 use Rattle.pgw_config.specs.declared.keys.ListKey.{ListKey}
 use Rattle.pgw_config.specs.declared.keys.ListKey.TheVariants as list
 

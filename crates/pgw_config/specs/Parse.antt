@@ -1,25 +1,25 @@
 -- What a connection text says.
-use Rattle.std.specs.Prelude.{◌≡◌, ◌≢◌, ℕ, List, codes, Result, Ok, Err}
-use Rattle.pgw_msg.specs.declared.client_error.PgWireClientError.{PgWireClientError}
-use Rattle.pgw_msg.specs.declared.client_error.PgWireClientError.TheVariants.{InvalidConfig, InvalidUtf8ConfigValue, OutOfMemory}
+use Rattle.std.specs.Prelude.{◌≡◌, ◌≢◌, ℕ, List, codes, Option, Some, None, Result, Ok, Err}
+use Rattle.pgw_backend.specs.declared.client_error.PgWireClientError.{PgWireClientError}
+use Rattle.pgw_backend.specs.declared.client_error.PgWireClientError.TheVariants.{InvalidConfig, InvalidUtf8ConfigValue, OutOfMemory}
 use Rattle.pgw_conninfo.specs.declared.part.Cut.{Cut}
-use Rattle.pgw_conninfo.specs.declared.part.End.{End}
-use Rattle.pgw_conninfo.specs.declared.part.End.TheVariants as end
+use Rattle.pgw_conninfo.specs.declared.part.Fault.{Fault}
+use Rattle.pgw_conninfo.specs.declared.part.Fault.TheVariants as fault
 use Rattle.pgw_conninfo.specs.Text.{HasCut}
 use Rattle.pgw_config.specs.Config.{no_config}
 use Rattle.pgw_config.specs.Settings.{next_applied, all_applied}
 use Rattle.pgw_config.specs.declared.config.Config.{Config}
 
 -- what a text whose parts end so answers, where no part was refused
-abbrev pub ended_by : End → Config → Result Config PgWireClientError
-ended_by end.Whole config = Ok config
-ended_by end.Syntax config = Err (InvalidConfig (codes "syntax"))
-ended_by end.Host config = Err (InvalidConfig (codes "host"))
-ended_by (end.NotUtf8 bytes) config = Err (InvalidUtf8ConfigValue bytes)
+abbrev pub ended_by : Option Fault → Config → Result Config PgWireClientError
+ended_by None config = Ok config
+ended_by (Some fault.Syntax) config = Err (InvalidConfig (codes "syntax"))
+ended_by (Some fault.Host) config = Err (InvalidConfig (codes "host"))
+ended_by (Some (fault.NotUtf8 bytes)) config = Err (InvalidUtf8ConfigValue bytes)
 
 -- the first faulty part decides; behind all parts a fault of form
 abbrev pub outcome_of : Cut → Result Config PgWireClientError
-outcome_of cut = next_applied (ended_by cut.end) (all_applied no_config cut.parts)
+outcome_of cut = next_applied (ended_by cut.fault) (all_applied no_config cut.parts)
 
 -- the text is cut into parts that have this outcome
 abbrev pub HasOutcome : List ℕ → Result Config PgWireClientError → Type 0

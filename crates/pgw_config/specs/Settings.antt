@@ -1,7 +1,7 @@
 -- What the parts of a connection text do to a configuration.
 use Rattle.std.specs.Prelude.{ℕ, List, [], ◌∷◌, ◌++◌, Option, Some, None, Result, Ok, Err}
-use Rattle.pgw_msg.specs.declared.client_error.PgWireClientError.{PgWireClientError}
-use Rattle.pgw_msg.specs.declared.client_error.PgWireClientError.TheVariants.{InvalidConfig, UnknownConfig}
+use Rattle.pgw_backend.specs.declared.client_error.PgWireClientError.{PgWireClientError}
+use Rattle.pgw_backend.specs.declared.client_error.PgWireClientError.TheVariants.{InvalidConfig, UnknownConfig}
 use Rattle.pgw_config.specs.Keys.{key_of}
 use Rattle.pgw_config.specs.Choices.{with_choice}
 use Rattle.pgw_config.specs.Numbers.{with_number}

@@ -3,23 +3,13 @@ ghost use Rattle.std.specs.Prelude.{◌≡◌, IfOk};
 ghost use Rattle.pgw_config.specs.Address.{first_port, socket, address_of};
 ghost use Rattle.pgw_config.specs.Answers.{Answers, IsInvalid};
 
-use crate::config::{Config, Host, HostAddr};
-use pgw_msg::client_error::{PgWireClientError, PgWireClientResult};
+use crate::config::{Config, Host};
+use pgw_backend::client_error::{PgWireClientError, PgWireClientResult};
+pub use pgw_conninfo::address::Address;
 use pgw_types::listed::Duplicate;
 use pgw_types::memory::OutOfMemory;
 use pgw_types::text::Text;
 use std::alloc::Global;
-
-/// A place to connect to.
-#[derive(Debug, Drop, PartialEq, Eq)]
-pub enum Address {
-    /// An IP address and a port.
-    Ip(HostAddr, u16),
-    /// A host name, still to be resolved, and a port.
-    Host(Text, u16),
-    /// The file of a Unix socket.
-    Unix(Text),
-}
 
 /// The error of a key whose value does not do.
 pub(crate) fn invalid(alloc: Global, key: &str) -> PgWireClientError

@@ -5,6 +5,7 @@ ghost use Rattle.std.specs.Cmp.Rules.{comparing};
 ghost use Rattle.std.proofs.Common.{rules};
 ghost use Rattle.pgw_config.specs.Config.{no_config};
 
+pub use pgw_conninfo::address::{Host, HostAddr};
 use pgw_types::context::ProtocolVersion;
 use pgw_types::listed::{Duplicate, Listed};
 use pgw_types::memory::OutOfMemory;
@@ -51,20 +52,6 @@ pub enum ChannelBinding {
 pub enum LoadBalanceHosts {
     Disable,
     Random,
-}
-
-/// Where a server is: a host name, or the directory of a Unix socket.
-#[derive(Debug, Drop, PartialEq, Eq)]
-pub enum Host {
-    Tcp(Text),
-    Unix(Text),
-}
-
-/// The numbers of an address, the highest part first.
-#[derive(Clone, Copy, Debug, PartialEq, Eq)]
-pub enum HostAddr {
-    V4([u8; 4]),
-    V6([u16; 8]),
 }
 
 /// Who logs in, where, and how. Times are whole seconds.
@@ -239,21 +226,6 @@ impl Config {
         ensures { result ≡ self.now.protocol_version }
     {
         self.protocol_version
-    }
-}
-
-impl Duplicate for Host {
-    fn duplicate(&self) -> Result<Host, OutOfMemory> {
-        match self {
-            Host::Tcp(name) => Ok(Host::Tcp(name.duplicate()?)),
-            Host::Unix(path) => Ok(Host::Unix(path.duplicate()?)),
-        }
-    }
-}
-
-impl Duplicate for HostAddr {
-    fn duplicate(&self) -> Result<HostAddr, OutOfMemory> {
-        Ok(*self)
     }
 }
 

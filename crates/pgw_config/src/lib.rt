@@ -4,13 +4,11 @@
 pub mod address;
 mod choices;
 pub mod config;
+pub mod equality;
 mod host_addr;
 mod keys;
-pub mod later;
 mod lists;
 mod numbers;
 pub mod parse;
 pub mod setters;
 mod settings;
-#[cfg(test)]
-mod tests;

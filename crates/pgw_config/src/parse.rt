@@ -1,26 +1,29 @@
 //! Connection texts.
-ghost use Rattle.std.specs.Prelude.{◌≡◌, Result, IfErr};
-ghost use Rattle.pgw_msg.specs.declared.client_error.PgWireClientError.{PgWireClientError as ClientError};
+ghost use Rattle.std.specs.Prelude.{◌≡◌, Result, IfOk, IfErr};
+ghost use Rattle.pgw_backend.specs.declared.client_error.PgWireClientError.{PgWireClientError as ClientError};
 ghost use Rattle.pgw_config.specs.Answers.{Answers, IsRefusal};
 ghost use Rattle.pgw_config.specs.Parse.{ended_by, outcome_of, HasOutcome, IsParsed};
+ghost use Rattle.pgw_conninfo.specs.Text.{HasCut};
+ghost use Rattle.pgw_conninfo.specs.declared.part.Cut.{Cut as TheCut};
+ghost use Rattle.pgw_config.specs.Given.{Gives};
 ghost use Rattle.pgw_config.specs.declared.config.Config.{Config as TheConfig};
 
 use crate::address::invalid;
 use crate::config::Config;
 use crate::settings::apply_all;
-use pgw_conninfo::part::{Cut, End};
+use pgw_backend::client_error::{PgWireClientError, PgWireClientResult};
+use pgw_conninfo::part::{Cut, Fault};
 use pgw_conninfo::text;
-use pgw_msg::client_error::{PgWireClientError, PgWireClientResult};
 use std::alloc::Global;
 
-fn end_at(alloc: Global, end: End, config: Config) -> PgWireClientResult<Config>
-    ensures { Answers result (ended_by end config) }
+fn end_at(alloc: Global, fault: Option<Fault>, config: Config) -> PgWireClientResult<Config>
+    ensures { Answers result (ended_by fault config) }
 {
-    match end {
-        End::Whole => Ok(config),
-        End::Syntax => Err(invalid(alloc, "syntax")),
-        End::Host => Err(invalid(alloc, "host")),
-        End::NotUtf8(bytes) => Err(PgWireClientError::InvalidUtf8ConfigValue(bytes)),
+    match fault {
+        None => Ok(config),
+        Some(Fault::Syntax) => Err(invalid(alloc, "syntax")),
+        Some(Fault::Host) => Err(invalid(alloc, "host")),
+        Some(Fault::NotUtf8(bytes)) => Err(PgWireClientError::InvalidUtf8ConfigValue(bytes)),
     }
 }
 
@@ -28,7 +31,7 @@ fn apply(alloc: Global, cut: Cut) -> PgWireClientResult<Config>
     ensures { Answers result (outcome_of cut) }
 {
     let config = apply_all(alloc, Config::new(alloc), cut.parts.as_slice())?;
-    end_at(alloc, cut.end, config)
+    end_at(alloc, cut.fault, config)
 }
 
 impl Config {
@@ -41,6 +44,8 @@ impl Config {
         ensures parsed { IsParsed text.now result }
         // A text has one outcome.
         ensures only { (outcome : Result TheConfig ClientError) → HasOutcome text.now outcome → Answers result outcome }
+        // Of each key the last value counts, of a time the last one above zero, and lists are joined in order.
+        ensures gives { IfOk result (λ config. (parts : TheCut) → HasCut text.now parts → Gives parts.parts config) }
         ensures refusals { IfErr result IsRefusal }
     {
         let cut = text::cut(alloc, text)?;

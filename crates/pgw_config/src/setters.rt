@@ -1,7 +1,7 @@
-//! What sets the fields of a configuration. A call that is refused changes nothing.
+//! What sets the fields of a configuration. A `set_` or `add_` that is refused changes nothing.
 ghost use Rattle.std.specs.Prelude.{◌≡◌, ◌∷◌, ◌++◌, [], Some, IfOk, OnOk, OnErr};
 ghost use Rattle.pgw_config.specs.Config.{host_named};
-ghost use Rattle.pgw_config.specs.declared.config.Host.TheVariants as host;
+ghost use Rattle.pgw_conninfo.specs.declared.address.Host.TheVariants as host;
 
 use crate::config::{
     ChannelBinding, Config, Host, HostAddr, LoadBalanceHosts, SslMode, SslNegotiation,
@@ -23,31 +23,121 @@ fn store(field: &mut Option<Text>, alloc: Global, text: &str) -> Result<(), OutO
     Ok(())
 }
 
+/// What may find no memory. A refusal leaves the whole configuration as it was.
 impl Config {
+    pub fn set_user(&mut self, alloc: Global, user: &str) -> Result<(), OutOfMemory>
+        ensures set { OnOk result (self.new ≡ record self.old { user = Some user.now }) }
+        ensures refused { OnErr result (self.new ≡ self.old) }
+    {
+        store(&mut self.user, alloc, user)?;
+        Ok(())
+    }
+
+    pub fn set_dbname(&mut self, alloc: Global, dbname: &str) -> Result<(), OutOfMemory>
+        ensures set { OnOk result (self.new ≡ record self.old { dbname = Some dbname.now }) }
+        ensures refused { OnErr result (self.new ≡ self.old) }
+    {
+        store(&mut self.dbname, alloc, dbname)?;
+        Ok(())
+    }
+
+    pub fn set_options(&mut self, alloc: Global, options: &str) -> Result<(), OutOfMemory>
+        ensures set { OnOk result (self.new ≡ record self.old { options = Some options.now }) }
+        ensures refused { OnErr result (self.new ≡ self.old) }
+    {
+        store(&mut self.options, alloc, options)?;
+        Ok(())
+    }
+
+    pub fn set_application_name(
+        &mut self,
+        alloc: Global,
+        application_name: &str,
+    ) -> Result<(), OutOfMemory>
+        ensures set { OnOk result (self.new ≡ record self.old { application_name = Some application_name.now }) }
+        ensures refused { OnErr result (self.new ≡ self.old) }
+    {
+        store(&mut self.application_name, alloc, application_name)?;
+        Ok(())
+    }
+
+    /// A password in clear text is sent as its lossy reading as UTF-8.
+    pub fn set_password(&mut self, alloc: Global, password: &[u8]) -> Result<(), OutOfMemory>
+        ensures set { OnOk result (self.new ≡ record self.old { password = Some password.now }) }
+        ensures refused { OnErr result (self.new ≡ self.old) }
+    {
+        self.password = Some(Octets::from_slice(alloc, password)?);
+        Ok(())
+    }
+
+    /// Appends a host; one that begins with a slash is the directory of a Unix socket.
+    pub fn add_host(&mut self, alloc: Global, host: &str) -> Result<(), OutOfMemory>
+        ensures set { OnOk result (self.new ≡ record self.old { host = self.old.host ++ host_named host.now ∷ [] }) }
+        ensures refused { OnErr result (self.new ≡ self.old) }
+    {
+        let name = Text::from_str(alloc, host)?;
+        self.host.push(named_host(name))?;
+        Ok(())
+    }
+
+    /// Appends the directory of a Unix socket.
+    pub fn add_host_path(&mut self, alloc: Global, path: &str) -> Result<(), OutOfMemory>
+        ensures set { OnOk result (self.new ≡ record self.old { host = self.old.host ++ host.Unix path.now ∷ [] }) }
+        ensures refused { OnErr result (self.new ≡ self.old) }
+    {
+        let directory = Text::from_str(alloc, path)?;
+        self.host.push(Host::Unix(directory))?;
+        Ok(())
+    }
+
+    /// Appends an address.
+    pub fn add_hostaddr(&mut self, addr: HostAddr) -> Result<(), OutOfMemory>
+        ensures set { OnOk result (self.new ≡ record self.old { hostaddr = self.old.hostaddr ++ addr ∷ [] }) }
+        ensures refused { OnErr result (self.new ≡ self.old) }
+    {
+        self.hostaddr.push(addr)?;
+        Ok(())
+    }
+
+    /// Appends a port.
+    pub fn add_port(&mut self, port: u16) -> Result<(), OutOfMemory>
+        ensures set { OnOk result (self.new ≡ record self.old { port = self.old.port ++ port ∷ [] }) }
+        ensures refused { OnErr result (self.new ≡ self.old) }
+    {
+        self.port.push(port)?;
+        Ok(())
+    }
+}
+
+impl Config {
+    /// `set_user`, which hands the configuration on.
     pub fn user(&mut self, alloc: Global, user: &str) -> Result<&mut Config, OutOfMemory>
         ensures same { IfOk result (λ r. r.ghost_name ≡ self.entry.ghost_name) }
         ensures set { IfOk result (λ r. r.now ≡ record self.old { user = Some user.now }) }
     {
-        store(&mut self.user, alloc, user)?;
+        self.set_user(alloc, user)?;
         Ok(self)
     }
 
+    /// `set_dbname`, which hands the configuration on.
     pub fn dbname(&mut self, alloc: Global, dbname: &str) -> Result<&mut Config, OutOfMemory>
         ensures same { IfOk result (λ r. r.ghost_name ≡ self.entry.ghost_name) }
         ensures set { IfOk result (λ r. r.now ≡ record self.old { dbname = Some dbname.now }) }
     {
-        store(&mut self.dbname, alloc, dbname)?;
+        self.set_dbname(alloc, dbname)?;
         Ok(self)
     }
 
+    /// `set_options`, which hands the configuration on.
     pub fn options(&mut self, alloc: Global, options: &str) -> Result<&mut Config, OutOfMemory>
         ensures same { IfOk result (λ r. r.ghost_name ≡ self.entry.ghost_name) }
         ensures set { IfOk result (λ r. r.now ≡ record self.old { options = Some options.now }) }
     {
-        store(&mut self.options, alloc, options)?;
+        self.set_options(alloc, options)?;
         Ok(self)
     }
 
+    /// `set_application_name`, which hands the configuration on.
     pub fn application_name(
         &mut self,
         alloc: Global,
@@ -56,54 +146,52 @@ impl Config {
         ensures same { IfOk result (λ r. r.ghost_name ≡ self.entry.ghost_name) }
         ensures set { IfOk result (λ r. r.now ≡ record self.old { application_name = Some application_name.now }) }
     {
-        store(&mut self.application_name, alloc, application_name)?;
+        self.set_application_name(alloc, application_name)?;
         Ok(self)
     }
 
-    /// A password in clear text is sent as its lossy reading as UTF-8.
+    /// `set_password`, which hands the configuration on.
     pub fn password(&mut self, alloc: Global, password: &[u8]) -> Result<&mut Config, OutOfMemory>
         ensures same { IfOk result (λ r. r.ghost_name ≡ self.entry.ghost_name) }
         ensures set { IfOk result (λ r. r.now ≡ record self.old { password = Some password.now }) }
     {
-        self.password = Some(Octets::from_slice(alloc, password)?);
+        self.set_password(alloc, password)?;
         Ok(self)
     }
 
-    /// Appends a host; one that begins with a slash is the directory of a Unix socket.
+    /// `add_host`, which hands the configuration on.
     pub fn host(&mut self, alloc: Global, host: &str) -> Result<&mut Config, OutOfMemory>
         ensures same { IfOk result (λ r. r.ghost_name ≡ self.entry.ghost_name) }
         ensures set { IfOk result (λ r. r.now ≡ record self.old { host = self.old.host ++ host_named host.now ∷ [] }) }
     {
-        let name = Text::from_str(alloc, host)?;
-        self.host.push(named_host(name))?;
+        self.add_host(alloc, host)?;
         Ok(self)
     }
 
-    /// Appends the directory of a Unix socket.
+    /// `add_host_path`, which hands the configuration on.
     pub fn host_path(&mut self, alloc: Global, path: &str) -> Result<&mut Config, OutOfMemory>
         ensures same { IfOk result (λ r. r.ghost_name ≡ self.entry.ghost_name) }
         ensures set { IfOk result (λ r. r.now ≡ record self.old { host = self.old.host ++ host.Unix path.now ∷ [] }) }
     {
-        let directory = Text::from_str(alloc, path)?;
-        self.host.push(Host::Unix(directory))?;
+        self.add_host_path(alloc, path)?;
         Ok(self)
     }
 
-    /// Appends an address.
+    /// `add_hostaddr`, which hands the configuration on.
     pub fn hostaddr(&mut self, addr: HostAddr) -> Result<&mut Config, OutOfMemory>
         ensures same { IfOk result (λ r. r.ghost_name ≡ self.entry.ghost_name) }
         ensures set { IfOk result (λ r. r.now ≡ record self.old { hostaddr = self.old.hostaddr ++ addr ∷ [] }) }
     {
-        self.hostaddr.push(addr)?;
+        self.add_hostaddr(addr)?;
         Ok(self)
     }
 
-    /// Appends a port.
+    /// `add_port`, which hands the configuration on.
     pub fn port(&mut self, port: u16) -> Result<&mut Config, OutOfMemory>
         ensures same { IfOk result (λ r. r.ghost_name ≡ self.entry.ghost_name) }
         ensures set { IfOk result (λ r. r.now ≡ record self.old { port = self.old.port ++ port ∷ [] }) }
     {
-        self.port.push(port)?;
+        self.add_port(port)?;
         Ok(self)
     }
 

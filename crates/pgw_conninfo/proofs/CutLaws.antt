@@ -1,12 +1,12 @@
 -- A text of keys and values is cut from its front, and in one way.
-use Rattle.std.proofs.Common.{◌≡◌, ℕ, ◌<◌, ◌≤◌, List, [], ◌∷◌, ◌++◌, length, refl, sym, ap, subst, ◌∙◌, arith}
+use Rattle.std.proofs.Common.{◌≡◌, ℕ, ◌<◌, ◌≤◌, List, [], ◌∷◌, ◌++◌, length, Option, Some, None, refl, sym, ap, subst, ◌∙◌, arith}
 use Rattle.std.proofs.lemmas.List.{append_assoc, append-nil, length-append}
 use Rattle.pgw_conninfo.specs.declared.key_value.Front as declared
 use Rattle.pgw_conninfo.specs.declared.key_value.Front.TheVariants as front
 use Rattle.pgw_conninfo.specs.declared.part.Part.{Part}
 use Rattle.pgw_conninfo.specs.declared.part.Part.TheVariants as part
-use Rattle.pgw_conninfo.specs.declared.part.End.{End}
-use Rattle.pgw_conninfo.specs.declared.part.End.TheVariants as end
+use Rattle.pgw_conninfo.specs.declared.part.Fault.{Fault}
+use Rattle.pgw_conninfo.specs.declared.part.Fault.TheVariants as fault
 use Rattle.pgw_conninfo.specs.KeyValue.{IsValue, quoted, bare, last, stopped, IsCut, ended, no_pair, paired}
 use Rattle.pgw_conninfo.specs.Reader.{front_of, Faulty, Pair}
 use Rattle.pgw_conninfo.specs.Shown.{shown}
@@ -34,31 +34,31 @@ pair_is_less text key value rest e =
 -- ---- a text is cut from its front
 
 pub ends_here : (text rest : List ℕ) (parts : List Part) (f : declared.Front) → shown f ≡ front_of rest → f ≡ front.Nothing
-    → ((more : List Part) (e : End) → IsCut rest more e → IsCut text (parts ++ more) e) → IsCut text parts end.Whole
+    → ((more : List Part) (e : Option Fault) → IsCut rest more e → IsCut text (parts ++ more) e) → IsCut text parts None
 ends_here text rest parts f e is so_far =
-    subst (λ (ps : List Part). IsCut text ps end.Whole) (append-nil parts) (so_far [] end.Whole (ended (blank_sound rest (sym e ∙ ap shown is))))
+    subst (λ (ps : List Part). IsCut text ps None) (append-nil parts) (so_far [] None (ended (blank_sound rest (sym e ∙ ap shown is))))
 
-neither : (rest : List ℕ) → front_of rest ≡ Faulty → IsCut rest [] end.Syntax
+neither : (rest : List ℕ) → front_of rest ≡ Faulty → IsCut rest [] (Some fault.Syntax)
 neither rest e =
     no_pair (λ blank. let b = blank_complete rest blank in cc) (λ key value more p. let q = pair_complete rest key value more p in cc)
 
 pub stops_here : (text rest : List ℕ) (parts : List Part) (f : declared.Front) → shown f ≡ front_of rest → f ≡ front.Faulty
-    → ((more : List Part) (e : End) → IsCut rest more e → IsCut text (parts ++ more) e) → IsCut text parts end.Syntax
+    → ((more : List Part) (e : Option Fault) → IsCut rest more e → IsCut text (parts ++ more) e) → IsCut text parts (Some fault.Syntax)
 stops_here text rest parts f e is so_far =
-    subst (λ (ps : List Part). IsCut text ps end.Syntax) (append-nil parts) (so_far [] end.Syntax (neither rest (sym e ∙ ap shown is)))
+    subst (λ (ps : List Part). IsCut text ps (Some fault.Syntax)) (append-nil parts) (so_far [] (Some fault.Syntax) (neither rest (sym e ∙ ap shown is)))
 
-pub goes_on : (text rest behind key value : List ℕ) (parts new more : List Part) (e : End) → front_of rest ≡ Pair key value behind → new ≡ parts ++ part.Pair key value ∷ []
-    → ((more : List Part) (e : End) → IsCut rest more e → IsCut text (parts ++ more) e) → IsCut behind more e → IsCut text (new ++ more) e
+pub goes_on : (text rest behind key value : List ℕ) (parts new more : List Part) (e : Option Fault) → front_of rest ≡ Pair key value behind → new ≡ parts ++ part.Pair key value ∷ []
+    → ((more : List Part) (e : Option Fault) → IsCut rest more e → IsCut text (parts ++ more) e) → IsCut behind more e → IsCut text (new ++ more) e
 goes_on text rest behind key value parts new more e found n so_far cut =
     let all : new ++ more ≡ parts ++ (part.Pair key value ∷ more) = rw n (append_assoc parts (part.Pair key value ∷ []) more) in
     subst (λ (ps : List Part). IsCut text ps e) (sym all) (so_far (part.Pair key value ∷ more) e (paired (pair_sound rest key value behind found) cut))
 
 -- ---- and in one way
 
-same_pair : (key value key2 value2 : List ℕ) (ps qs : List Part) (e d : End) → key ≡ key2 → value ≡ value2 → (ps ≡ qs) × (e ≡ d) → (part.Pair key value ∷ ps ≡ part.Pair key2 value2 ∷ qs) × (e ≡ d)
+same_pair : (key value key2 value2 : List ℕ) (ps qs : List Part) (e d : Option Fault) → key ≡ key2 → value ≡ value2 → (ps ≡ qs) × (e ≡ d) → (part.Pair key value ∷ ps ≡ part.Pair key2 value2 ∷ qs) × (e ≡ d)
 same_pair key value key2 value2 ps qs e d k v (p, q) = (cc, q)
 
-pub same_cut : (text : List ℕ) (ps qs : List Part) (e d : End) → IsCut text ps e → IsCut text qs d → (ps ≡ qs) × (e ≡ d)
+pub same_cut : (text : List ℕ) (ps qs : List Part) (e d : Option Fault) → IsCut text ps e → IsCut text qs d → (ps ≡ qs) × (e ≡ d)
 same_cut text ps qs e d (ended a) (ended b) = (refl, refl)
 same_cut text ps qs e d (ended a) (no_pair b none) = absurd (b a)
 same_cut text ps qs e d (ended a) (paired {key = k} {value = v} {rest = r} p c) = let x = blank_complete text a in let y = pair_complete text k v r p in cc

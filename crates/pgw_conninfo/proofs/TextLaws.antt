@@ -4,20 +4,18 @@ use Rattle.std.specs.Result.{IfOk}
 use Rattle.std.specs.Str.{chars}
 use Rattle.pgw_types.specs.declared.memory.OutOfMemory.{OutOfMemory}
 use Rattle.pgw_conninfo.specs.declared.part.Cut.{Cut}
-use Rattle.pgw_conninfo.specs.Marks.{before_mark, behind_mark, or_empty}
 use Rattle.pgw_conninfo.specs.KeyValue.{IsCut}
-use Rattle.pgw_conninfo.specs.Url.{login, behind_login, with_address, IsUrl}
+use Rattle.pgw_conninfo.specs.Url.{IsUrl}
 use Rattle.pgw_conninfo.specs.Text.{url_in, HasCutBy, HasCut}
 use Rattle.pgw_conninfo.proofs.CutLaws.{same_cut}
-use Rattle.pgw_conninfo.proofs.UrlLaws.{same_pairs}
+use Rattle.pgw_conninfo.proofs.UrlLaws as url
 
-same_record : (one two : Cut) → (one.parts ≡ two.parts) × (one.end ≡ two.end) → one ≡ two
+same_record : (one two : Cut) → (one.parts ≡ two.parts) × (one.fault ≡ two.fault) → one ≡ two
 same_record one two (p, e) = rw (p, e) refl
 
 same_by : (url : Option (List ℕ)) (text : List ℕ) (one two : Cut) → HasCutBy url text one → HasCutBy url text two → one ≡ two
-same_by None text one two a b = same_record one two (same_cut (chars text) one.parts two.parts one.end two.end a b)
-same_by (Some rest) text one two a b =
-    same_pairs (with_address (login rest) (before_mark 63 (behind_login rest))) one two (or_empty (behind_mark 63 (behind_login rest))) a b
+same_by None text one two a b = same_record one two (same_cut (chars text) one.parts two.parts one.fault two.fault a b)
+same_by (Some rest) text one two a b = url.same_cut rest one two a b
 
 pub same_text : (text : List ℕ) (one two : Cut) → HasCut text one → HasCut text two → one ≡ two
 same_text text one two a b = same_by (url_in text) text one two a b
@@ -29,5 +27,5 @@ only_by text (Err e) has = tt
 pub url_only : (text rest : List ℕ) (r : Result Cut OutOfMemory) → Some rest ≡ url_in text → IfOk r (IsUrl rest) → IfOk r (λ cut. (other : Cut) → HasCut text other → other ≡ cut)
 url_only text rest r is h = only_by text r (subst (λ (o : Option (List ℕ)). IfOk r (HasCutBy o text)) is h)
 
-pub pairs_only : (text : List ℕ) (r : Result Cut OutOfMemory) → None ≡ url_in text → IfOk r (λ cut. IsCut (chars text) cut.parts cut.end) → IfOk r (λ cut. (other : Cut) → HasCut text other → other ≡ cut)
+pub pairs_only : (text : List ℕ) (r : Result Cut OutOfMemory) → None ≡ url_in text → IfOk r (λ cut. IsCut (chars text) cut.parts cut.fault) → IfOk r (λ cut. (other : Cut) → HasCut text other → other ≡ cut)
 pairs_only text r is h = only_by text r (subst (λ (o : Option (List ℕ)). IfOk r (HasCutBy o text)) is h)

@@ -1,11 +1,11 @@
 -- Connection texts that are pairs of a key and a value. A text stands here as its characters.
-use Rattle.std.specs.Prelude.{◌≡◌, ◌<◌, ℕ, List, [], ◌∷◌, ◌++◌, length, Bool, true, false, not, ◌||◌, ◌==◌, slice_index, if◌then◌else◌}
+use Rattle.std.specs.Prelude.{◌≡◌, ◌<◌, ℕ, List, [], ◌∷◌, ◌++◌, length, Bool, true, false, not, ◌||◌, ◌==◌, slice_index, Option, Some, None, if◌then◌else◌}
 use Rattle.std.specs.List.{list_all, flat_map}
 use Rattle.std.specs.Char.{is_whitespace, encode_utf8}
 use Rattle.pgw_conninfo.specs.declared.part.Part.{Part}
 use Rattle.pgw_conninfo.specs.declared.part.Part.TheVariants as part
-use Rattle.pgw_conninfo.specs.declared.part.End.{End}
-use Rattle.pgw_conninfo.specs.declared.part.End.TheVariants as end
+use Rattle.pgw_conninfo.specs.declared.part.Fault.{Fault}
+use Rattle.pgw_conninfo.specs.declared.part.Fault.TheVariants as fault
 
 -- white space alone
 abbrev pub IsBlank : List ℕ → Type 0
@@ -60,7 +60,7 @@ pub record IsPair (text key value rest : List ℕ) : Type 0 where
   pub says_value : IsValue written value rest
 
 -- a text is cut into these pairs, up to white space at its end, or up to where no pair begins
-pub data IsCut : List ℕ → List Part → End → Type 0 where
-  ended : {text : List ℕ} → IsBlank text → IsCut text [] end.Whole
-  no_pair : {text : List ℕ} → (IsBlank text → ⊥) → ((key value rest : List ℕ) → IsPair text key value rest → ⊥) → IsCut text [] end.Syntax
-  paired : {text key value rest : List ℕ} {parts : List Part} {e : End} → IsPair text key value rest → IsCut rest parts e → IsCut text (part.Pair key value ∷ parts) e
+pub data IsCut : List ℕ → List Part → Option Fault → Type 0 where
+  ended : {text : List ℕ} → IsBlank text → IsCut text [] None
+  no_pair : {text : List ℕ} → (IsBlank text → ⊥) → ((key value rest : List ℕ) → IsPair text key value rest → ⊥) → IsCut text [] (Some fault.Syntax)
+  paired : {text key value rest : List ℕ} {parts : List Part} {e : Option Fault} → IsPair text key value rest → IsCut rest parts e → IsCut text (part.Pair key value ∷ parts) e

@@ -5,3 +5,4 @@ pub mod Reader
 pub mod Shown
 pub mod Text
 pub mod Url
+pub mod UrlReader

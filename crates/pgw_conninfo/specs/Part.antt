@@ -1,19 +1,31 @@
 -- The parts of a connection text, one after the other.
-use Rattle.std.specs.Prelude.{[], ◌∷◌, ◌++◌, Result, Ok, Err}
+use Rattle.std.specs.Prelude.{List, [], ◌∷◌, ◌++◌, Option, Some, None, Result, Ok, Err}
 use Rattle.pgw_conninfo.specs.declared.part.Part.{Part}
 use Rattle.pgw_conninfo.specs.declared.part.Cut.{Cut}
-use Rattle.pgw_conninfo.specs.declared.part.End.{End}
-use Rattle.pgw_conninfo.specs.declared.part.End.TheVariants as end
+use Rattle.pgw_conninfo.specs.declared.part.Fault.{Fault}
 
--- nothing yet
-abbrev pub no_parts : Cut
-no_parts = record { parts = []; end = end.Whole }
+-- a part, or a fault of form
+abbrev pub Item : Type 0
+Item = Result Part Fault
 
-abbrev pub next_by : End → Cut → Result Part End → Cut
-next_by end.Whole cut (Ok part) = record cut { parts = cut.parts ++ part ∷ [] }
-next_by end.Whole cut (Err e) = record cut { end = e }
-next_by _ cut part = cut
+-- the parts up to the first fault
+abbrev pub up_to_fault : List Item → Cut
+up_to_fault [] = record { parts = []; fault = None }
+up_to_fault (Ok part ∷ items) = record { parts = part ∷ (up_to_fault items).parts; fault = (up_to_fault items).fault }
+up_to_fault (Err fault ∷ items) = record { parts = []; fault = Some fault }
+
+-- ---- how a reader goes on
+
+abbrev pub next_by : Option Fault → Cut → Item → Cut
+next_by None cut (Ok part) = record cut { parts = cut.parts ++ part ∷ [] }
+next_by None cut (Err fault) = record cut { fault = Some fault }
+next_by (Some fault) cut item = cut
 
 -- the parts with one more behind them, or up to a fault; the first fault ends them
-abbrev pub next : Cut → Result Part End → Cut
-next cut part = next_by cut.end cut part
+abbrev pub next : Cut → Item → Cut
+next cut item = next_by cut.fault cut item
+
+-- with these behind them, one after the other
+abbrev pub adds : Cut → List Item → Cut
+adds cut [] = cut
+adds cut (item ∷ items) = adds (next cut item) items

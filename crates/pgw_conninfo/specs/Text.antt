@@ -16,7 +16,7 @@ url_in text = url_or (behind_word (codes "postgres://") text) (behind_word (code
 
 abbrev pub HasCutBy : Option (List ℕ) → List ℕ → Cut → Type 0
 HasCutBy (Some rest) text cut = IsUrl rest cut
-HasCutBy None text cut = IsCut (chars text) cut.parts cut.end
+HasCutBy None text cut = IsCut (chars text) cut.parts cut.fault
 
 -- these are the text's parts, up to its end or up to the first fault of form
 abbrev pub HasCut : List ℕ → Cut → Type 0

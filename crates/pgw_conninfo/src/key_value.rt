@@ -7,7 +7,7 @@ ghost use Rattle.pgw_conninfo.specs.KeyValue.{ends_key, ends_value, IsCut};
 ghost use Rattle.pgw_conninfo.specs.Reader.{behind_blank, key_at, behind_key, value_at, quoted_by, bare_by, with_value_at, with_key_at, front_of};
 ghost use Rattle.pgw_conninfo.specs.Shown.{shown};
 
-use crate::part::{Cut, End, Part};
+use crate::part::{Cut, Fault, Part};
 use pgw_types::listed::Listed;
 use pgw_types::memory::OutOfMemory;
 use pgw_types::text::Text;
@@ -195,19 +195,19 @@ fn read_front(alloc: Global, text: &[char]) -> Result<Front<'_>, OutOfMemory>
 
 /// The pairs of a text up to its end, or up to the first fault of form.
 fn cut_all(alloc: Global, text: &[char]) -> Result<Cut, OutOfMemory>
-    ensures { IfOk result (λ r. IsCut text.now r.parts r.end) }
+    ensures { IfOk result (λ r. IsCut text.now r.parts r.fault) }
 {
     let mut parts = Listed::new(alloc);
     let mut rest = text;
     loop {
         match read_front(alloc, rest)? {
             Front::Nothing => {
-                let end = End::Whole;
-                return Ok(Cut { parts, end });
+                let fault = None;
+                return Ok(Cut { parts, fault });
             }
             Front::Faulty => {
-                let end = End::Syntax;
-                return Ok(Cut { parts, end });
+                let fault = Some(Fault::Syntax);
+                return Ok(Cut { parts, fault });
             }
             Front::Pair(key, value, behind) => {
                 parts.push(Part::Pair(key, value))?;
@@ -219,7 +219,7 @@ fn cut_all(alloc: Global, text: &[char]) -> Result<Cut, OutOfMemory>
 
 /// The pairs of a connection text.
 pub(crate) fn read_pairs(alloc: Global, text: &str) -> Result<Cut, OutOfMemory>
-    ensures { IfOk result (λ r. IsCut (chars text.now) r.parts r.end) }
+    ensures { IfOk result (λ r. IsCut (chars text.now) r.parts r.fault) }
 {
     let all = characters(alloc, text)?;
     cut_all(alloc, all.as_slice())

@@ -1,9 +1,9 @@
 //! Connection texts, cut into their parts.
 #![tactic(auto)]
 
+pub mod address;
 mod key_value;
+pub mod marks;
 pub mod part;
-#[cfg(test)]
-mod tests;
 pub mod text;
 mod url;

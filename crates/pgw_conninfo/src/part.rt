@@ -1,6 +1,6 @@
 //! The parts of a connection text.
-ghost use Rattle.std.specs.Prelude.{◌≡◌, IfOk};
-ghost use Rattle.pgw_conninfo.specs.Part.{no_parts, next};
+ghost use Rattle.std.specs.Prelude.{◌≡◌, [], IfOk};
+ghost use Rattle.pgw_conninfo.specs.Part.{up_to_fault, next};
 
 use pgw_types::listed::Listed;
 use pgw_types::memory::OutOfMemory;
@@ -19,16 +19,14 @@ pub enum Part {
     Password(Octets),
 }
 
-/// Where the parts of a connection text end.
+/// A fault of form in a connection text.
 #[derive(Drop)]
-pub enum End {
-    /// At the text's end.
-    Whole,
-    /// At something that is no pair.
+pub enum Fault {
+    /// Something that is no pair.
     Syntax,
-    /// At a host in brackets that no bracket closes, or that something other than a port follows.
+    /// A host in brackets that no bracket closes, or that something other than a port follows.
     Host,
-    /// At escapes that stand for these bytes, which are not UTF-8.
+    /// Escapes that stand for these bytes, which are not UTF-8.
     NotUtf8(Octets),
 }
 
@@ -36,29 +34,29 @@ pub enum End {
 #[derive(Drop)]
 pub struct Cut {
     pub parts: Listed<Part>,
-    pub end: End,
+    pub fault: Option<Fault>,
 }
 
 impl Cut {
     pub(crate) fn new(alloc: Global) -> Cut
-        ensures { result ≡ no_parts }
+        ensures { result ≡ up_to_fault [] }
     {
         Cut {
             parts: Listed::new(alloc),
-            end: End::Whole,
+            fault: None,
         }
     }
 
-    /// Goes on with a part, or ends at a fault. What has ended stays as it is.
-    pub(crate) fn next(mut self, part: Result<Part, End>) -> Result<Cut, OutOfMemory>
+    /// Goes on with a part, or ends at a fault. Behind a fault nothing is added.
+    pub(crate) fn next(mut self, part: Result<Part, Fault>) -> Result<Cut, OutOfMemory>
         ensures { IfOk result (λ cut. cut ≡ next self part) }
     {
-        if !matches!(self.end, End::Whole) {
+        if self.fault.is_some() {
             return Ok(self);
         }
         match part {
             Ok(part) => self.parts.push(part)?,
-            Err(end) => self.end = end,
+            Err(fault) => self.fault = Some(fault),
         }
         Ok(self)
     }

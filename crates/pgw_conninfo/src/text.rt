@@ -2,31 +2,23 @@
 ghost use Rattle.std.specs.Prelude.{◌≡◌, IfOk};
 ghost use Rattle.std.specs.Option.{option_copied};
 ghost use Rattle.pgw_conninfo.specs.declared.part.Cut.{Cut as TheCut};
-ghost use Rattle.pgw_conninfo.specs.Marks.{behind_word};
 ghost use Rattle.pgw_conninfo.specs.Text.{HasCut, url_in};
 
 use crate::key_value::read_pairs;
+use crate::marks::behind_word;
 use crate::part::Cut;
 use crate::url::read_url;
 use pgw_types::memory::OutOfMemory;
 use std::alloc::Global;
 
-/// What stands behind a word.
-#[tactic(auto, unfolding(crate::specs::Marks::behind_word))]
-fn behind<'a>(word: &[u8], text: &'a [u8]) -> Option<&'a [u8]>
-    ensures { option_copied result ≡ behind_word word.now text.now }
-{
-    text.strip_prefix(word)
-}
-
 /// What stands behind the scheme of a URL.
 fn behind_scheme(text: &[u8]) -> Option<&[u8]>
     ensures { option_copied result ≡ url_in text.now }
 {
-    if let Some(rest) = behind(b"postgres://", text) {
+    if let Some(rest) = behind_word(b"postgres://", text) {
         return Some(rest);
     }
-    behind(b"postgresql://", text)
+    behind_word(b"postgresql://", text)
 }
 
 /// The parts of a connection text: of a URL, as `postgres://bob@db.example/sales`, where the text begins with

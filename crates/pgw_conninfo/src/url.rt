@@ -1,37 +1,20 @@
 //! Connection texts that are URLs.
-ghost use Rattle.std.specs.Prelude.{◌≡◌, ◌<◌, ◌==◌, length, codes, IfOk, IfSome, map, position};
+ghost use Rattle.std.specs.Prelude.{◌≡◌, [], codes, IfOk};
 ghost use Rattle.std.specs.Option.{option_copied};
 ghost use Rattle.pgw_conninfo.specs.declared.part.Part.TheVariants as kind;
-ghost use Rattle.pgw_conninfo.specs.Marks.{before_mark, behind_mark, or_empty as empty_or, pieces_at};
-ghost use Rattle.pgw_conninfo.specs.Part.{next};
-ghost use Rattle.pgw_conninfo.specs.Url.{text_of, made, with_password, with_login, login as login_of, behind_login, with_host_and_port, with_closed, with_host, with_hosts, with_database, with_address, with_pair, pair_of, ArePairs, IsUrl};
+ghost use Rattle.pgw_conninfo.specs.Marks.{or_empty as empty_or};
+ghost use Rattle.pgw_conninfo.specs.Part.{up_to_fault, next, adds};
+ghost use Rattle.pgw_conninfo.specs.UrlReader.{AddsPairs};
+ghost use Rattle.pgw_conninfo.specs.Url.{text_of, made, password_in, login_in, credentials_in, behind_credentials, host_and_port, closed_host, host_in, hosts_in, database_in, address_in, pair_of, IsUrl};
 
-use crate::part::{Cut, End, Part};
+use crate::marks::{cut_at, pieces_at};
+use crate::part::{Cut, Fault, Part};
 use percent_encoding::percent_decode;
 use pgw_types::memory::OutOfMemory;
 use pgw_types::octets::Octets;
 use pgw_types::text::Text;
-use std::alloc::{AllocError, Global};
+use std::alloc::Global;
 use std::str;
-
-fn mark_in(text: &[u8], mark: u8) -> Option<usize>
-    ensures place { result ≡ position (λ b. b == mark) text.now }
-    ensures bound { IfSome result (λ at. at < length text.now) }
-{
-    text.iter().position(|byte| *byte == mark)
-}
-
-/// What stands before the first mark, or all, and what stands behind it, if there is one.
-#[tactic(auto, unfolding(crate::specs::Marks::before_mark, crate::specs::Marks::behind_mark))]
-fn cut_at(text: &[u8], mark: u8) -> (&[u8], Option<&[u8]>)
-    ensures before { result.0.now ≡ before_mark mark text.now }
-    ensures behind { option_copied result.1 ≡ behind_mark mark text.now }
-{
-    match mark_in(text, mark) {
-        Some(at) => (&text[..at], Some(&text[at + 1..])),
-        None => (text, None),
-    }
-}
 
 fn or_empty(text: Option<&[u8]>) -> &[u8]
     ensures { result.now ≡ empty_or (option_copied text.entry) }
@@ -41,14 +24,14 @@ fn or_empty(text: Option<&[u8]>) -> &[u8]
 
 /// The text that one with escapes stands for, or the fault.
 #[tactic(auto, unfolding(crate::specs::Url::text_of))]
-fn read_text(alloc: Global, written: &[u8]) -> Result<Result<Text, End>, OutOfMemory>
+fn read_text(alloc: Global, written: &[u8]) -> Result<Result<Text, Fault>, OutOfMemory>
     ensures { IfOk result (λ r. r ≡ text_of written.now) }
 {
     let mut bytes = Vec::new(alloc);
     percent_decode(written).append_to(&mut bytes)?;
     match str::from_utf8(&bytes) {
         Ok(text) => Ok(Ok(Text::from_str(alloc, text)?)),
-        Err(_) => Ok(Err(End::NotUtf8(Octets::from_slice(alloc, &bytes)?))),
+        Err(_) => Ok(Err(Fault::NotUtf8(Octets::from_slice(alloc, &bytes)?))),
     }
 }
 
@@ -59,12 +42,12 @@ fn add_value(alloc: Global, cut: Cut, key: &str, written: &[u8]) -> Result<Cut, 
     let key = Text::from_str(alloc, key)?;
     match read_text(alloc, written)? {
         Ok(value) => cut.next(Ok(Part::Pair(key, value))),
-        Err(end) => cut.next(Err(end)),
+        Err(fault) => cut.next(Err(fault)),
     }
 }
 
 fn add_password(alloc: Global, cut: Cut, written: Option<&[u8]>) -> Result<Cut, OutOfMemory>
-    ensures { IfOk result (λ r. r ≡ with_password cut (option_copied written.entry)) }
+    ensures { IfOk result (λ r. r ≡ adds cut (password_in (option_copied written.entry))) }
 {
     let Some(written) = written else {
         return Ok(cut);
@@ -75,7 +58,7 @@ fn add_password(alloc: Global, cut: Cut, written: Option<&[u8]>) -> Result<Cut, 
 }
 
 fn add_login(alloc: Global, cut: Cut, text: &[u8]) -> Result<Cut, OutOfMemory>
-    ensures { IfOk result (λ r. r ≡ with_login cut text.now) }
+    ensures { IfOk result (λ r. r ≡ adds cut (login_in text.now)) }
 {
     let (user, password) = cut_at(text, b':');
     let cut = add_value(alloc, cut, "user", user)?;
@@ -84,8 +67,8 @@ fn add_login(alloc: Global, cut: Cut, text: &[u8]) -> Result<Cut, OutOfMemory>
 
 /// The user and the password in front, and what stands behind them.
 fn read_login(alloc: Global, text: &[u8]) -> Result<(Cut, &[u8]), OutOfMemory>
-    ensures login { IfOk result (λ r. r.0 ≡ login_of text.now) }
-    ensures behind { IfOk result (λ r. r.1.now ≡ behind_login text.now) }
+    ensures login { IfOk result (λ r. r.0 ≡ adds (up_to_fault []) (credentials_in text.now)) }
+    ensures behind { IfOk result (λ r. r.1.now ≡ behind_credentials text.now) }
 {
     let cut = Cut::new(alloc);
     match cut_at(text, b'@') {
@@ -94,13 +77,19 @@ fn read_login(alloc: Global, text: &[u8]) -> Result<(Cut, &[u8]), OutOfMemory>
     }
 }
 
-fn add_host_and_port(alloc: Global, cut: Cut, host: &[u8], port: &[u8]) -> Result<Cut, OutOfMemory>
-    ensures { IfOk result (λ r. r ≡ with_host_and_port cut host.now port.now) }
+fn add_name(alloc: Global, cut: Cut, host: &[u8]) -> Result<Cut, OutOfMemory>
+    ensures { IfOk result (λ r. r ≡ next cut (made kind.Host (text_of host.now))) }
 {
-    let cut = match read_text(alloc, host)? {
-        Ok(host) => cut.next(Ok(Part::Host(host)))?,
-        Err(end) => cut.next(Err(end))?,
-    };
+    match read_text(alloc, host)? {
+        Ok(host) => cut.next(Ok(Part::Host(host))),
+        Err(fault) => cut.next(Err(fault)),
+    }
+}
+
+fn add_host_and_port(alloc: Global, cut: Cut, host: &[u8], port: &[u8]) -> Result<Cut, OutOfMemory>
+    ensures { IfOk result (λ r. r ≡ adds cut (host_and_port host.now port.now)) }
+{
+    let cut = add_name(alloc, cut, host)?;
     add_value(alloc, cut, "port", port)
 }
 
@@ -111,17 +100,18 @@ fn add_closed(
     host: &[u8],
     after: Option<&[u8]>,
 ) -> Result<Cut, OutOfMemory>
-    ensures { IfOk result (λ r. r ≡ with_closed cut host.now (option_copied after.entry)) }
+    ensures { IfOk result (λ r. r ≡ adds cut (closed_host host.now (option_copied after.entry))) }
 {
     match after {
         Some([]) => add_host_and_port(alloc, cut, host, b""),
         Some([b':', port @ ..]) => add_host_and_port(alloc, cut, host, port),
-        _ => cut.next(Err(End::Host)),
+        Some(_) => add_name(alloc, cut, host)?.next(Err(Fault::Host)),
+        None => cut.next(Err(Fault::Host)),
     }
 }
 
 fn add_host(alloc: Global, cut: Cut, text: &[u8]) -> Result<Cut, OutOfMemory>
-    ensures { IfOk result (λ r. r ≡ with_host cut text.now) }
+    ensures { IfOk result (λ r. r ≡ adds cut (host_in text.now)) }
 {
     match text {
         [b'[', inner @ ..] => {
@@ -135,14 +125,14 @@ fn add_host(alloc: Global, cut: Cut, text: &[u8]) -> Result<Cut, OutOfMemory>
     }
 }
 
-#[tactic(auto, unfolding(crate::specs::Url::with_hosts))]
+#[tactic(auto, unfolding(crate::specs::Url::hosts_in))]
 fn add_hosts(alloc: Global, cut: Cut, text: &[u8]) -> Result<Cut, OutOfMemory>
-    ensures { IfOk result (λ r. r ≡ with_hosts cut text.now) }
+    ensures { IfOk result (λ r. r ≡ adds cut (hosts_in text.now)) }
 {
     if text.is_empty() {
         return Ok(cut);
     }
-    let hosts = pieces(alloc, text)?;
+    let hosts = pieces_at(alloc, text, b',')?;
     let mut cut = cut;
     for host in &hosts {
         cut = add_host(alloc, cut, host)?;
@@ -151,7 +141,7 @@ fn add_hosts(alloc: Global, cut: Cut, text: &[u8]) -> Result<Cut, OutOfMemory>
 }
 
 fn add_database(alloc: Global, cut: Cut, text: &[u8]) -> Result<Cut, OutOfMemory>
-    ensures { IfOk result (λ r. r ≡ with_database cut text.now) }
+    ensures { IfOk result (λ r. r ≡ adds cut (database_in text.now)) }
 {
     if text.is_empty() {
         return Ok(cut);
@@ -160,8 +150,9 @@ fn add_database(alloc: Global, cut: Cut, text: &[u8]) -> Result<Cut, OutOfMemory
 }
 
 /// Adds the hosts and the database.
+#[tactic(auto, using(crate::proofs::UrlLaws::adds_append))]
 fn add_address(alloc: Global, cut: Cut, text: &[u8]) -> Result<Cut, OutOfMemory>
-    ensures { IfOk result (λ r. r ≡ with_address cut text.now) }
+    ensures { IfOk result (λ r. r ≡ adds cut (address_in text.now)) }
 {
     let (hosts, database) = cut_at(text, b'/');
     let cut = add_hosts(alloc, cut, hosts)?;
@@ -169,7 +160,7 @@ fn add_address(alloc: Global, cut: Cut, text: &[u8]) -> Result<Cut, OutOfMemory>
 }
 
 /// What a pair of a key and a value makes, or the first fault.
-fn pair(key: Result<Text, End>, value: Result<Text, End>) -> Result<Part, End>
+fn pair(key: Result<Text, Fault>, value: Result<Text, Fault>) -> Result<Part, Fault>
     ensures { result ≡ pair_of key value }
 {
     let key = key?;
@@ -182,7 +173,7 @@ fn pair(key: Result<Text, End>, value: Result<Text, End>) -> Result<Part, End>
 }
 
 fn add_pair(alloc: Global, cut: Cut, key: &[u8], value: &[u8]) -> Result<Cut, OutOfMemory>
-    ensures { IfOk result (λ r. r ≡ with_pair cut key.now value.now) }
+    ensures { IfOk result (λ r. r ≡ next cut (pair_of (text_of key.now) (text_of value.now))) }
 {
     let key = read_text(alloc, key)?;
     let value = read_text(alloc, value)?;
@@ -191,14 +182,14 @@ fn add_pair(alloc: Global, cut: Cut, key: &[u8], value: &[u8]) -> Result<Cut, Ou
 
 /// Adds the pairs behind the question mark.
 fn add_pairs(alloc: Global, cut: Cut, text: &[u8]) -> Result<Cut, OutOfMemory>
-    ensures { IfOk result (ArePairs cut text.now) }
+    ensures { IfOk result (AddsPairs cut text.now) }
 {
     let mut cut = cut;
     let mut rest = text;
     while !rest.is_empty() {
         let (key, behind) = cut_at(rest, b'=');
         match behind {
-            None => return cut.next(Err(End::Syntax)),
+            None => return cut.next(Err(Fault::Syntax)),
             Some(behind) => {
                 let (value, more) = cut_at(behind, b'&');
                 cut = add_pair(alloc, cut, key, value)?;
@@ -217,11 +208,4 @@ pub(crate) fn read_url(alloc: Global, text: &[u8]) -> Result<Cut, OutOfMemory>
     let (address, pairs) = cut_at(rest, b'?');
     let cut = add_address(alloc, cut, address)?;
     add_pairs(alloc, cut, or_empty(pairs))
-}
-
-/// The pieces of a text between its commas.
-fn pieces(alloc: Global, text: &[u8]) -> Result<Vec<&[u8]>, AllocError>
-    ensures { IfOk result (λ all. map (λ piece. piece.now) all.items ≡ pieces_at 44 text.now) }
-{
-    text.split(|byte| *byte == b',').collect(alloc)
 }

@@ -13,7 +13,8 @@ use Rattle.pgw_wire.specs.Formats.{SpellsInt, SpellsMany}
 use Rattle.pgw_wire.proofs.FieldLaws.{wide16}
 use Rattle.pgw_wire.proofs.WrittenLaws.{int_written, unrefused}
 use Rattle.pgw_copy.specs.Rows.{formats, is_miscounted, SpellsColumns}
-use Rattle.pgw_copy.specs.Sound.{IsCode, AreColumns}
+use Rattle.pgw_copy.specs.Sound.{AreColumns}
+use Rattle.pgw_wire.specs.Sound.{IsCode}
 
 format_written : (z : ℤ) → FitsSigned w8 z → SpellsInt w8 z (cast_unsigned w8 z ∷ [])
 format_written z fits =

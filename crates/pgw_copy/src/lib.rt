@@ -3,7 +3,6 @@
 
 pub mod copy;
 mod data;
+pub mod equality;
 pub mod laws;
 mod response;
-#[cfg(test)]
-mod tests;

@@ -1,13 +1,11 @@
 -- Values of parameters: what is read is what is spelled.
-use Rattle.std.proofs.Common.{◌≡◌, ℕ, ℤ, pos, negsuc, ◌-◌, ◌*◌, ◌<◌, ◌≤◌, ◌^◌, min, false, ltb, List, [], ◌∷◌, ◌++◌, length, Option, Some, None, Result, Ok, refl, sym, ap, subst, ◌∙◌, append_assoc, arith, length-append}
-use Rattle.std.specs.Int.{w16, w32}
-use Rattle.std.proofs.lemmas.Bool.{le-ltb}
+use Rattle.std.proofs.Common.{◌≡◌, ℕ, ℤ, pos, negsuc, ◌<◌, ◌≤◌, ◌^◌, List, [], ◌++◌, length, Option, Some, None, Ok, refl, sym, ap, subst, ◌∙◌, append_assoc, arith, length-append}
+use Rattle.std.specs.Int.{w32}
 use Rattle.std.proofs.lemmas.List.{append-nil}
-use Rattle.pgw_types.specs.declared.error.PgWireError.{PgWireError}
-use Rattle.pgw_wire.specs.Reading.{◌>>=◌, nat_at, int_at, octets_at, list_at, many_at, counted}
-use Rattle.pgw_wire.specs.Formats.{SpellsInt, SpellsMany, Reads}
+use Rattle.pgw_wire.specs.Reading.{◌>>=◌, int_at, octets_at}
+use Rattle.pgw_wire.specs.Formats.{SpellsInt, Reads}
 use Rattle.pgw_wire.proofs.Laws.{bind_ok, ok_is, shorter_after}
-use Rattle.pgw_wire.proofs.FieldLaws.{nat_reads, int_reads, octets_reads, many_found, many_again}
+use Rattle.pgw_wire.proofs.FieldLaws.{int_reads, octets_reads}
 use Rattle.pgw_ext.specs.Kinds.{octets_or_null, parameter_at, SpellsParameter}
 
 -- ---- values of parameters

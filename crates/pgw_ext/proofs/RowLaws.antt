@@ -1,10 +1,10 @@
 -- Each row of the message table is exact.
-use Rattle.std.proofs.Common.{◌≡◌, ℕ, ◌<◌, ◌^◌, List, [], ◌++◌, Ok, refl, subst, arith, lit<}
+use Rattle.std.proofs.Common.{refl, arith, lit<}
 use Rattle.std.specs.Int.{w8, w16, w32}
 use Rattle.pgw_types.specs.declared.context.DecodeContext.{DecodeContext}
-use Rattle.pgw_wire.specs.Reading.{nat_at, int_at, text_at, name_at, all_of}
+use Rattle.pgw_wire.specs.Reading.{nat_at, int_at, text_at, name_at}
 use Rattle.pgw_wire.specs.Formats.{IsRow, NoBody, Reads, ReadsLast, SpellsText, SpellsNat, SpellsInt, SpellsName}
-use Rattle.pgw_wire.proofs.Laws.{pair_reads, ok_is}
+use Rattle.pgw_wire.proofs.Laws.{pair_reads}
 use Rattle.pgw_wire.proofs.FieldLaws.{text_reads, nat_reads, int_reads}
 use Rattle.pgw_wire.proofs.FrameLaws.{reads_last, made_last}
 use Rattle.pgw_wire.proofs.MarkLaws.{name_reads}

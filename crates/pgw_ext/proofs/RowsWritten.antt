@@ -1,9 +1,9 @@
 -- What is written of the messages spells them.
-use Rattle.std.proofs.Common.{◌≡◌, ℕ, ℤ, pos, negsuc, ◌+◌, ◌<◌, ◌^◌, false, ltb, List, [], ◌∷◌, ◌++◌, length, Option, Some, None, Ok, refl, ap, append_assoc, arith, length-append}
+use Rattle.std.proofs.Common.{◌≡◌, ℕ, ℤ, pos, negsuc, ◌+◌, ◌<◌, ◌^◌, false, List, [], ◌∷◌, ◌++◌, length, Option, Some, None, Ok, refl, ap, append_assoc, arith, length-append}
 use Rattle.std.specs.Prelude.{FitsSigned}
 use Rattle.std.specs.List.{flat_map, AllByRecursion}
 use Rattle.std.specs.Int.{w16, w32, to_be_bytes}
-use Rattle.std.proofs.lemmas.Bool.{ltb-false, or_parts}
+use Rattle.std.proofs.lemmas.Bool.{or_parts}
 use Rattle.std.proofs.lemmas.Int.{ints}
 use Rattle.std.proofs.lemmas.List.Concat.{flat_map-cons}
 use Rattle.std.proofs.lemmas.Str.{IsUtf8-nil}
@@ -21,7 +21,8 @@ use Rattle.pgw_ext.specs.Kinds.{name, is_name_refused, parameter, SpellsParamete
 use Rattle.pgw_wire.specs.Counted.{counted16, SpellsCounted16, is_too_long}
 use Rattle.pgw_wire.proofs.CountedLaws.{count16_written, counted16_written}
 use Rattle.pgw_ext.specs.Rows.{parse, is_parse_refused, SpellsParse, bind, is_bind_refused, SpellsBind, SpellsTarget, SpellsExecute}
-use Rattle.pgw_ext.specs.Sound.{IsName, IsOid, IsCode, IsParse, IsBind, IsExecute}
+use Rattle.pgw_ext.specs.Sound.{IsName, IsParse, IsBind, IsExecute}
+use Rattle.pgw_wire.specs.Sound.{IsOid, IsCode}
 
 -- ---- kinds of fields
 

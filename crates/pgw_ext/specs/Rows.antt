@@ -1,5 +1,5 @@
 -- The messages of the extended query (PostgreSQL 18, section 54.7, Message Formats).
-use Rattle.std.specs.Prelude.{◌≡◌, ℕ, ℤ, Bool, List, [], ◌++◌, length, Option, Result, Ok, nat_lt, ◌||◌}
+use Rattle.std.specs.Prelude.{ℕ, ℤ, Bool, List, ◌++◌, Option, Result, Ok, ◌||◌}
 use Rattle.std.specs.Int.{w8, w16, w32}
 use Rattle.pgw_types.specs.declared.error.PgWireError.{PgWireError}
 use Rattle.pgw_types.specs.declared.context.DecodeContext.{DecodeContext}

@@ -1,7 +1,8 @@
 -- What every message of the program is: its texts are UTF-8, and its numbers fit; and no name is an empty text, which would come back as none.
-use Rattle.std.specs.Prelude.{ℕ, ℤ, List, Option, Some, None, ◌<◌, ◌^◌, length, FitsSigned, IsUtf8}
+use Rattle.std.specs.Prelude.{ℕ, List, Option, Some, None, ◌<◌, ◌^◌, length, FitsSigned, IsUtf8}
 use Rattle.std.specs.List.{AllByRecursion}
-use Rattle.std.specs.Int.{w16, w32}
+use Rattle.std.specs.Int.{w32}
+use Rattle.pgw_wire.specs.Sound.{IsOid, IsCode}
 use Rattle.pgw_ext.specs.declared.parse.Parse.{Parse}
 use Rattle.pgw_ext.specs.declared.bind.Bind.{Bind}
 use Rattle.pgw_ext.specs.declared.target.Close.{Close}
@@ -11,12 +12,6 @@ use Rattle.pgw_ext.specs.declared.execute.Execute.{Execute}
 abbrev pub IsName : Option (List ℕ) → Type 0
 IsName None = Unit {0}
 IsName (Some t) = IsUtf8 t × (0 < length t)
-
-abbrev pub IsOid : ℕ → Type 0
-IsOid n = n < 2 ^ 32
-
-abbrev pub IsCode : ℤ → Type 0
-IsCode z = FitsSigned w16 z
 
 abbrev pub IsParse : Parse → Type 0
 IsParse m = IsName m.name × IsUtf8 m.query × AllByRecursion IsOid m.type_oids

@@ -2,6 +2,7 @@
 #![tactic(auto)]
 
 mod bind;
+pub mod equality;
 mod execute;
 pub mod extendedquery;
 mod flush;
@@ -10,5 +11,3 @@ pub mod laws;
 mod parameter;
 mod parse;
 mod target;
-#[cfg(test)]
-mod tests;

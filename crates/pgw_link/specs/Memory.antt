@@ -1,10 +1,12 @@
--- What a link, a source and a sink in memory tell.
+-- What a link in memory is made with, and what it tells.
 use Rattle.std.specs.Prelude.{◌+◌, ℕ, List, drop}
 use Rattle.pgw_link.specs.Tape.{Tape}
 use Rattle.pgw_link.specs.declared.memory.MemoryLink.{MemoryLink}
 
--- the numbers of the reads and of the writes that are to fail
-pub record Listing : Type 0 where
+-- the server's bytes; how many bytes a call moves at most; the numbers of the reads and of the writes that are to fail
+pub record Making : Type 0 where
+  pub server : List ℕ
+  pub cut : ℕ
   pub reads : List ℕ
   pub writes : List ℕ
 
@@ -15,5 +17,5 @@ tape_of m = record { left = drop m.at m.server; wrote = m.written.items; flushed
 abbrev pub faults_of : MemoryLink → ℕ
 faults_of m = m.reads.failed + m.writes.failed + m.wanting
 
-abbrev pub listing_of : MemoryLink → Listing
-listing_of m = record { reads = m.reads.numbers; writes = m.writes.numbers }
+abbrev pub making_of : MemoryLink → Making
+making_of m = record { server = m.server; cut = m.cut; reads = m.reads.numbers; writes = m.writes.numbers }

@@ -18,7 +18,7 @@ pub record Drew (old new : SourceTape) (bytes : List ℕ) : Type 0 where
   pub at_end : length bytes ≡ 0 → old.left ≡ []
   pub reads : new.reads ≡ counted old.reads
 
--- a failed read moved nothing; it counts as a read
+-- a failed read, or one into no room, moved nothing; it counts as a read
 pub record NotDrawn (old new : SourceTape) : Type 0 where
   pub left : new.left ≡ old.left
   pub reads : new.reads ≡ counted old.reads

@@ -29,6 +29,7 @@ impl MemorySource {
     pub fn new(bytes: Octets, cut: usize, fail_reads: Listed<u64>) -> MemorySource
         requires { 0 < cut }
         ensures tape { source_tape result ≡ record { left = bytes; reads = 0 } }
+        ensures cut { result.cut ≡ cut }
         ensures faults { result.reads.failed ≡ 0 }
         ensures listing { result.reads.numbers ≡ fail_reads }
     {
@@ -55,10 +56,12 @@ impl Source for MemorySource {
         ensures cut { IfOk result (λ n. n ≤ self.old.cut) }
         ensures fails { is_err result ≡ list_any (λ n. n == (source_tape self.new).reads) self.old.reads.numbers }
         ensures moved { 0 < length buf.old → IfOk result (λ n. Drew (source_tape self.old) (source_tape self.new) (take n buf.new)) }
+        ensures no_room { length buf.old ≡ 0 → OnOk result (NotDrawn (source_tape self.old) (source_tape self.new)) }
         ensures failed { OnErr result (NotDrawn (source_tape self.old) (source_tape self.new)) }
         ensures cause { HasCause self.old.reads.failed self.new.reads.failed result }
         ensures no_fault { OnOk result (self.new.reads.failed ≡ self.old.reads.failed) }
         ensures kept { self.new.reads.numbers ≡ self.old.reads.numbers }
+        ensures cut_kept { self.new.cut ≡ self.old.cut }
     {
         if self.reads.is_failing() {
             return Err(SourceFault);
@@ -87,6 +90,7 @@ impl MemorySink {
     pub fn new(alloc: Global, cut: usize, fail_writes: Listed<u64>) -> MemorySink
         requires { 0 < cut }
         ensures tape { sink_tape result ≡ record { wrote = []; writes = 0 } }
+        ensures cut { result.cut ≡ cut }
         ensures faults { sink_faults result ≡ 0 }
         ensures listing { result.writes.numbers ≡ fail_writes }
     {
@@ -126,6 +130,7 @@ impl Sink for MemorySink {
         ensures cause { HasCause (sink_faults self.old) (sink_faults self.new) result }
         ensures no_fault { OnOk result (sink_faults self.new ≡ sink_faults self.old) }
         ensures kept { self.new.writes.numbers ≡ self.old.writes.numbers }
+        ensures cut_kept { self.new.cut ≡ self.old.cut }
     {
         if self.writes.is_failing() {
             return Err(SinkFault);

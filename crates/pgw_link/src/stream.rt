@@ -26,6 +26,7 @@ pub trait Source: Drop {
     fn read(&mut self, buf: &mut [u8]) -> Result<usize, SourceFault>
         ensures bound { IfOk result (λ n. n ≤ length buf.new) }
         ensures moved { tells → 0 < length buf.old → IfOk result (λ n. Drew (tape self.old) (tape self.new) (take n buf.new)) }
+        ensures no_room { tells → length buf.old ≡ 0 → OnOk result (NotDrawn (tape self.old) (tape self.new)) }
         ensures failed { tells → OnErr result (NotDrawn (tape self.old) (tape self.new)) }
         ensures cause { HasCause (faults self.old) (faults self.new) result }
         ensures no_fault { OnOk result (faults self.new ≡ faults self.old) };

@@ -1,38 +1,38 @@
 -- What is printed of a session over a link in memory.
-use Rattle.std.proofs.Common.{◌≡◌, ◌≢◌, ◌≤◌, ◌+◌, ℕ, suc, List, [], ◌∷◌, ◌++◌, length, Bool, ◌||◌, ◌&&◌, nat_lt, nat_le, true, false, refl, ◌∙◌, sym, ap, append_assoc, inl, inr, Option, Some, None, Result, Ok, Err, arith}
+use Rattle.std.proofs.Common.{◌≡◌, ◌≢◌, ◌≤◌, ◌<◌, ◌+◌, ◌*◌, ℕ, suc, List, [], ◌∷◌, ◌++◌, length, Bool, ◌||◌, ◌&&◌, nat_lt, nat_le, true, false, refl, ◌∙◌, sym, ap, subst, append_assoc, inl, inr, Option, Some, None, Result, Ok, Err, arith}
 use Rattle.std.proofs.lemmas.Bool.Decides.{nat_tests}
+use Rattle.std.proofs.lemmas.List.{length-append}
 use Rattle.std.specs.Result.{IfOk, OnOk, IsErrOf}
 use Rattle.std.specs.Prelude.{IfSome}
 use Rattle.pgw_link.specs.Tape.{Tape, Rose}
 use Rattle.pgw_link.specs.Calls.{is_reached}
-use Rattle.pgw_link.specs.Memory.{Listing, tape_of}
+use Rattle.pgw_link.specs.Memory.{Making, tape_of}
 use Rattle.pgw_link.specs.declared.memory.MemoryLink.{MemoryLink}
 use Rattle.pgw_types.specs.declared.memory.OutOfMemory.{OutOfMemory}
-use Rattle.pgw_msg.specs.declared.client_error.PgWireClientError.{PgWireClientError}
-use Rattle.pgw_msg.specs.declared.client_error.PgWireClientError.TheVariants as client
+use Rattle.pgw_backend.specs.declared.client_error.PgWireClientError.{PgWireClientError}
+use Rattle.pgw_backend.specs.declared.client_error.PgWireClientError.TheVariants as client
 use Rattle.pgw_config.specs.declared.config.Config.{Config}
 use Rattle.pgw_config.specs.Answers.{Answers, IsRefusal}
 use Rattle.pgw_config.specs.Parse.{HasOutcome, IsParsed}
-use Rattle.pgw_session.specs.declared.types.Request.{Request}
 use Rattle.pgw_session.specs.declared.types.SessionReport.{SessionReport}
 use Rattle.pgw_session.specs.Demands.{refused_config}
 use Rattle.pgw_session.specs.Events.{Event}
+use Rattle.pgw_session.specs.Input.{Input}
 use Rattle.pgw_session.specs.Transcript.{Completed, Completes, report_of}
-use Rattle.pgw_session.specs.Failures.{Told}
-use Rattle.pgw_client.specs.Outcome.{IoHasCause}
+use Rattle.pgw_client.specs.Errors.{IoHasCause}
 use Rattle.pgw_client.specs.Demands.{Refuses}
-use Rattle.pgw_client.specs.Sessions.{MovedBy, Causes, Reports, KeepsPace}
+use Rattle.pgw_client.specs.Sessions.{MovedBy, Causes, Reports, KeepsPace, Tells, InLockstep}
 use Rattle.pgw_prog.specs.declared.printed.Printed.{Printed}
-use Rattle.pgw_session.specs.Course.{Over}
+use Rattle.pgw_course.specs.Course.{Over}
 use Rattle.pgw_session.specs.Talk.{conversation, whole_talk}
 use Rattle.pgw_session.proofs.Whole.{conversation_completes}
 use Rattle.pgw_prog.specs.declared.script.Script.{Script}
-use Rattle.pgw_prog.specs.Held.{Session, Prints, Says, PrintsOutcome, Holds, NamesCall, IsNear, status_of}
+use Rattle.pgw_prog.specs.Held.{Session, Prints, Says, PrintsOutcome, Holds, NamesCall, IsNear, InCuts, Moves, first_tape, status_of}
 use Rattle.pgw_prog.specs.Printing.{session_text}
 
 -- which calls failed, of those made by then
-abbrev pub FailsBy : Listing → Tape → ℕ → Type 0
-FailsBy listing after faults = nat_lt 0 faults ≡ (is_reached listing.reads after.reads || is_reached listing.writes after.writes)
+abbrev pub FailsBy : Making → Tape → ℕ → Type 0
+FailsBy made after faults = nat_lt 0 faults ≡ (is_reached made.reads after.reads || is_reached made.writes after.writes)
 
 -- a link that stayed as it was tells what it told
 pub same_tape : (o : Option (List ℕ)) (outcome : Result SessionReport PgWireClientError) (old new : MemoryLink) → IfSome o (λ key. Refuses key outcome × (new ≡ old)) → IfSome o (λ key. Refuses key outcome × (tape_of new ≡ tape_of old))
@@ -50,69 +50,81 @@ pub named : (ns : List ℕ) (made most : ℕ) → made ≤ most → is_reached n
 named [] made most le h = cc
 named (n ∷ ns) made most le h = named_by n ns made most (nat_lt 0 n && nat_le n made) refl le (named ns made most le) h
 
-near : (listing : Listing) (limit : ℕ) (first after : Tape) (taken sent : List ℕ) (reads writes : Bool) → is_reached listing.reads after.reads ≡ reads → is_reached listing.writes after.writes ≡ writes
-    → KeepsPace limit first after taken sent → (reads || writes) ≡ true → IsNear listing first taken sent
-near listing limit first after taken sent true writes is_read is_written pace h = inl (named listing.reads after.reads (first.reads + length taken + 1) pace.reads is_read)
-near listing limit first after taken sent false true is_read is_written pace h = inr (named listing.writes after.writes (first.writes + length sent + 1) pace.writes is_written)
-near listing limit first after taken sent false false is_read is_written pace h = cc
+near : (made : Making) (limit : ℕ) (after : Tape) (taken sent : List ℕ) (reads writes : Bool) → is_reached made.reads after.reads ≡ reads → is_reached made.writes after.writes ≡ writes
+    → KeepsPace limit (first_tape made) after taken sent → (reads || writes) ≡ true → IsNear made taken sent
+near made limit after taken sent true writes is_read is_written pace h = let most = pace.reads in inl (named made.reads after.reads (length taken + 1) (omega (arith, most)) is_read)
+near made limit after taken sent false true is_read is_written pace h = let most = pace.writes in inr (named made.writes after.writes (length sent + 1) (omega (arith, most)) is_written)
+near made limit after taken sent false false is_read is_written pace h = cc
 
-module _ (config : Config) (requests : List Request) (limit : ℕ) (listing : Listing) (first after : Tape) (outcome : Result SessionReport PgWireClientError) where
-  pub session_of : (before now : ℕ) → before ≡ 0 → IoHasCause before now outcome
-      → IfOk outcome (λ report. MovedBy first after (λ taken sent. Completed config requests taken sent report))
-      → Causes config requests limit first after outcome
-      → MovedBy first after (λ taken sent. Told config requests taken sent × KeepsPace limit first after taken sent)
-      → IfSome (refused_config config) (λ key. Refuses key outcome × (after ≡ first))
-      → (refused_config config ≡ None → (segments : List (List Event)) → Completes config requests limit first.left segments → (Rose before now → ⊥) → Reports (report_of config segments) outcome)
-      → FailsBy listing after now
-      → Session config requests limit listing first after now outcome
-  session_of before now none io completed causes told refused reports fails = record {
-    completed = completed;
-    causes = causes;
-    told = told;
-    refused = refused;
-    reports = λ clear segments c clean. reports clear segments c (λ rose. clean (omega (arith, rose, none)));
-    io = λ e. let rose = io.io e in omega (arith, rose, none);
-    fails = fails;
-    io_near = λ e.
-        let rose = io.io e in
-        let some : nat_lt 0 now ≡ true = grind (arith, nat_tests, rose, none) in
-        (told.0, told.1, told.2, told.3, near listing limit first after told.0 told.1 (is_reached listing.reads after.reads) (is_reached listing.writes after.writes) refl refl told.4.1 (sym fails ∙ some));
-    no_io = λ reads writes e. let rose = io.io e in
-        let some : nat_lt 0 now ≡ false = fails ∙ rw (reads, writes) refl in
-        absurd (grind (arith, nat_tests, some, rose, none));
-  }
+module _ (input : Input) (limit : ℕ) (made : Making) (after : Tape) (outcome : Result SessionReport PgWireClientError) where
+  pub session_of : (first : Tape) (before now : ℕ) → first ≡ first_tape made → before ≡ 0 → IoHasCause before now outcome → (before < now → IsErrOf outcome client.IoError)
+      → IfOk outcome (λ report. MovedBy first after (λ taken sent. Completed input taken sent report))
+      → Causes input limit first after outcome
+      → (refused_config input.config ≡ None → MovedBy first after (Tells input outcome))
+      → MovedBy first after (KeepsPace limit first after)
+      → InLockstep input first after
+      → IfSome (refused_config input.config) (λ key. Refuses key outcome × (after ≡ first))
+      → (refused_config input.config ≡ None → (segments : List (List Event)) → Completes input limit first.left segments → (Rose before now → ⊥) → Reports (report_of input segments) outcome)
+      → FailsBy made after now → Moves made after
+      → Session input limit made after now outcome
+  session_of first before now same none io failing completed causes told in_pace lockstep refused reports fails moves =
+      let paced = subst (λ (t : Tape). MovedBy t after (KeepsPace limit t after)) same in_pace in
+      let taken : List ℕ = paced.0 in
+      let sent : List ℕ = paced.1 in
+      let left : length made.server ≡ length taken + length after.left = ap length paced.2 ∙ length-append taken after.left in
+      let wrote : length after.wrote ≡ length sent = ap length paced.3 in
+      record {
+        completed = subst (λ (t : Tape). IfOk outcome (λ report. MovedBy t after (λ taken sent. Completed input taken sent report))) same completed;
+        causes = subst (λ (t : Tape). Causes input limit t after outcome) same causes;
+        told = λ clear. subst (λ (t : Tape). MovedBy t after (Tells input outcome)) same (told clear);
+        paced = paced;
+        lockstep = subst (λ (t : Tape). InLockstep input t after) same lockstep;
+        cut = (taken, sent, paced.2, paced.3, (omega (arith, left, moves.0), omega (arith, wrote, moves.1)));
+        refused = subst (λ (t : Tape). IfSome (refused_config input.config) (λ key. Refuses key outcome × (after ≡ t))) same refused;
+        reports = λ clear segments c clean. reports clear segments (subst (λ (left : List ℕ). Completes input limit left segments) (sym (ap (λ (t : Tape). t.left) same)) c) (λ rose. clean (omega (arith, rose, none)));
+        io = λ e. let rose = io.io e in omega (arith, rose, none);
+        failing = λ some. failing (omega (arith, some, none));
+        fails = fails;
+        io_near = λ e.
+            let rose = io.io e in
+            let some : nat_lt 0 now ≡ true = grind (arith, nat_tests, rose, none) in
+            (taken, sent, paced.2, paced.3, near made limit after taken sent (is_reached made.reads after.reads) (is_reached made.writes after.writes) refl refl paced.4 (sym fails ∙ some));
+        no_io = λ reads writes e. let rose = io.io e in
+            let some : nat_lt 0 now ≡ false = fails ∙ rw (reads, writes) refl in
+            absurd (grind (arith, nat_tests, some, rose, none));
+      }
 
-  pub printed : (faults : ℕ) → (FailsBy listing after faults → Session config requests limit listing first after faults outcome) → (r : Result Printed OutOfMemory)
-      → IfOk r (λ p. p.text.items ≡ session_text after.wrote outcome) → IfOk r (λ p. p.status ≡ status_of outcome) → IfOk r (λ p. IsErrOf outcome client.OutOfMemory → ⊥) → IfOk r (λ p. FailsBy listing after faults)
-      → IfOk r (Prints config requests limit listing first)
-  printed faults session (Ok p) text status memory fails = record { after = after; faults = faults; outcome = outcome; session = session fails; memory = memory; text = text; status = status }
-  printed faults session (Err e) text status memory fails = tt
+  pub printed : (faults : ℕ) → (FailsBy made after faults → Moves made after → Session input limit made after faults outcome) → (r : Result Printed OutOfMemory)
+      → IfOk r (λ p. p.text.items ≡ session_text after.wrote outcome) → IfOk r (λ p. p.status ≡ status_of outcome) → IfOk r (λ p. IsErrOf outcome client.OutOfMemory → ⊥) → IfOk r (λ p. FailsBy made after faults) → IfOk r (λ p. Moves made after)
+      → IfOk r (Prints input limit made)
+  printed faults session (Ok p) text status memory fails moves = record { after = after; faults = faults; outcome = outcome; session = session fails moves; memory = memory; text = text; status = status }
+  printed faults session (Err e) text status memory fails moves = tt
 
 -- what was written is what a transcript sends that the bytes to come complete
-same_sent : (config : Config) (requests : List Request) (limit : ℕ) (segments : List (List Event)) (left taken more sent : List ℕ) (report : SessionReport)
-    → left ≡ taken ++ more → Completed config requests taken sent report → (c : Completes config requests limit left segments) → sent ≡ c.sent
-same_sent config requests limit segments left taken more sent report are d c =
-    let one = conversation_completes config requests d.segments d.spelled sent (d.rest ++ more) d.transcript d.got d.put in
-    let two = conversation_completes config requests segments c.bytes c.sent c.more c.transcript c.got c.put in
+same_sent : (input : Input) (limit : ℕ) (segments : List (List Event)) (left taken more sent : List ℕ) (report : SessionReport)
+    → left ≡ taken ++ more → Completed input taken sent report → (c : Completes input limit left segments) → sent ≡ c.sent
+same_sent input limit segments left taken more sent report are d c =
+    let one = conversation_completes input d.segments d.spelled sent (d.rest ++ more) d.transcript d.got d.put in
+    let two = conversation_completes input segments c.bytes c.sent c.more c.transcript c.got c.put in
     let same : d.spelled ++ (d.rest ++ more) ≡ c.bytes ++ c.more = sym (append_assoc d.spelled d.rest more) ∙ ap (λ (l : List ℕ). l ++ more) (sym d.begins) ∙ sym are ∙ c.begins in
-    let both : Over (whole_talk d.segments) sent ≡ Over (whole_talk segments) c.sent = sym one ∙ ap (conversation config requests) same ∙ two in
+    let both : Over (whole_talk d.segments) sent ≡ Over (whole_talk segments) c.sent = sym one ∙ ap (conversation input) same ∙ two in
     cc
 
-completed_by : (config : Config) (requests : List Request) (limit : ℕ) (segments : List (List Event)) (first after : Tape) (text : List ℕ) (status : ℕ) (outcome : Result SessionReport PgWireClientError) → first.wrote ≡ []
-    → (c : Completes config requests limit first.left segments) → IfOk outcome (λ report. MovedBy first after (λ taken sent. Completed config requests taken sent report)) → Reports (report_of config segments) outcome
-    → (IsErrOf outcome client.OutOfMemory → ⊥) → text ≡ session_text after.wrote outcome → status ≡ status_of outcome → (text ≡ session_text c.sent (Ok (report_of config segments))) × (status ≡ 0)
-completed_by config requests limit segments first after text status (Ok report) fresh c completed reports memory is ends =
-    let wrote : after.wrote ≡ c.sent = completed.3 ∙ ap (λ (w : List ℕ). w ++ completed.1) fresh ∙ same_sent config requests limit segments first.left completed.0 after.left completed.1 report completed.2 completed.4 c in
+completed_by : (input : Input) (limit : ℕ) (segments : List (List Event)) (first after : Tape) (text : List ℕ) (status : ℕ) (outcome : Result SessionReport PgWireClientError) → first.wrote ≡ []
+    → (c : Completes input limit first.left segments) → IfOk outcome (λ report. MovedBy first after (λ taken sent. Completed input taken sent report)) → Reports (report_of input segments) outcome
+    → (IsErrOf outcome client.OutOfMemory → ⊥) → text ≡ session_text after.wrote outcome → status ≡ status_of outcome → (text ≡ session_text c.sent (Ok (report_of input segments))) × (status ≡ 0)
+completed_by input limit segments first after text status (Ok report) fresh c completed reports memory is ends =
+    let wrote : after.wrote ≡ c.sent = completed.3 ∙ ap (λ (w : List ℕ). w ++ completed.1) fresh ∙ same_sent input limit segments first.left completed.0 after.left completed.1 report completed.2 completed.4 c in
     (is ∙ ap (λ (w : List ℕ). session_text w (Ok report)) wrote ∙ ap (λ (r : SessionReport). session_text c.sent (Ok r)) reports, ends)
-completed_by config requests limit segments first after text status (Err e) fresh c completed reports memory is ends = absurd (memory (ap Err reports))
+completed_by input limit segments first after text status (Err e) fresh c completed reports memory is ends = absurd (memory (ap Err reports))
 
 -- where no call is listed, the whole text of a transcript that the bytes to come complete is printed
-pub completed_text_printed : (config : Config) (requests : List Request) (limit : ℕ) (listing : Listing) (first : Tape) (p : Printed) (segments : List (List Event)) → refused_config config ≡ None → listing.reads ≡ [] → listing.writes ≡ [] → first.wrote ≡ []
-    → (c : Completes config requests limit first.left segments) → Prints config requests limit listing first p → (p.text.items ≡ session_text c.sent (Ok (report_of config segments))) × (p.status ≡ 0)
-completed_text_printed config requests limit listing first p segments clear reads writes fresh c prints =
+pub completed_text_printed : (input : Input) (limit : ℕ) (made : Making) (p : Printed) (segments : List (List Event)) → refused_config input.config ≡ None → made.reads ≡ [] → made.writes ≡ []
+    → (c : Completes input limit made.server segments) → Prints input limit made p → (p.text.items ≡ session_text c.sent (Ok (report_of input segments))) × (p.status ≡ 0)
+completed_text_printed input limit made p segments clear reads writes c prints =
     let s = prints.session in
     let none : nat_lt 0 prints.faults ≡ false = s.fails ∙ rw (reads, writes) refl in
-    completed_by config requests limit segments first prints.after p.text.items p.status prints.outcome fresh c s.completed (s.reports clear segments c (λ rose. absurd (grind (arith, nat_tests, none, rose)))) prints.memory prints.text prints.status
+    completed_by input limit segments (first_tape made) prints.after p.text.items p.status prints.outcome refl c s.completed (s.reports clear segments c (λ rose. absurd (grind (arith, nat_tests, none, rose)))) prints.memory prints.text prints.status
 
 -- what is printed of a connection text that was read, and of one that was refused
 pub held : (s : Script) (config : Config) (r : Result Printed OutOfMemory) → HasOutcome s.config (Ok config) → ((other : Result Config PgWireClientError) → HasOutcome s.config other → Answers (Ok config) other)

@@ -5,3 +5,4 @@ pub mod HeldLaws
 pub mod GrammarLaws
 pub mod TextLaws
 pub mod ProgramLaws
+pub mod SignedLaws

@@ -8,7 +8,8 @@ use Rattle.std.proofs.lemmas.Str.Parse.{IsNumeralModel, numerals_by_value, tells
 use Rattle.std.proofs.lemmas.Bool.Decides.{nat_tests}
 use Rattle.std.proofs.lemmas.Fmt.{IsAscii-from_digits}
 use Rattle.std.specs.Result.{MatchResult, result_ok}
-use Rattle.pgw_prog.specs.Line.{number_in, text_in}
+use Rattle.pgw_prog.specs.Line.{number_in}
+use Rattle.pgw_prog.specs.RequestLine.{text_in}
 
 own : IsNumeralModel (λ ds. all_ascii_digits ds ≡ true) (digits_value 10)
 own = numerals_by_value (λ ds. all_ascii_digits ds ≡ true) tells_all_ascii_digits

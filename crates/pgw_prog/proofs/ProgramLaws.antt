@@ -9,14 +9,14 @@ use Rattle.pgw_prog.specs.declared.script.Script.{Script}
 use Rattle.pgw_prog.specs.declared.printed.Printed.{Printed}
 use Rattle.pgw_prog.specs.Script.{read_script}
 use Rattle.pgw_prog.specs.Grammar.{IsScript, IsFault}
-use Rattle.pgw_link.specs.Memory.{Listing}
-use Rattle.pgw_link.specs.Tape.{Tape}
-use Rattle.pgw_msg.specs.declared.client_error.PgWireClientError.{PgWireClientError}
-use Rattle.pgw_msg.specs.declared.client_error.PgWireClientError.TheVariants as client
+use Rattle.pgw_link.specs.Memory.{Making}
+use Rattle.pgw_backend.specs.declared.client_error.PgWireClientError.{PgWireClientError}
+use Rattle.pgw_backend.specs.declared.client_error.PgWireClientError.TheVariants as client
 use Rattle.pgw_config.specs.Answers.{IsRefusal}
 use Rattle.pgw_config.specs.declared.config.Config.{Config}
-use Rattle.pgw_prog.specs.Printing.{line_end, session_text}
-use Rattle.pgw_prog.specs.Held.{Says, Prints, PrintsOutcome, Holds, CanComplete, NamesCall, IsNear, FailsNear, with_version, requests_of, listing_of, first_tape, completed_text}
+use Rattle.pgw_prog.specs.Printing.{session_text}
+use Rattle.pgw_prog.specs.Pieces.{line_end}
+use Rattle.pgw_prog.specs.Held.{Says, Prints, PrintsOutcome, Holds, CanComplete, NamesCall, IsNear, FailsNear, input_of, making_of, completed_text}
 use Rattle.pgw_prog.specs.Program.{AnswersText, AnswersScript, Completing, PrintsWhole, ListsFailure}
 use Rattle.pgw_prog.proofs.TextLaws.{io_text, not_sent, no_line}
 use Rattle.pgw_prog.proofs.GrammarLaws.{scripts, faults}
@@ -39,8 +39,8 @@ no_fault text s n one two =
 outcome_completes : (s : Script) (segments : List (List Event)) (can : CanComplete s segments) (p : Printed) (outcome : Result Config PgWireClientError) → Ok can.config ≡ outcome → PrintsOutcome s outcome p → (p.text.items ≡ completed_text s segments can) × (p.status ≡ 0)
 outcome_completes s segments can p (Ok config) same prints =
     let is : config ≡ can.config = cc in
-    let prints_it = subst (λ (c : Config). Prints (with_version s c) (requests_of s) s.limit (listing_of s) (first_tape s) p) is prints in
-    completed_text_printed (with_version s can.config) (requests_of s) s.limit (listing_of s) (first_tape s) p segments can.clear can.no_reads can.no_writes refl can.completes prints_it
+    let prints_it = subst (λ (c : Config). Prints (input_of s c) s.limit (making_of s) p) is prints in
+    completed_text_printed (input_of s can.config) s.limit (making_of s) p segments can.clear can.no_reads can.no_writes can.completes prints_it
 outcome_completes s segments can p (Err e) same prints = cc
 
 pub completes : (text : List ℕ) (script : Script) (segments : List (List Event)) (c : Completing text script segments) (p : Printed) → AnswersScript text p → (p.text.items ≡ completed_text script segments c.can) × (p.status ≡ 0)
@@ -50,9 +50,9 @@ completes text script segments c p (inr (short, inl (other, is, holds))) =
     outcome_completes script segments c.can p holds_it.outcome (holds_it.only (Ok c.can.config) c.can.means) holds_it.prints
 completes text script segments c p (inr (short, inr (n, fault, says))) = absurd (no_fault text script n c.is_script fault)
 
-near_same : (listing : Listing) (first : Tape) (taken a b : List ℕ) → length a ≡ length b → IsNear listing first taken a → IsNear listing first taken b
-near_same listing first taken a b same (inl reads) = inl reads
-near_same listing first taken a b same (inr writes) = inr (subst (λ n. NamesCall listing.writes (first.writes + n + 1)) same writes)
+near_same : (made : Making) (taken a b : List ℕ) → length a ≡ length b → IsNear made taken a → IsNear made taken b
+near_same made taken a b same (inl reads) = inl reads
+near_same made taken a b same (inr writes) = inr (subst (λ n. NamesCall made.writes (n + 1)) same writes)
 
 -- a refusal is no error of the link
 held_listed : (s : Script) (sent : List ℕ) (p : Printed) (outcome : Result Config PgWireClientError) → PrintsOutcome s outcome p → p.text.items ≡ session_text sent (Err client.IoError) → FailsNear s sent
@@ -60,7 +60,7 @@ held_listed s sent p (Ok config) h is =
     let told = io_text h.after.wrote sent h.outcome (sym h.text ∙ is) in
     let near = h.session.io_near told.1 in
     let same : length near.1 ≡ length sent = ap length (sym near.3) ∙ told.0 in
-    (near.0, h.after.left, near.2, near_same (listing_of s) (first_tape s) near.0 near.1 sent same near.4)
+    (near.0, h.after.left, near.2, near_same (making_of s) near.0 near.1 sent same near.4)
 held_listed s sent p (Err e) h is =
     let told = io_text [] sent (Err e) (sym (h.2).0 ∙ is) in
     let io : e ≡ client.IoError = cc in

@@ -5,12 +5,13 @@ use Rattle.std.proofs.lemmas.Bool.Decides.{nat_tests}
 use Rattle.hex.specs.Hex.{encode_with, lower_digits}
 use Rattle.pgw_types.specs.declared.context.ProtocolVersion.{ProtocolVersion}
 use Rattle.pgw_types.specs.declared.context.ProtocolVersion.TheVariants as version
-use Rattle.pgw_msg.specs.declared.client_error.PgWireClientError.{PgWireClientError}
-use Rattle.pgw_msg.specs.declared.client_error.PgWireClientError.TheVariants as client
+use Rattle.pgw_backend.specs.declared.client_error.PgWireClientError.{PgWireClientError}
+use Rattle.pgw_backend.specs.declared.client_error.PgWireClientError.TheVariants as client
 use Rattle.pgw_session.specs.declared.types.SessionReport.{SessionReport}
 use Rattle.pgw_prog.specs.Pieces.{in_hex}
 use Rattle.pgw_prog.specs.ErrorNames.{client_name}
-use Rattle.pgw_prog.specs.Printing.{line_end, sent_line, version_line, report_lines, error_line, session_text}
+use Rattle.pgw_prog.specs.Printing.{sent_line, version_line, report_lines, error_line, session_text}
+use Rattle.pgw_prog.specs.Pieces.{line_end}
 
 -- no line ends in it
 abbrev goes_on : ℕ → Bool
@@ -110,7 +111,6 @@ name_same (client.UnsupportedSASLAuthMethods a) is = cc
 name_same client.ReadLimit is = cc
 name_same client.Broken is = cc
 name_same client.OutOfMemory is = cc
-name_same client.NotYetBuilt is = cc
 
 error_same : (e : PgWireClientError) → error_line e ≡ error_line client.IoError → e ≡ client.IoError
 unfolding error_line

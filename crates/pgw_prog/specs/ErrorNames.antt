@@ -2,8 +2,8 @@
 use Rattle.std.specs.Prelude.{ℕ, List, ◌++◌, codes}
 use Rattle.pgw_types.specs.declared.error.PgWireError.{PgWireError}
 use Rattle.pgw_types.specs.declared.error.PgWireError.TheVariants as wire
-use Rattle.pgw_msg.specs.declared.client_error.PgWireClientError.{PgWireClientError}
-use Rattle.pgw_msg.specs.declared.client_error.PgWireClientError.TheVariants as client
+use Rattle.pgw_backend.specs.declared.client_error.PgWireClientError.{PgWireClientError}
+use Rattle.pgw_backend.specs.declared.client_error.PgWireClientError.TheVariants as client
 
 unfoldable pub wire_name : PgWireError → List ℕ
 wire_name (wire.UnsupportedProtocolVersion a b) = codes "UnsupportedProtocolVersion"
@@ -63,4 +63,3 @@ client_name (client.UnsupportedSASLAuthMethods a) = codes "UnsupportedSASLAuthMe
 client_name client.ReadLimit = codes "ReadLimit"
 client_name client.Broken = codes "Broken"
 client_name client.OutOfMemory = codes "OutOfMemory"
-client_name client.NotYetBuilt = codes "NotYetBuilt"

@@ -1,3 +1,4 @@
+pub mod AnswerLines
 pub mod Pieces
 pub mod ErrorNames
 pub mod Printing
@@ -8,3 +9,4 @@ pub mod Held
 pub mod Command
 pub mod Program
 pub mod Grammar
+pub mod RequestLine

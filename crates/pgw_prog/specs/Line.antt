@@ -8,16 +8,10 @@ use Rattle.std.specs.Str.Parse.{without_leading_plus, digits_value}
 use Rattle.hex.specs.Hex.{decode_of, decode_sized}
 use Rattle.pgw_types.specs.declared.context.ProtocolVersion.{ProtocolVersion}
 use Rattle.pgw_types.specs.declared.context.ProtocolVersion.TheVariants as version
+use Rattle.pgw_conninfo.specs.Marks.{behind_word}
+use Rattle.pgw_prog.specs.RequestLine.{text_in, behind_or, request_in}
 use Rattle.pgw_prog.specs.declared.line.Line.{Line}
 use Rattle.pgw_prog.specs.declared.line.Line.TheVariants as line
-
--- the value behind a word
-unfoldable pub value_behind : List ℕ → List ℕ → Option (List ℕ)
-value_behind word bytes = if pointwise nat_eq (take (length word) bytes) word then Some (drop (length word) bytes) else None
-
--- any text in UTF-8
-unfoldable pub text_in : List ℕ → Option (List ℕ)
-text_in bytes = if is_utf8 bytes then Some bytes else None
 
 -- digits, and a plus may stand before them; the number has 64 bits
 unfoldable pub number_in : List ℕ → Option ℕ
@@ -53,30 +47,24 @@ cut_in value = within_cut (number_in value)
 unfoldable pub bytes_in : List ℕ → Option (List ℕ)
 bytes_in value = result_ok (decode_of (filter (λ b. not (b == 32)) value))
 
--- the value behind this word, if the line has it, and else what the rest says
-abbrev pub behind_or : Option (List ℕ) → (List ℕ → Option Line) → Option Line → Option Line
-behind_or None read rest = rest
-behind_or (Some value) read rest = read value
-
--- fail read N, fail write N, simple SQL, server HEX
+-- fail read N, fail write N, server HEX, or a request
 unfoldable pub later_line_of : List ℕ → Option Line
 later_line_of bytes =
-    behind_or (value_behind (codes "fail read ") bytes) (λ v. known line.FailRead (number_in v))
-    (behind_or (value_behind (codes "fail write ") bytes) (λ v. known line.FailWrite (number_in v))
-    (behind_or (value_behind (codes "simple ") bytes) (λ v. known line.Simple (text_in v))
-    (behind_or (value_behind (codes "server ") bytes) (λ v. known line.Server (bytes_in v)) None)))
+    behind_or (behind_word (codes "fail read ") bytes) (λ v. known line.FailRead (number_in v))
+    (behind_or (behind_word (codes "fail write ") bytes) (λ v. known line.FailWrite (number_in v))
+    (behind_or (behind_word (codes "server ") bytes) (λ v. known line.Server (bytes_in v)) (known line.Request (request_in bytes))))
 
 -- protocol .., nonce .., limit N, cut N, or a later line
 unfoldable pub setting_of : List ℕ → Option Line
 setting_of bytes =
-    behind_or (value_behind (codes "protocol ") bytes) (λ v. known line.Protocol (version_in v))
-    (behind_or (value_behind (codes "nonce ") bytes) (λ v. known line.Nonce (nonce_in v))
-    (behind_or (value_behind (codes "limit ") bytes) (λ v. known line.Limit (number_in v))
-    (behind_or (value_behind (codes "cut ") bytes) (λ v. known line.Cut (cut_in v)) (later_line_of bytes))))
+    behind_or (behind_word (codes "protocol ") bytes) (λ v. known line.Protocol (version_in v))
+    (behind_or (behind_word (codes "nonce ") bytes) (λ v. known line.Nonce (nonce_in v))
+    (behind_or (behind_word (codes "limit ") bytes) (λ v. known line.Limit (number_in v))
+    (behind_or (behind_word (codes "cut ") bytes) (λ v. known line.Cut (cut_in v)) (later_line_of bytes))))
 
 -- config TEXT, or another line
 unfoldable pub line_of : List ℕ → Option Line
-line_of bytes = behind_or (value_behind (codes "config ") bytes) (λ v. known line.Config (text_in v)) (setting_of bytes)
+line_of bytes = behind_or (behind_word (codes "config ") bytes) (λ v. known line.Config (text_in v)) (setting_of bytes)
 
 -- a cut lets a call move a byte
 abbrev pub Moves : Line → Type 0

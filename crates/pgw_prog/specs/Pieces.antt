@@ -14,3 +14,6 @@ quoted_byte b = if b == 34 || b == 92 then 92 ∷ b ∷ [] else (if nat_lt b 32 
 
 unfoldable pub quoted : List ℕ → List ℕ
 quoted text = 34 ∷ [] ++ flat_map quoted_byte text ++ 34 ∷ []
+
+abbrev pub line_end : List ℕ
+line_end = 10 ∷ []

@@ -11,7 +11,7 @@ use Rattle.pgw_prog.specs.declared.program.Stop.{Stop}
 use Rattle.pgw_prog.specs.declared.program.Stop.TheVariants as stop
 use Rattle.pgw_prog.specs.Grammar.{IsScript, IsFault}
 use Rattle.pgw_prog.specs.Held.{Says, Holds, CanComplete, FailsNear, completed_text}
-use Rattle.pgw_prog.specs.Printing.{line_end}
+use Rattle.pgw_prog.specs.Pieces.{line_end}
 
 -- a text in the grammar gives its script's session, and another the number of its first line outside the grammar
 abbrev pub AnswersText : List ℕ → Printed → Type 0

@@ -29,7 +29,7 @@ place_of (line.Limit n) = place.Limit
 place_of (line.Cut n) = place.Cut
 place_of (line.FailRead n) = place.Fail
 place_of (line.FailWrite n) = place.Fail
-place_of (line.Simple q) = place.Simple
+place_of (line.Request q) = place.Request
 place_of (line.Server bs) = place.Server
 
 -- which kind of line may follow which
@@ -41,13 +41,13 @@ may_follow place.Protocol place.Nonce = true
 may_follow place.Nonce place.Limit = true
 may_follow place.Limit place.Cut = true
 may_follow place.Cut place.Fail = true
-may_follow place.Cut place.Simple = true
+may_follow place.Cut place.Request = true
 may_follow place.Cut place.Server = true
 may_follow place.Fail place.Fail = true
-may_follow place.Fail place.Simple = true
+may_follow place.Fail place.Request = true
 may_follow place.Fail place.Server = true
-may_follow place.Simple place.Simple = true
-may_follow place.Simple place.Server = true
+may_follow place.Request place.Request = true
+may_follow place.Request place.Server = true
 may_follow place.Server place.Server = true
 may_follow _ _ = false
 
@@ -55,7 +55,7 @@ may_follow _ _ = false
 abbrev pub may_end : Place → Bool
 may_end place.Cut = true
 may_end place.Fail = true
-may_end place.Simple = true
+may_end place.Request = true
 may_end place.Server = true
 may_end _ = false
 
@@ -68,7 +68,7 @@ first_script = record {
   cut = 1;
   fail_reads = [];
   fail_writes = [];
-  queries = [];
+  requests = [];
   server = [];
 }
 
@@ -81,7 +81,7 @@ with_line s (line.Limit n) = record s { limit = n }
 with_line s (line.Cut n) = record s { cut = n }
 with_line s (line.FailRead n) = record s { fail_reads = s.fail_reads ++ n ∷ [] }
 with_line s (line.FailWrite n) = record s { fail_writes = s.fail_writes ++ n ∷ [] }
-with_line s (line.Simple q) = record s { queries = s.queries ++ q ∷ [] }
+with_line s (line.Request q) = record s { requests = s.requests ++ q ∷ [] }
 with_line s (line.Server bs) = record s { server = s.server ++ bs ∷ [] }
 
 -- the place and the script behind a line that may stand there

@@ -3,7 +3,7 @@ ghost use Rattle.std.specs.Prelude.{◌≡◌, ◌++◌, OnOk, string_bytes, cod
 ghost use Rattle.pgw_prog.specs.ErrorNames.{wire_name, client_name};
 
 use crate::pieces::put;
-use pgw_msg::client_error::PgWireClientError;
+use pgw_backend::client_error::PgWireClientError;
 use pgw_types::error::PgWireError;
 use pgw_types::memory::OutOfMemory;
 
@@ -83,6 +83,5 @@ pub fn put_client_name(out: &mut Vec<u8>, error: &PgWireClientError) -> Result<(
         PgWireClientError::ReadLimit => put(out, b"ReadLimit"),
         PgWireClientError::Broken => put(out, b"Broken"),
         PgWireClientError::OutOfMemory => put(out, b"OutOfMemory"),
-        PgWireClientError::NotYetBuilt => put(out, b"NotYetBuilt"),
     }
 }

@@ -1,34 +1,23 @@
 //! The session of a script.
-ghost use Rattle.std.specs.Prelude.{◌≡◌, ◌≢◌, ◌<◌, ◌≤◌, ◌||◌, nat_lt, [], None, Ok, Err, IfOk, OnOk, IsErrOf, map};
-ghost use Rattle.pgw_msg.specs.declared.client_error.PgWireClientError.TheVariants as client;
-ghost use Rattle.pgw_prog.specs.Held.{with_version, request_of, joined as join, requests_of as all_requests, status_of as status_for, Says, Prints, PrintsOutcome, Holds};
+ghost use Rattle.std.specs.Prelude.{◌≡◌, ◌≢◌, ◌<◌, ◌≤◌, ◌+◌, ◌*◌, ◌||◌, nat_lt, [], length, None, Ok, Err, IfOk, OnOk, IsErrOf};
+ghost use Rattle.pgw_backend.specs.declared.client_error.PgWireClientError.TheVariants as client;
+ghost use Rattle.pgw_prog.specs.Held.{input_of, joined as join, first_tape, Moves, status_of as status_for, Says, Prints, PrintsOutcome, Holds};
 ghost use Rattle.pgw_link.specs.Calls.{is_reached};
-ghost use Rattle.pgw_link.specs.Memory.{tape_of, faults_of, listing_of};
+ghost use Rattle.pgw_link.specs.Memory.{tape_of, faults_of, making_of};
 ghost use Rattle.pgw_prog.specs.Printing.{session_text};
 
 use crate::printed::Printed;
 use crate::printing::put_session;
 use crate::script::Script;
+use pgw_backend::client_error::{PgWireClientError, PgWireClientResult};
 use pgw_client::session::run_session;
 use pgw_config::config::Config;
 use pgw_link::memory::MemoryLink;
-use pgw_msg::client_error::{PgWireClientError, PgWireClientResult};
 use pgw_session::types::{Request, SessionReport};
-use pgw_types::listed::Duplicate;
 use pgw_types::memory::OutOfMemory;
 use pgw_types::octets::Octets;
 use pgw_types::text::Text;
 use std::alloc::Global;
-
-fn requests_of(alloc: Global, queries: &[Text]) -> Result<Vec<Request>, OutOfMemory>
-    ensures { IfOk result (λ v. v.items ≡ map request_of queries.now) }
-{
-    let mut requests = Vec::new(alloc);
-    for query in queries {
-        requests.push(Request::Simple(query.duplicate()?))?;
-    }
-    Ok(requests)
-}
 
 fn joined(alloc: Global, pieces: &[Octets]) -> Result<Octets, OutOfMemory>
     ensures { IfOk result (λ o. o ≡ join pieces.now) }
@@ -53,43 +42,12 @@ fn status_of(outcome: &PgWireClientResult<SessionReport>) -> Result<u8, OutOfMem
     }
 }
 
-/// What a session needs besides the link.
-#[derive(Drop)]
-struct Staged {
-    config: Config,
-    requests: Vec<Request>,
-    server: Octets,
-}
-
-fn stage(alloc: Global, script: &Script, mut config: Config) -> Result<Staged, OutOfMemory>
-    ensures config { IfOk result (λ staged. staged.config ≡ with_version script.now config) }
-    ensures requests { IfOk result (λ staged. staged.requests.items ≡ all_requests script.now) }
-    ensures server { IfOk result (λ staged. staged.server ≡ join script.now.server) }
+/// The configuration that asks for the script's version.
+fn versioned(script: &Script, mut config: Config) -> Config
+    ensures { result ≡ (input_of script.now config).config }
 {
     config.protocol_version(script.protocol_version);
-    let requests = requests_of(alloc, script.queries.as_slice())?;
-    let server = joined(alloc, script.server.as_slice())?;
-    Ok(Staged {
-        config,
-        requests,
-        server,
-    })
-}
-
-/// The link that a script describes, with these bytes of the server.
-fn link_of(alloc: Global, script: Script, server: Octets) -> MemoryLink
-    requires { 0 < script.cut }
-    ensures tape { tape_of result ≡ record { left = server; wrote = []; flushed = 0; ended = None; reads = 0; writes = 0 } }
-    ensures faults { faults_of result ≡ 0 }
-    ensures listing { listing_of result ≡ record { reads = script.fail_reads; writes = script.fail_writes } }
-{
-    let Script {
-        cut,
-        fail_reads,
-        fail_writes,
-        ..
-    } = script;
-    MemoryLink::new(alloc, server, cut, fail_reads, fail_writes)
+    config
 }
 
 /// Prints what a session over this link gave.
@@ -101,7 +59,8 @@ fn print_outcome(
     ensures text { IfOk result (λ p. p.text.items ≡ session_text (tape_of link.now).wrote outcome.now) }
     ensures status { IfOk result (λ p. p.status ≡ status_for outcome.now) }
     ensures memory { OnOk result (IsErrOf outcome.now client.OutOfMemory → ⊥) }
-    ensures fails { IfOk result (λ p. nat_lt 0 (faults_of link.now) ≡ (is_reached (listing_of link.now).reads (tape_of link.now).reads || is_reached (listing_of link.now).writes (tape_of link.now).writes)) }
+    ensures moves { IfOk result (λ p. Moves (making_of link.now) (tape_of link.now)) }
+    ensures fails { IfOk result (λ p. nat_lt 0 (faults_of link.now) ≡ (is_reached (making_of link.now).reads (tape_of link.now).reads || is_reached (making_of link.now).writes (tape_of link.now).writes)) }
 {
     if link.was_short_of_memory() {
         return Err(OutOfMemory);
@@ -121,8 +80,9 @@ fn run(
     nonce: &[u8; 18],
     limit: u64,
 ) -> Result<Printed, OutOfMemory>
-    requires { faults_of link.old ≡ 0 }
-    ensures { IfOk result (Prints config.now requests.now limit (listing_of link.old) (tape_of link.old)) }
+    requires new { tape_of link.old ≡ first_tape (making_of link.old) }
+    requires faultless { faults_of link.old ≡ 0 }
+    ensures { IfOk result (Prints (record { config = config.now; requests = requests.now; nonce = nonce.now }) limit (making_of link.old)) }
 {
     let outcome = run_session(alloc, link, config, requests, nonce, limit);
     print_outcome(alloc, link, &outcome)
@@ -133,15 +93,27 @@ fn hold_with(alloc: Global, script: Script, config: Config) -> Result<Printed, O
     requires { 0 < script.cut }
     ensures { IfOk result (PrintsOutcome script (Ok config)) }
 {
-    let Staged {
-        config,
+    let config = versioned(&script, config);
+    let Script {
+        nonce,
+        limit,
+        cut,
+        fail_reads,
+        fail_writes,
         requests,
         server,
-    } = stage(alloc, &script, config)?;
-    let nonce = script.nonce;
-    let limit = script.limit;
-    let mut link = link_of(alloc, script, server);
-    run(alloc, &mut link, &config, &requests, &nonce, limit)
+        ..
+    } = script;
+    let server = joined(alloc, server.as_slice())?;
+    let mut link = MemoryLink::new(alloc, server, cut, fail_reads, fail_writes);
+    run(
+        alloc,
+        &mut link,
+        &config,
+        requests.as_slice(),
+        &nonce,
+        limit,
+    )
 }
 
 /// Prints why a connection text is refused. Want of memory is no refusal to be printed.

@@ -1,10 +1,12 @@
 //! The lines of a session script.
 ghost use Rattle.std.specs.Prelude.{◌≡◌, ◌<◌, ◌==◌, ◌&&◌, IfOk, IfSome, not, nat_le};
-ghost use Rattle.std.specs.Option.{option_copied};
 ghost use Rattle.std.specs.List.{filter};
-ghost use Rattle.pgw_prog.specs.Line.{value_behind, number_in, text_in, version_in, nonce_in, cut_in, bytes_in, later_line_of, setting_of, line_of, Moves};
+ghost use Rattle.pgw_prog.specs.Line.{number_in, version_in, nonce_in, cut_in, bytes_in, later_line_of, setting_of, line_of, Moves};
 
+use crate::request_line::{read_request, read_text};
 use hex::{FromHex, FromHexError};
+use pgw_client::Request;
+use pgw_conninfo::marks::behind_word;
 use pgw_types::context::ProtocolVersion;
 use pgw_types::memory::OutOfMemory;
 use pgw_types::octets::Octets;
@@ -23,27 +25,8 @@ pub enum Line {
     Cut(usize),
     FailRead(u64),
     FailWrite(u64),
-    Simple(Text),
+    Request(Request),
     Server(Octets),
-}
-
-/// What stands behind a word.
-#[tactic(auto, unfolding(crate::specs::Line::value_behind))]
-fn behind<'a>(word: &[u8], line: &'a [u8]) -> Option<&'a [u8]>
-    ensures { option_copied result ≡ value_behind word.now line.now }
-{
-    line.strip_prefix(word)
-}
-
-/// The text that bytes are, where they are UTF-8.
-#[tactic(auto, unfolding(crate::specs::Line::text_in))]
-fn read_text(alloc: Global, value: &[u8]) -> Result<Option<Text>, OutOfMemory>
-    ensures { IfOk result (λ o. o ≡ text_in value.now) }
-{
-    match str::from_utf8(value) {
-        Ok(text) => Ok(Some(Text::from_str(alloc, text)?)),
-        Err(_) => Ok(None),
-    }
 }
 
 fn read_number(value: &[u8]) -> Option<u64>
@@ -123,19 +106,16 @@ fn read_later_line(alloc: Global, line: &[u8]) -> Result<Option<Line>, OutOfMemo
     ensures value { IfOk result (λ o. o ≡ later_line_of line.now) }
     ensures moves { IfOk result (λ o. IfSome o Moves) }
 {
-    if let Some(value) = behind(b"fail read ", line) {
+    if let Some(value) = behind_word(b"fail read ", line) {
         return Ok(read_number(value).map(Line::FailRead));
     }
-    if let Some(value) = behind(b"fail write ", line) {
+    if let Some(value) = behind_word(b"fail write ", line) {
         return Ok(read_number(value).map(Line::FailWrite));
     }
-    if let Some(value) = behind(b"simple ", line) {
-        return Ok(read_text(alloc, value)?.map(Line::Simple));
-    }
-    if let Some(value) = behind(b"server ", line) {
+    if let Some(value) = behind_word(b"server ", line) {
         return Ok(read_bytes(alloc, value)?.map(Line::Server));
     }
-    Ok(None)
+    Ok(read_request(alloc, line)?.map(Line::Request))
 }
 
 /// What a line says, where it is a setting or one of the later kinds.
@@ -144,16 +124,16 @@ fn read_setting(alloc: Global, line: &[u8]) -> Result<Option<Line>, OutOfMemory>
     ensures value { IfOk result (λ o. o ≡ setting_of line.now) }
     ensures moves { IfOk result (λ o. IfSome o Moves) }
 {
-    if let Some(value) = behind(b"protocol ", line) {
+    if let Some(value) = behind_word(b"protocol ", line) {
         return Ok(read_version(value).map(Line::Protocol));
     }
-    if let Some(value) = behind(b"nonce ", line) {
+    if let Some(value) = behind_word(b"nonce ", line) {
         return Ok(read_nonce(value).map(Line::Nonce));
     }
-    if let Some(value) = behind(b"limit ", line) {
+    if let Some(value) = behind_word(b"limit ", line) {
         return Ok(read_number(value).map(Line::Limit));
     }
-    if let Some(value) = behind(b"cut ", line) {
+    if let Some(value) = behind_word(b"cut ", line) {
         return Ok(read_cut(value).map(Line::Cut));
     }
     read_later_line(alloc, line)
@@ -165,7 +145,7 @@ pub fn read_line(alloc: Global, line: &[u8]) -> Result<Option<Line>, OutOfMemory
     ensures value { IfOk result (λ o. o ≡ line_of line.now) }
     ensures moves { IfOk result (λ o. IfSome o Moves) }
 {
-    if let Some(value) = behind(b"config ", line) {
+    if let Some(value) = behind_word(b"config ", line) {
         return Ok(read_text(alloc, value)?.map(Line::Config));
     }
     read_setting(alloc, line)

@@ -3,17 +3,15 @@ ghost use Rattle.std.specs.Prelude.{◌≡◌, ◌++◌, ◌∷◌, [], OnOk, co
 ghost use Rattle.std.specs.List.{flat_map};
 ghost use Rattle.std.specs.FinMap as map;
 ghost use Rattle.pgw_prog.specs.Pieces.{quoted};
-ghost use Rattle.pgw_prog.specs.Printing.{sent_line, version_line, process_line, key_line, parameter_line, status_line, tag_text, type_number, format_number, field_line, row_line, response_lines, item_line, answer_lines, numbered, report_lines, error_line, session_text};
+ghost use Rattle.pgw_prog.specs.Printing.{sent_line, version_line, process_line, key_line, parameter_line, status_line, report_lines, error_line, session_text};
+ghost use Rattle.pgw_prog.specs.AnswerLines.{tag_text, type_number, format_number, field_line, row_line, response_lines, item_line, answer_lines, numbered};
 
+use crate::answer_lines::put_answers;
 use crate::error_names::put_client_name;
-use crate::pieces::{put, put_decimal, put_hex, put_quoted, put_signed};
-use pgw_msg::client_error::PgWireClientError;
-use pgw_msg::field_info::{FieldFormat, FieldInfo};
-use pgw_msg::pg_type::PgType;
-use pgw_msg::tag::Tag;
-use pgw_query::data::DataRow;
-use pgw_query::response::{ErrorResponse, TransactionStatus};
-use pgw_session::types::{Answer, Response, SessionReport};
+use crate::pieces::{put, put_hex, put_quoted, put_signed};
+use pgw_backend::client_error::PgWireClientError;
+use pgw_query::response::TransactionStatus;
+use pgw_session::types::SessionReport;
 use pgw_types::context::ProtocolVersion;
 use pgw_types::memory::OutOfMemory;
 use pgw_types::text::Text;
@@ -96,187 +94,6 @@ fn put_status(out: &mut Vec<u8>, status: TransactionStatus) -> Result<(), OutOfM
         TransactionStatus::Transaction => put(out, b"status T\n"),
         TransactionStatus::Error => put(out, b"status E\n"),
     }
-}
-
-#[tactic(auto, unfolding(crate::specs::Printing::type_number))]
-fn number_of(datatype: PgType) -> u32
-    ensures { result ≡ type_number datatype }
-{
-    match datatype {
-        PgType::Bool => 16,
-        PgType::Bytea => 17,
-        PgType::Name => 19,
-        PgType::Int8 => 20,
-        PgType::Int2 => 21,
-        PgType::Int4 => 23,
-        PgType::Text => 25,
-        PgType::Unknown => 705,
-        PgType::Bpchar => 1042,
-        PgType::Varchar => 1043,
-        PgType::Other(number) => number,
-    }
-}
-
-#[tactic(auto, unfolding(crate::specs::Printing::format_number))]
-fn code_of(format: FieldFormat) -> u64
-    ensures { result ≡ format_number format }
-{
-    match format {
-        FieldFormat::Text => 0,
-        FieldFormat::Binary => 1,
-    }
-}
-
-#[tactic(auto, unfolding(crate::specs::Printing::field_line))]
-fn put_field(out: &mut Vec<u8>, field: &FieldInfo) -> Result<(), OutOfMemory>
-    ensures { OnOk result (out.new.items ≡ out.old.items ++ field_line field.now) }
-{
-    put(out, b"field ")?;
-    put_quoted(out, field.name.as_str().as_bytes())?;
-    put(out, b" ")?;
-    put_decimal(out, u64::from(number_of(field.datatype)))?;
-    put(out, b" ")?;
-    put_decimal(out, code_of(field.format))?;
-    put(out, b"\n")
-}
-
-#[tactic(auto, unfolding(crate::specs::Printing::row_line))]
-fn put_row(out: &mut Vec<u8>, row: &DataRow) -> Result<(), OutOfMemory>
-    ensures { OnOk result (out.new.items ≡ out.old.items ++ row_line row.now) }
-{
-    put(out, b"row ")?;
-    put_signed(out, i32::from(row.field_count))?;
-    put(out, b" ")?;
-    put_hex(out, row.payload.as_slice())?;
-    put(out, b"\n")
-}
-
-#[tactic(auto, unfolding(crate::specs::Printing::tag_text))]
-fn put_tag_text(out: &mut Vec<u8>, tag: &Tag) -> Result<(), OutOfMemory>
-    ensures { OnOk result (out.new.items ≡ out.old.items ++ tag_text tag.now) }
-{
-    put(out, tag.command.as_str().as_bytes())?;
-    match (tag.oid, tag.rows) {
-        (_, None) => Ok(()),
-        (None, Some(rows)) => put_spaced(out, rows as u64),
-        (Some(oid), Some(rows)) => {
-            put_spaced(out, u64::from(oid))?;
-            put_spaced(out, rows as u64)
-        }
-    }
-}
-
-fn put_spaced(out: &mut Vec<u8>, number: u64) -> Result<(), OutOfMemory>
-    ensures { OnOk result (out.new.items ≡ out.old.items ++ (codes " " ++ decimal number)) }
-{
-    put(out, b" ")?;
-    put_decimal(out, number)
-}
-
-fn put_quoted_tag(out: &mut Vec<u8>, tag: &Tag) -> Result<(), OutOfMemory>
-    ensures { OnOk result (out.new.items ≡ out.old.items ++ quoted (tag_text tag.now)) }
-{
-    let mut text = Vec::new(*out.allocator());
-    put_tag_text(&mut text, tag)?;
-    put_quoted(out, &text)
-}
-
-fn put_fields(out: &mut Vec<u8>, fields: &[FieldInfo]) -> Result<(), OutOfMemory>
-    ensures { OnOk result (out.new.items ≡ out.old.items ++ flat_map field_line fields.now) }
-{
-    for field in fields {
-        put_field(out, field)?;
-    }
-    Ok(())
-}
-
-fn put_rows(out: &mut Vec<u8>, rows: &[DataRow]) -> Result<(), OutOfMemory>
-    ensures { OnOk result (out.new.items ≡ out.old.items ++ flat_map row_line rows.now) }
-{
-    for row in rows {
-        put_row(out, row)?;
-    }
-    Ok(())
-}
-
-#[tactic(auto, unfolding(crate::specs::Printing::response_lines))]
-fn put_response(out: &mut Vec<u8>, response: &Response) -> Result<(), OutOfMemory>
-    ensures { OnOk result (out.new.items ≡ out.old.items ++ response_lines response.now) }
-{
-    match response {
-        Response::EmptyQuery => put(out, b"empty\n"),
-        Response::Execution(tag) => {
-            put(out, b"done ")?;
-            put_quoted_tag(out, tag)?;
-            put(out, b"\n")
-        }
-        Response::Query(tag, fields, rows) => {
-            put(out, b"rows ")?;
-            put_quoted_tag(out, tag)?;
-            put(out, b"\n")?;
-            put_fields(out, fields.as_slice())?;
-            put_rows(out, rows.as_slice())
-        }
-    }
-}
-
-fn put_responses(out: &mut Vec<u8>, responses: &[Response]) -> Result<(), OutOfMemory>
-    ensures { OnOk result (out.new.items ≡ out.old.items ++ flat_map response_lines responses.now) }
-{
-    for response in responses {
-        put_response(out, response)?;
-    }
-    Ok(())
-}
-
-#[tactic(auto, unfolding(crate::specs::Printing::item_line))]
-fn put_item(out: &mut Vec<u8>, code: u8, text: &Text) -> Result<(), OutOfMemory>
-    ensures { OnOk result (out.new.items ≡ out.old.items ++ item_line (code, text.now)) }
-{
-    put(out, b"item ")?;
-    put_hex(out, &[code])?;
-    put(out, b" ")?;
-    put_quoted(out, text.as_str().as_bytes())?;
-    put(out, b"\n")
-}
-
-fn put_items(out: &mut Vec<u8>, items: &[(u8, Text)]) -> Result<(), OutOfMemory>
-    ensures { OnOk result (out.new.items ≡ out.old.items ++ flat_map item_line items.now) }
-{
-    for (code, text) in items {
-        put_item(out, *code, text)?;
-    }
-    Ok(())
-}
-
-#[tactic(auto, unfolding(crate::specs::Printing::answer_lines))]
-fn put_answer(out: &mut Vec<u8>, number: u64, answer: &Answer) -> Result<(), OutOfMemory>
-    ensures { OnOk result (out.new.items ≡ out.old.items ++ answer_lines number answer.now) }
-{
-    put(out, b"answer ")?;
-    put_decimal(out, number)?;
-    match answer {
-        Answer::Responses(responses) => {
-            let responses = responses.as_slice();
-            put(out, b" responses ")?;
-            put_decimal(out, responses.len() as u64)?;
-            put(out, b"\n")?;
-            put_responses(out, responses)
-        }
-        Answer::Remote(error) => {
-            put(out, b" remote\n")?;
-            put_items(out, error.fields.as_slice())
-        }
-    }
-}
-
-fn put_answers(out: &mut Vec<u8>, answers: &[Answer]) -> Result<(), OutOfMemory>
-    ensures { OnOk result (out.new.items ≡ out.old.items ++ numbered 1 answers.now) }
-{
-    for (index, answer) in answers.iter().enumerate() {
-        put_answer(out, index as u64 + 1, answer)?;
-    }
-    Ok(())
 }
 
 #[tactic(auto, unfolding(crate::specs::Printing::report_lines))]

@@ -4,12 +4,13 @@ ghost use Rattle.pgw_link.specs.Tape.{Rose};
 ghost use Rattle.pgw_prog.specs.declared.command.Command.TheVariants as kind;
 ghost use Rattle.pgw_prog.specs.declared.program.Stop.TheVariants as stop;
 ghost use Rattle.pgw_prog.specs.Command.{command_for};
-ghost use Rattle.pgw_msg.specs.declared.client_error.PgWireClientError.TheVariants as client;
+ghost use Rattle.pgw_backend.specs.declared.client_error.PgWireClientError.TheVariants as client;
 ghost use Rattle.pgw_session.specs.Events.{Event};
 ghost use Rattle.pgw_prog.specs.declared.script.Script.{Script as TheScript};
 ghost use Rattle.pgw_prog.specs.Held.{Says};
 ghost use Rattle.pgw_prog.specs.Program.{AnswersText, AnswersScript, Answers, Prints, PrintsFront, Completing, PrintsWhole, ListsFailure, TookFront, Appended, CountsStop};
-ghost use Rattle.pgw_prog.specs.Printing.{line_end, session_text};
+ghost use Rattle.pgw_prog.specs.Printing.{session_text};
+ghost use Rattle.pgw_prog.specs.Pieces.{line_end};
 
 use crate::command::{Command, command_of};
 use crate::held::hold;
@@ -21,18 +22,20 @@ use pgw_link::stream::{Sink, Source};
 use pgw_types::memory::OutOfMemory;
 use std::alloc::Global;
 
-const VERSION: &str = "pgw_prog 0.1.0\n";
+const VERSION: &str = "hothummei 0.1.0\n";
 
 const HELP: &str = "Holds the client's side of a PostgreSQL session and prints what it gave.
 
-pgw_prog
-pgw_prog script      reads a script from standard input, holds its session
+hothummei
+hothummei script     reads a script from standard input, holds its session
                      against the server's bytes that it gives, and prints the
                      bytes sent and the report, or the error
-pgw_prog --help      prints this text
-pgw_prog --version   prints the version
+hothummei --help     prints this text
+hothummei --version  prints the version
 
-A script has these lines, in this order. N is a whole number, HEX is hex digits.
+A script has these lines, in this order, each ended by a line feed, with one space
+between its words. There are no comments and no empty lines. N is a whole number,
+HEX is hex digits. Reads and writes are counted from 1.
 
 config TEXT                      a connection text, as user=bob password=secret
 protocol 3.0                     or 3.2 or 3.9999; may be left out (3.0)
@@ -41,12 +44,27 @@ limit N                          the most bytes to read from the server
 cut N                            the most bytes that one call moves, 1 to 65536
 fail read N                      the read with this number fails; any number
 fail write N                     the write with this number fails; any number
-simple SQL                       a query; any number
-server HEX                       bytes that the server sends; any number
+REQUEST                          one of the lines below; any number
+server HEX                       bytes that the server sends; any number; here
+                                 spaces may stand between the digits
+
+Requests. NAME, PORTAL and STATEMENT are a word, or - for none. OIDS, PARAMS and
+FORMATS have commas between their elements, or are - for none; a parameter is
+null, or x and hex digits; a format is 0 for text or 1 for binary.
+
+simple SQL                       a query, which may hold several commands
+prepare NAME OIDS SQL            a statement, and the types of its parameters
+bind PORTAL STATEMENT PARAMS FORMATS
+                                 a portal, and the formats of its result
+execute PORTAL ROWS              so many rows of a portal, 0 for all
+describe s NAME, describe p NAME a statement, or a portal
+close s NAME, close p NAME       the same, to be forgotten
+query OIDS PARAMS SQL            a query with its parameters, at once
 
 Status: 0 the session ended well, 1 it ended with an error or the connection
 text is refused, 2 the words or the script are wrong (usage, line N, script too
-long), 3 reading or writing failed, 4 memory ran out.
+long), 3 reading or writing failed or the system gave no random bytes, 4 memory
+ran out.
 ";
 
 /// Why nothing is printed.

@@ -4,6 +4,7 @@ ghost use Rattle.pgw_prog.specs.Line.{Moves};
 ghost use Rattle.pgw_prog.specs.Script.{first_script, with_line, place_of as place_for, may_follow as follows, may_end as ends, lines_of, step, read_script, Reads};
 
 use crate::line::{Line, read_line};
+use pgw_session::types::Request;
 use pgw_types::context::ProtocolVersion;
 use pgw_types::listed::Listed;
 use pgw_types::memory::OutOfMemory;
@@ -22,7 +23,7 @@ pub struct Script {
     pub cut: usize,
     pub fail_reads: Listed<u64>,
     pub fail_writes: Listed<u64>,
-    pub queries: Listed<Text>,
+    pub requests: Listed<Request>,
     /// What the server sends, in pieces.
     pub server: Listed<Octets>,
 }
@@ -45,7 +46,7 @@ pub enum Place {
     Limit,
     Cut,
     Fail,
-    Simple,
+    Request,
     Server,
 }
 
@@ -71,7 +72,7 @@ impl Script {
             cut: 1,
             fail_reads: Listed::new(alloc),
             fail_writes: Listed::new(alloc),
-            queries: Listed::new(alloc),
+            requests: Listed::new(alloc),
             server: Listed::new(alloc),
         }
     }
@@ -87,7 +88,7 @@ impl Script {
             Line::Cut(cut) => self.cut = cut,
             Line::FailRead(number) => self.fail_reads.push(number)?,
             Line::FailWrite(number) => self.fail_writes.push(number)?,
-            Line::Simple(query) => self.queries.push(query)?,
+            Line::Request(request) => self.requests.push(request)?,
             Line::Server(bytes) => self.server.push(bytes)?,
         }
         Ok(())
@@ -105,7 +106,7 @@ fn place_of(line: &Line) -> Place
         Line::Cut(_) => Place::Cut,
         Line::FailRead(_) => Place::Fail,
         Line::FailWrite(_) => Place::Fail,
-        Line::Simple(_) => Place::Simple,
+        Line::Request(_) => Place::Request,
         Line::Server(_) => Place::Server,
     }
 }
@@ -119,8 +120,8 @@ fn may_follow(before: Place, next: Place) -> bool
         Place::Protocol => matches!(next, Place::Nonce),
         Place::Nonce => matches!(next, Place::Limit),
         Place::Limit => matches!(next, Place::Cut),
-        Place::Cut | Place::Fail => matches!(next, Place::Fail | Place::Simple | Place::Server),
-        Place::Simple => matches!(next, Place::Simple | Place::Server),
+        Place::Cut | Place::Fail => matches!(next, Place::Fail | Place::Request | Place::Server),
+        Place::Request => matches!(next, Place::Request | Place::Server),
         Place::Server => matches!(next, Place::Server),
     }
 }
@@ -130,7 +131,7 @@ fn may_end(place: Place) -> bool
 {
     matches!(
         place,
-        Place::Cut | Place::Fail | Place::Simple | Place::Server
+        Place::Cut | Place::Fail | Place::Request | Place::Server
     )
 }
 

@@ -1,11 +1,10 @@
 -- Each row of the message table is exact.
-use Rattle.std.proofs.Common.{◌≡◌, ℕ, ℤ, ◌+◌, ◌<◌, ◌≤◌, ◌^◌, Bool, true, false, cond, eqb, List, [], ◌∷◌, ◌++◌, length, Result, Ok, Err, refl, sym, ap, subst, ◌∙◌, arith, lit<, length-append}
+use Rattle.std.proofs.Common.{◌≡◌, ℕ, ◌≤◌, eqb, List, [], ◌∷◌, length, Ok, refl, sym, ap, subst, arith, lit<, length-append}
 use Rattle.std.specs.Int.{w8, w16, w32}
 use Rattle.std.proofs.lemmas.Bool.{eqb-true}
-use Rattle.pgw_types.specs.declared.error.PgWireError.{PgWireError}
 use Rattle.pgw_types.specs.declared.context.DecodeContext.{DecodeContext}
 use Rattle.pgw_wire.specs.Reading.{text_at, nat_at, int_at, rest_at, marked_list_at}
-use Rattle.pgw_wire.specs.Formats.{pair_at, made_at, tried_at, counted_at, NoBody, IsRow, Reads, ReadsLast, SpellsText, SpellsNat, SpellsInt, IsRest, Pair, SpellsCounted, SpellsMarked}
+use Rattle.pgw_wire.specs.Formats.{tried_at, counted_at, NoBody, IsRow, Reads, ReadsLast, SpellsText, SpellsNat, SpellsInt, IsRest, SpellsCounted, SpellsMarked}
 use Rattle.pgw_wire.proofs.Laws.{pair_reads, made_reads, tried_reads, ok_is, chosen}
 use Rattle.pgw_wire.proofs.FieldLaws.{text_reads, nat_reads, int_reads}
 use Rattle.pgw_wire.proofs.FrameLaws.{reads_last, rest_reads, pair_last, made_last, counted_reads, count16}

@@ -20,7 +20,8 @@ use Rattle.pgw_query.specs.declared.data.DataRow.{DataRow}
 use Rattle.pgw_query.specs.declared.notification.NotificationResponse.{NotificationResponse}
 use Rattle.pgw_query.specs.declared.description.ParameterDescription.{ParameterDescription}
 use Rattle.pgw_query.specs.Rows.{status_byte, codes, codes_fault, field, is_refused, row_description, data_row, notification_response, is_notification_refused, SpellsField, SpellsRowDescription, SpellsDataRow, SpellsNotificationResponse, SpellsParameterDescription}
-use Rattle.pgw_query.specs.Sound.{IsField, IsCoded, IsOid, AreFields, AreCoded, IsDataRow, IsParameterDescription, IsNotification}
+use Rattle.pgw_query.specs.Sound.{IsField, IsCoded, AreFields, AreCoded, IsDataRow, IsParameterDescription, IsNotification}
+use Rattle.pgw_wire.specs.Sound.{IsOid}
 
 pub status_written : (s : TransactionStatus) → SpellsNat w8 (status_byte s) (status_byte s ∷ [])
 status_written Idle = (refl, refl)

@@ -1,11 +1,11 @@
 -- The rows of the message table.
-use Rattle.std.specs.Prelude.{◌≡◌, ℕ, ℤ, ◌+◌, Bool, List, [], ◌∷◌, ◌++◌, length, Option, Some, None, Result, Ok, Err, nat_lt, ◌==◌, ◌||◌, if◌then◌else◌}
+use Rattle.std.specs.Prelude.{ℕ, ℤ, Bool, List, [], ◌∷◌, ◌++◌, length, Option, Result, Ok, Err, nat_lt, ◌==◌, ◌||◌, if◌then◌else◌}
 use Rattle.std.specs.List.{list_any, flat_map}
-use Rattle.std.specs.Int.{w8, w16, w32, to_be_bytes, cast_unsigned}
+use Rattle.std.specs.Int.{w8, w16, w32}
 use Rattle.pgw_types.specs.declared.error.PgWireError.{PgWireError}
-use Rattle.pgw_types.specs.declared.error.PgWireError.TheVariants.{InvalidMessageBody, InvalidTransactionStatus}
+use Rattle.pgw_types.specs.declared.error.PgWireError.TheVariants.{InvalidTransactionStatus}
 use Rattle.pgw_types.specs.declared.context.DecodeContext.{DecodeContext}
-use Rattle.pgw_wire.specs.Reading.{◌>>=◌, nat_at, int_at, text_at, rest_at, all_of, list_at, marked_list_at, extended_count}
+use Rattle.pgw_wire.specs.Reading.{nat_at, int_at, text_at, rest_at, all_of, marked_list_at}
 use Rattle.pgw_wire.specs.Formats.{pair_at, Pair, made_at, tried_at, counted_at, SpellsText, SpellsNat, SpellsInt, SpellsCounted, SpellsMarked, IsRest}
 use Rattle.pgw_wire.specs.Writing.{text, i16, i32, u16, u32, has_zero, refused_if}
 use Rattle.pgw_query.specs.declared.response.TransactionStatus.{TransactionStatus}

@@ -2,6 +2,7 @@
 use Rattle.std.specs.Prelude.{ℕ, List, ◌<◌, ◌^◌, FitsSigned, IsUtf8}
 use Rattle.std.specs.List.{AllByRecursion}
 use Rattle.std.specs.Int.{w16, w32}
+use Rattle.pgw_wire.specs.Sound.{IsOid}
 use Rattle.pgw_query.specs.declared.data.FieldDescription.{FieldDescription}
 use Rattle.pgw_query.specs.declared.data.DataRow.{DataRow}
 use Rattle.pgw_query.specs.declared.notification.NotificationResponse.{NotificationResponse}
@@ -19,9 +20,6 @@ pub record IsField (f : FieldDescription) : Type 0 where
 pub record IsCoded (p : ℕ × List ℕ) : Type 0 where
   pub code : p.0 < 2 ^ 8
   pub text : IsUtf8 p.1
-
-abbrev pub IsOid : ℕ → Type 0
-IsOid n = n < 2 ^ 32
 
 abbrev pub AreFields : List FieldDescription → Type 0
 AreFields fields = AllByRecursion IsField fields

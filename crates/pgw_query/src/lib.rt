@@ -3,6 +3,7 @@
 
 pub mod data;
 pub mod description;
+pub mod equality;
 pub mod laws;
 pub mod notification;
 pub mod response;

@@ -8,7 +8,7 @@ use lib.ListN.{get_elem?}
 use Rattle.atomic_table.specs.Table.{State, Me, step, keeps, stepped, Allows, Splits, Joins, opening}
 use Rattle.atomic_table.proofs.Lists.{at_set, at_snoc, set_else}
 use Rattle.pgw_registry.specs.declared.numbers.Hand.{Hand}
-use Rattle.pgw_registry.specs.Numbers.{total, times, above, weight, newcomer, spent, settled, both_of, saw, drew, IsDistinct, Kept, Ruled, Looked, Compared, Drew, DrewForSeat}
+use Rattle.pgw_registry.specs.Numbers.{total, times, above, weight, newcomer, spent, settled, both_of, saw, drew, IsDistinct, NoneBelow, Kept, Ruled, Looked, Compared, Drew, DrewForSeat}
 use Rattle.pgw_registry.proofs.Totals.{total_set, total_snoc, total_has, total_le, times-append, above-append, times_here, times_else, above_low, above_high}
 
 abbrev M : Type 0
@@ -37,6 +37,10 @@ is_distinct first word views id v k at x = let m = total_has (λ u. times x u.dr
     go (yes a) _ m = let z = k.none x (inl a) in omega arith
     go (no a) (yes b) m = let z = k.once x (omega arith) b in omega arith
     go (no a) (no b) m = let z = k.none x (inr (omega arith)) in omega arith
+
+pub none_below : (first word : ℕ) (views : List Hand) (id : ℕ) (v : Hand) → Kept first word views → get_elem? views id ≡ some v → NoneBelow v.begins v.drawn
+none_below first word views id v k at x low =
+    let m = total_has (λ u. times x u.drawn) views id v at in let t = k.each id v at in let z = k.none x (inl (omega arith)) in omega arith
 
 -- the word is far from its end
 pub never_wraps : (first word : ℕ) (views : List Hand) → Kept first word views → word ≤ 4294967297
@@ -157,12 +161,12 @@ compares first slots id me s r _ at _ = let n : ℕ = get_or s.words 0 0 in let 
   keeps,
   tt,
   placed first n s id me v r (sees first n s.views id v v k at refl refl refl refl (k.each id v at).0),
-  (refl, refl, is_distinct first n s.views id v k at),
+  (refl, refl, is_distinct first n s.views id v k at, none_below first n s.views id v k at),
 )
 
 drawing : (first slots id : ℕ) (me : M) (mark : ℕ → Bool) → 0 < me.0.seats → above me.0.drawn ≡ 0
     → ((n : ℕ) → weight (mark n) + min n 2147483648 ≤ weight me.0.owes + min (n + 1) 2147483648)
-    → Allows (Ruled first) slots id me 0 (λ n. (n + 1) % 2 ^ 64) (λ n w. (w.0 ≡ drew me.0 n (mark n)) × (w.1 ≡ me.1) × (me.0.seen ≤ n) × IsDistinct w.0.drawn × (me.0.begins ≤ n))
+    → Allows (Ruled first) slots id me 0 (λ n. (n + 1) % 2 ^ 64) (λ n w. (w.0 ≡ drew me.0 n (mark n)) × (w.1 ≡ me.1) × (me.0.seen ≤ n) × IsDistinct w.0.drawn × NoneBelow w.0.begins w.0.drawn × (me.0.begins ≤ n))
 drawing first slots id me mark seat none_above room s r _ at _ = let n : ℕ = get_or s.words 0 0 in let k : Kept first n s.views = r.1 in let v = me.0 in
     let w : Hand = drew v n (mark n) in let far = never_wraps first n s.views k in
     let next : (n + 1) % 2 ^ 64 ≡ n + 1 = omega arith in
@@ -171,7 +175,14 @@ drawing first slots id me mark seat none_above room s r _ at _ = let n : ℕ = g
       keeps,
       tt,
       subst (λ (z : ℕ). Ruled first (stepped s 0 z id me.1 w keeps)) (sym next) (placed first (n + 1) s id me w r after),
-      (refl, refl, (k.each id v at).0, is_distinct first (n + 1) (set s.views id w) id w after (set_at s.views id v w at), let g = k.grows in let t = k.each id v at in omega arith),
+      (
+        refl,
+        refl,
+        (k.each id v at).0,
+        is_distinct first (n + 1) (set s.views id w) id w after (set_at s.views id v w at),
+        none_below first (n + 1) (set s.views id w) id w after (set_at s.views id v w at),
+        let g = k.grows in let t = k.each id v at in omega arith,
+      ),
     )
   where
     set_at : (l : List Hand) (i : ℕ) (v w : Hand) → get_elem? l i ≡ some v → get_elem? (set l i w) i ≡ some w

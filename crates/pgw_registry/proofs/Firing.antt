@@ -10,7 +10,7 @@ use Rattle.pgw_registry.specs.declared.call.Call.{Call}
 use Rattle.pgw_registry.specs.declared.call.Call.TheVariants.{Register, NewHandle, StartQuery, CancelHandle, Cancel, Look, Finish, CloseHandle, Release}
 use Rattle.pgw_registry.specs.declared.call.Reply.TheVariants.{Started, Looked}
 use Rattle.pgw_registry.specs.Pairs.{without_handle}
-use Rattle.pgw_registry.specs.Sequential.{Book, Handles, Queries, nothing, handle, next, reply_of, handle_at, handle_of, held, registered, started, started_reply, replaced, replaced_at, fired, fired_at, canceled, canceled_active, canceled_pair, looked, looked_reply, let_go, released, without_pair, state_after, IsLegal}
+use Rattle.pgw_registry.specs.Sequential.{Book, Handles, Queries, nothing, handle, next, reply_of, handle_at, handle_of, held, registered, started, started_reply, replaced, replaced_at, fired, fired_at, canceled, canceled_active, canceled_pair, looked, looked_reply, let_go, released, without_pair, state_after, AreReplies}
 use Rattle.pgw_registry.specs.Laws.{StartsAt, CancelsAt, NoStartBetween, FiredLaw}
 use Rattle.pgw_registry.proofs.Holders.{some_is, not_none, number_itself, in_written, in_removed}
 
@@ -292,12 +292,12 @@ state_after-append : (s : Book) (xs ys : Log) → state_after s (xs ++ ys) ≡ s
 state_after-append s [] ys = refl
 state_after-append s (e ∷ xs) ys = state_after-append (next s e.call) xs ys
 
-good_from : (xs rest : Log) (b : Book) → b ≡ state_after nothing xs → GoodAt xs b → IsLegal b rest → GoodAt (xs ++ rest) (state_after b rest)
+good_from : (xs rest : Log) (b : Book) → b ≡ state_after nothing xs → GoodAt xs b → AreReplies b rest → GoodAt (xs ++ rest) (state_after b rest)
 good_from xs [] b state g legal = subst (λ (l : Log). GoodAt l b) (sym (append-nil xs)) g
 good_from xs (e ∷ es) b state g legal = subst (λ (l : Log). GoodAt l (state_after (next b e.call) es)) (append_assoc xs (e ∷ []) es)
     (good_from (xs ++ e ∷ []) es (next b e.call) (ap (λ (s : Book). next s e.call) state ∙ sym (state_after-append nothing xs (e ∷ []))) (step_by xs e b e.call state refl legal.0 g) legal.1)
 
-good : (log : Log) → IsLegal nothing log → GoodAt log (state_after nothing log)
+good : (log : Log) → AreReplies nothing log → GoodAt log (state_after nothing log)
 good log legal = good_from [] log nothing refl (record { active = λ k v at. absurd (not_none v (sym (map.get-empty nat_cmp k) ∙ at)); queries = λ k v at. absurd (not_none v (sym (map.get-empty nat_cmp k) ∙ at)) }) legal
 
 split_at : (log : Log) (k : ℕ) (e : Entry) → slice_get log k ≡ Some e → (pre : Log) × (post : Log) × (log ≡ pre ++ e ∷ post) × (length pre ≡ k)
@@ -305,7 +305,7 @@ split_at [] k e h = absurd (cc)
 split_at (x ∷ xs) zero e h = ([], xs, ap (λ (y : Entry). y ∷ xs) (some_is x e h), refl)
 split_at (x ∷ xs) (suc k) e h = let r = split_at xs k e h in (x ∷ r.0, r.1, ap (λ (l : Log). x ∷ l) r.2, ap suc r.3)
 
-legal_parts : (s : Book) (pre : Log) (e : Entry) (post : Log) → IsLegal s (pre ++ e ∷ post) → IsLegal s pre × (e.reply ≡ reply_of (state_after s pre) e.call)
+legal_parts : (s : Book) (pre : Log) (e : Entry) (post : Log) → AreReplies s (pre ++ e ∷ post) → AreReplies s pre × (e.reply ≡ reply_of (state_after s pre) e.call)
 legal_parts s [] e post h = (tt, h.0)
 legal_parts s (x ∷ pre) e post h = let r = legal_parts (next s x.call) pre e post h.1 in ((h.0, r.0), r.1)
 
@@ -324,7 +324,7 @@ pub fired_law : FiredLaw
 fired_law log legal k q by at =
     let e : Entry = record { by = by; call = Look q; reply = Looked (Some tt) } in
     let s = split_at log k e at in
-    let parts = legal_parts nothing s.0 e s.1 (subst (IsLegal nothing) s.2 legal) in
+    let parts = legal_parts nothing s.0 e s.1 (subst (AreReplies nothing) s.2 legal.1) in
     let b : Book = state_after nothing s.0 in
     let f : FiredBy s.0 (length s.0) q = (good s.0 parts.0).queries q Fired (look_says b q parts.1) refl in
     let r = subst (λ (l : Log). FiredBy l k q) (sym s.2) (fired_later s.0 (e ∷ s.1) (length s.0) k q (omega arith) (let n = s.3 in omega arith) f) in

@@ -5,3 +5,6 @@ pub mod Nesting
 pub mod Holders
 pub mod Names
 pub mod Firing
+pub mod Logs
+pub mod Steps
+pub mod Events

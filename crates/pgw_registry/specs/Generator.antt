@@ -18,9 +18,9 @@ NoNumber OutOfMemory v w = (w.seen ≤ 2147483647) × (w.drawn ≡ v.drawn)
 abbrev pub with_seat : Numbers → ℕ → List ℕ
 with_seat v n = cond v.owes v.drawn (v.drawn ++ n ∷ [])
 
--- without memory the seat is owed
+-- where the numbers are spent, one that owes a seat draws none, and another at most the one seen. Without memory the seat is owed
 abbrev pub NoSeat : PidError → Numbers → Numbers → Type 0
-NoSeat PidsExhausted v w = (2147483647 < w.seen) × (w.owes ≡ v.owes) × ((w.drawn ≡ v.drawn) ⊎ (w.drawn ≡ v.drawn ++ w.seen ∷ []))
+NoSeat PidsExhausted v w = (2147483647 < w.seen) × (w.owes ≡ v.owes) × ((w.drawn ≡ v.drawn) ⊎ (w.drawn ≡ with_seat v w.seen))
 NoSeat OutOfMemory v w = (w.seen ≤ 2147483647) × (w.owes ≡ true) × (w.drawn ≡ with_seat v w.seen)
 
 -- the numbers of both

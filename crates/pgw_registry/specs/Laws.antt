@@ -21,5 +21,5 @@ NoStartBetween log i j h = (m : ℕ) (e : Entry) → i < m → m < j → slice_g
 -- a look answers fired only after a cancel on the query's handle, or by its number and key, with no
 -- start on that handle between the query's start and that cancel
 abbrev pub FiredLaw : Type 0
-FiredLaw = (log : List Entry) → IsLegal nothing log → (k q by : ℕ) → slice_get log k ≡ Some (record { by = by; call = Look q; reply = Looked (Some tt) })
+FiredLaw = (log : List Entry) → IsLegal log → (k q by : ℕ) → slice_get log k ≡ Some (record { by = by; call = Look q; reply = Looked (Some tt) })
     → (i : ℕ) × (j : ℕ) × (h : ℕ) × (i < j) × (j < k) × StartsAt log i h q × CancelsAt log j h × NoStartBetween log i j h

@@ -8,3 +8,5 @@ pub mod Sequential
 pub mod Registry
 pub mod BookCode
 pub mod Laws
+pub mod History
+pub mod Passes

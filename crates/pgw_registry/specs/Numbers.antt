@@ -24,6 +24,10 @@ above (y ∷ ys) = cond (ltb 2147483647 y) 1 0 + above ys
 abbrev pub IsDistinct : List ℕ → Type 0
 IsDistinct xs = (x : ℕ) → times x xs ≤ 1
 
+-- no number stands there that is below this one
+abbrev pub NoneBelow : ℕ → List ℕ → Type 0
+NoneBelow begins xs = (x : ℕ) → x < begins → times x xs ≡ 0
+
 -- one where it holds
 abbrev pub weight : Bool → ℕ
 weight b = cond b 1 0
@@ -78,12 +82,12 @@ Looked s m n w = (w.0 ≡ saw m.0 n) × (w.1 ≡ m.1) × (m.0.seen ≤ n) × (n 
 
 -- the numbers that it holds were compared
 abbrev pub Compared : Step (Unit {0}) → Sat → ℕ → Sat → Type 0
-Compared s m n w = (w.0 ≡ m.0) × (w.1 ≡ m.1) × IsDistinct m.0.drawn
+Compared s m n w = (w.0 ≡ m.0) × (w.1 ≡ m.1) × IsDistinct m.0.drawn × NoneBelow m.0.begins m.0.drawn
 
 -- the number was drawn
 abbrev pub Drew : Step (Unit {0}) → Sat → ℕ → Sat → Type 0
-Drew s m n w = (w.0 ≡ drew m.0 n m.0.owes) × (w.1 ≡ m.1) × (m.0.seen ≤ n) × IsDistinct w.0.drawn × (m.0.begins ≤ n)
+Drew s m n w = (w.0 ≡ drew m.0 n m.0.owes) × (w.1 ≡ m.1) × (m.0.seen ≤ n) × IsDistinct w.0.drawn × NoneBelow w.0.begins w.0.drawn × (m.0.begins ≤ n)
 
 -- the number was drawn for a seat, which is owed where it is a process number
 abbrev pub DrewForSeat : Step (Unit {0}) → Sat → ℕ → Sat → Type 0
-DrewForSeat s m n w = (w.0 ≡ drew m.0 n (leb n 2147483647)) × (w.1 ≡ m.1) × (m.0.seen ≤ n) × IsDistinct w.0.drawn × (m.0.begins ≤ n)
+DrewForSeat s m n w = (w.0 ≡ drew m.0 n (leb n 2147483647)) × (w.1 ≡ m.1) × (m.0.seen ≤ n) × IsDistinct w.0.drawn × NoneBelow w.0.begins w.0.drawn × (m.0.begins ≤ n)

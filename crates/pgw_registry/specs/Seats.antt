@@ -3,7 +3,7 @@ use Rattle.std.specs.Prelude.{◌≡◌, ℕ, ◌<◌, Bool, List, []}
 use Rattle.atomic_table.specs.Table.{Me}
 use Rattle.atomic_table.specs.Seated.{TableId}
 use Rattle.pgw_registry.specs.declared.numbers.Hand.{Hand}
-use Rattle.pgw_registry.specs.Numbers.{IsDistinct}
+use Rattle.pgw_registry.specs.Numbers.{IsDistinct, NoneBelow}
 
 -- whose seat it is, where the numbers begin, the numbers that it drew, the greatest that it has
 -- loaded or drawn, and the mark that it owes a seat
@@ -16,4 +16,4 @@ pub record Numbers : Type 0 where
 
 -- a seat that holds nothing but its view, whose mark is the one that it runs by
 abbrev pub IsSeated : Me (Unit {0}) Hand → Bool → Type 0
-IsSeated me owes = (me.1 ≡ []) × (0 < me.0.seats) × (owes ≡ me.0.owes) × IsDistinct me.0.drawn
+IsSeated me owes = (me.1 ≡ []) × (0 < me.0.seats) × (owes ≡ me.0.owes) × IsDistinct me.0.drawn × NoneBelow me.0.begins me.0.drawn

@@ -1,5 +1,5 @@
 -- The registry as a step function of a call and a state.
-use Rattle.std.specs.Prelude.{◌≡◌, ℕ, ◌+◌, ◌-◌, Bool, true, false, cond, eqb, ℤ, List, [], ◌∷◌, Option, Some, None}
+use Rattle.std.specs.Prelude.{◌≡◌, ℕ, ◌+◌, ◌-◌, ◌≤◌, Bool, true, false, cond, eqb, ℤ, List, [], ◌∷◌, length, Option, Some, None}
 use Rattle.std.specs.Ordering.{nat_cmp}
 use Rattle.std.specs.FinMap as map
 use Rattle.pgw_registry.specs.Pairs.{PairMap, without_handle}
@@ -199,7 +199,11 @@ abbrev pub state_after : Book → List Entry → Book
 state_after b [] = b
 state_after b (e ∷ es) = state_after (next b e.call) es
 
--- each reply is the one that the calls before it give
-abbrev pub IsLegal : Book → List Entry → Type 0
-IsLegal b [] = Unit {0}
-IsLegal b (e ∷ es) = (e.reply ≡ reply_of b e.call) × IsLegal (next b e.call) es
+-- each reply is the one that the state and the calls before it give
+abbrev pub AreReplies : Book → List Entry → Type 0
+AreReplies b [] = Unit {0}
+AreReplies b (e ∷ es) = (e.reply ≡ reply_of b e.call) × AreReplies (next b e.call) es
+
+-- each reply is the one that the calls before it give, and there are at most as many as can be counted
+abbrev pub IsLegal : List Entry → Type 0
+IsLegal log = (length log ≤ 18446744073709551615) × AreReplies nothing log

@@ -2,7 +2,7 @@
 ghost use Rattle.std.specs.Prelude.{◌≡◌, ◌⊎◌, ℕ, ◌+◌, ◌<◌, ◌≤◌, Bool, true, false, leb, List, [], ◌∷◌, ◌++◌, IfOk, IfErr, pos, ◌≤ℤ◌};
 ghost use Rattle.pgw_types.specs.declared.context.ProtocolVersion.TheVariants.{PROTOCOL3_0};
 ghost use Rattle.pgw_registry.specs.declared.error.PidError.TheVariants.{PidsExhausted};
-ghost use Rattle.pgw_registry.specs.Numbers.{IsDistinct, above, saw, drew, settled, newcomer, both_of};
+ghost use Rattle.pgw_registry.specs.Numbers.{IsDistinct, NoneBelow, above, saw, drew, settled, newcomer, both_of};
 ghost use Rattle.pgw_registry.specs.Seats.{Numbers as Listing};
 ghost use Rattle.pgw_registry.specs.Key.{key_of};
 ghost use Rattle.pgw_registry.specs.Generator.{unused, NoNumber, NoSeat, with_seat, met};
@@ -71,6 +71,7 @@ pub trait PidSecretKeyGenerator {
         requires { fits self.now seat.old }
         ensures fits { fits self.now seat.new }
         ensures distinct { IsDistinct seat.new.drawn }
+        ensures low { NoneBelow seat.new.begins seat.new.drawn }
         ensures kept { (seat.new.of ≡ seat.old.of) × (seat.new.begins ≡ seat.old.begins) × (seat.new.owes ≡ seat.old.owes) × (seat.old.seen ≤ seat.new.seen) }
         ensures ok { IfOk result (λ r. (r.0 ≡ pos seat.new.seen) × (seat.old.begins ≤ seat.new.seen) × (seat.new.seen ≤ 2147483647) × (seat.new.drawn ≡ seat.old.drawn ++ seat.new.seen ∷ []) × (r.1 ≡ key_of version words.now)) }
         ensures err { IfErr result (λ e. NoNumber e seat.old seat.new) }
@@ -128,6 +129,7 @@ impl RandomPidSecretKeyGenerator {
         requires { from.old.of ≡ self.now }
         ensures kept { (from.new.of ≡ from.old.of) × (from.new.begins ≡ from.old.begins) × (from.old.seen ≤ from.new.seen) }
         ensures distinct { IsDistinct from.new.drawn }
+        ensures low { NoneBelow from.new.begins from.new.drawn }
         ensures ok { IfOk result (λ s. (s ≡ unused self.now from.old.begins) × (from.new.owes ≡ false) × (from.new.seen ≤ 2147483647) × (from.new.drawn ≡ with_seat from.old from.new.seen)) }
         ensures err { IfErr result (λ e. NoSeat e from.old from.new) }
     {
@@ -155,7 +157,7 @@ impl PidSeat {
         other: PidSeat,
     ) -> Result<(), PidSeat>
         requires { (self.old.of ≡ generator.now) × (other.of ≡ generator.now) }
-        ensures ok { IfOk result (λ _. (self.new ≡ met self.old other) × IsDistinct self.new.drawn) }
+        ensures ok { IfOk result (λ _. (self.new ≡ met self.old other) × IsDistinct self.new.drawn × NoneBelow self.new.begins self.new.drawn) }
         ensures err { IfErr result (λ s. (s ≡ other) × (self.new ≡ self.old)) }
     {
         let PidSeat { place, owes } = other;
@@ -179,7 +181,7 @@ fn draw(word: &Word, place: &mut Place) -> u64
     requires table { (word.now.shared.table_id.words ≡ 1) × (place.old.table_id ≡ word.now.shared.table_id) }
     requires room { (0 < place.old.me.0.seats) × (above place.old.me.0.drawn ≡ 0) }
     ensures place { (place.new.table_id ≡ place.old.table_id) × (place.new.me.1 ≡ place.old.me.1) × (place.new.me.0 ≡ drew place.old.me.0 result place.old.me.0.owes) }
-    ensures told { (place.old.me.0.seen ≤ result) × IsDistinct place.new.me.0.drawn × (place.old.me.0.begins ≤ result) }
+    ensures told { (place.old.me.0.seen ≤ result) × IsDistinct place.new.me.0.drawn × NoneBelow place.new.me.0.begins place.new.me.0.drawn × (place.old.me.0.begins ≤ result) }
 {
     word.shared.fetch_add::<Draws>(place, 0, 1)
 }
@@ -189,7 +191,7 @@ fn draw_for_seat(word: &Word, place: &mut Place) -> u64
     requires table { (word.now.shared.table_id.words ≡ 1) × (place.old.table_id ≡ word.now.shared.table_id) }
     requires room { (0 < place.old.me.0.seats) × (above place.old.me.0.drawn ≡ 0) }
     ensures place { (place.new.table_id ≡ place.old.table_id) × (place.new.me.1 ≡ place.old.me.1) × (place.new.me.0 ≡ drew place.old.me.0 result (leb result 2147483647)) }
-    ensures told { (place.old.me.0.seen ≤ result) × IsDistinct place.new.me.0.drawn × (place.old.me.0.begins ≤ result) }
+    ensures told { (place.old.me.0.seen ≤ result) × IsDistinct place.new.me.0.drawn × NoneBelow place.new.me.0.begins place.new.me.0.drawn × (place.old.me.0.begins ≤ result) }
 {
     word.shared.fetch_add::<DrawsForSeat>(place, 0, 1)
 }
@@ -209,7 +211,7 @@ fn take_in(word: &Word, place: &mut Place, other: Place)
     requires table { (word.now.shared.table_id.words ≡ 1) × (place.old.table_id ≡ word.now.shared.table_id) × (other.table_id ≡ word.now.shared.table_id) }
     requires other { other.me.1 ≡ [] }
     ensures place { (place.new.table_id ≡ place.old.table_id) × (place.new.me.1 ≡ place.old.me.1) × (place.new.me.0 ≡ both_of place.old.me.0 other.me.0) }
-    ensures told { IsDistinct place.new.me.0.drawn }
+    ensures told { IsDistinct place.new.me.0.drawn × NoneBelow place.new.me.0.begins place.new.me.0.drawn }
 {
     word.shared.join_seat::<Seats>(place, other);
     word.shared.load::<Compares>(place, 0);

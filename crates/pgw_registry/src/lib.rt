@@ -6,9 +6,14 @@ pub mod error;
 pub mod generator;
 pub mod key;
 pub mod laws;
+pub mod manager;
 mod numbered;
 mod numbers;
 mod pairs;
 pub mod registry;
 #[cfg(test)]
+mod shared_tests;
+mod sight;
+#[cfg(test)]
 mod tests;
+mod turn;

@@ -3,26 +3,30 @@ use Rattle.std.proofs.Common.{◌≡◌, ℕ, List, [], ◌∷◌, ◌++◌, len
 use Rattle.std.proofs.lemmas.List.{append-nil, map-append}
 use Rattle.std.proofs.lemmas.List.Sums.{fold-append}
 use Rattle.pgw_types.specs.declared.error.PgWireError.{PgWireError}
-use Rattle.pgw_msg.specs.declared.backend.PgWireBackendMessage.{PgWireBackendMessage as Backend}
-use Rattle.pgw_msg.specs.declared.frontend.PgWireFrontendMessage.{PgWireFrontendMessage as Frontend}
-use Rattle.pgw_msg.specs.Front.{Spells}
-use Rattle.pgw_msg.specs.Frontend.{encoding, encodings, both}
+use Rattle.pgw_backend.specs.declared.backend.PgWireBackendMessage.{PgWireBackendMessage as Backend}
+use Rattle.pgw_frontend.specs.declared.frontend.PgWireFrontendMessage.{PgWireFrontendMessage as Frontend}
+use Rattle.pgw_backend.specs.Front.{Spells}
+use Rattle.pgw_frontend.specs.Frontend.{encoding, encodings, both}
 use Rattle.pgw_config.specs.declared.config.Config.{Config}
 use Rattle.pgw_session.specs.declared.types.Request.{Request}
 use Rattle.pgw_session.specs.declared.standing.Standing.{Standing}
 use Rattle.pgw_session.specs.declared.tally.Tally.{Tally}
-use Rattle.pgw_session.specs.declared.stage.Reply.{Reply}
-use Rattle.pgw_session.specs.declared.stage.Reply.TheVariants.{Silent, Passes}
 use Rattle.pgw_session.specs.declared.stage.Next.{Next}
-use Rattle.pgw_session.specs.declared.stage.Next.TheVariants.{Goes, Closes, Wrong, Refuses, Spoils}
+use Rattle.pgw_session.specs.declared.stage.Next.TheVariants.{Goes, Closes, Wrong, Refuses, PassesOver}
 use Rattle.pgw_session.specs.Events.{Event, Sent, Got, joined, sents}
 use Rattle.pgw_session.specs.Standings.{standing_of, standing_at, standing_by, first_standing}
-use Rattle.pgw_session.specs.Segments.{sends_of, is_ready}
+use Rattle.pgw_session.specs.Requests.{sends_of}
+use Rattle.pgw_session.specs.Segments.{is_ready, sends}
 use Rattle.pgw_session.specs.Answers.{tally_of, tally_at, tally_after}
 use Rattle.pgw_session.specs.Transcript.{SpellsGot}
-use Rattle.pgw_session.specs.Course.{Move, On, Ends}
-use Rattle.pgw_session.specs.Talk.{Talk, Ending, said, heard_of, sending, replies, opens, moves, drains, turn, talk_rules, after, stage_for}
+use Rattle.pgw_course.specs.Course.{Move, On, Ends}
+use Rattle.pgw_session.specs.Table.{after, stage_for}
+use Rattle.pgw_session.specs.Machine.{sending}
+use Rattle.pgw_session.proofs.Moves.{opens, moves, passing, turn}
+use Rattle.pgw_session.specs.Talk.{Talk, Ending, said, heard_of, talk_book, talk_rules}
+use Rattle.pgw_session.proofs.ReadingLaws.{steady_by}
 use Rattle.pgw_session.proofs.Hears.{Follows, sents_append, sents_sends}
+use Rattle.pgw_session.specs.Input.{Input}
 
 pub joined_more : (segments : List (List Event)) (es : List Event) → joined (segments ++ es ∷ []) ≡ joined segments ++ es
 joined_more [] es = append-nil es
@@ -60,13 +64,13 @@ pub first_sends : (config : Config) (fs : List Frontend) → standing_of config 
 unfolding standing_of
 first_sends config fs = standing_sends (first_standing config) fs
 
-reply_tally : (config : Config) (t : Tally) (reply : Reply) → fold tally_at t (map Sent (replies config reply)) ≡ t
-reply_tally config t Silent = refl
-reply_tally config t Passes = refl
+reply_tally : (t : Tally) (reply : Option Frontend) → fold tally_at t (map Sent (sends reply)) ≡ t
+reply_tally t None = refl
+reply_tally t (Some m) = refl
 
-pub tally_on : (config : Config) (es : List Event) (m : Backend) (reply : Reply) → tally_of (es ++ Got m ∷ map Sent (replies config reply)) ≡ tally_after (tally_of es) m
+pub tally_on : (es : List Event) (m : Backend) (reply : Option Frontend) → tally_of (es ++ Got m ∷ map Sent (sends reply)) ≡ tally_after (tally_of es) m
 unfolding tally_of
-tally_on config es m reply = fold-append tally_at _ es (Got m ∷ map Sent (replies config reply)) ∙ reply_tally config _ reply
+tally_on es m reply = fold-append tally_at _ es (Got m ∷ map Sent (sends reply)) ∙ reply_tally _ reply
 
 -- encodings, one list behind the other
 pub both_assoc : (a b c : Result (List ℕ) PgWireError) → both (both a b) c ≡ both a (both b c)
@@ -102,7 +106,7 @@ got_sends r [] (f ∷ fs) a s = got_sends r [] fs a s
 got_sends r (Sent x ∷ es) fs a s = got_sends r es fs a s
 got_sends r (Got x ∷ es) fs a s = (s.0, s.1, s.2, s.3, got_sends (standing_by r x) es fs s.1 s.4)
 
-pub clean_heard : (t : Talk) → t.skipped ≡ [] → said t ≡ heard_of t
+pub clean_heard : (t : Talk) → t.passed ≡ [] → said t ≡ heard_of t
 clean_heard t clean = sym (append-nil (said t)) ∙ ap (λ (ms : List Backend). said t ++ map Got ms) (sym clean)
 
 -- what a move that goes on has got and sent
@@ -114,29 +118,29 @@ sending_grown : (before behind : Talk) (es : List Event) (fs : List Frontend) (o
 sending_grown before behind es fs (Err e) is are = tt
 sending_grown before behind es fs (Ok out) is are = (fs, are, is)
 
-pub opens_grown : (closed : List (List Event)) (q : Option Request) → Grown (joined closed) (opens closed q)
-opens_grown closed None = tt
-opens_grown closed (Some q) = sending_grown _ (record { closed = closed; open_events = map Sent (sends_of q); stage = stage_for q; skipped = [] }) (joined closed) (sends_of q) (encodings (sends_of q)) refl (append-nil _)
+pub opens_grown : (input : Input) (closed : List (List Event)) (q : Option Request) → Grown (joined closed) (opens input closed q)
+opens_grown input closed None = tt
+opens_grown input closed (Some q) = sending_grown _ (record { closed = closed; open_events = map Sent (sends_of q); stage = stage_for q; passed = [] }) (joined closed) (sends_of q) (encodings (sends_of q)) refl (append-nil _)
 
-moves_grown : (config : Config) (requests : List Request) (t : Talk) (m : Backend) (n : Next) → Grown (said t ++ Got m ∷ []) (moves config requests t m n)
-moves_grown config requests t m (Goes stage reply) =
-    sending_grown _ (record { closed = t.closed; open_events = t.open_events ++ Got m ∷ map Sent (replies config reply); stage = stage; skipped = [] }) (said t ++ Got m ∷ []) (replies config reply) (encodings (replies config reply)) refl
-    (append-nil _ ∙ sym (append_assoc (joined t.closed) t.open_events (Got m ∷ map Sent (replies config reply))) ∙ sym (append_assoc (said t) (Got m ∷ []) (map Sent (replies config reply))))
-moves_grown config requests t m Closes =
-    subst (λ (es : List Event). Grown es (moves config requests t m Closes)) (joined_more t.closed (t.open_events ++ Got m ∷ []) ∙ sym (append_assoc (joined t.closed) t.open_events (Got m ∷ [])))
-    (opens_grown _ (slice_get requests (length t.closed)))
-moves_grown config requests t m Wrong = tt
-moves_grown config requests t m Refuses = tt
-moves_grown config requests t m Spoils = ([], sym (append-nil _), refl)
+moves_grown : (input : Input) (t : Talk) (m : Backend) (n : Next) → t.passed ≡ [] → Grown (said t ++ Got m ∷ []) (moves input t m n)
+moves_grown input t m (Goes stage reply) none =
+    sending_grown _ (record { closed = t.closed; open_events = t.open_events ++ Got m ∷ map Sent (sends reply); stage = stage; passed = [] }) (said t ++ Got m ∷ []) (sends reply) (encodings (sends reply)) refl
+    (append-nil _ ∙ sym (append_assoc (joined t.closed) t.open_events (Got m ∷ map Sent (sends reply))) ∙ sym (append_assoc (said t) (Got m ∷ []) (map Sent (sends reply))))
+moves_grown input t m Closes none =
+    subst (λ (es : List Event). Grown es (moves input t m Closes)) (joined_more t.closed (t.open_events ++ Got m ∷ []) ∙ sym (append_assoc (joined t.closed) t.open_events (Got m ∷ [])))
+    (opens_grown input _ (slice_get input.requests (length t.closed)))
+moves_grown input t m Wrong none = tt
+moves_grown input t m (Refuses e) none = tt
+moves_grown input t m PassesOver none = ([], ap (λ (l : List Backend). said t ++ map Got (l ++ m ∷ [])) none ∙ sym (append-nil _), refl)
 
-drains_grown : (t : Talk) (first m : Backend) (b : Bool) → Grown (heard_of t ++ Got m ∷ []) (drains t first m b)
-drains_grown t first m true = tt
-drains_grown t first m false = ([], ap (λ (l : List Event). said t ++ l) (map-append Got t.skipped (m ∷ [])) ∙ sym (append_assoc (said t) (map Got t.skipped) (Got m ∷ [])) ∙ sym (append-nil _), refl)
+passing_grown : (input : Input) (t : Talk) (first m : Backend) (b : Bool) → Grown (heard_of t ++ Got m ∷ []) (passing input t first m b)
+passing_grown input t first m true = tt
+passing_grown input t first m false = ([], ap (λ (l : List Event). said t ++ l) (map-append Got t.passed (m ∷ [])) ∙ sym (append_assoc (said t) (map Got t.passed) (Got m ∷ [])) ∙ sym (append-nil _), refl)
 
-pub turn_grown : (config : Config) (requests : List Request) (t : Talk) (m : Backend) (skipped : List Backend) → t.skipped ≡ skipped → Grown (heard_of t ++ Got m ∷ []) (turn config requests t m skipped)
-turn_grown config requests t m [] none =
-    subst (λ (l : List Event). Grown (l ++ Got m ∷ []) (turn config requests t m [])) (sym (append-nil (said t)) ∙ ap (λ (ms : List Backend). said t ++ map Got ms) (sym none)) (moves_grown config requests t m (after t.stage m))
-turn_grown config requests t m (first ∷ rest) some = drains_grown t first m (is_ready m)
+pub turn_grown : (input : Input) (t : Talk) (m : Backend) (passed : List Backend) → t.passed ≡ passed → Grown (heard_of t ++ Got m ∷ []) (turn input t m passed)
+turn_grown input t m [] none =
+    subst (λ (l : List Event). Grown (l ++ Got m ∷ []) (turn input t m [])) (sym (append-nil (said t)) ∙ ap (λ (ms : List Backend). said t ++ map Got ms) (sym none)) (moves_grown input t m (after input t.stage m) none)
+turn_grown input t m (first ∷ rest) some = passing_grown input t first m (is_ready m)
 
 pub sents_gots : (es : List Event) (ms : List Backend) → sents (es ++ map Got ms) ≡ sents es
 sents_gots [] [] = refl
@@ -144,10 +148,11 @@ sents_gots [] (m ∷ ms) = sents_gots [] ms
 sents_gots (Sent m ∷ es) ms = ap (λ (l : List Frontend). m ∷ l) (sents_gots es ms)
 sents_gots (Got m ∷ es) ms = sents_gots es ms
 
-pub talk_follows : (config : Config) (requests : List Request) → Follows (talk_rules config requests) (λ t. standing_of config (heard_of t))
-talk_follows config requests = (
-  λ t. refl,
+pub talk_follows : (input : Input) → Follows (talk_rules input) (λ t. standing_of input.config (heard_of t))
+talk_follows input = (
+  steady_by (talk_book input) input,
+  λ t bytes. refl,
   λ t m next out is.
-      let g = subst (Grown (heard_of t ++ Got m ∷ [])) is (turn_grown config requests t m t.skipped refl) in
-      ap (standing_of config) g.1 ∙ standing_more config (heard_of t) m g.0,
+      let g = subst (Grown (heard_of t ++ Got m ∷ [])) is (turn_grown input t m t.passed refl) in
+      ap (standing_of input.config) g.1 ∙ standing_more input.config (heard_of t) m g.0,
 )

@@ -1,55 +1,54 @@
 -- What a conversation's end, or its waiting, says in the terms of transcripts.
-use Rattle.std.proofs.Common.{◌≡◌, ℕ, List, [], ◌∷◌, ◌++◌, map, Some, None, refl, ◌∙◌, ap, sym, subst}
+use Rattle.std.proofs.Common.{◌≡◌, ℕ, List, [], ◌∷◌, ◌++◌, map, Option, Some, None, refl, ◌∙◌, ap, sym, subst}
 use Rattle.std.proofs.lemmas.List.{append-nil}
 use Rattle.pgw_types.specs.declared.error.PgWireError.{PgWireError}
-use Rattle.pgw_msg.specs.declared.backend.PgWireBackendMessage.{PgWireBackendMessage as Backend}
-use Rattle.pgw_msg.specs.declared.backend.PgWireBackendMessage.TheVariants as backend
-use Rattle.pgw_msg.specs.declared.client_error.PgWireClientError.{PgWireClientError as ClientError}
-use Rattle.pgw_msg.specs.declared.client_error.PgWireClientError.TheVariants as client
-use Rattle.pgw_msg.specs.Front.{front}
-use Rattle.pgw_msg.specs.Frontend.{encodings}
-use Rattle.pgw_config.specs.declared.config.Config.{Config}
-use Rattle.pgw_session.specs.declared.types.Request.{Request}
+use Rattle.pgw_backend.specs.declared.backend.PgWireBackendMessage.{PgWireBackendMessage as Backend}
+use Rattle.pgw_backend.specs.declared.client_error.PgWireClientError.{PgWireClientError as ClientError}
+use Rattle.pgw_backend.specs.Front.{front}
+use Rattle.pgw_frontend.specs.Frontend.{encodings}
+use Rattle.pgw_query.specs.declared.response.ErrorResponse.{ErrorResponse}
 use Rattle.pgw_session.specs.Events.{Event, Got, joined}
 use Rattle.pgw_session.specs.Standings.{first_standing, standing_of}
 use Rattle.pgw_session.specs.Answers.{tally_of}
 use Rattle.pgw_session.specs.Transcript.{IsLegalPrefix, SpellsGot, EncodesSent, Completed, report_of}
-use Rattle.pgw_session.specs.Failures.{HasEnded, Awaits, RefusedAt, at_once, at_ready, at_the_end, Misplaced, Told, NextAtStartup, WaitsAt, LeftWith, Unreadable, Unsendable, IsHopeless, IsUnfinished, StoppedCause}
-use Rattle.pgw_session.specs.Course.{Course, Waits, Over, run, sent_of}
-use Rattle.pgw_session.specs.Talk.{Talk, Ending, Outcome, Complete, Unencoded, Stopped, said, heard_of, first_skipped, talk_rules, beginning, conversation, whole_talk}
-use Rattle.pgw_session.proofs.CourseLaws.{run_append}
+use Rattle.pgw_session.specs.Failures.{Awaits, RefusedAt, at_once, at_ready, at_the_end, Misplaced, NextAtStartup, WaitsAt, LeftWith, Unreadable, Unsendable, IsHopeless, IsUnfinished, FailsAtStartup, EndsAs, WaitsStill, Told, complete, misplaced, unreadable, unsendable, refused, waiting}
+use Rattle.pgw_course.specs.Course.{Course, Waits, Over, run, sent_of}
+use Rattle.pgw_session.specs.Machine.{Outcome, Complete, Unencoded, Unexpected, Unread, Refused, end_with}
+use Rattle.pgw_session.specs.Talk.{Talk, Ending, said, heard_of, first_passed, talk_rules, beginning, conversation, whole_talk}
+use Rattle.pgw_course.proofs.CourseLaws.{run_append}
 use Rattle.pgw_session.proofs.Events.{sents_gots, clean_heard}
 use Rattle.pgw_session.proofs.Whole.{conversation_completes, lost_run, lost_not_ended}
-use Rattle.pgw_session.proofs.Sound.{conversation_sound, SoundAt, Final, Open, OpenIf, Cause, FirstAtStartup, Misplaces, Skipped, open_legal, open_awaits}
+use Rattle.pgw_session.proofs.Sound.{conversation_sound, SoundAt, Final, Open, OpenIf, Cause, FirstAtStartup, Misplaces, Passed, open_awaits}
 use Rattle.pgw_session.proofs.StandingLaws.{remote_first}
 use Rattle.pgw_session.proofs.Complete.{ends_agree, waits_before}
+use Rattle.pgw_session.specs.Input.{Input}
 
 -- ---- what was got and sent, without the messages passed over
 
 put_said : (t : Talk) (sent : List ℕ) → EncodesSent (heard_of t) sent → EncodesSent (said t) sent
-put_said t sent put = ap encodings (sym (sents_gots (said t) t.skipped)) ∙ put
+put_said t sent put = ap encodings (sym (sents_gots (said t) t.passed)) ∙ put
 
-got_said : (config : Config) (t : Talk) (done : List ℕ) → t.skipped ≡ [] → SpellsGot (first_standing config) (heard_of t) done → SpellsGot (first_standing config) (said t) done
-got_said config t done clean got = subst (λ (l : List Event). SpellsGot (first_standing config) l done) (sym (clean_heard t clean)) got
+got_said : (input : Input) (t : Talk) (done : List ℕ) → t.passed ≡ [] → SpellsGot (first_standing input.config) (heard_of t) done → SpellsGot (first_standing input.config) (said t) done
+got_said input t done clean got = subst (λ (l : List Event). SpellsGot (first_standing input.config) l done) (sym (clean_heard t clean)) got
 
 -- ---- the conversation ended
 
-ended : (config : Config) (requests : List Request) (taken sent : List ℕ) (ending : Ending) → conversation config requests taken ≡ Over ending sent → Final config requests ending taken sent
-ended config requests taken sent ending is = subst (SoundAt config requests taken) is (conversation_sound config requests taken)
+ended : (input : Input) (taken sent : List ℕ) (ending : Ending) → conversation input taken ≡ Over ending sent → Final input ending taken sent
+ended input taken sent ending is = subst (SoundAt input taken) is (conversation_sound input taken)
 
-cause_at : (config : Config) (requests : List Request) (taken sent : List ℕ) (ending : Ending) (outcome : Outcome) (final : Final config requests ending taken sent) → ending.outcome ≡ outcome → Cause config requests ending.talk final.rest outcome
-cause_at config requests taken sent ending outcome final is = subst (Cause config requests ending.talk final.rest) is final.cause
+cause_at : (input : Input) (taken sent : List ℕ) (ending : Ending) (outcome : Outcome) (final : Final input ending taken sent) → ending.outcome ≡ outcome → Cause input ending.notes final.rest outcome
+cause_at input taken sent ending outcome final is = subst (Cause input ending.notes final.rest) is final.cause
 
-open_at : (config : Config) (requests : List Request) (taken sent : List ℕ) (ending : Ending) (e : ClientError) (final : Final config requests ending taken sent) → ending.outcome ≡ Stopped e → Open config requests ending.talk × Skipped config requests ending.talk (ending.talk).skipped
-open_at config requests taken sent ending e final is = subst (OpenIf config requests ending.talk) is final.is_open
+open_at : (input : Input) (taken sent : List ℕ) (ending : Ending) (o : Outcome) (final : Final input ending taken sent) → ending.outcome ≡ o → OpenIf input ending.notes o
+open_at input taken sent ending o final is = subst (OpenIf input ending.notes) is final.is_open
 
 -- where it is whole, its segments are a transcript
-pub complete_is_completed : (config : Config) (requests : List Request) (taken sent : List ℕ) (ending : Ending) → conversation config requests taken ≡ Over ending sent → ending.outcome ≡ Complete
-    → Completed config requests taken sent (report_of config (ending.talk).closed)
-complete_is_completed config requests taken sent ending is whole =
-    let final = ended config requests taken sent ending is in
-    let cause = cause_at config requests taken sent ending Complete final whole in
-    let talk = ending.talk in
+pub complete_is_completed : (input : Input) (taken sent : List ℕ) (ending : Ending) → conversation input taken ≡ Over ending sent → ending.outcome ≡ Complete
+    → Completed input taken sent (report_of input (ending.notes).closed)
+complete_is_completed input taken sent ending is whole =
+    let final = ended input taken sent ending is in
+    let cause = cause_at input taken sent ending Complete final whole in
+    let talk = ending.notes in
     let all : heard_of talk ≡ joined talk.closed = sym (clean_heard talk cause.2) ∙ ap (λ (o : List Event). joined talk.closed ++ o) cause.1 ∙ append-nil (joined talk.closed) in
     record {
       segments = talk.closed;
@@ -57,220 +56,213 @@ complete_is_completed config requests taken sent ending is whole =
       spelled = final.done;
       rest = final.rest;
       begins = final.begins;
-      got = subst (λ (es : List Event). SpellsGot (first_standing config) es final.done) all final.got;
+      got = subst (λ (es : List Event). SpellsGot (first_standing input.config) es final.done) all final.got;
       put = subst (λ (es : List Event). EncodesSent es sent) all final.put;
       reported = refl;
     }
 
 abbrev IsShort : Outcome → Type 0
 IsShort Complete = ⊥
-IsShort (Unencoded e) = Unit {0}
-IsShort (Stopped e) = Unit {0}
+IsShort o = Unit {0}
 
 -- where it is not, no transcript comes of what follows
-hopeless : (config : Config) (requests : List Request) (taken sent : List ℕ) (ending : Ending) → conversation config requests taken ≡ Over ending sent → IsShort ending.outcome → IsHopeless config requests taken
-hopeless config requests taken sent ending is short limit more segments c =
-    let same = ends_agree config requests taken more c.bytes c.more ending (whole_talk segments) sent c.sent c.begins is (conversation_completes config requests segments c.bytes c.sent c.more c.transcript c.got c.put) in
+hopeless : (input : Input) (taken sent : List ℕ) (ending : Ending) → conversation input taken ≡ Over ending sent → IsShort ending.outcome → IsHopeless input taken
+hopeless input taken sent ending is short limit more segments c =
+    let same = ends_agree input taken more c.bytes c.more ending (whole_talk segments) sent c.sent c.begins is (conversation_completes input segments c.bytes c.sent c.more c.transcript c.got c.put) in
     subst (λ (e : Ending). IsShort e.outcome) same short
 
 -- messages were due of which one has no encoding
-pub unencoded : (config : Config) (requests : List Request) (taken sent : List ℕ) (ending : Ending) (e : PgWireError) → conversation config requests taken ≡ Over ending sent → ending.outcome ≡ Unencoded e
-    → Unsendable config requests taken sent e × IsHopeless config requests taken
-unencoded config requests taken sent ending e is why =
-    let final = ended config requests taken sent ending is in
-    let cause = cause_at config requests taken sent ending (Unencoded e) final why in (
+pub unencoded : (input : Input) (taken sent : List ℕ) (ending : Ending) (e : PgWireError) → conversation input taken ≡ Over ending sent → ending.outcome ≡ Unencoded e
+    → Unsendable input taken sent e × IsHopeless input taken
+unencoded input taken sent ending e is why =
+    let final = ended input taken sent ending is in
+    let cause = cause_at input taken sent ending (Unencoded e) final why in (
       record {
-        es = said ending.talk;
+        es = said ending.notes;
         due = cause.0;
         spelled = final.done;
         rest = final.rest;
         begins = final.begins;
-        got = got_said config ending.talk final.done cause.3 final.got;
-        put = put_said ending.talk sent final.put;
+        got = got_said input ending.notes final.done cause.3 final.got;
+        put = put_said ending.notes sent final.put;
         legal = cause.1;
         unencoded = cause.2;
       },
-      hopeless config requests taken sent ending is (subst IsShort (sym why) tt),
+      hopeless input taken sent ending is (subst IsShort (sym why) tt),
     )
 
-refused_how : (config : Config) (requests : List Request) (limit : ℕ) (t : Talk) (done rest left : List ℕ) (m : Backend) (skipped : List Backend) → t.skipped ≡ skipped → SpellsGot (first_standing config) (heard_of t) done
-    → Misplaces config requests t rest m skipped → RefusedAt config limit t.closed t.open_events m done rest left × (IsLegalPrefix config requests (said t ++ Got m ∷ []) → ⊥)
-refused_how config requests limit t done rest left m [] are got c =
-    (at_once c.0 (got_said config t done are got) (ap (λ (l : List Event). front (standing_of config l).version rest) (clean_heard t are) ∙ c.1) c.3 c.4, c.2)
-refused_how config requests limit t done rest left m (x ∷ ms) are got c =
+refused_how : (input : Input) (over : Type 0) (t : Talk) (done rest : List ℕ) (m : Backend) (passed : List Backend) → t.passed ≡ passed → SpellsGot (first_standing input.config) (heard_of t) done
+    → Misplaces input t rest m passed → RefusedAt input over t.closed t.open_events m done rest × (IsLegalPrefix input (said t ++ Got m ∷ []) → ⊥)
+refused_how input over t done rest m [] are got c =
+    (at_once c.0 (got_said input t done are got) (ap (λ (l : List Event). front (standing_of input.config l).version rest) (clean_heard t are) ∙ c.1) c.3 c.4, c.2)
+refused_how input over t done rest m (x ∷ ms) are got c =
     let all : heard_of t ≡ said t ++ map Got (m ∷ ms) = ap (λ (l : List Backend). said t ++ map Got l) are ∙ ap (λ y. said t ++ map Got (y ∷ ms)) c.0 in
-    (at_ready ms c.2 c.3 (subst (λ (l : List Event). SpellsGot (first_standing config) l done) all got) c.4 c.5 (ap (λ (l : List Event). front (standing_of config l).version rest) (sym all) ∙ c.6), c.1)
+    (at_ready ms c.2 c.3 (subst (λ (l : List Event). SpellsGot (first_standing input.config) l done) all got) c.4 c.5 (ap (λ (l : List Event). front (standing_of input.config l).version rest) (sym all) ∙ c.6), c.1)
 
-misplaced_end : (config : Config) (requests : List Request) (limit : ℕ) (taken sent left : List ℕ) (ending : Ending) (final : Final config requests ending taken sent) (m : Backend) → Open config requests ending.talk → Misplaces config requests ending.talk final.rest m (ending.talk).skipped
-    → Misplaced config requests limit taken sent left m
-misplaced_end config requests limit taken sent left ending final m is_open cause =
-    let how = refused_how config requests limit ending.talk final.done final.rest left m (ending.talk).skipped refl final.got cause in
+misplaced_end : (input : Input) (over : Type 0) (taken sent : List ℕ) (ending : Ending) (final : Final input ending taken sent) (m : Backend) → Open input ending.notes → Misplaces input ending.notes final.rest m (ending.notes).passed
+    → Misplaced input over taken sent m
+misplaced_end input over taken sent ending final m is_open cause =
+    let how = refused_how input over ending.notes final.done final.rest m (ending.notes).passed refl final.got cause in
     record {
-      closed = (ending.talk).closed;
-      part = (ending.talk).open_events;
-      awaits = open_awaits config requests ending.talk is_open;
+      closed = (ending.notes).closed;
+      part = (ending.notes).open_events;
+      awaits = open_awaits input ending.notes is_open;
       spelled = final.done;
       rest = final.rest;
       begins = final.begins;
-      put = put_said ending.talk sent final.put;
+      put = put_said ending.notes sent final.put;
       misplaced = how.1;
       how = how.0;
     }
 
-next_at_startup : (config : Config) (requests : List Request) (taken sent : List ℕ) (ending : Ending) (final : Final config requests ending taken sent) (m : Backend) → Open config requests ending.talk → FirstAtStartup config ending.talk final.rest m
-    → NextAtStartup config requests taken sent (ending.talk).open_events m
-next_at_startup config requests taken sent ending final m is_open cause =
-    let t = ending.talk in
+next_at_startup : (input : Input) (taken sent : List ℕ) (ending : Ending) (final : Final input ending taken sent) (m : Backend) → Open input ending.notes → FirstAtStartup input ending.notes final.rest m
+    → NextAtStartup input taken sent (ending.notes).open_events m
+next_at_startup input taken sent ending final m is_open cause =
+    let t = ending.notes in
     let all : said t ≡ t.open_events = ap (λ (c : List (List Event)). joined c ++ t.open_events) cause.2 in
     record {
-      awaits = subst (λ (c : List (List Event)). Awaits config requests c t.open_events) cause.2 (open_awaits config requests t is_open);
+      awaits = subst (λ (c : List (List Event)). Awaits input c t.open_events) cause.2 (open_awaits input t is_open);
       spelled = final.done;
       rest = final.rest;
       len = cause.0;
       begins = final.begins;
-      got = subst (λ (l : List Event). SpellsGot (first_standing config) l final.done) all (got_said config t final.done cause.3 final.got);
+      got = subst (λ (l : List Event). SpellsGot (first_standing input.config) l final.done) all (got_said input t final.done cause.3 final.got);
       put = subst (λ (l : List Event). EncodesSent l sent) all (put_said t sent final.put);
-      next = ap (λ (l : List Event). front (standing_of config l).version final.rest) (sym all ∙ clean_heard t cause.3) ∙ cause.1;
+      next = ap (λ (l : List Event). front (standing_of input.config l).version final.rest) (sym all ∙ clean_heard t cause.3) ∙ cause.1;
     }
 
-unreadable : (config : Config) (requests : List Request) (taken sent : List ℕ) (ending : Ending) (final : Final config requests ending taken sent) (why : PgWireError) → Open config requests ending.talk × Skipped config requests ending.talk (ending.talk).skipped
-    → Cause config requests ending.talk final.rest (Stopped (client.PgWireError why)) → Unreadable config requests taken sent why
-unreadable config requests taken sent ending final why at cause = record {
-  closed = (ending.talk).closed;
-  part = (ending.talk).open_events;
-  drained = (ending.talk).skipped;
-  awaits = open_awaits config requests ending.talk at.0;
-  passed = at.1;
+unread_at : (input : Input) (taken sent : List ℕ) (ending : Ending) (final : Final input ending taken sent) (why : PgWireError) → Open input ending.notes × Passed input ending.notes (ending.notes).passed
+    → Cause input ending.notes final.rest (Unread why) → Unreadable input taken sent why
+unread_at input taken sent ending final why at cause = record {
+  closed = (ending.notes).closed;
+  part = (ending.notes).open_events;
+  passed = (ending.notes).passed;
+  awaits = open_awaits input ending.notes at.0;
+  passes = at.1;
   spelled = final.done;
   rest = final.rest;
   begins = final.begins;
   got = final.got;
-  put = put_said ending.talk sent final.put;
+  put = put_said ending.notes sent final.put;
   next = cause;
 }
 
-stopped_cause : (config : Config) (requests : List Request) (limit : ℕ) (taken sent left : List ℕ) (ending : Ending) (final : Final config requests ending taken sent) (e : ClientError) → Open config requests ending.talk × Skipped config requests ending.talk (ending.talk).skipped
-    → Cause config requests ending.talk final.rest (Stopped e) → StoppedCause config requests limit taken sent left e
-stopped_cause config requests limit taken sent left ending final (client.UnexpectedMessage m) at cause = misplaced_end config requests limit taken sent left ending final m at.0 cause
-stopped_cause config requests limit taken sent left ending final (client.PgWireError why) at cause = unreadable config requests taken sent ending final why at cause
-stopped_cause config requests limit taken sent left ending final (client.RemoteError r) at cause = ((ending.talk).open_events, next_at_startup config requests taken sent ending final (backend.ErrorResponse r) at.0 cause)
-stopped_cause config requests limit taken sent left ending final client.NotYetBuilt at cause = ((ending.talk).open_events, cause.0, cause.1, cause.3, next_at_startup config requests taken sent ending final cause.0 at.0 cause.2)
-stopped_cause config requests limit taken sent left ending final e at cause = absurd cause
-
 -- what was got ended it
-pub stopped : (config : Config) (requests : List Request) (limit : ℕ) (taken sent left : List ℕ) (ending : Ending) (e : ClientError) → conversation config requests taken ≡ Over ending sent → ending.outcome ≡ Stopped e
-    → StoppedCause config requests limit taken sent left e × IsHopeless config requests taken
-stopped config requests limit taken sent left ending e is why =
-    let final = ended config requests taken sent ending is in
-    (stopped_cause config requests limit taken sent left ending final e (open_at config requests taken sent ending e final why) (cause_at config requests taken sent ending (Stopped e) final why), hopeless config requests taken sent ending is (subst IsShort (sym why) tt))
+pub ended_misplaced : (input : Input) (over : Type 0) (taken sent : List ℕ) (ending : Ending) (m : Backend) → conversation input taken ≡ Over ending sent → ending.outcome ≡ Unexpected m → Misplaced input over taken sent m × IsHopeless input taken
+ended_misplaced input over taken sent ending m is why =
+    let final = ended input taken sent ending is in
+    (misplaced_end input over taken sent ending final m (open_at input taken sent ending (Unexpected m) final why).0 (cause_at input taken sent ending (Unexpected m) final why), hopeless input taken sent ending is (subst IsShort (sym why) tt))
+
+pub ended_unread : (input : Input) (taken sent : List ℕ) (ending : Ending) (e : PgWireError) → conversation input taken ≡ Over ending sent → ending.outcome ≡ Unread e → Unreadable input taken sent e × IsHopeless input taken
+ended_unread input taken sent ending e is why =
+    let final = ended input taken sent ending is in
+    (unread_at input taken sent ending final e (open_at input taken sent ending (Unread e) final why) (cause_at input taken sent ending (Unread e) final why), hopeless input taken sent ending is (subst IsShort (sym why) tt))
+
+pub ended_refused : (input : Input) (taken sent : List ℕ) (ending : Ending) (e : ClientError) → conversation input taken ≡ Over ending sent → ending.outcome ≡ Refused e → FailsAtStartup input taken sent e × IsHopeless input taken
+ended_refused input taken sent ending e is why =
+    let final = ended input taken sent ending is in
+    let cause = cause_at input taken sent ending (Refused e) final why in
+    let opened = open_at input taken sent ending (Refused e) final why in
+    (((ending.notes).open_events, cause.0, cause.1, next_at_startup input taken sent ending final cause.0 opened.0 cause.2), hopeless input taken sent ending is (subst IsShort (sym why) tt))
 
 -- ---- the conversation waits
 
-waits_with : (config : Config) (requests : List Request) (taken sent pending : List ℕ) (t : Talk) (skipped : List Backend) → t.skipped ≡ skipped → conversation config requests taken ≡ Waits t sent pending
-    → WaitsAt config requests taken sent t.closed t.open_events skipped
-waits_with config requests taken sent pending t skipped are is =
-    let at = subst (SoundAt config requests taken) is (conversation_sound config requests taken) in
-    let all : heard_of t ≡ said t ++ map Got skipped = ap (λ (l : List Backend). said t ++ map Got l) are in
+waits_with : (input : Input) (taken sent pending : List ℕ) (t : Talk) (passed : List Backend) → t.passed ≡ passed → conversation input taken ≡ Waits t sent pending
+    → WaitsAt input taken sent t.closed t.open_events passed
+waits_with input taken sent pending t passed are is =
+    let at = subst (SoundAt input taken) is (conversation_sound input taken) in
+    let all : heard_of t ≡ said t ++ map Got passed = ap (λ (l : List Backend). said t ++ map Got l) are in
     record {
-      awaits = open_awaits config requests t at.2.is_open;
-      passed = subst (Skipped config requests t) are at.2.skipped;
+      awaits = open_awaits input t at.2.is_open;
+      passes = subst (Passed input t) are at.2.passed;
       spelled = at.0;
       rest = pending;
       begins = at.1;
-      got = subst (λ (l : List Event). SpellsGot (first_standing config) l at.0) all at.2.got;
+      got = subst (λ (l : List Event). SpellsGot (first_standing input.config) l at.0) all at.2.got;
       put = put_said t sent at.2.put;
-      partial = ap (λ (l : List Event). front (standing_of config l).version pending) (sym all) ∙ at.3;
+      partial = ap (λ (l : List Event). front (standing_of input.config l).version pending) (sym all) ∙ at.3;
     }
 
 -- it waits behind a legal prefix, and maybe messages passed over
-pub waits_at : (config : Config) (requests : List Request) (taken sent pending : List ℕ) (t : Talk) → conversation config requests taken ≡ Waits t sent pending → WaitsAt config requests taken sent t.closed t.open_events t.skipped
-waits_at config requests taken sent pending t is = waits_with config requests taken sent pending t t.skipped refl is
+pub waits_at : (input : Input) (taken sent pending : List ℕ) (t : Talk) → conversation input taken ≡ Waits t sent pending → WaitsAt input taken sent t.closed t.open_events t.passed
+waits_at input taken sent pending t is = waits_with input taken sent pending t t.passed refl is
 
 -- no transcript is whole yet
-pub unfinished : (config : Config) (requests : List Request) (taken sent pending : List ℕ) (t : Talk) → conversation config requests taken ≡ Waits t sent pending → IsUnfinished config requests taken
-unfinished config requests taken sent pending t is segments c =
-    waits_before config requests taken [] c.bytes c.more sent pending t (whole_talk segments) c.sent (sym c.begins ∙ sym (append-nil taken)) c.within
-    (λ rest. conversation_completes config requests segments c.bytes c.sent rest c.transcript c.got c.put) is
+pub unfinished : (input : Input) (taken sent pending : List ℕ) (t : Talk) → conversation input taken ≡ Waits t sent pending → IsUnfinished input taken
+unfinished input taken sent pending t is segments c =
+    waits_before input taken [] c.bytes c.more sent pending t (whole_talk segments) c.sent (sym c.begins ∙ sym (append-nil taken)) c.within
+    (λ rest. conversation_completes input segments c.bytes c.sent rest c.transcript c.got c.put) is
 
-skipped_first : (ms : List Backend) (m : Backend) → first_skipped ms ≡ Some m → (rest : List Backend) × (ms ≡ m ∷ rest)
-skipped_first [] m is = cc
-skipped_first (x ∷ ms) m is = (ms, ap (λ y. y ∷ ms) (cc))
+passed_first : (ms : List Backend) (m : Backend) → first_passed ms ≡ Some m → (rest : List Backend) × (ms ≡ m ∷ rest)
+passed_first [] m is = cc
+passed_first (x ∷ ms) m is = (ms, ap (λ y. y ∷ ms) (cc))
 
-none_skipped : (ms : List Backend) → first_skipped ms ≡ None → ms ≡ []
-none_skipped [] is = refl
-none_skipped (m ∷ ms) is = cc
+none_passed : (ms : List Backend) → first_passed ms ≡ None → ms ≡ []
+none_passed [] is = refl
+none_passed (m ∷ ms) is = cc
 
 -- what passes over messages comes to no transcript
-lost_hopeless : (config : Config) (requests : List Request) (taken sent pending : List ℕ) (t : Talk) (m : Backend) (ms : List Backend) → conversation config requests taken ≡ Waits t sent pending → t.skipped ≡ m ∷ ms → IsHopeless config requests taken
+lost_hopeless : (input : Input) (taken sent pending : List ℕ) (t : Talk) (m : Backend) (ms : List Backend) → conversation input taken ≡ Waits t sent pending → t.passed ≡ m ∷ ms → IsHopeless input taken
 unfolding conversation
-lost_hopeless config requests taken sent pending t m ms is are limit more segments c =
-    let rules = talk_rules config requests in
-    let on : run rules (beginning config) (taken ++ more) ≡ run rules (Waits t sent pending) more = run_append rules (beginning config) taken more ∙ ap (λ x. run rules x more) is in
-    let whole = conversation_completes config requests segments c.bytes c.sent c.more c.transcript c.got c.put in
-    lost_not_ended _ (whole_talk segments) c.sent (lost_run config requests (Waits t sent pending) more (m, ms, are)) (sym on ∙ ap (run rules (beginning config)) c.begins ∙ whole) tt
+lost_hopeless input taken sent pending t m ms is are limit more segments c =
+    let rules = talk_rules input in
+    let on : run rules (beginning input) (taken ++ more) ≡ run rules (Waits t sent pending) more = run_append rules (beginning input) taken more ∙ ap (λ x. run rules x more) is in
+    let whole = conversation_completes input segments c.bytes c.sent c.more c.transcript c.got c.put in
+    lost_not_ended _ (whole_talk segments) c.sent (lost_run input (Waits t sent pending) more (m, ms, are)) (sym on ∙ ap (run rules (beginning input)) c.begins ∙ whole) tt
 
--- the link ends behind messages passed over
-pub misplaced_left : (config : Config) (requests : List Request) (limit : ℕ) (taken sent pending left : List ℕ) (t : Talk) (m : Backend) → conversation config requests taken ≡ Waits t sent pending → first_skipped t.skipped ≡ Some m → HasEnded limit taken left
-    → Misplaced config requests limit taken sent left m × IsHopeless config requests taken
-misplaced_left config requests limit taken sent pending left t m is first none =
-    let at = subst (SoundAt config requests taken) is (conversation_sound config requests taken) in
-    let f = skipped_first t.skipped m first in
-    let skipped : Skipped config requests t (m ∷ f.0) = subst (Skipped config requests t) f.1 at.2.skipped in
+-- no more bytes come behind messages passed over
+pub misplaced_left : (input : Input) (over : Type 0) (taken sent pending : List ℕ) (t : Talk) (m : Backend) → conversation input taken ≡ Waits t sent pending → first_passed t.passed ≡ Some m → over
+    → Misplaced input over taken sent m × IsHopeless input taken
+misplaced_left input over taken sent pending t m is first none =
+    let at = subst (SoundAt input taken) is (conversation_sound input taken) in
+    let f = passed_first t.passed m first in
+    let passed : Passed input t (m ∷ f.0) = subst (Passed input t) f.1 at.2.passed in
     let all : heard_of t ≡ said t ++ map Got (m ∷ f.0) = ap (λ (l : List Backend). said t ++ map Got l) f.1 in (
       record {
         closed = t.closed;
         part = t.open_events;
-        awaits = open_awaits config requests t at.2.is_open;
+        awaits = open_awaits input t at.2.is_open;
         spelled = at.0;
         rest = pending;
         begins = at.1;
         put = put_said t sent at.2.put;
-        misplaced = skipped.0;
-        how = at_the_end f.0 skipped.1 skipped.2 (subst (λ (l : List Event). SpellsGot (first_standing config) l at.0) all at.2.got) (ap (λ (l : List Event). front (standing_of config l).version pending) (sym all) ∙ at.3) (subst (λ (l : List ℕ). HasEnded limit l left) at.1 none);
+        misplaced = passed.0;
+        how = at_the_end f.0 passed.1 passed.2 (subst (λ (l : List Event). SpellsGot (first_standing input.config) l at.0) all at.2.got) (ap (λ (l : List Event). front (standing_of input.config l).version pending) (sym all) ∙ at.3) none;
       },
-      lost_hopeless config requests taken sent pending t m f.0 is f.1,
+      lost_hopeless input taken sent pending t m f.0 is f.1,
     )
 
 -- or in an open segment, with or without an error
-pub left_with : (config : Config) (requests : List Request) (taken sent pending : List ℕ) (t : Talk) → conversation config requests taken ≡ Waits t sent pending → first_skipped t.skipped ≡ None
-    → LeftWith config requests taken sent (tally_of t.open_events).remote
-left_with config requests taken sent pending t is first = (t.closed, t.open_events, waits_with config requests taken sent pending t [] (none_skipped t.skipped first) is, sym (remote_first t.open_events))
+pub left_with : (input : Input) (taken sent pending : List ℕ) (t : Talk) → conversation input taken ≡ Waits t sent pending → first_passed t.passed ≡ None
+    → LeftWith input taken sent (tally_of t.open_events).remote
+left_with input taken sent pending t is first = (t.closed, t.open_events, waits_with input taken sent pending t [] (none_passed t.passed first) is, sym (remote_first t.open_events))
 
--- ---- wherever it is
+-- what the end of the bytes means
+end_by : (input : Input) (taken sent pending : List ℕ) (t : Talk) (first : Option Backend) (error : Option ErrorResponse) → first_passed t.passed ≡ first → (tally_of t.open_events).remote ≡ error
+    → conversation input taken ≡ Waits t sent pending → EndsAs input taken sent (end_with first error)
+end_by input taken sent pending t (Some m) error first is waits = misplaced_left input (Unit {0}) taken sent pending t m waits first tt
+end_by input taken sent pending t None (Some e) first is waits = (subst (LeftWith input taken sent) is (left_with input taken sent pending t waits first), unfinished input taken sent pending t waits)
+end_by input taken sent pending t None None first is waits = (subst (LeftWith input taken sent) is (left_with input taken sent pending t waits first), unfinished input taken sent pending t waits)
 
-told_by : (config : Config) (requests : List Request) (taken sent more : List ℕ) (c : Course Talk Ending) → SoundAt config requests taken c → sent_of c ≡ sent ++ more → (told : Told config requests taken sent) × (told.unsent ≡ more)
-told_by config requests taken sent more (Waits t s pending) at wrote = (
-  record {
-    es = said t;
-    drained = t.skipped;
-    spelled = at.0;
-    rest = pending;
-    begins = at.1;
-    got = at.2.got;
-    unsent = more;
-    put = put_said t (sent ++ more) (subst (EncodesSent (heard_of t)) wrote at.2.put);
-    legal = open_legal config requests t at.2.is_open;
-  },
-  refl,
-)
-told_by config requests taken sent more (Over e s) at wrote = (
-  record {
-    es = said e.talk;
-    drained = (e.talk).skipped;
-    spelled = at.done;
-    rest = at.rest;
-    begins = at.begins;
-    got = at.got;
-    unsent = more;
-    put = put_said e.talk (sent ++ more) (subst (EncodesSent (heard_of e.talk)) wrote at.put);
-    legal = at.legal;
-  },
-  refl,
-)
+pub ends_as : (input : Input) (taken sent pending : List ℕ) (t : Talk) → conversation input taken ≡ Waits t sent pending → EndsAs input taken sent (end_with (first_passed t.passed) (tally_of t.open_events).remote)
+ends_as input taken sent pending t is = end_by input taken sent pending t (first_passed t.passed) (tally_of t.open_events).remote refl refl is
 
--- what the bytes taken told, where a front of what is due was written
-pub told_unsent : (config : Config) (requests : List Request) (taken sent more : List ℕ) → sent_of (conversation config requests taken) ≡ sent ++ more → (told : Told config requests taken sent) × (told.unsent ≡ more)
-told_unsent config requests taken sent more wrote = told_by config requests taken sent more (conversation config requests taken) (conversation_sound config requests taken) wrote
+-- ---- whatever comes
 
-pub told : (config : Config) (requests : List Request) (taken sent more : List ℕ) → sent_of (conversation config requests taken) ≡ sent ++ more → Told config requests taken sent
-told config requests taken sent more wrote = (told_unsent config requests taken sent more wrote).0
+pub waits_still : (input : Input) (taken sent pending : List ℕ) (t : Talk) → conversation input taken ≡ Waits t sent pending → WaitsStill input taken sent
+waits_still input taken sent pending t is = ((t.closed, t.open_events, t.passed, waits_at input taken sent pending t is), unfinished input taken sent pending t is)
+
+told_at_end : (input : Input) (taken sent : List ℕ) (ending : Ending) (o : Outcome) → conversation input taken ≡ Over ending sent → ending.outcome ≡ o → Told input taken sent
+told_at_end input taken sent ending Complete is why = complete (report_of input (ending.notes).closed) (complete_is_completed input taken sent ending is why)
+told_at_end input taken sent ending (Unencoded e) is why = unsendable e (unencoded input taken sent ending e is why).0
+told_at_end input taken sent ending (Unexpected m) is why = misplaced m (ended_misplaced input ⊥ taken sent ending m is why).0
+told_at_end input taken sent ending (Unread e) is why = unreadable e (ended_unread input taken sent ending e is why).0
+told_at_end input taken sent ending (Refused e) is why = refused e (ended_refused input taken sent ending e is why).0
+
+told_by : (input : Input) (taken : List ℕ) (c : Course Talk Ending) → conversation input taken ≡ c → Told input taken (sent_of c)
+told_by input taken (Waits t sent pending) is = waiting (waits_still input taken sent pending t is)
+told_by input taken (Over e sent) is = told_at_end input taken sent e e.outcome is refl
+
+-- what the bytes taken tell
+pub told : (input : Input) (taken : List ℕ) → Told input taken (sent_of (conversation input taken))
+told input taken = told_by input taken (conversation input taken) refl

@@ -1,326 +1,497 @@
 -- The table and the grammar of segments are one.
-use Rattle.std.proofs.Common.{◌≡◌, ◌⊎◌, List, [], ◌∷◌, ◌++◌, map, Option, Some, None, inl, inr, refl, sym, subst, true, false}
-use Rattle.pgw_types.specs.declared.context.ProtocolVersion.{ProtocolVersion}
-use Rattle.pgw_startup.specs.Negotiate.{negotiated_version}
+use Rattle.std.proofs.Common.{◌≡◌, ℕ, Bool, true, false, not, List, [], ◌∷◌, ◌++◌, map, fold, Option, Some, None, refl, sym, ap, ◌∙◌, subst}
+use Rattle.std.proofs.lemmas.List.Sums.{fold-append}
 use Rattle.pgw_startup.specs.declared.authentication.Authentication.TheVariants as authentication
-use Rattle.pgw_msg.specs.declared.backend.PgWireBackendMessage.{PgWireBackendMessage as Backend}
-use Rattle.pgw_msg.specs.declared.backend.PgWireBackendMessage.TheVariants as backend
-use Rattle.pgw_msg.specs.declared.frontend.PgWireFrontendMessage.{PgWireFrontendMessage as Frontend}
-use Rattle.pgw_query.specs.declared.response.ErrorResponse.{ErrorResponse}
+use Rattle.pgw_backend.specs.declared.backend.PgWireBackendMessage.{PgWireBackendMessage as Backend}
+use Rattle.pgw_backend.specs.declared.backend.PgWireBackendMessage.TheVariants as backend
+use Rattle.pgw_frontend.specs.declared.frontend.PgWireFrontendMessage.{PgWireFrontendMessage as Frontend}
+use Rattle.pgw_frontend.specs.declared.frontend.PgWireFrontendMessage.TheVariants as frontend
+use Rattle.pgw_backend.specs.declared.client_error.PgWireClientError.{PgWireClientError as ClientError}
+use Rattle.pgw_query.specs.declared.response.ReadyForQuery.{ReadyForQuery}
 use Rattle.pgw_query.specs.declared.response.TransactionStatus.TheVariants as status
-use Rattle.pgw_config.specs.declared.config.Config.{Config}
 use Rattle.pgw_session.specs.declared.types.Request.{Request}
-use Rattle.pgw_session.specs.declared.types.Request.TheVariants.{Simple}
+use Rattle.pgw_session.specs.declared.types.Request.TheVariants as request
+use Rattle.pgw_session.specs.declared.types.Target.TheVariants as target
+use Rattle.pgw_session.specs.declared.stage.Kind.{Kind}
+use Rattle.pgw_session.specs.declared.stage.Kind.TheVariants as kind
 use Rattle.pgw_session.specs.declared.stage.Stage.{Stage}
-use Rattle.pgw_session.specs.declared.stage.Stage.TheVariants.{Starting, Admitted, Bare, Rows, Drains}
-use Rattle.pgw_session.specs.declared.stage.Reply.{Reply}
-use Rattle.pgw_session.specs.declared.stage.Reply.TheVariants.{Silent, Passes}
+use Rattle.pgw_session.specs.declared.stage.Stage.TheVariants.{Starting, Challenged, Proving, Admitted, Answering, PassingOver}
 use Rattle.pgw_session.specs.declared.stage.Next.{Next}
-use Rattle.pgw_session.specs.declared.stage.Next.TheVariants.{Goes, Closes, Wrong, Refuses, Spoils}
+use Rattle.pgw_session.specs.declared.stage.Next.TheVariants.{Goes, Closes, Wrong, Refuses, PassesOver}
+use Rattle.pgw_session.specs.Input.{Input}
 use Rattle.pgw_session.specs.Events.{Event, Sent, Got}
-use Rattle.pgw_session.specs.Segments.{IsWelcome, IsGreeting, IsReply, IsDrain, IsSimple, IsRequestSegment, WhereMapped, sends_of, password_message}
-use Rattle.pgw_session.specs.Talk.{after, where_mapped, stage_for, replies}
-use Rattle.pgw_session.specs.Failures.{HasLogin, HasError, IsUnsupportedLogin}
+use Rattle.pgw_session.specs.Logins.{Login, Unasked, Cleartext, Md5, Scram, login_events, IsAccepted, cleartext_message, md5_message, first_message, final_message, methods_refusal, first_refusal, expected_of, final_refusal}
+use Rattle.pgw_session.specs.declared.stage.Role.{Role}
+use Rattle.pgw_session.specs.declared.stage.Role.TheVariants.{Taken, Closing, Completing, Failing, Misplaced}
+use Rattle.pgw_session.specs.Requests.{sends_of, passes_over, role}
+use Rattle.pgw_session.specs.Segments.{IsStartupSegment, AreAll, IsUpToReady, is_ready, is_other, is_news, IsPassedOver, IsGreeting, AreTaken, IsEnd, IsAnswer, IsSimple, sends}
+use Rattle.pgw_session.specs.Table.{after, news_or, by_login, by_welcome, by_first, by_final, by_role, by_ready, unless, misplaced, stage_for}
+use Rattle.pgw_session.specs.Failures.{Place, Before, AtFirst, AtFinal, Behind, place_at, place_of, refusal_at}
+use Rattle.pgw_session.proofs.LoginTexts.{some_first, some_final}
+
+-- server-final in its place, and the welcome
+abbrev IsFinal : List ℕ → List Event → Type 0
+IsFinal expected es = (final : List ℕ) × (more : List Event) × (es ≡ Got (backend.Authentication (authentication.SASLFinal final)) ∷ more) × (final_refusal expected final ≡ None) × IsUpToReady is_news more
+
+-- server-first in its place
+abbrev IsFirst : Input → List Event → Type 0
+IsFirst input es = (first : List ℕ) × (more : List Event) × (es ≡ Got (backend.Authentication (authentication.SASLContinue first)) ∷ Sent (final_message input first) ∷ more) × (first_refusal input first ≡ None) × IsFinal (expected_of input first) more
 
 -- what may follow at a stage, to the segment's end
-abbrev pub Rest : Config → Stage → List Event → Type 0
-Rest config Starting es = IsGreeting config es
-Rest config Admitted es = IsWelcome es
-Rest config Bare es = IsReply false es
-Rest config Rows es = IsReply true es
-Rest config Drains es = IsDrain es
+abbrev pub Rest : Input → Stage → List Event → Type 0
+Rest input Starting es = IsGreeting input es
+Rest input Challenged es = IsFirst input es
+Rest input (Proving expected) es = IsFinal expected es
+Rest input Admitted es = IsUpToReady is_news es
+Rest input (Answering k rows) es = IsAnswer k rows es
+Rest input PassingOver es = IsPassedOver es
 
 -- the same behind a message
-abbrev pub RestBy : Config → Next → List Event → Type 0
-RestBy config (Goes s Silent) es = Rest config s es
-RestBy config (Goes s Passes) es = (more : List Event) × (es ≡ Sent (password_message config) ∷ more) × Rest config s more
-RestBy config Closes es = es ≡ []
-RestBy config Wrong es = ⊥
-RestBy config Refuses es = ⊥
-RestBy config Spoils es = ⊥
+abbrev pub RestBy : Input → Next → List Event → Type 0
+RestBy input (Goes s reply) es = (more : List Event) × (es ≡ map Sent (sends reply) ++ more) × Rest input s more
+RestBy input Closes es = es ≡ []
+RestBy input n es = ⊥
 
-mapped_by : (config : Config) (s : Stage) (es : List Event) (o : Option ProtocolVersion) → WhereMapped o (Rest config s es) → RestBy config (where_mapped o s) es
-mapped_by config s es None r = r
-mapped_by config s es (Some v) r = r
+-- ---- up to ReadyForQuery
 
-by_mapped : (config : Config) (s : Stage) (es : List Event) (o : Option ProtocolVersion) → RestBy config (where_mapped o s) es → WhereMapped o (Rest config s es)
-by_mapped config s es None r = r
-by_mapped config s es (Some v) r = r
+-- where ReadyForQuery has not the property: a message with it, and the same behind; or ReadyForQuery
+abbrev IsUpFrom : (Backend → Bool) → Backend → List Event → Bool → Type 0
+IsUpFrom p m es true = IsUpToReady p es
+IsUpFrom p m es false = (ready : ReadyForQuery) × (m ≡ backend.ReadyForQuery ready) × (es ≡ [])
 
-pub rest_by : (config : Config) (s : Stage) (m : Backend) (es : List Event) → Rest config s (Got m ∷ es) → RestBy config (after s m) es
-rest_by config Starting (backend.Authentication authentication.Ok) es r = r
-rest_by config Starting (backend.NegotiateProtocolVersion m) es r = mapped_by config Starting es (negotiated_version m.newest_minor_protocol) r
-rest_by config Admitted (backend.Authentication authentication.Ok) es r = r
-rest_by config Admitted (backend.NegotiateProtocolVersion m) es r = mapped_by config Admitted es (negotiated_version m.newest_minor_protocol) r
-rest_by config Bare (backend.Authentication authentication.Ok) es r = r
-rest_by config Rows (backend.Authentication authentication.Ok) es r = r
-rest_by config Drains (backend.Authentication authentication.Ok) es r = r
-rest_by config s m es r = r
-
-pub by_rest : (config : Config) (s : Stage) (m : Backend) (es : List Event) → RestBy config (after s m) es → Rest config s (Got m ∷ es)
-by_rest config Starting (backend.Authentication authentication.Ok) es r = r
-by_rest config Starting (backend.NegotiateProtocolVersion m) es r = by_mapped config Starting es (negotiated_version m.newest_minor_protocol) r
-by_rest config Admitted (backend.Authentication authentication.Ok) es r = r
-by_rest config Admitted (backend.NegotiateProtocolVersion m) es r = by_mapped config Admitted es (negotiated_version m.newest_minor_protocol) r
-by_rest config Bare (backend.Authentication authentication.Ok) es r = r
-by_rest config Rows (backend.Authentication authentication.Ok) es r = r
-by_rest config Drains (backend.Authentication authentication.Ok) es r = r
-by_rest config s m es r = r
-
-pub rest_nil : (config : Config) (s : Stage) → Rest config s [] → ⊥
-rest_nil config Starting r = r
-rest_nil config Admitted r = r
-rest_nil config Bare r = r
-rest_nil config Rows r = r
-rest_nil config Drains r = r
-
-pub rest_sent : (config : Config) (s : Stage) (m : Frontend) (es : List Event) → Rest config s (Sent m ∷ es) → ⊥
-rest_sent config Starting m es r = r
-rest_sent config Admitted m es r = r
-rest_sent config Bare m es r = r
-rest_sent config Rows m es r = r
-rest_sent config Drains m es r = r
-
--- each stage can end, by a message
-pub some_got : (config : Config) (s : Stage) → (m : Backend) × (es : List Event) × Rest config s (Got m ∷ es)
-some_got config s = (idle, [], by_rest config s idle [] (closes s))
+up_from : (p : Backend → Bool) (m : Backend) (es : List Event) → ((r : ReadyForQuery) → p (backend.ReadyForQuery r) ≡ false) → IsUpToReady p (Got m ∷ es) → IsUpFrom p m es (p m)
+up_from p m es ends r = go r.ms r.are r.all
   where
-    idle : Backend
-    idle = backend.ReadyForQuery (record { status = status.Idle })
+    go : (ms : List Backend) → Got m ∷ es ≡ map Got ms ++ Got (backend.ReadyForQuery r.ready) ∷ [] → AreAll p ms → IsUpFrom p m es (p m)
+    go [] are all =
+        let same : m ≡ backend.ReadyForQuery r.ready = cc in
+        let none : es ≡ [] = cc in
+        subst (IsUpFrom p m es) (sym (ends r.ready) ∙ ap p (sym same)) (r.ready, same, none)
+    go (x ∷ ms) are all =
+        let same : x ≡ m = cc in
+        let rest : es ≡ map Got ms ++ Got (backend.ReadyForQuery r.ready) ∷ [] = cc in
+        subst (IsUpFrom p m es) (sym all.0 ∙ ap p same) (record { ms = ms; ready = r.ready; are = rest; all = all.1 })
 
-    closes : (s : Stage) → RestBy config (after s idle) []
-    closes Starting = refl
-    closes Admitted = refl
-    closes Bare = refl
-    closes Rows = refl
-    closes Drains = refl
+up_more : (p : Backend → Bool) (m : Backend) (es : List Event) → p m ≡ true → IsUpToReady p es → IsUpToReady p (Got m ∷ es)
+up_more p m es is r = record { ms = m ∷ r.ms; ready = r.ready; are = ap (λ (l : List Event). Got m ∷ l) r.are; all = (is, r.all) }
 
-pub some_rest : (config : Config) (s : Stage) → (es : List Event) × Rest config s es
-some_rest config s = let g = some_got config s in (Got g.0 ∷ g.1, g.2)
+up_last : (p : Backend → Bool) (ready : ReadyForQuery) (es : List Event) → es ≡ [] → IsUpToReady p (Got (backend.ReadyForQuery ready) ∷ es)
+up_last p ready es none = record { ms = []; ready = ready; are = ap (λ (l : List Event). Got (backend.ReadyForQuery ready) ∷ l) none; all = tt }
 
--- the stages of the startup segment
-abbrev pub IsLogin : Stage → Type 0
-IsLogin Starting = Unit {0}
-IsLogin Admitted = Unit {0}
-IsLogin s = ⊥
+-- ---- from the grammar to the table
 
-abbrev IsLoginNext : Next → Type 0
-IsLoginNext (Goes s reply) = IsLogin s
-IsLoginNext n = ⊥
+welcome_by : (input : Input) (m : Backend) (es : List Event) (b : Bool) → IsUpFrom is_news m es b → RestBy input (news_or b Admitted (by_welcome m)) es
+welcome_by input m es true r = (es, refl, r)
+welcome_by input m es false r = subst (λ x. RestBy input (by_welcome x) es) (sym r.1) r.2
 
-pub login_before : (s : Stage) (m : Backend) (next : Stage) (reply : Reply) → after s m ≡ Goes next reply → IsLogin next → IsLogin s
-login_before Starting m next reply is l = tt
-login_before Admitted m next reply is l = tt
-login_before Bare (backend.Authentication authentication.Ok) next reply is l = subst IsLoginNext (sym is) l
-login_before Rows (backend.Authentication authentication.Ok) next reply is l = subst IsLoginNext (sym is) l
-login_before Drains (backend.Authentication authentication.Ok) next reply is l = subst IsLoginNext (sym is) l
-login_before s m next reply is l = subst IsLoginNext (sym is) l
+-- as long as nothing was asked, news are still news
+unasked_by : (input : Input) (m : Backend) (es : List Event) (b : Bool) → IsUpFrom is_news m es b → RestBy input (news_or b Starting (by_login input m)) es
+unasked_by input m es true r = (es, refl, record { news = []; login = Unasked; rest = es; are = refl; all = tt; accepted = tt; ends = r })
+unasked_by input m es false r = subst (λ x. RestBy input (by_login input x) es) (sym r.1) r.2
 
-pub request_stage : (q : Request) → IsLogin (stage_for q) → ⊥
-request_stage (Simple text) l = l
+unless_by : (input : Input) (o : Option ClientError) (n : Next) (es : List Event) → o ≡ None → RestBy input n es → RestBy input (unless o n) es
+unless_by input o n es none r = subst (λ x. RestBy input (unless x n) es) (sym none) r
 
--- a message that ends a startup segment with an error of its own
-abbrev pub IsRefusal : Backend → Type 0
-IsRefusal m = ((e : ErrorResponse) × (m ≡ backend.ErrorResponse e)) ⊎ IsUnsupportedLogin m
+greeting_by : (input : Input) (m : Backend) (es : List Event) → IsGreeting input (Got m ∷ es) → RestBy input (after input Starting m) es
+greeting_by input m es g = go g.news g.login g.are g.all g.accepted
+  where
+    go : (news : List Backend) (login : Login) → Got m ∷ es ≡ map Got news ++ (login_events input login ++ g.rest) → AreAll is_news news → IsAccepted input login → RestBy input (after input Starting m) es
+    go (x ∷ news) login are all accepted =
+        let same : x ≡ m = cc in
+        let rest : es ≡ map Got news ++ (login_events input login ++ g.rest) = cc in
+        subst (λ b. RestBy input (news_or b Starting (by_login input m)) es) (sym all.0 ∙ ap is_news same)
+        (es, refl, record { news = news; login = login; rest = g.rest; are = rest; all = all.1; accepted = accepted; ends = g.ends })
+    go [] Unasked are all accepted = unasked_by input m es (is_news m) (up_from is_news m es (λ r. refl) (subst (IsUpToReady is_news) (sym are) g.ends))
+    go [] Cleartext are all accepted =
+        let same : m ≡ backend.Authentication authentication.CleartextPassword = cc in
+        let rest : es ≡ Sent _ ∷ g.rest = cc in
+        subst (λ x. RestBy input (after input Starting x) es) (sym same) (g.rest, rest, g.ends)
+    go [] (Md5 salt) are all accepted =
+        let same : m ≡ backend.Authentication (authentication.MD5Password salt) = cc in
+        let rest : es ≡ Sent _ ∷ g.rest = cc in
+        subst (λ x. RestBy input (after input Starting x) es) (sym same) (g.rest, rest, g.ends)
+    go [] (Scram methods first final) are all accepted =
+        let same : m ≡ backend.Authentication (authentication.SASL methods) = cc in
+        let rest : es ≡ Sent _ ∷ Got (backend.Authentication (authentication.SASLContinue first)) ∷ Sent (final_message input first) ∷ Got (backend.Authentication (authentication.SASLFinal final)) ∷ g.rest = cc in
+        subst (λ x. RestBy input (after input Starting x) es) (sym same)
+        (unless_by input (methods_refusal input methods) _ es accepted.0 (_, rest, (first, _, refl, accepted.1, (final, g.rest, refl, accepted.2, g.ends))))
 
-mapped_refuses : (s : Stage) (m : Backend) (o : Option ProtocolVersion) → where_mapped o s ≡ Refuses → IsLogin s × IsRefusal m
-mapped_refuses s m None is = cc
-mapped_refuses s m (Some v) is = cc
+answer_by : (input : Input) (k : Kind) (rows : Bool) (m : Backend) (es : List Event) → IsAnswer k rows (Got m ∷ es) → RestBy input (by_role k (role k rows m)) es
+answer_by input k rows m es r = go r.ms r.are r.taken
+  where
+    ends : (x : Role) → IsEnd k x es → RestBy input (by_role k x) es
+    ends (Taken next) e = absurd e
+    ends Closing e = e
+    ends Completing e = e
+    ends Failing e = e
+    ends Misplaced e = absurd e
 
--- only at startup a message is refused with an error of its own: an ErrorResponse, or a login that is not supported
-pub refuses_error : (s : Stage) (m : Backend) → after s m ≡ Refuses → IsLogin s × IsRefusal m
-refuses_error Starting (backend.Authentication (authentication.MD5Password salt)) is = (tt, inr tt)
-refuses_error Starting (backend.Authentication (authentication.SASL methods)) is = (tt, inr tt)
-refuses_error Starting (backend.NegotiateProtocolVersion m) is = mapped_refuses Starting (backend.NegotiateProtocolVersion m) (negotiated_version m.newest_minor_protocol) is
-refuses_error Starting (backend.ErrorResponse e) is = (tt, inl (e, refl))
-refuses_error Starting m is = cc
-refuses_error Admitted (backend.Authentication authentication.Ok) is = cc
-refuses_error Admitted (backend.NegotiateProtocolVersion m) is = mapped_refuses Admitted (backend.NegotiateProtocolVersion m) (negotiated_version m.newest_minor_protocol) is
-refuses_error Admitted (backend.ErrorResponse e) is = (tt, inl (e, refl))
-refuses_error Admitted m is = cc
-refuses_error Bare (backend.Authentication authentication.Ok) is = cc
-refuses_error Rows (backend.Authentication authentication.Ok) is = cc
-refuses_error Drains (backend.Authentication authentication.Ok) is = cc
-refuses_error s m is = cc
+    go : (ms : List Backend) → Got m ∷ es ≡ map Got ms ++ Got r.last ∷ r.rest → AreTaken k rows ms r.behind → RestBy input (by_role k (role k rows m)) es
+    go [] are taken =
+        let same : r.last ≡ m = cc in
+        let rest : r.rest ≡ es = cc in
+        ends (role k rows m) (subst (λ b. IsEnd k (role k b m) es) (sym taken) (subst (λ x. IsEnd k (role k r.behind x) es) same (subst (IsEnd k (role k r.behind r.last)) rest r.ends)))
+    go (x ∷ ms) are taken =
+        let same : x ≡ m = cc in
+        let rest : es ≡ map Got ms ++ Got r.last ∷ r.rest = cc in
+        subst (λ o. RestBy input (by_role k o) es) (sym taken.1 ∙ ap (role k rows) same)
+        (es, refl, record { ms = ms; behind = r.behind; last = r.last; rest = r.rest; are = rest; taken = taken.2; ends = r.ends })
 
--- the stages of a simple query's segment
-abbrev pub IsSimpleStage : Stage → Type 0
-IsSimpleStage Starting = ⊥
-IsSimpleStage Admitted = ⊥
-IsSimpleStage s = Unit {0}
+passing_by : (input : Input) (m : Backend) (es : List Event) (b : Bool) → IsUpFrom is_other m es (not b) → RestBy input (by_ready b) es
+passing_by input m es true r = r.2
+passing_by input m es false r = (es, refl, r)
 
-abbrev IsSimpleNext : Next → Type 0
-IsSimpleNext (Goes s reply) = IsSimpleStage s
-IsSimpleNext Wrong = ⊥
-IsSimpleNext n = Unit {0}
+pub rest_by : (input : Input) (s : Stage) (m : Backend) (es : List Event) → Rest input s (Got m ∷ es) → RestBy input (after input s m) es
+rest_by input Starting m es r = greeting_by input m es r
+rest_by input Challenged m es r =
+    let same : m ≡ backend.Authentication (authentication.SASLContinue r.0) = let are = r.2 in cc in
+    let rest : es ≡ Sent (final_message input r.0) ∷ r.1 = let are = r.2 in cc in
+    subst (λ x. RestBy input (by_first input x) es) (sym same) (unless_by input (first_refusal input r.0) _ es r.3 (r.1, rest, r.4))
+rest_by input (Proving expected) m es r =
+    let same : m ≡ backend.Authentication (authentication.SASLFinal r.0) = let are = r.2 in cc in
+    let rest : es ≡ r.1 = let are = r.2 in cc in
+    subst (λ x. RestBy input (by_final expected x) es) (sym same) (unless_by input (final_refusal expected r.0) _ es r.3 (r.1, rest, r.4))
+rest_by input Admitted m es r = welcome_by input m es (is_news m) (up_from is_news m es (λ x. refl) r)
+rest_by input (Answering k rows) m es r = answer_by input k rows m es r
+rest_by input PassingOver m es r = passing_by input m es (is_ready m) (up_from is_other m es (λ x. refl) r)
 
-simple_next : (s : Stage) (m : Backend) → IsSimpleStage s → IsSimpleNext (after s m)
-simple_next Starting m l = absurd l
-simple_next Admitted m l = absurd l
-simple_next Bare (backend.Authentication authentication.Ok) l = tt
-simple_next Rows (backend.Authentication authentication.Ok) l = tt
-simple_next Drains (backend.Authentication authentication.Ok) l = tt
-simple_next s m l = tt
+-- ---- from the table to the grammar
 
-abbrev IsQuietNext : Next → Type 0
-IsQuietNext (Goes s reply) = IsSimpleStage s → ⊥
-IsQuietNext Spoils = ⊥
-IsQuietNext n = Unit {0}
+abbrev IfGoes : Input → (s : Stage) → Backend → List Event → Option ClientError → Next → Type 0
+IfGoes input s m es None n = RestBy input n es → Rest input s (Got m ∷ es)
+IfGoes input s m es (Some e) n = Unit {0}
 
-mapped_quiet : (s : Stage) (o : Option ProtocolVersion) → (IsSimpleStage s → ⊥) → IsQuietNext (where_mapped o s)
-mapped_quiet s None l = tt
-mapped_quiet s (Some v) l = l
+by_unless : (input : Input) (s : Stage) (m : Backend) (es : List Event) (o : Option ClientError) (n : Next) → (o ≡ None → RestBy input n es → Rest input s (Got m ∷ es)) → RestBy input (unless o n) es → Rest input s (Got m ∷ es)
+by_unless input s m es None n f r = f refl r
+by_unless input s m es (Some e) n f r = absurd r
 
-login_quiet : (s : Stage) (m : Backend) → IsLogin s → IsQuietNext (after s m)
-login_quiet Starting (backend.Authentication authentication.Ok) l = λ q. q
-login_quiet Starting (backend.Authentication authentication.CleartextPassword) l = λ q. q
-login_quiet Starting (backend.NegotiateProtocolVersion m) l = mapped_quiet Starting (negotiated_version m.newest_minor_protocol) (λ q. q)
-login_quiet Starting (backend.ParameterStatus m) l = λ q. q
-login_quiet Starting (backend.BackendKeyData m) l = λ q. q
-login_quiet Starting (backend.NoticeResponse m) l = λ q. q
-login_quiet Starting m l = tt
-login_quiet Admitted (backend.Authentication authentication.Ok) l = λ q. q
-login_quiet Admitted (backend.NegotiateProtocolVersion m) l = mapped_quiet Admitted (negotiated_version m.newest_minor_protocol) (λ q. q)
-login_quiet Admitted (backend.ParameterStatus m) l = λ q. q
-login_quiet Admitted (backend.BackendKeyData m) l = λ q. q
-login_quiet Admitted (backend.NoticeResponse m) l = λ q. q
-login_quiet Admitted m l = tt
-login_quiet Bare m l = absurd l
-login_quiet Rows m l = absurd l
-login_quiet Drains m l = absurd l
+by_welcomed : (input : Input) (m : Backend) (es : List Event) → RestBy input (by_welcome m) es → IsUpToReady is_news (Got m ∷ es)
+by_welcomed input (backend.ReadyForQuery ready) es r = up_last is_news ready es r
+by_welcomed input m es r = absurd r
 
-stage_kind : (s : Stage) → IsLogin s ⊎ IsSimpleStage s
-stage_kind Starting = inl tt
-stage_kind Admitted = inl tt
-stage_kind Bare = inr tt
-stage_kind Rows = inr tt
-stage_kind Drains = inr tt
+news_by : (input : Input) (s : Stage) (m : Backend) (es : List Event) (b : Bool) (n : Next) → is_news m ≡ b → (is_news m ≡ true → Rest input s es → Rest input s (Got m ∷ es)) → (RestBy input n es → Rest input s (Got m ∷ es)) → RestBy input (news_or b s n) es → Rest input s (Got m ∷ es)
+news_by input s m es true n is f g r = f is (subst (Rest input s) (sym r.1) r.2)
+news_by input s m es false n is f g r = g r
 
--- a simple query's stage comes from one, and only there messages are passed over
-pub simple_from : (s : Stage) (m : Backend) (next : Stage) (reply : Reply) → after s m ≡ Goes next reply → IsSimpleStage next → IsSimpleStage s
-simple_from s m next reply is l = elim (stage_kind s) [ inl login ↦ absurd (subst IsQuietNext is (login_quiet s m login) l) | inr simple ↦ simple ]
+asked_by : (input : Input) (m : Backend) (es : List Event) → RestBy input (by_login input m) es → IsGreeting input (Got m ∷ es)
+asked_by input (backend.Authentication authentication.CleartextPassword) es r =
+    record { news = []; login = Cleartext; rest = r.0; are = ap (λ (l : List Event). Got (backend.Authentication authentication.CleartextPassword) ∷ l) r.1; all = tt; accepted = tt; ends = r.2 }
+asked_by input (backend.Authentication (authentication.MD5Password salt)) es r =
+    record { news = []; login = Md5 salt; rest = r.0; are = ap (λ (l : List Event). Got (backend.Authentication (authentication.MD5Password salt)) ∷ l) r.1; all = tt; accepted = tt; ends = r.2 }
+asked_by input (backend.Authentication (authentication.SASL methods)) es r =
+    by_unless input Starting (backend.Authentication (authentication.SASL methods)) es (methods_refusal input methods) _ goes r
+  where
+    goes : methods_refusal input methods ≡ None → RestBy input (Goes Challenged (Some (first_message input))) es → IsGreeting input (Got (backend.Authentication (authentication.SASL methods)) ∷ es)
+    goes accepted r =
+        let f = r.2 in
+        let g = f.4 in
+        record {
+          news = [];
+          login = Scram methods f.0 g.0;
+          rest = g.1;
+          are = ap (λ (l : List Event). Got (backend.Authentication (authentication.SASL methods)) ∷ l) (r.1 ∙ ap (λ (l : List Event). Sent _ ∷ l) (f.2 ∙ ap (λ (l : List Event). Got (backend.Authentication (authentication.SASLContinue f.0)) ∷ Sent (final_message input f.0) ∷ l) g.2));
+          all = tt;
+          accepted = (accepted, f.3, g.3);
+          ends = g.4;
+        }
+asked_by input (backend.ReadyForQuery ready) es r = record { news = []; login = Unasked; rest = Got (backend.ReadyForQuery ready) ∷ es; are = refl; all = tt; accepted = tt; ends = up_last is_news ready es r }
+asked_by input (backend.Authentication authentication.Ok) es r = absurd r
+asked_by input m es r = absurd r
 
-pub simple_spoils : (s : Stage) (m : Backend) → after s m ≡ Spoils → IsSimpleStage s
-simple_spoils s m is = elim (stage_kind s) [ inl login ↦ absurd (subst IsQuietNext is (login_quiet s m login)) | inr simple ↦ simple ]
+taken_more : (k : Kind) (rows next : Bool) (m : Backend) (es : List Event) → role k rows m ≡ Taken next → IsAnswer k next es → IsAnswer k rows (Got m ∷ es)
+taken_more k rows next m es is r = record { ms = m ∷ r.ms; behind = r.behind; last = r.last; rest = r.rest; are = ap (λ (l : List Event). Got m ∷ l) r.are; taken = (next, is, r.taken); ends = r.ends }
 
-pub simple_opening : (q : Request) → IsSimple (map Sent (sends_of q))
-simple_opening (Simple text) = tt
+by_answer : (input : Input) (k : Kind) (rows : Bool) (m : Backend) (es : List Event) (x : Role) → role k rows m ≡ x → RestBy input (by_role k x) es → IsAnswer k rows (Got m ∷ es)
+by_answer input k rows m es x is r = go x is r
+  where
+    ended : (x : Role) → role k rows m ≡ x → IsEnd k x es → IsAnswer k rows (Got m ∷ es)
+    ended x is e = record { ms = []; behind = rows; last = m; rest = es; are = refl; taken = refl; ends = subst (λ y. IsEnd k y es) (sym is) e }
 
-pub simple_goes : (s : Stage) (m : Backend) (next : Stage) (reply : Reply) → after s m ≡ Goes next reply → IsSimpleStage s → IsSimpleStage next
-simple_goes s m next reply is l = subst IsSimpleNext is (simple_next s m l)
+    wrong : (b : Bool) → RestBy input (misplaced b) es → ⊥
+    wrong true r = r
+    wrong false r = r
 
-pub simple_not_wrong : (s : Stage) (m : Backend) → after s m ≡ Wrong → IsSimpleStage s → ⊥
-simple_not_wrong s m is l = subst IsSimpleNext is (simple_next s m l)
+    go : (x : Role) → role k rows m ≡ x → RestBy input (by_role k x) es → IsAnswer k rows (Got m ∷ es)
+    go (Taken next) is r = taken_more k rows next m es is (subst (IsAnswer k next) (sym r.1) r.2)
+    go Closing is r = ended Closing is r
+    go Completing is r = ended Completing is r
+    go Failing is r = ended Failing is r
+    go Misplaced is r = absurd (wrong (passes_over k) r)
 
-pub simple_request : (q : Request) → IsSimple (map Sent (sends_of q)) → IsSimpleStage (stage_for q)
-simple_request (Simple text) s = tt
+by_passing : (input : Input) (m : Backend) (es : List Event) → RestBy input (by_ready (is_ready m)) es → IsPassedOver (Got m ∷ es)
+by_passing input (backend.ReadyForQuery ready) es r = up_last is_other ready es r
+by_passing input m es r = up_more is_other m es refl (subst IsPassedOver (sym r.1) r.2)
 
--- ---- the login block
+pub by_rest : (input : Input) (s : Stage) (m : Backend) (es : List Event) → RestBy input (after input s m) es → Rest input s (Got m ∷ es)
+by_rest input Starting m es r =
+    news_by input Starting m es (is_news m) (by_login input m) refl
+    (λ is g. record { news = m ∷ g.news; login = g.login; rest = g.rest; are = ap (λ (l : List Event). Got m ∷ l) g.are; all = (is, g.all); accepted = g.accepted; ends = g.ends }) (asked_by input m es) r
+by_rest input Challenged m es r = firsts m r
+  where
+    firsts : (m : Backend) → RestBy input (by_first input m) es → IsFirst input (Got m ∷ es)
+    firsts (backend.Authentication (authentication.SASLContinue first)) r =
+        by_unless input Challenged (backend.Authentication (authentication.SASLContinue first)) es (first_refusal input first) _
+        (λ accepted r. (first, r.0, ap (λ (l : List Event). Got (backend.Authentication (authentication.SASLContinue first)) ∷ l) r.1, accepted, r.2)) r
+    firsts (backend.Authentication authentication.Ok) r = absurd r
+    firsts m r = absurd r
+by_rest input (Proving expected) m es r = finals m r
+  where
+    finals : (m : Backend) → RestBy input (by_final expected m) es → IsFinal expected (Got m ∷ es)
+    finals (backend.Authentication (authentication.SASLFinal final)) r =
+        by_unless input (Proving expected) (backend.Authentication (authentication.SASLFinal final)) es (final_refusal expected final) _
+        (λ accepted r. (final, r.0, ap (λ (l : List Event). Got (backend.Authentication (authentication.SASLFinal final)) ∷ l) r.1, accepted, r.2)) r
+    finals (backend.Authentication authentication.Ok) r = absurd r
+    finals m r = absurd r
+by_rest input Admitted m es r = news_by input Admitted m es (is_news m) (by_welcome m) refl (λ is u. up_more is_news m es is u) (by_welcomed input m es) r
+by_rest input (Answering k rows) m es r = by_answer input k rows m es (role k rows m) refl r
+by_rest input PassingOver m es r = by_passing input m es r
 
--- at a stage of the startup segment it is known whether the server asked for the password
-abbrev pub LoginAt : Stage → List Event → Type 0
-LoginAt Starting es = HasLogin es → ⊥
-LoginAt Admitted es = HasLogin es
-LoginAt s es = Unit {0}
+-- ---- each stage can end
 
-has_more : (es more : List Event) → HasLogin es → HasLogin (es ++ more)
-has_more [] more h = absurd h
-has_more (Got (backend.Authentication authentication.CleartextPassword) ∷ es) more h = tt
-has_more (e ∷ es) more h = has_more es more h
+idle : ReadyForQuery
+idle = record { status = status.Idle }
 
-has_behind : (es more : List Event) → HasLogin more → HasLogin (es ++ more)
-has_behind [] more h = h
-has_behind (Got (backend.Authentication authentication.CleartextPassword) ∷ es) more h = tt
-has_behind (e ∷ es) more h = has_behind es more h
+up_now : (p : Backend → Bool) → IsUpToReady p (Got (backend.ReadyForQuery idle) ∷ [])
+up_now p = up_last p idle [] refl
 
-has_none : (es more : List Event) → (HasLogin es → ⊥) → (HasLogin more → ⊥) → HasLogin (es ++ more) → ⊥
-has_none [] more l n h = n h
-has_none (Got (backend.Authentication authentication.CleartextPassword) ∷ es) more l n h = l tt
-has_none (e ∷ es) more l n h = has_none es more l n h
+some_final_rest : (input : Input) (first : List ℕ) → (m : Backend) × (es : List Event) × IsFinal (expected_of input first) (Got m ∷ es)
+some_final_rest input first = let f = some_final input first in (_, _, (f.0, Got (backend.ReadyForQuery idle) ∷ [], refl, f.1, up_now is_news))
 
-abbrev LoginNext : Config → List Event → Backend → Next → Type 0
-LoginNext config es m (Goes s reply) = LoginAt s (es ++ Got m ∷ map Sent (replies config reply))
-LoginNext config es m n = Unit {0}
+-- each row has a message that closes it, with nothing before it
+closing : (k : Kind) (rows : Bool) → (m : Backend) × (role k rows m ≡ Closing)
+closing kind.Bind rows = (backend.BindComplete (record {}), refl)
+closing kind.Execute rows = (backend.PortalSuspended (record {}), refl)
+closing kind.Simple rows = (backend.ReadyForQuery idle, refl)
+closing kind.Prepare rows = (backend.ReadyForQuery idle, refl)
+closing kind.DescribeStatement rows = (backend.ReadyForQuery idle, refl)
+closing kind.DescribePortal rows = (backend.ReadyForQuery idle, refl)
+closing kind.Close rows = (backend.ReadyForQuery idle, refl)
+closing kind.Query rows = (backend.ReadyForQuery idle, refl)
 
-mapped_starting : (config : Config) (es : List Event) (m : Backend) (o : Option ProtocolVersion) → (HasLogin (es ++ Got m ∷ []) → ⊥) → LoginNext config es m (where_mapped o Starting)
-mapped_starting config es m None l = tt
-mapped_starting config es m (Some v) l = l
+-- the signature that is expected is that behind some server-first
+abbrev pub Expects : Input → Stage → Type 0
+Expects input (Proving expected) = (first : List ℕ) × (expected ≡ expected_of input first)
+Expects input s = Unit {0}
 
-mapped_admitted : (config : Config) (es : List Event) (m : Backend) (o : Option ProtocolVersion) → HasLogin (es ++ Got m ∷ []) → LoginNext config es m (where_mapped o Admitted)
-mapped_admitted config es m None l = tt
-mapped_admitted config es m (Some v) l = l
+pub some_got : (input : Input) (s : Stage) → Expects input s → (m : Backend) × (es : List Event) × Rest input s (Got m ∷ es)
+some_got input Starting e = (backend.ReadyForQuery idle, [], record { news = []; login = Unasked; rest = Got (backend.ReadyForQuery idle) ∷ []; are = refl; all = tt; accepted = tt; ends = up_now is_news })
+some_got input Challenged e = let f = some_first input in let g = some_final_rest input f.0 in (_, _, (f.0, Got g.0 ∷ g.1, refl, f.1, g.2))
+some_got input (Proving expected) e = let g = some_final_rest input e.0 in (g.0, g.1, subst (λ (x : List ℕ). IsFinal x (Got g.0 ∷ g.1)) (sym e.1) g.2)
+some_got input Admitted e = (_, _, up_now is_news)
+some_got input (Answering k rows) e = let c = closing k rows in (c.0, [], record { ms = []; behind = rows; last = c.0; rest = []; are = refl; taken = refl; ends = subst (λ x. IsEnd k x []) (sym c.1) refl })
+some_got input PassingOver e = (_, _, up_now is_other)
 
-simple_login : (config : Config) (es : List Event) (m : Backend) (n : Next) → IsSimpleNext n → LoginNext config es m n
-simple_login config es m (Goes Starting reply) l = absurd l
-simple_login config es m (Goes Admitted reply) l = absurd l
-simple_login config es m (Goes Bare reply) l = tt
-simple_login config es m (Goes Rows reply) l = tt
-simple_login config es m (Goes Drains reply) l = tt
-simple_login config es m Closes l = tt
-simple_login config es m Wrong l = tt
-simple_login config es m Refuses l = tt
-simple_login config es m Spoils l = tt
+pub some_rest : (input : Input) (s : Stage) → Expects input s → (es : List Event) × Rest input s es
+some_rest input s e = let g = some_got input s e in (Got g.0 ∷ g.1, g.2)
 
-login_next : (config : Config) (s : Stage) (m : Backend) (es : List Event) → LoginAt s es → LoginNext config es m (after s m)
-login_next config Starting (backend.Authentication authentication.Ok) es l = has_none es _ l (λ h. h)
-login_next config Starting (backend.Authentication authentication.CleartextPassword) es l = has_behind es _ tt
-login_next config Starting (backend.NegotiateProtocolVersion m) es l = mapped_starting config es (backend.NegotiateProtocolVersion m) (negotiated_version m.newest_minor_protocol) (has_none es (Got (backend.NegotiateProtocolVersion m) ∷ []) l (λ h. h))
-login_next config Starting (backend.ParameterStatus m) es l = has_none es _ l (λ h. h)
-login_next config Starting (backend.BackendKeyData m) es l = has_none es _ l (λ h. h)
-login_next config Starting (backend.NoticeResponse m) es l = has_none es _ l (λ h. h)
-login_next config Starting m es l = tt
-login_next config Admitted (backend.Authentication authentication.Ok) es l = has_more es _ l
-login_next config Admitted (backend.NegotiateProtocolVersion m) es l = mapped_admitted config es (backend.NegotiateProtocolVersion m) (negotiated_version m.newest_minor_protocol) (has_more es (Got (backend.NegotiateProtocolVersion m) ∷ []) l)
-login_next config Admitted (backend.ParameterStatus m) es l = has_more es _ l
-login_next config Admitted (backend.BackendKeyData m) es l = has_more es _ l
-login_next config Admitted (backend.NoticeResponse m) es l = has_more es _ l
-login_next config Admitted m es l = tt
-login_next config Bare m es l = simple_login config es m (after Bare m) (simple_next Bare m tt)
-login_next config Rows m es l = simple_login config es m (after Rows m) (simple_next Rows m tt)
-login_next config Drains m es l = simple_login config es m (after Drains m) (simple_next Drains m tt)
+-- ---- what may follow begins with a message of the server
 
-pub login_goes : (config : Config) (s : Stage) (m : Backend) (next : Stage) (reply : Reply) (es : List Event) → after s m ≡ Goes next reply → LoginAt s es → LoginAt next (es ++ Got m ∷ map Sent (replies config reply))
-login_goes config s m next reply es is l = subst (LoginNext config es m) is (login_next config s m es l)
+abbrev BeginsGot : List Event → Type 0
+BeginsGot [] = ⊥
+BeginsGot (Sent m ∷ es) = ⊥
+BeginsGot (Got m ∷ es) = Unit {0}
 
-pub request_login : (q : Request) (es : List Event) → LoginAt (stage_for q) es
-request_login (Simple text) es = tt
+got_up : (p : Backend → Bool) (es : List Event) → IsUpToReady p es → BeginsGot es
+got_up p es r = subst BeginsGot (sym r.are) (go r.ms)
+  where
+    go : (ms : List Backend) → BeginsGot (map Got ms ++ Got (backend.ReadyForQuery r.ready) ∷ [])
+    go [] = tt
+    go (m ∷ ms) = tt
 
--- what is wrong has no error of its own
-pub wrong_unnamed : (s : Stage) (m : Backend) (es : List Event) → after s m ≡ Wrong → LoginAt s es → HasError es m → ⊥
-wrong_unnamed Starting (backend.ErrorResponse e) es is l h = cc
-wrong_unnamed Starting (backend.Authentication (authentication.MD5Password salt)) es is l h = cc
-wrong_unnamed Starting (backend.Authentication (authentication.SASL methods)) es is l h = cc
-wrong_unnamed Starting m es is l h = h
-wrong_unnamed Admitted (backend.ErrorResponse e) es is l h = cc
-wrong_unnamed Admitted (backend.Authentication (authentication.MD5Password salt)) es is l h = h l
-wrong_unnamed Admitted (backend.Authentication (authentication.SASL methods)) es is l h = h l
-wrong_unnamed Admitted m es is l h = h
-wrong_unnamed Bare m es is l h = simple_not_wrong Bare m is tt
-wrong_unnamed Rows m es is l h = simple_not_wrong Rows m is tt
-wrong_unnamed Drains m es is l h = simple_not_wrong Drains m is tt
+got_greeting : (input : Input) (es : List Event) → IsGreeting input es → BeginsGot es
+got_greeting input es g = subst BeginsGot (sym g.are) (go g.news g.login)
+  where
+    go : (ms : List Backend) (login : Login) → BeginsGot (map Got ms ++ (login_events input login ++ g.rest))
+    go (m ∷ ms) login = tt
+    go [] Unasked = got_up is_news g.rest g.ends
+    go [] Cleartext = tt
+    go [] (Md5 salt) = tt
+    go [] (Scram methods first final) = tt
 
--- a login that is not supported is the first one
-pub unsupported_first : (s : Stage) (m : Backend) (es : List Event) → after s m ≡ Refuses → LoginAt s es → IsUnsupportedLogin m → HasLogin es → ⊥
-unsupported_first Starting m es is l u h = l h
-unsupported_first Admitted (backend.Authentication (authentication.MD5Password salt)) es is l u h = cc
-unsupported_first Admitted (backend.Authentication (authentication.SASL methods)) es is l u h = cc
-unsupported_first Admitted m es is l u h = u
-unsupported_first Bare m es is l u h = (refuses_error Bare m is).0
-unsupported_first Rows m es is l u h = (refuses_error Rows m is).0
-unsupported_first Drains m es is l u h = (refuses_error Drains m is).0
+got_answer : (k : Kind) (rows : Bool) (es : List Event) → IsAnswer k rows es → BeginsGot es
+got_answer k rows es r = subst BeginsGot (sym r.are) (go r.ms)
+  where
+    go : (ms : List Backend) → BeginsGot (map Got ms ++ Got r.last ∷ r.rest)
+    go [] = tt
+    go (m ∷ ms) = tt
 
--- a request's segment is its opening, and what may follow then
-pub segment_is : (config : Config) (q : Request) (es : List Event) → IsRequestSegment q es → (answer : List Event) × (es ≡ map Sent (sends_of q) ++ answer) × Rest config (stage_for q) answer
-segment_is config (Simple text) es s = s
+begins_got : (input : Input) (s : Stage) (es : List Event) → Rest input s es → BeginsGot es
+begins_got input Starting es r = got_greeting input es r
+begins_got input Challenged es r = subst BeginsGot (sym r.2) tt
+begins_got input (Proving expected) es r = subst BeginsGot (sym r.2) tt
+begins_got input Admitted es r = got_up is_news es r
+begins_got input (Answering k rows) es r = got_answer k rows es r
+begins_got input PassingOver es r = got_up is_other es r
 
-pub is_segment : (config : Config) (q : Request) (answer : List Event) → Rest config (stage_for q) answer → IsRequestSegment q (map Sent (sends_of q) ++ answer)
-is_segment config (Simple text) answer r = (answer, refl, r)
+pub rest_nil : (input : Input) (s : Stage) → Rest input s [] → ⊥
+rest_nil input s r = begins_got input s [] r
 
--- what may follow behind a message is what is sent then, and more
-pub behind_reply : (config : Config) (s : Stage) (reply : Reply) (es : List Event) → RestBy config (Goes s reply) es → (more : List Event) × (es ≡ map Sent (replies config reply) ++ more) × Rest config s more
-behind_reply config s Silent es r = (es, refl, r)
-behind_reply config s Passes es r = r
+pub rest_sent : (input : Input) (s : Stage) (m : Frontend) (es : List Event) → Rest input s (Sent m ∷ es) → ⊥
+rest_sent input s m es r = begins_got input s (Sent m ∷ es) r
 
-pub reply_before : (config : Config) (s : Stage) (reply : Reply) (more : List Event) → Rest config s more → RestBy config (Goes s reply) (map Sent (replies config reply) ++ more)
-reply_before config s Silent more r = r
-reply_before config s Passes more r = (more, refl, r)
+-- ---- where a segment stands
+
+simple_before : (es : List Event) (m : Backend) (more : List Event) → IsSimple (es ++ Got m ∷ more) → IsSimple es
+simple_before [] m more l = l
+simple_before (Got x ∷ es) m more l = l
+simple_before (Sent (frontend.Query q) ∷ es) m more l = tt
+simple_before (Sent f ∷ es) m more l = l
+
+simple_behind : (es : List Event) (m : Backend) (more : List Event) → IsSimple es → IsSimple (es ++ Got m ∷ more)
+simple_behind [] m more l = absurd l
+simple_behind (Got x ∷ es) m more l = l
+simple_behind (Sent (frontend.Query q) ∷ es) m more l = tt
+simple_behind (Sent f ∷ es) m more l = l
+
+place_sends : (p : Place) (fs : List Frontend) → fold place_at p (map Sent fs) ≡ p
+place_sends p [] = refl
+place_sends p (f ∷ fs) = place_sends p fs
+
+place_more : (es : List Event) (m : Backend) (fs : List Frontend) → place_of (es ++ Got m ∷ map Sent fs) ≡ place_at (place_of es) (Got m)
+place_more es m fs = fold-append place_at Before es (Got m ∷ map Sent fs) ∙ place_sends _ fs
+
+-- the startup segment, with its login block at a place
+abbrev Logs : List (List Event) → List Event → Place → Type 0
+Logs closed es p = (closed ≡ []) × (place_of es ≡ p) × (IsSimple es → ⊥)
+
+-- what is known of the closed segments and the open one's events at a stage
+abbrev pub StandsAt : Input → List (List Event) → List Event → Stage → Type 0
+StandsAt input closed es Starting = Logs closed es Before
+StandsAt input closed es Challenged = Logs closed es AtFirst
+StandsAt input closed es (Proving expected) = (first : List ℕ) × (expected ≡ expected_of input first) × Logs closed es (AtFinal first)
+StandsAt input closed es Admitted = Logs closed es Behind
+StandsAt input closed es (Answering k rows) = (closed ≡ [] → ⊥) × (IsSimple es → passes_over k ≡ true) × (passes_over k ≡ true → IsSimple es)
+StandsAt input closed es PassingOver = closed ≡ [] → ⊥
+
+pub stands_expects : (input : Input) (closed : List (List Event)) (es : List Event) (s : Stage) → StandsAt input closed es s → Expects input s
+stands_expects input closed es (Proving expected) stands = (stands.0, stands.1)
+stands_expects input closed es s stands = tt
+
+-- and behind a message
+abbrev pub StandsBy : Input → List (List Event) → List Event → Backend → Next → Type 0
+StandsBy input closed es m (Goes s reply) = StandsAt input closed (es ++ Got m ∷ map Sent (sends reply)) s
+StandsBy input closed es m Closes = Unit {0}
+StandsBy input closed es m Wrong = (IsSimple es → ⊥) × (closed ≡ [] → refusal_at input (place_of es) m ≡ None)
+StandsBy input closed es m (Refuses e) = (closed ≡ []) × (refusal_at input (place_of es) m ≡ Some e)
+StandsBy input closed es m PassesOver = IsSimple es
+
+logs_on : (closed : List (List Event)) (es : List Event) (p q : Place) (m : Backend) (fs : List Frontend) → Logs closed es p → place_at p (Got m) ≡ q → Logs closed (es ++ Got m ∷ map Sent fs) q
+logs_on closed es p q m fs l is = (l.0, place_more es m fs ∙ ap (λ x. place_at x (Got m)) l.1 ∙ is, λ simple. l.2 (simple_before es m (map Sent fs) simple))
+
+logs_wrong : (input : Input) (closed : List (List Event)) (es : List Event) (p : Place) (m : Backend) → Logs closed es p → refusal_at input p m ≡ None → StandsBy input closed es m Wrong
+logs_wrong input closed es p m l is = (l.2, λ none. ap (λ x. refusal_at input x m) l.1 ∙ is)
+
+logs_refused : (input : Input) (closed : List (List Event)) (es : List Event) (p : Place) (m : Backend) (e : ClientError) → Logs closed es p → refusal_at input p m ≡ Some e → StandsBy input closed es m (Refuses e)
+logs_refused input closed es p m e l is = (l.0, ap (λ x. refusal_at input x m) l.1 ∙ is)
+
+logs_unless : (input : Input) (closed : List (List Event)) (es : List Event) (p : Place) (m : Backend) (o : Option ClientError) (n : Next) → Logs closed es p → refusal_at input p m ≡ o → StandsBy input closed es m n → StandsBy input closed es m (unless o n)
+logs_unless input closed es p m None n l is s = s
+logs_unless input closed es p m (Some e) n l is s = logs_refused input closed es p m e l is
+
+known_place : (p : Place) (m : Backend) → is_news m ≡ true → place_at p (Got m) ≡ p
+known_place p (backend.Authentication authentication.Ok) is = refl
+known_place p (backend.Authentication a) is = cc
+known_place p m is = refl
+
+welcome_stands : (input : Input) (closed : List (List Event)) (es : List Event) (m : Backend) → Logs closed es Behind → StandsBy input closed es m (by_welcome m)
+welcome_stands input closed es (backend.ReadyForQuery ready) l = tt
+welcome_stands input closed es (backend.ErrorResponse e) l = logs_refused input closed es Behind (backend.ErrorResponse e) _ l refl
+welcome_stands input closed es (backend.Authentication a) l = logs_wrong input closed es Behind (backend.Authentication a) l refl
+welcome_stands input closed es m l = logs_wrong input closed es Behind m l refl
+
+login_stands : (input : Input) (closed : List (List Event)) (es : List Event) (m : Backend) → Logs closed es Before → StandsBy input closed es m (by_login input m)
+login_stands input closed es (backend.Authentication authentication.CleartextPassword) l = logs_on closed es Before Behind _ (cleartext_message input ∷ []) l refl
+login_stands input closed es (backend.Authentication (authentication.MD5Password salt)) l = logs_on closed es Before Behind _ (md5_message input salt ∷ []) l refl
+login_stands input closed es (backend.Authentication (authentication.SASL methods)) l =
+    logs_unless input closed es Before (backend.Authentication (authentication.SASL methods)) (methods_refusal input methods) _ l refl (logs_on closed es Before AtFirst _ (first_message input ∷ []) l refl)
+login_stands input closed es (backend.ReadyForQuery ready) l = tt
+login_stands input closed es (backend.ErrorResponse e) l = logs_refused input closed es Before (backend.ErrorResponse e) _ l refl
+login_stands input closed es (backend.Authentication authentication.Ok) l = logs_wrong input closed es Before (backend.Authentication authentication.Ok) l refl
+login_stands input closed es m l = logs_wrong input closed es Before m l refl
+
+first_stands : (input : Input) (closed : List (List Event)) (es : List Event) (m : Backend) → Logs closed es AtFirst → StandsBy input closed es m (by_first input m)
+first_stands input closed es (backend.Authentication (authentication.SASLContinue first)) l =
+    logs_unless input closed es AtFirst (backend.Authentication (authentication.SASLContinue first)) (first_refusal input first) _ l refl (first, refl, logs_on closed es AtFirst (AtFinal first) _ (final_message input first ∷ []) l refl)
+first_stands input closed es (backend.ErrorResponse e) l = logs_refused input closed es AtFirst (backend.ErrorResponse e) _ l refl
+first_stands input closed es (backend.Authentication authentication.Ok) l = logs_wrong input closed es AtFirst (backend.Authentication authentication.Ok) l refl
+first_stands input closed es m l = logs_wrong input closed es AtFirst m l refl
+
+final_stands : (input : Input) (closed : List (List Event)) (es : List Event) (first : List ℕ) (m : Backend) → Logs closed es (AtFinal first) → StandsBy input closed es m (by_final (expected_of input first) m)
+final_stands input closed es first (backend.Authentication (authentication.SASLFinal final)) l =
+    logs_unless input closed es (AtFinal first) (backend.Authentication (authentication.SASLFinal final)) (final_refusal (expected_of input first) final) _ l refl (logs_on closed es (AtFinal first) Behind _ [] l refl)
+final_stands input closed es first (backend.ErrorResponse e) l = logs_refused input closed es (AtFinal first) (backend.ErrorResponse e) _ l refl
+final_stands input closed es first (backend.Authentication authentication.Ok) l = logs_wrong input closed es (AtFinal first) (backend.Authentication authentication.Ok) l refl
+final_stands input closed es first m l = logs_wrong input closed es (AtFinal first) m l refl
+
+role_stands : (input : Input) (closed : List (List Event)) (es : List Event) (k : Kind) (rows : Bool) (m : Backend) (x : Role) → StandsAt input closed es (Answering k rows) → StandsBy input closed es m (by_role k x)
+role_stands input closed es k rows m (Taken next) s = (s.0, λ simple. s.1 (simple_before es m [] simple), λ passes. simple_behind es m [] (s.2 passes))
+role_stands input closed es k rows m Closing s = tt
+role_stands input closed es k rows m Completing s = s.0
+role_stands input closed es k rows m Failing s = s.0
+role_stands input closed es k rows m Misplaced s = go (passes_over k) refl
+  where
+    go : (b : Bool) → passes_over k ≡ b → StandsBy input closed es m (misplaced b)
+    go true is = s.2 is
+    go false is = (λ simple. let passes = s.1 simple in cc, λ none. absurd (s.0 none))
+
+pub stands_by : (input : Input) (closed : List (List Event)) (es : List Event) (s : Stage) (m : Backend) → StandsAt input closed es s → StandsBy input closed es m (after input s m)
+stands_by input closed es Starting m l = go (is_news m) refl
+  where
+    go : (b : Bool) → is_news m ≡ b → StandsBy input closed es m (news_or b Starting (by_login input m))
+    go true is = logs_on closed es Before Before m [] l (known_place Before m is)
+    go false is = login_stands input closed es m l
+stands_by input closed es Challenged m l = first_stands input closed es m l
+stands_by input closed es (Proving expected) m l = subst (λ e. StandsBy input closed es m (by_final e m)) (sym l.1) (final_stands input closed es l.0 m l.2)
+stands_by input closed es Admitted m l = go (is_news m) refl
+  where
+    go : (b : Bool) → is_news m ≡ b → StandsBy input closed es m (news_or b Admitted (by_welcome m))
+    go true is = logs_on closed es Behind Behind m [] l (known_place Behind m is)
+    go false is = welcome_stands input closed es m l
+stands_by input closed es (Answering k rows) m s = role_stands input closed es k rows m (role k rows m) s
+stands_by input closed es PassingOver m s = go (is_ready m)
+  where
+    go : (b : Bool) → StandsBy input closed es m (by_ready b)
+    go true = tt
+    go false = s
+
+-- where a request's segment is opened
+pub stands_first : (input : Input) (q : Request) (closed : List (List Event)) → (closed ≡ [] → ⊥) → StandsAt input closed (map Sent (sends_of q)) (stage_for q)
+stands_first input (request.Simple query) closed some = (some, λ l. refl, λ l. tt)
+stands_first input (request.Prepare name query types) closed some = (some, λ l. absurd l, λ l. let e : false ≡ true = l in cc)
+stands_first input (request.Bind portal statement parameters formats) closed some = (some, λ l. absurd l, λ l. let e : false ≡ true = l in cc)
+stands_first input (request.Execute portal max_rows) closed some = (some, λ l. absurd l, λ l. let e : false ≡ true = l in cc)
+stands_first input (request.Describe (target.Statement name)) closed some = (some, λ l. absurd l, λ l. let e : false ≡ true = l in cc)
+stands_first input (request.Describe (target.Portal name)) closed some = (some, λ l. absurd l, λ l. let e : false ≡ true = l in cc)
+stands_first input (request.Close (target.Statement name)) closed some = (some, λ l. absurd l, λ l. let e : false ≡ true = l in cc)
+stands_first input (request.Close (target.Portal name)) closed some = (some, λ l. absurd l, λ l. let e : false ≡ true = l in cc)
+stands_first input (request.Query query types parameters) closed some = (some, λ l. absurd l, λ l. let e : false ≡ true = l in cc)
+
+-- ---- the startup segment is the same whatever is requested
+
+events_same : (input : Input) (qs : List Request) (login : Login) → login_events (record input { requests = qs }) login ≡ login_events input login
+events_same input qs Unasked = refl
+events_same input qs Cleartext = refl
+events_same input qs (Md5 salt) = refl
+events_same input qs (Scram methods first final) = refl
+
+accepted_same : (input : Input) (qs : List Request) (login : Login) → IsAccepted input login → IsAccepted (record input { requests = qs }) login
+accepted_same input qs Unasked a = a
+accepted_same input qs Cleartext a = a
+accepted_same input qs (Md5 salt) a = a
+accepted_same input qs (Scram methods first final) a = a
+
+pub startup_same : (input : Input) (qs : List Request) (es : List Event) → IsStartupSegment input es → IsStartupSegment (record input { requests = qs }) es
+startup_same input qs es s =
+    let g = s.2 in (
+      s.0,
+      s.1,
+      record {
+        news = g.news;
+        login = g.login;
+        rest = g.rest;
+        are = g.are ∙ ap (λ (l : List Event). map Got g.news ++ (l ++ g.rest)) (sym (events_same input qs g.login));
+        all = g.all;
+        accepted = accepted_same input qs g.login g.accepted;
+        ends = g.ends;
+      },
+    )

@@ -1,59 +1,57 @@
 -- What a conversation says of the bytes: a transcript where it is whole, and a legal prefix with a cause where not.
-use Rattle.std.proofs.Common.{◌≡◌, ℕ, List, [], ◌∷◌, ◌++◌, length, take, drop, map, zero, suc, Option, Some, None, Result, Ok, Err, slice_get, Bool, true, false, inl, inr, arith, refl, ◌∙◌, ap, sym, subst, append_assoc, length-append}
+use Rattle.std.proofs.Common.{◌≡◌, ℕ, List, [], ◌∷◌, ◌++◌, length, take, drop, map, zero, suc, Option, Some, None, Result, Ok, Err, slice_get, Bool, true, false, not, inl, inr, arith, refl, ◌∙◌, ap, sym, subst, append_assoc, length-append}
 use Rattle.std.proofs.lemmas.List.{append-nil, length_push, take-append-le, take-append-drop, take_all}
 use Rattle.std.proofs.lemmas.Bool.{cases_lt}
 use Rattle.pgw_types.specs.declared.error.PgWireError.{PgWireError}
 use Rattle.pgw_types.specs.declared.context.ProtocolVersion.{ProtocolVersion}
-use Rattle.pgw_startup.specs.declared.authentication.Authentication.TheVariants as authentication
-use Rattle.pgw_msg.specs.declared.backend.PgWireBackendMessage.{PgWireBackendMessage as Backend}
-use Rattle.pgw_msg.specs.declared.backend.PgWireBackendMessage.TheVariants as backend
-use Rattle.pgw_msg.specs.declared.frontend.PgWireFrontendMessage.{PgWireFrontendMessage as Frontend}
-use Rattle.pgw_msg.specs.declared.frontend.PgWireFrontendMessage.TheVariants as frontend
+use Rattle.pgw_backend.specs.declared.backend.PgWireBackendMessage.{PgWireBackendMessage as Backend}
+use Rattle.pgw_backend.specs.declared.backend.PgWireBackendMessage.TheVariants as backend
+use Rattle.pgw_frontend.specs.declared.frontend.PgWireFrontendMessage.{PgWireFrontendMessage as Frontend}
 use Rattle.pgw_query.specs.declared.response.ReadyForQuery.{ReadyForQuery}
-use Rattle.pgw_msg.specs.declared.client_error.PgWireClientError.TheVariants as client
-use Rattle.pgw_msg.specs.Front.{front, Front, More, Bad, Whole, Spells}
-use Rattle.pgw_msg.specs.Frontend.{encodings}
-use Rattle.pgw_msg.proofs.FrontLaws.{front_nil, front_whole, front_whole_more, front_bad_more, front_take, front_spells, spells_front}
-use Rattle.pgw_config.specs.declared.config.Config.{Config}
+use Rattle.pgw_backend.specs.Front.{front, Front, More, Bad, Whole, Spells}
+use Rattle.pgw_frontend.specs.Frontend.{encodings}
+use Rattle.pgw_backend.proofs.FrontLaws.{front_nil, front_whole, front_whole_more, front_bad_more, front_take, front_spells, spells_front}
 use Rattle.pgw_session.specs.declared.types.Request.{Request}
 use Rattle.pgw_session.specs.declared.stage.Stage.{Stage}
 use Rattle.pgw_session.specs.declared.stage.Stage.TheVariants.{Starting}
-use Rattle.pgw_session.specs.declared.stage.Reply.{Reply}
 use Rattle.pgw_session.specs.declared.stage.Next.{Next}
-use Rattle.pgw_session.specs.declared.stage.Next.TheVariants.{Goes, Closes, Wrong, Refuses, Spoils}
+use Rattle.pgw_session.specs.declared.stage.Next.TheVariants.{Goes, Closes, Wrong, Refuses, PassesOver}
 use Rattle.pgw_session.specs.Events.{Event, Sent, Got, joined}
 use Rattle.pgw_session.specs.Standings.{first_standing, standing_of}
-use Rattle.pgw_session.specs.Segments.{IsQuiet, IsSimple, startup_message, sends_of, is_ready}
+use Rattle.pgw_session.specs.Requests.{sends_of}
+use Rattle.pgw_session.specs.Segments.{IsQuiet, IsSimple, startup_message, is_ready, is_other, sends}
 use Rattle.pgw_session.specs.Transcript.{AreSegments, IsTranscript, IsLegalPrefix, SpellsGot, EncodesSent, opening_at, opened_by}
-use Rattle.pgw_session.specs.Failures.{Awaits, PassedOver, HasLogin, HasError, IsUnsupportedLogin}
-use Rattle.pgw_session.specs.Course.{Move, On, Ends, Course, Waits, Over, onto, eat, feed, run}
-use Rattle.pgw_session.specs.Talk.{Talk, Ending, Outcome, Complete, Unencoded, Stopped, between, said, after, stage_for, moves, opens, opening, sending, replies, drains, turn, heard_of, refusal_of, talk_rules, beginning, conversation, HasRefused}
+use Rattle.pgw_session.specs.Failures.{Awaits, ArePassedOver, place_of, refusal_at}
+use Rattle.pgw_course.specs.Course.{Move, On, Ends, Course, Waits, Over, onto, eat, feed, run}
+use Rattle.pgw_session.specs.Reading.{met}
+use Rattle.pgw_session.specs.Table.{after, stage_for}
+use Rattle.pgw_session.specs.Machine.{Outcome, Complete, Unencoded, Unexpected, Unread, Refused, sending}
+use Rattle.pgw_session.proofs.Moves.{moves, opens, opening, passing, turn}
+use Rattle.pgw_session.specs.Talk.{Talk, Ending, between, said, heard_of, talk_rules, beginning, conversation, HasRefused}
 use Rattle.pgw_session.proofs.Hears.{hear, hear_append, gots, gots_append, gots_sends}
 use Rattle.pgw_session.proofs.Events.{clean_heard, joined_more, got_more, got_sends, put_on_sends, Grown, turn_grown}
-use Rattle.pgw_session.proofs.Grammar.{Rest, RestBy, by_rest, some_got, some_rest, is_segment, IsLogin, login_before, request_stage, IsRefusal, refuses_error, IsSimpleStage, simple_goes, simple_from, simple_spoils, simple_opening, simple_not_wrong, simple_request, LoginAt, login_goes, request_login, wrong_unnamed, unsupported_first, reply_before}
+use Rattle.pgw_session.proofs.Grammar.{Rest, RestBy, by_rest, some_got, some_rest, Expects, StandsAt, StandsBy, stands_expects, stands_by, stands_first}
 use Rattle.pgw_session.proofs.Whole.{Heard, no_place}
+use Rattle.pgw_session.specs.Input.{Input}
 
--- a segment is open: what ends it and segments of the requests behind it make a transcript with what has come
-pub record Open (config : Config) (requests : List Request) (t : Talk) : Type 0 where
-  pub completes : (es : List Event) (segments : List (List Event)) → Rest config t.stage es → AreSegments (drop (length t.closed) requests) segments
-      → IsTranscript config requests (t.closed ++ (t.open_events ++ es) ∷ segments)
-  pub simple : IsSimple t.open_events → IsSimpleStage t.stage
-  pub simple_events : IsSimpleStage t.stage → IsSimple t.open_events
-  pub first : IsLogin t.stage → t.closed ≡ []
-  pub login : LoginAt t.stage t.open_events
-  pub begins : (more : List Event) × (t.open_events ≡ map Sent (opening_at config requests (length t.closed)) ++ more)
+-- a segment is open: what ends it and segments of the input.requests behind it make a transcript with what has come
+pub record Open (input : Input) (t : Talk) : Type 0 where
+  pub completes : (es : List Event) (segments : List (List Event)) → Rest input t.stage es → AreSegments (drop (length t.closed) input.requests) segments
+      → IsTranscript input (t.closed ++ (t.open_events ++ es) ∷ segments)
+  pub stands : StandsAt input t.closed t.open_events t.stage
+  pub begins : (more : List Event) × (t.open_events ≡ map Sent (opening_at input (length t.closed)) ++ more)
 
-pub some_segments : (config : Config) (qs : List Request) → (segments : List (List Event)) × AreSegments qs segments
-some_segments config [] = ([], tt)
-some_segments config (q ∷ qs) =
-    let answer = some_rest config (stage_for q) in
-    let later = some_segments config qs in
-    ((map Sent (sends_of q) ++ answer.0) ∷ later.0, (is_segment config q answer.0 answer.1, later.1))
+pub some_segments : (input : Input) (qs : List Request) → (segments : List (List Event)) × AreSegments qs segments
+some_segments input [] = ([], tt)
+some_segments input (q ∷ qs) =
+    let answer = some_rest input (stage_for q) tt in
+    let later = some_segments input qs in
+    ((map Sent (sends_of q) ++ answer.0) ∷ later.0, ((answer.0, refl, answer.1), later.1))
 
-pub open_legal : (config : Config) (requests : List Request) (t : Talk) → Open config requests t → IsLegalPrefix config requests (said t)
-open_legal config requests t is_open =
-    let rest = some_rest config t.stage in
-    let later = some_segments config (drop (length t.closed) requests) in
+pub open_legal : (input : Input) (t : Talk) → Open input t → IsLegalPrefix input (said t)
+open_legal input t is_open =
+    let rest = some_rest input t.stage (stands_expects input t.closed t.open_events t.stage is_open.stands) in
+    let later = some_segments input (drop (length t.closed) input.requests) in
     inr (record {
       closed = t.closed;
       part = t.open_events;
@@ -64,90 +62,92 @@ open_legal config requests t is_open =
       opening = inr is_open.begins;
     })
 
+-- a message that is taken leads to a stage that can end
+pub reply_expects : (input : Input) (t : Talk) (m : Backend) (stage : Stage) (reply : Option Frontend) → after input t.stage m ≡ Goes stage reply → Open input t → Expects input stage
+reply_expects input t m stage reply is is_open =
+    stands_expects input t.closed (t.open_events ++ Got m ∷ map Sent (sends reply)) stage (subst (StandsBy input t.closed t.open_events m) is (stands_by input t.closed t.open_events t.stage m is_open.stands))
+
 -- what comes next in it is a message of the server
-pub open_awaits : (config : Config) (requests : List Request) (t : Talk) → Open config requests t → Awaits config requests t.closed t.open_events
-open_awaits config requests t is_open =
-    let got = some_got config t.stage in
-    let later = some_segments config (drop (length t.closed) requests) in
+pub open_awaits : (input : Input) (t : Talk) → Open input t → Awaits input t.closed t.open_events
+open_awaits input t is_open =
+    let got = some_got input t.stage (stands_expects input t.closed t.open_events t.stage is_open.stands) in
+    let later = some_segments input (drop (length t.closed) input.requests) in
     record { next = got.0; rest = got.1; later = later.0; transcript = is_open.completes (Got got.0 ∷ got.1) later.0 got.2 later.1; opening = is_open.begins }
 
 -- the messages passed over
-abbrev pub Skipped : Config → List Request → Talk → List Backend → Type 0
-Skipped config requests t ms = PassedOver config requests t.closed t.open_events ms
+abbrev pub Passed : Input → Talk → List Backend → Type 0
+Passed input t ms = ArePassedOver input t.closed t.open_events ms
 
 -- why a message had no place: it is next; or it was passed over, and ReadyForQuery is next
-abbrev pub Misplaces : Config → List Request → Talk → List ℕ → Backend → List Backend → Type 0
-Misplaces config requests t rest m [] = (len : ℕ) × (front (standing_of config (heard_of t)).version rest ≡ Whole m len) × (IsLegalPrefix config requests (said t ++ Got m ∷ []) → ⊥) × (IsSimple t.open_events → ⊥) × (HasError t.open_events m → ⊥)
-Misplaces config requests t rest m (x ∷ ms) =
-    (x ≡ m) × (IsLegalPrefix config requests (said t ++ Got m ∷ []) → ⊥) × IsQuiet ms × IsSimple t.open_events × (ready : ReadyForQuery) × (len : ℕ) × (front (standing_of config (heard_of t)).version rest ≡ Whole (backend.ReadyForQuery ready) len)
+abbrev pub Misplaces : Input → Talk → List ℕ → Backend → List Backend → Type 0
+Misplaces input t rest m [] = (len : ℕ) × (front (standing_of input.config (heard_of t)).version rest ≡ Whole m len) × (IsLegalPrefix input (said t ++ Got m ∷ []) → ⊥) × (IsSimple t.open_events → ⊥) × (t.closed ≡ [] → refusal_at input (place_of t.open_events) m ≡ None)
+Misplaces input t rest m (x ∷ ms) =
+    (x ≡ m) × (IsLegalPrefix input (said t ++ Got m ∷ []) → ⊥) × IsQuiet ms × IsSimple t.open_events × (ready : ReadyForQuery) × (len : ℕ) × (front (standing_of input.config (heard_of t)).version rest ≡ Whole (backend.ReadyForQuery ready) len)
 
 -- a message is next while the startup segment is open
-abbrev pub FirstAtStartup : Config → Talk → List ℕ → Backend → Type 0
-FirstAtStartup config t rest m = (len : ℕ) × (front (standing_of config (heard_of t)).version rest ≡ Whole m len) × (t.closed ≡ []) × (t.skipped ≡ [])
+abbrev pub FirstAtStartup : Input → Talk → List ℕ → Backend → Type 0
+FirstAtStartup input t rest m = (len : ℕ) × (front (standing_of input.config (heard_of t)).version rest ≡ Whole m len) × (t.closed ≡ []) × (t.passed ≡ [])
 
 -- why a conversation ended, behind its events and before these bytes
-abbrev pub Cause : Config → List Request → Talk → List ℕ → Outcome → Type 0
-Cause config requests t rest Complete = IsTranscript config requests t.closed × (t.open_events ≡ []) × (t.skipped ≡ [])
-Cause config requests t rest (Unencoded e) = (due : List Frontend) × IsLegalPrefix config requests (said t ++ map Sent due) × (encodings due ≡ Err e) × (t.skipped ≡ [])
-Cause config requests t rest (Stopped (client.UnexpectedMessage m)) = Misplaces config requests t rest m t.skipped
-Cause config requests t rest (Stopped (client.PgWireError why)) = front (standing_of config (heard_of t)).version rest ≡ Bad why
-Cause config requests t rest (Stopped (client.RemoteError r)) = FirstAtStartup config t rest (backend.ErrorResponse r)
-Cause config requests t rest (Stopped client.NotYetBuilt) = (m : Backend) × IsUnsupportedLogin m × FirstAtStartup config t rest m × (HasLogin t.open_events → ⊥)
-Cause config requests t rest (Stopped e) = ⊥
+abbrev pub Cause : Input → Talk → List ℕ → Outcome → Type 0
+Cause input t rest Complete = IsTranscript input t.closed × (t.open_events ≡ []) × (t.passed ≡ [])
+Cause input t rest (Unencoded e) = (due : List Frontend) × IsLegalPrefix input (said t ++ map Sent due) × (encodings due ≡ Err e) × (t.passed ≡ [])
+Cause input t rest (Unexpected m) = Misplaces input t rest m t.passed
+Cause input t rest (Unread why) = front (standing_of input.config (heard_of t)).version rest ≡ Bad why
+Cause input t rest (Refused e) = (m : Backend) × (refusal_at input (place_of t.open_events) m ≡ Some e) × FirstAtStartup input t rest m
 
 -- where a conversation stopped, a segment was open
-abbrev pub OpenIf : Config → List Request → Talk → Outcome → Type 0
-OpenIf config requests t Complete = Unit {0}
-OpenIf config requests t (Unencoded e) = Unit {0}
-OpenIf config requests t (Stopped e) = Open config requests t × Skipped config requests t t.skipped
+abbrev pub OpenIf : Input → Talk → Outcome → Type 0
+OpenIf input t Complete = Unit {0}
+OpenIf input t (Unencoded e) = Unit {0}
+OpenIf input t o = Open input t × Passed input t t.passed
 
-open_if : (config : Config) (requests : List Request) (t : Talk) (o : Outcome) → Open config requests t → Skipped config requests t t.skipped → OpenIf config requests t o
-open_if config requests t Complete is_open skipped = tt
-open_if config requests t (Unencoded e) is_open skipped = tt
-open_if config requests t (Stopped e) is_open skipped = (is_open, skipped)
+open_if : (input : Input) (t : Talk) (o : Outcome) → Open input t → Passed input t t.passed → OpenIf input t o
+open_if input t Complete is_open passed = tt
+open_if input t (Unencoded e) is_open passed = tt
+open_if input t o is_open passed = (is_open, passed)
 
 -- the bytes done gave the events so far
-pub record Sofar (config : Config) (requests : List Request) (t : Talk) (done sent : List ℕ) : Type 0 where
-  pub got : SpellsGot (first_standing config) (heard_of t) done
+pub record Sofar (input : Input) (t : Talk) (done sent : List ℕ) : Type 0 where
+  pub got : SpellsGot (first_standing input.config) (heard_of t) done
   pub put : EncodesSent (heard_of t) sent
-  pub is_open : Open config requests t
-  pub skipped : Skipped config requests t t.skipped
-  pub heard : Heard config requests t sent
+  pub is_open : Open input t
+  pub passed : Passed input t t.passed
+  pub heard : Heard input t sent
 
 -- the conversation of these bytes ended
-pub record Final (config : Config) (requests : List Request) (e : Ending) (bytes sent : List ℕ) : Type 0 where
+pub record Final (input : Input) (e : Ending) (bytes sent : List ℕ) : Type 0 where
   pub done : List ℕ
   pub rest : List ℕ
   pub begins : bytes ≡ done ++ rest
-  pub got : SpellsGot (first_standing config) (heard_of e.talk) done
-  pub put : EncodesSent (heard_of e.talk) sent
-  pub legal : IsLegalPrefix config requests (said e.talk)
-  pub is_open : OpenIf config requests e.talk e.outcome
-  pub cause : Cause config requests e.talk rest e.outcome
+  pub got : SpellsGot (first_standing input.config) (heard_of e.notes) done
+  pub put : EncodesSent (heard_of e.notes) sent
+  pub legal : IsLegalPrefix input (said e.notes)
+  pub is_open : OpenIf input e.notes e.outcome
+  pub cause : Cause input e.notes rest e.outcome
 
-abbrev pub SoundAt : Config → List Request → List ℕ → Course Talk Ending → Type 0
-SoundAt config requests bytes (Waits t sent pending) = (done : List ℕ) × (bytes ≡ done ++ pending) × Sofar config requests t done sent × (front (standing_of config (heard_of t)).version pending ≡ More)
-SoundAt config requests bytes (Over e sent) = Final config requests e bytes sent
+abbrev pub SoundAt : Input → List ℕ → Course Talk Ending → Type 0
+SoundAt input bytes (Waits t sent pending) = (done : List ℕ) × (bytes ≡ done ++ pending) × Sofar input t done sent × (front (standing_of input.config (heard_of t)).version pending ≡ More)
+SoundAt input bytes (Over e sent) = Final input e bytes sent
 
 -- how a message ends the conversation: it is its last, or stays next
 abbrev Takes : Talk → Backend → Talk → Type 0
 Takes t m next = heard_of next ≡ heard_of t ++ Got m ∷ []
 
-abbrev RefusesBy : Config → List Request → Talk → Backend → Backend → List Backend → Type 0
-RefusesBy config requests t m x [] = (x ≡ m) × (IsLegalPrefix config requests (said t ++ Got m ∷ []) → ⊥) × (IsSimple t.open_events → ⊥) × (HasError t.open_events m → ⊥)
-RefusesBy config requests t m x (first ∷ ms) = (first ≡ x) × ((ready : ReadyForQuery) × (m ≡ backend.ReadyForQuery ready))
+abbrev RefusesBy : Input → Talk → Backend → Backend → List Backend → Type 0
+RefusesBy input t m x [] = (x ≡ m) × (IsLegalPrefix input (said t ++ Got m ∷ []) → ⊥) × (IsSimple t.open_events → ⊥) × (t.closed ≡ [] → refusal_at input (place_of t.open_events) m ≡ None)
+RefusesBy input t m x (first ∷ ms) = (first ≡ x) × ((ready : ReadyForQuery) × (m ≡ backend.ReadyForQuery ready))
 
-abbrev Stops : Config → List Request → Talk → Backend → Talk → Outcome → Type 0
-Stops config requests t m next Complete = Takes t m next × IsLegalPrefix config requests (said next) × IsTranscript config requests next.closed × (next.open_events ≡ []) × (next.skipped ≡ [])
-Stops config requests t m next (Unencoded e) = Takes t m next × IsLegalPrefix config requests (said next) × ((due : List Frontend) × IsLegalPrefix config requests (said next ++ map Sent due) × (encodings due ≡ Err e) × (next.skipped ≡ []))
-Stops config requests t m next (Stopped (client.UnexpectedMessage x)) = (next ≡ t) × RefusesBy config requests t m x t.skipped
-Stops config requests t m next (Stopped (client.RemoteError r)) = (m ≡ backend.ErrorResponse r) × (next ≡ t) × IsLogin t.stage × (t.skipped ≡ [])
-Stops config requests t m next (Stopped client.NotYetBuilt) = IsUnsupportedLogin m × (next ≡ t) × IsLogin t.stage × (t.skipped ≡ []) × (HasLogin t.open_events → ⊥)
-Stops config requests t m next (Stopped e) = ⊥
+abbrev Stops : Input → Talk → Backend → Talk → Outcome → Type 0
+Stops input t m next Complete = Takes t m next × IsLegalPrefix input (said next) × IsTranscript input next.closed × (next.open_events ≡ []) × (next.passed ≡ [])
+Stops input t m next (Unencoded e) = Takes t m next × IsLegalPrefix input (said next) × ((due : List Frontend) × IsLegalPrefix input (said next ++ map Sent due) × (encodings due ≡ Err e) × (next.passed ≡ []))
+Stops input t m next (Unexpected x) = (next ≡ t) × RefusesBy input t m x t.passed
+Stops input t m next (Refused e) = (next ≡ t) × (t.closed ≡ []) × (t.passed ≡ []) × (refusal_at input (place_of t.open_events) m ≡ Some e)
+Stops input t m next (Unread why) = ⊥
 
-abbrev Good : Config → List Request → Talk → Backend → Move Talk Ending → Type 0
-Good config requests t m (On next out) = Open config requests next × Skipped config requests next next.skipped
-Good config requests t m (Ends e out) = (out ≡ []) × Stops config requests t m e.talk e.outcome
+abbrev Good : Input → Talk → Backend → Move Talk Ending → Type 0
+Good input t m (On next out) = Open input next × Passed input next next.passed
+Good input t m (Ends e out) = (out ≡ []) × Stops input t m e.notes e.outcome
 
 drop_next : (requests : List Request) (k : ℕ) (q : Request) → slice_get requests k ≡ Some q → drop k requests ≡ q ∷ drop (suc k) requests
 drop_next [] k q is = cc
@@ -160,17 +160,17 @@ drop_past [] (suc k) is = refl
 drop_past (x ∷ requests) zero is = cc
 drop_past (x ∷ requests) (suc k) is = drop_past requests k is
 
--- a segment has closed: any segments of the requests left make a transcript with those that have
-abbrev ClosesTo : Config → List Request → List (List Event) → ℕ → Type 0
-ClosesTo config requests closed k = (segments : List (List Event)) → AreSegments (drop k requests) segments → IsTranscript config requests (closed ++ segments)
+-- a segment has closed: any segments of the input.requests left make a transcript with those that have
+abbrev ClosesTo : Input → List (List Event) → ℕ → Type 0
+ClosesTo input closed k = (segments : List (List Event)) → AreSegments (drop k input.requests) segments → IsTranscript input (closed ++ segments)
 
-opening_good : (config : Config) (requests : List Request) (t : Talk) (m : Backend) (closed : List (List Event)) (k : ℕ) (q : Request) (o : Result (List ℕ) PgWireError) → encodings (sends_of q) ≡ o → heard_of (between closed) ≡ heard_of t ++ Got m ∷ []
-    → length closed ≡ suc k → slice_get requests k ≡ Some q → ClosesTo config requests closed k → Good config requests t m (opening closed (sends_of q) (stage_for q) o)
-opening_good config requests t m closed k q (Err e) is are count asked closes =
-    let answer = some_rest config (stage_for q) in
-    let later = some_segments config (drop (suc k) requests) in
-    let transcript = closes ((map Sent (sends_of q) ++ answer.0) ∷ later.0) (subst (λ (qs : List Request). AreSegments qs ((map Sent (sends_of q) ++ answer.0) ∷ later.0)) (sym (drop_next requests k q asked)) (is_segment config q answer.0 answer.1, later.1)) in
-    let begins = subst (λ n. map Sent (sends_of q) ≡ map Sent (opening_at config requests n) ++ []) (sym count) (ap (λ o. map Sent (opened_by o)) (sym asked) ∙ sym (append-nil _)) in (
+opening_good : (input : Input) (t : Talk) (m : Backend) (closed : List (List Event)) (k : ℕ) (q : Request) (o : Result (List ℕ) PgWireError) → encodings (sends_of q) ≡ o → heard_of (between closed) ≡ heard_of t ++ Got m ∷ []
+    → length closed ≡ suc k → slice_get input.requests k ≡ Some q → ClosesTo input closed k → Good input t m (opening closed (sends_of q) (stage_for q) o)
+opening_good input t m closed k q (Err e) is are count asked closes =
+    let answer = some_rest input (stage_for q) tt in
+    let later = some_segments input (drop (suc k) input.requests) in
+    let transcript = closes ((map Sent (sends_of q) ++ answer.0) ∷ later.0) (subst (λ (qs : List Request). AreSegments qs ((map Sent (sends_of q) ++ answer.0) ∷ later.0)) (sym (drop_next input.requests k q asked)) ((answer.0, refl, answer.1), later.1)) in
+    let begins = subst (λ n. map Sent (sends_of q) ≡ map Sent (opening_at input n) ++ []) (sym count) (ap (λ o. map Sent (opened_by o)) (sym asked) ∙ sym (append-nil _)) in (
       refl,
       (
         are,
@@ -199,57 +199,46 @@ opening_good config requests t m closed k q (Err e) is are count asked closes =
         ),
       ),
     )
-opening_good config requests t m closed k q (Ok out) is are count asked closes = (
+opening_good input t m closed k q (Ok out) is are count asked closes = (
   record {
     completes = λ es segments rest segs.
         closes ((map Sent (sends_of q) ++ es) ∷ segments)
-        (subst (λ (qs : List Request). AreSegments qs ((map Sent (sends_of q) ++ es) ∷ segments)) (sym (drop_next requests k q asked)) (is_segment config q es rest, subst (λ n. AreSegments (drop n requests) segments) count segs));
-    simple = λ l. simple_request q l;
-    simple_events = λ l. simple_opening q;
-    first = λ l. absurd (request_stage q l);
-    login = request_login q (map Sent (sends_of q));
-    begins = ([], subst (λ n. map Sent (sends_of q) ≡ map Sent (opening_at config requests n) ++ []) (sym count) (ap (λ o. map Sent (opened_by o)) (sym asked) ∙ sym (append-nil _)));
+        (subst (λ (qs : List Request). AreSegments qs ((map Sent (sends_of q) ++ es) ∷ segments)) (sym (drop_next input.requests k q asked)) ((es, refl, rest), subst (λ n. AreSegments (drop n input.requests) segments) count segs));
+    stands = stands_first input q closed (λ none. let c = ap length none in absurd (omega (arith, c, count)));
+    begins = ([], subst (λ n. map Sent (sends_of q) ≡ map Sent (opening_at input n) ++ []) (sym count) (ap (λ o. map Sent (opened_by o)) (sym asked) ∙ sym (append-nil _)));
   },
   tt,
 )
 
-opens_good : (config : Config) (requests : List Request) (t : Talk) (m : Backend) (closed : List (List Event)) (k : ℕ) (o : Option Request) → heard_of (between closed) ≡ heard_of t ++ Got m ∷ []
-    → length closed ≡ suc k → slice_get requests k ≡ o → ClosesTo config requests closed k → Good config requests t m (opens closed o)
-opens_good config requests t m closed k None are count asked closes =
-    let transcript = subst (IsTranscript config requests) (append-nil closed) (closes [] (subst (λ (qs : List Request). AreSegments qs []) (sym (drop_past requests k asked)) tt)) in
+opens_good : (input : Input) (t : Talk) (m : Backend) (closed : List (List Event)) (k : ℕ) (o : Option Request) → heard_of (between closed) ≡ heard_of t ++ Got m ∷ []
+    → length closed ≡ suc k → slice_get input.requests k ≡ o → ClosesTo input closed k → Good input t m (opens input closed o)
+opens_good input t m closed k None are count asked closes =
+    let transcript = subst (IsTranscript input) (append-nil closed) (closes [] (subst (λ (qs : List Request). AreSegments qs []) (sym (drop_past input.requests k asked)) tt)) in
     (refl, (are, inl (closed, transcript, sym (append-nil (joined closed))), transcript, refl, refl))
-opens_good config requests t m closed k (Some q) are count asked closes = opening_good config requests t m closed k q (encodings (sends_of q)) refl are count asked closes
+opens_good input t m closed k (Some q) are count asked closes = opening_good input t m closed k q (encodings (sends_of q)) refl are count asked closes
+
+-- not ReadyForQuery
+other_is : (m : Backend) → is_ready m ≡ false → is_other m ≡ true
+other_is m is = ap not is
 
 ready_is : (m : Backend) → is_ready m ≡ true → (ready : ReadyForQuery) × (m ≡ backend.ReadyForQuery ready)
 ready_is (backend.ReadyForQuery ready) is = (ready, refl)
 ready_is m is = cc
 
 quiet_more : (ms : List Backend) (m : Backend) → IsQuiet ms → is_ready m ≡ false → IsQuiet (ms ++ m ∷ [])
-quiet_more [] m q is = (is, tt)
+quiet_more [] m q is = (other_is m is, tt)
 quiet_more (x ∷ ms) m q is = (q.0, quiet_more ms m q.1 is)
 
-simple_before : (es : List Event) (m : Backend) (more : List Event) → IsSimple (es ++ Got m ∷ more) → IsSimple es
-simple_before [] m more l = l
-simple_before (Got x ∷ es) m more l = l
-simple_before (Sent (frontend.Query q) ∷ es) m more l = tt
-simple_before (Sent f ∷ es) m more l = l
-
-simple_behind : (es : List Event) (m : Backend) (more : List Event) → IsSimple es → IsSimple (es ++ Got m ∷ more)
-simple_behind [] m more l = absurd l
-simple_behind (Got x ∷ es) m more l = l
-simple_behind (Sent (frontend.Query q) ∷ es) m more l = tt
-simple_behind (Sent f ∷ es) m more l = l
-
-reply_good : (config : Config) (requests : List Request) (t : Talk) (m : Backend) (stage : Stage) (reply : Reply) (o : Result (List ℕ) PgWireError) → encodings (replies config reply) ≡ o → t.skipped ≡ [] → after t.stage m ≡ Goes stage reply → Open config requests t
-    → Good config requests t m (sending (record { closed = t.closed; open_events = t.open_events ++ Got m ∷ []; stage = stage; skipped = [] }) (record { closed = t.closed; open_events = t.open_events ++ Got m ∷ map Sent (replies config reply); stage = stage; skipped = [] }) o)
-reply_good config requests t m stage reply (Err e) none clean is is_open =
+reply_good : (input : Input) (t : Talk) (m : Backend) (stage : Stage) (reply : Option Frontend) (o : Result (List ℕ) PgWireError) → encodings (sends reply) ≡ o → t.passed ≡ [] → after input t.stage m ≡ Goes stage reply → Open input t
+    → Good input t m (sending (record { closed = t.closed; open_events = t.open_events ++ Got m ∷ []; stage = stage; passed = [] }) (record { closed = t.closed; open_events = t.open_events ++ Got m ∷ map Sent (sends reply); stage = stage; passed = [] }) o)
+reply_good input t m stage reply (Err e) none clean is is_open =
     let s = t.stage in
-    let fs = replies config reply in
-    let rest = some_rest config stage in
-    let later = some_segments config (drop (length t.closed) requests) in
+    let fs = sends reply in
+    let rest = some_rest input stage (reply_expects input t m stage reply is is_open) in
+    let later = some_segments input (drop (length t.closed) input.requests) in
     let more = map Sent fs ++ rest.0 in
     let are : joined t.closed ++ (t.open_events ++ Got m ∷ []) ≡ said t ++ Got m ∷ [] = sym (append_assoc (joined t.closed) t.open_events (Got m ∷ [])) in
-    let transcript = is_open.completes (Got m ∷ more) later.0 (by_rest config s m more (subst (λ x. RestBy config x more) (sym is) (reply_before config stage reply rest.0 rest.1))) later.1 in
+    let transcript = is_open.completes (Got m ∷ more) later.0 (by_rest input s m more (subst (λ x. RestBy input x more) (sym is) (rest.0, refl, rest.1))) later.1 in
     let begins = ap (λ (l : List Event). l ++ Got m ∷ []) is_open.begins.1 ∙ append_assoc _ is_open.begins.0 (Got m ∷ []) in (
       refl,
       (
@@ -260,7 +249,7 @@ reply_good config requests t m stage reply (Err e) none clean is is_open =
           rest = more;
           later = later.0;
           are = refl;
-          transcript = subst (λ (l : List Event). IsTranscript config requests (t.closed ++ l ∷ later.0)) (sym (append_assoc t.open_events (Got m ∷ []) more)) transcript;
+          transcript = subst (λ (l : List Event). IsTranscript input (t.closed ++ l ∷ later.0)) (sym (append_assoc t.open_events (Got m ∷ []) more)) transcript;
           opening = inr (is_open.begins.0 ++ Got m ∷ [], begins);
         }),
         (
@@ -271,7 +260,7 @@ reply_good config requests t m stage reply (Err e) none clean is is_open =
             rest = rest.0;
             later = later.0;
             are = append_assoc (joined t.closed) (t.open_events ++ Got m ∷ []) (map Sent fs);
-            transcript = subst (λ (l : List Event). IsTranscript config requests (t.closed ++ l ∷ later.0)) (sym (append_assoc (t.open_events ++ Got m ∷ []) (map Sent fs) rest.0 ∙ append_assoc t.open_events (Got m ∷ []) more)) transcript;
+            transcript = subst (λ (l : List Event). IsTranscript input (t.closed ++ l ∷ later.0)) (sym (append_assoc (t.open_events ++ Got m ∷ []) (map Sent fs) rest.0 ∙ append_assoc t.open_events (Got m ∷ []) more)) transcript;
             opening = inr ((is_open.begins.0 ++ Got m ∷ []) ++ map Sent fs, ap (λ (l : List Event). l ++ map Sent fs) begins ∙ append_assoc _ (is_open.begins.0 ++ Got m ∷ []) (map Sent fs));
           }),
           none,
@@ -279,60 +268,49 @@ reply_good config requests t m stage reply (Err e) none clean is is_open =
         ),
       ),
     )
-reply_good config requests t m stage reply (Ok out) some clean is is_open =
+reply_good input t m stage reply (Ok out) some clean is is_open =
     let s = t.stage in
-    let fs = replies config reply in (
+    let fs = sends reply in (
       record {
         completes = λ es segments rest segs.
-            subst (λ (l : List Event). IsTranscript config requests (t.closed ++ l ∷ segments)) (sym (append_assoc t.open_events (Got m ∷ map Sent fs) es))
-            (is_open.completes (Got m ∷ (map Sent fs ++ es)) segments (by_rest config s m (map Sent fs ++ es) (subst (λ x. RestBy config x (map Sent fs ++ es)) (sym is) (reply_before config stage reply es rest))) segs);
-        simple = λ l. simple_goes s m stage reply is (is_open.simple (simple_before t.open_events m (map Sent fs) l));
-        simple_events = λ l. simple_behind t.open_events m (map Sent fs) (is_open.simple_events (simple_from s m stage reply is l));
-        first = λ l. is_open.first (login_before s m stage reply is l);
-        login = login_goes config s m stage reply t.open_events is is_open.login;
+            subst (λ (l : List Event). IsTranscript input (t.closed ++ l ∷ segments)) (sym (append_assoc t.open_events (Got m ∷ map Sent fs) es))
+            (is_open.completes (Got m ∷ (map Sent fs ++ es)) segments (by_rest input s m (map Sent fs ++ es) (subst (λ x. RestBy input x (map Sent fs ++ es)) (sym is) (es, refl, rest))) segs);
+        stands = subst (StandsBy input t.closed t.open_events m) is (stands_by input t.closed t.open_events s m is_open.stands);
         begins = (is_open.begins.0 ++ Got m ∷ map Sent fs, ap (λ (l : List Event). l ++ Got m ∷ map Sent fs) is_open.begins.1 ∙ append_assoc _ is_open.begins.0 (Got m ∷ map Sent fs));
       },
       tt,
     )
 
-unsupported_refusal : (m : Backend) → IsUnsupportedLogin m → refusal_of m ≡ client.NotYetBuilt
-unsupported_refusal (backend.Authentication (authentication.MD5Password salt)) u = refl
-unsupported_refusal (backend.Authentication (authentication.SASL methods)) u = refl
-unsupported_refusal m u = absurd u
-
-refusal_stops : (config : Config) (requests : List Request) (t : Talk) (m : Backend) → t.skipped ≡ [] → IsLogin t.stage → (IsUnsupportedLogin m → HasLogin t.open_events → ⊥) → IsRefusal m → Stops config requests t m t (Stopped (refusal_of m))
-refusal_stops config requests t m clean login first (inl r) = subst (λ x. Stops config requests t x t (Stopped (refusal_of x))) (sym r.1) (refl, refl, login, clean)
-refusal_stops config requests t m clean login first (inr u) = subst (λ e. Stops config requests t m t (Stopped e)) (sym (unsupported_refusal m u)) (u, refl, login, clean, first u)
-
-moves_good : (config : Config) (requests : List Request) (t : Talk) (m : Backend) (sent : List ℕ) (n : Next) → t.skipped ≡ [] → (HasRefused (onto sent (moves config requests t m n)) → IsLegalPrefix config requests (said t ++ Got m ∷ []) → ⊥)
-    → after t.stage m ≡ n → Open config requests t → Good config requests t m (moves config requests t m n)
-moves_good config requests t m sent (Goes stage reply) clean nowhere is is_open = reply_good config requests t m stage reply (encodings (replies config reply)) refl clean is is_open
-moves_good config requests t m sent Closes clean nowhere is is_open =
+moves_good : (input : Input) (t : Talk) (m : Backend) (sent : List ℕ) (n : Next) → t.passed ≡ [] → (HasRefused (onto sent (moves input t m n)) → IsLegalPrefix input (said t ++ Got m ∷ []) → ⊥)
+    → after input t.stage m ≡ n → Open input t → Good input t m (moves input t m n)
+moves_good input t m sent (Goes stage reply) clean nowhere is is_open = reply_good input t m stage reply (encodings (sends reply)) refl clean is is_open
+moves_good input t m sent Closes clean nowhere is is_open =
     let s = t.stage in
     let es = t.open_events ++ Got m ∷ [] in
-    opens_good config requests t m (t.closed ++ es ∷ []) (length t.closed) (slice_get requests (length t.closed))
+    opens_good input t m (t.closed ++ es ∷ []) (length t.closed) (slice_get input.requests (length t.closed))
     (append-nil _ ∙ append-nil _ ∙ joined_more t.closed es ∙ sym (append_assoc (joined t.closed) t.open_events (Got m ∷ [])) ∙ ap (λ (l : List Event). l ++ Got m ∷ []) (clean_heard t clean))
     (length_push t.closed es ∙ omega arith)
     refl
-    (λ segments segs. subst (IsTranscript config requests) (sym (append_assoc t.closed (es ∷ []) segments)) (is_open.completes (Got m ∷ []) segments (by_rest config s m [] (subst (λ x. RestBy config x []) (sym is) refl)) segs))
-moves_good config requests t m sent Wrong clean nowhere is is_open =
-    (refl, (refl, subst (RefusesBy config requests t m m) (sym clean) (refl, nowhere (_, refl), λ l. simple_not_wrong t.stage m is (is_open.simple l), wrong_unnamed t.stage m t.open_events is is_open.login)))
-moves_good config requests t m sent Refuses clean nowhere is is_open =
-    let r = refuses_error t.stage m is in
-    (refl, refusal_stops config requests t m clean r.0 (unsupported_first t.stage m t.open_events is is_open.login) r.1)
-moves_good config requests t m sent Spoils clean nowhere is is_open =
-    (record { completes = is_open.completes; simple = is_open.simple; simple_events = is_open.simple_events; first = is_open.first; login = is_open.login; begins = is_open.begins }, (nowhere (m, [], refl), tt, is_open.simple_events (simple_spoils t.stage m is)))
+    (λ segments segs. subst (IsTranscript input) (sym (append_assoc t.closed (es ∷ []) segments)) (is_open.completes (Got m ∷ []) segments (by_rest input s m [] (subst (λ x. RestBy input x []) (sym is) refl)) segs))
+moves_good input t m sent Wrong clean nowhere is is_open =
+    let stands = subst (StandsBy input t.closed t.open_events m) is (stands_by input t.closed t.open_events t.stage m is_open.stands) in
+    (refl, (refl, subst (RefusesBy input t m m) (sym clean) (refl, nowhere tt, stands.0, stands.1)))
+moves_good input t m sent (Refuses e) clean nowhere is is_open =
+    let stands = subst (StandsBy input t.closed t.open_events m) is (stands_by input t.closed t.open_events t.stage m is_open.stands) in
+    (refl, (refl, stands.0, clean, stands.1))
+moves_good input t m sent PassesOver clean nowhere is is_open =
+    (record { completes = is_open.completes; stands = is_open.stands; begins = is_open.begins }, subst (Passed input t) (ap (λ (l : List Backend). l ++ m ∷ []) (sym clean)) (nowhere (m, [], ap (λ (l : List Backend). l ++ m ∷ []) clean), tt, subst (StandsBy input t.closed t.open_events m) is (stands_by input t.closed t.open_events t.stage m is_open.stands)))
 
-drains_good : (config : Config) (requests : List Request) (t : Talk) (m first : Backend) (ms : List Backend) (b : Bool) → t.skipped ≡ first ∷ ms → is_ready m ≡ b → Skipped config requests t (first ∷ ms) → Open config requests t → Good config requests t m (drains t first m b)
-drains_good config requests t m first ms true are is skipped is_open = (refl, (refl, subst (RefusesBy config requests t m first) (sym are) (refl, ready_is m is)))
-drains_good config requests t m first ms false are is skipped is_open = (
-  record { completes = is_open.completes; simple = is_open.simple; simple_events = is_open.simple_events; first = is_open.first; login = is_open.login; begins = is_open.begins },
-  subst (λ (l : List Backend). Skipped config requests t (l ++ m ∷ [])) (sym are) (skipped.0, quiet_more ms m skipped.1 is, skipped.2),
+passing_good : (input : Input) (t : Talk) (m first : Backend) (ms : List Backend) (b : Bool) → t.passed ≡ first ∷ ms → is_ready m ≡ b → Passed input t (first ∷ ms) → Open input t → Good input t m (passing input t first m b)
+passing_good input t m first ms true are is passed is_open = (refl, (refl, subst (RefusesBy input t m first) (sym are) (refl, ready_is m is)))
+passing_good input t m first ms false are is passed is_open = (
+  record { completes = is_open.completes; stands = is_open.stands; begins = is_open.begins },
+  subst (λ (l : List Backend). Passed input t (l ++ m ∷ [])) (sym are) (passed.0, quiet_more ms m passed.1 is, passed.2),
 )
 
-turn_good : (config : Config) (requests : List Request) (t : Talk) (m : Backend) (done sent : List ℕ) (skipped : List Backend) → t.skipped ≡ skipped → Sofar config requests t done sent → Good config requests t m (turn config requests t m skipped)
-turn_good config requests t m done sent [] clean s = moves_good config requests t m sent (after t.stage m) clean (no_place config requests t sent m clean s.heard) refl s.is_open
-turn_good config requests t m done sent (first ∷ ms) are s = drains_good config requests t m first ms (is_ready m) are refl (subst (Skipped config requests t) are s.skipped) s.is_open
+turn_good : (input : Input) (t : Talk) (m : Backend) (done sent : List ℕ) (passed : List Backend) → t.passed ≡ passed → Sofar input t done sent → Good input t m (turn input t m passed)
+turn_good input t m done sent [] clean s = moves_good input t m sent (after input t.stage m) clean (no_place input t sent m clean s.heard) refl s.is_open
+turn_good input t m done sent (first ∷ ms) are s = passing_good input t m first ms (is_ready m) are refl (subst (Passed input t) are s.passed) s.is_open
 
 -- a message that is whole only with the last byte takes all of them
 whole_all : (v : ProtocolVersion) (pending : List ℕ) (b : ℕ) (m : Backend) (n : ℕ) → front v pending ≡ More → front v (pending ++ b ∷ []) ≡ Whole m n → Spells v m (pending ++ b ∷ [])
@@ -353,126 +331,121 @@ whole_all v pending b m n more is =
 pub spelled_front : (v : ProtocolVersion) (m : Backend) (bytes : List ℕ) → Spells v m bytes → front v bytes ≡ Whole m (length bytes)
 spelled_front v m bytes spells = ap (front v) (sym (append-nil bytes)) ∙ spells_front v m bytes [] spells
 
-got_one : (config : Config) (t : Talk) (m : Backend) (done message : List ℕ) → SpellsGot (first_standing config) (heard_of t) done → Spells (standing_of config (heard_of t)).version m message → SpellsGot (first_standing config) (heard_of t ++ Got m ∷ []) (done ++ message)
+got_one : (input : Input) (t : Talk) (m : Backend) (done message : List ℕ) → SpellsGot (first_standing input.config) (heard_of t) done → Spells (standing_of input.config (heard_of t)).version m message → SpellsGot (first_standing input.config) (heard_of t ++ Got m ∷ []) (done ++ message)
 unfolding standing_of
-got_one config t m done message got spells = got_more (first_standing config) (heard_of t) m done message got spells
+got_one input t m done message got spells = got_more (first_standing input.config) (heard_of t) m done message got spells
 
-heard_one : (config : Config) (requests : List Request) (t : Talk) (m : Backend) (sent : List ℕ) (fs : List Frontend) → Heard config requests t sent
-    → hear (talk_rules config requests) (beginning config) (gots ((heard_of t ++ Got m ∷ []) ++ map Sent fs)) ≡ onto sent (turn config requests t m t.skipped)
+heard_one : (input : Input) (t : Talk) (m : Backend) (sent : List ℕ) (fs : List Frontend) → Heard input t sent
+    → hear (talk_rules input) (beginning input) (gots ((heard_of t ++ Got m ∷ []) ++ map Sent fs)) ≡ onto sent (turn input t m t.passed)
 unfolding hear
-heard_one config requests t m sent fs heard =
-    ap (hear (talk_rules config requests) (beginning config)) (gots_append (heard_of t ++ Got m ∷ []) (map Sent fs) ∙ ap (λ (l : List Backend). gots (heard_of t ++ Got m ∷ []) ++ l) (gots_sends fs) ∙ append-nil _ ∙ gots_append (heard_of t) (Got m ∷ []))
-    ∙ hear_append (talk_rules config requests) (beginning config) (gots (heard_of t)) (m ∷ [])
-    ∙ ap (λ c. hear (talk_rules config requests) c (m ∷ [])) heard
+heard_one input t m sent fs heard =
+    ap (hear (talk_rules input) (beginning input)) (gots_append (heard_of t ++ Got m ∷ []) (map Sent fs) ∙ ap (λ (l : List Backend). gots (heard_of t ++ Got m ∷ []) ++ l) (gots_sends fs) ∙ append-nil _ ∙ gots_append (heard_of t) (Got m ∷ []))
+    ∙ hear_append (talk_rules input) (beginning input) (gots (heard_of t)) (m ∷ [])
+    ∙ ap (λ c. hear (talk_rules input) c (m ∷ [])) heard
 
 put_one : (t : Talk) (m : Backend) (sent : List ℕ) → EncodesSent (heard_of t) sent → EncodesSent (heard_of t ++ Got m ∷ []) sent
 put_one t m sent put =
     subst (λ (l : List Event). EncodesSent l sent) (append-nil (heard_of t ++ Got m ∷ [])) (subst (EncodesSent ((heard_of t ++ Got m ∷ []) ++ [])) (append-nil sent) (put_on_sends (heard_of t) sent [] [] m put refl))
 
-refused_sound : (config : Config) (requests : List Request) (done sent message : List ℕ) (t : Talk) (m x : Backend) (skipped : List Backend) → t.skipped ≡ skipped → Sofar config requests t done sent → Spells (standing_of config (heard_of t)).version m message
-    → RefusesBy config requests t m x skipped → Skipped config requests t skipped → Misplaces config requests t message x skipped
-refused_sound config requests done sent message t m x [] are s spells r k =
-    (length message, spelled_front (standing_of config (heard_of t)).version m message spells ∙ ap (λ y. Whole y (length message)) (sym r.0), subst (λ y. IsLegalPrefix config requests (said t ++ Got y ∷ []) → ⊥) (sym r.0) r.1, r.2, subst (λ y. HasError t.open_events y → ⊥) (sym r.0) r.3)
-refused_sound config requests done sent message t m x (first ∷ ms) are s spells r k =
-    (r.0, subst (λ y. IsLegalPrefix config requests (said t ++ Got y ∷ []) → ⊥) r.0 k.0, k.1, k.2, r.1.0, length message, spelled_front (standing_of config (heard_of t)).version m message spells ∙ ap (λ y. Whole y (length message)) r.1.1)
+refused_sound : (input : Input) (done sent message : List ℕ) (t : Talk) (m x : Backend) (passed : List Backend) → t.passed ≡ passed → Sofar input t done sent → Spells (standing_of input.config (heard_of t)).version m message
+    → RefusesBy input t m x passed → Passed input t passed → Misplaces input t message x passed
+refused_sound input done sent message t m x [] are s spells r k =
+    (length message, spelled_front (standing_of input.config (heard_of t)).version m message spells ∙ ap (λ y. Whole y (length message)) (sym r.0), subst (λ y. IsLegalPrefix input (said t ++ Got y ∷ []) → ⊥) (sym r.0) r.1, r.2, subst (λ y. t.closed ≡ [] → refusal_at input (place_of t.open_events) y ≡ None) (sym r.0) r.3)
+refused_sound input done sent message t m x (first ∷ ms) are s spells r k =
+    (r.0, subst (λ y. IsLegalPrefix input (said t ++ Got y ∷ []) → ⊥) r.0 k.0, k.1, k.2, r.1.0, length message, spelled_front (standing_of input.config (heard_of t)).version m message spells ∙ ap (λ y. Whole y (length message)) r.1.1)
 
 -- a message that is refused at startup
-first_at_startup : (config : Config) (requests : List Request) (done sent message : List ℕ) (t : Talk) (m : Backend) → Sofar config requests t done sent → Spells (standing_of config (heard_of t)).version m message → IsLogin t.stage → t.skipped ≡ [] → FirstAtStartup config t message m
-first_at_startup config requests done sent message t m s spells login clean = (length message, spelled_front (standing_of config (heard_of t)).version m message spells, s.is_open.first login, clean)
+first_at_startup : (input : Input) (done sent message : List ℕ) (t : Talk) (m : Backend) → Sofar input t done sent → Spells (standing_of input.config (heard_of t)).version m message → t.closed ≡ [] → t.passed ≡ [] → FirstAtStartup input t message m
+first_at_startup input done sent message t m s spells none clean = (length message, spelled_front (standing_of input.config (heard_of t)).version m message spells, none, clean)
 
 -- an end before the message
-stays : (config : Config) (requests : List Request) (bytes done sent message : List ℕ) (t next : Talk) (outcome : Outcome) → bytes ≡ done ++ message → Sofar config requests t done sent → next ≡ t → Cause config requests t message outcome
-    → Final config requests (record { talk = next; outcome = outcome }) bytes sent
-stays config requests bytes done sent message t next outcome are s is cause =
-    subst (λ (n : Talk). Final config requests (record { talk = n; outcome = outcome }) bytes sent) (sym is)
+stays : (input : Input) (bytes done sent message : List ℕ) (t next : Talk) (outcome : Outcome) → bytes ≡ done ++ message → Sofar input t done sent → next ≡ t → Cause input t message outcome
+    → Final input (record { notes = next; outcome = outcome }) bytes sent
+stays input bytes done sent message t next outcome are s is cause =
+    subst (λ (n : Talk). Final input (record { notes = n; outcome = outcome }) bytes sent) (sym is)
     (record {
       done = done;
       rest = message;
       begins = are;
       got = s.got;
       put = s.put;
-      legal = open_legal config requests t s.is_open;
-      is_open = open_if config requests t outcome s.is_open s.skipped;
+      legal = open_legal input t s.is_open;
+      is_open = open_if input t outcome s.is_open s.passed;
       cause = cause;
     })
 
 -- a message ends the conversation
-stops_sound : (config : Config) (requests : List Request) (bytes done sent message : List ℕ) (t next : Talk) (m : Backend) (outcome : Outcome) → bytes ≡ done ++ message → Sofar config requests t done sent
-    → Spells (standing_of config (heard_of t)).version m message → Stops config requests t m next outcome → Final config requests (record { talk = next; outcome = outcome }) bytes sent
-stops_sound config requests bytes done sent message t next m Complete are s spells stops = record {
+stops_sound : (input : Input) (bytes done sent message : List ℕ) (t next : Talk) (m : Backend) (outcome : Outcome) → bytes ≡ done ++ message → Sofar input t done sent
+    → Spells (standing_of input.config (heard_of t)).version m message → Stops input t m next outcome → Final input (record { notes = next; outcome = outcome }) bytes sent
+stops_sound input bytes done sent message t next m Complete are s spells stops = record {
   done = done ++ message;
   rest = [];
   begins = are ∙ sym (append-nil _);
-  got = subst (λ (l : List Event). SpellsGot (first_standing config) l (done ++ message)) (sym stops.0) (got_one config t m done message s.got spells);
+  got = subst (λ (l : List Event). SpellsGot (first_standing input.config) l (done ++ message)) (sym stops.0) (got_one input t m done message s.got spells);
   put = subst (λ (l : List Event). EncodesSent l sent) (sym stops.0) (put_one t m sent s.put);
   legal = stops.1;
   is_open = tt;
   cause = (stops.2, stops.3, stops.4);
 }
-stops_sound config requests bytes done sent message t next m (Unencoded e) are s spells stops = record {
+stops_sound input bytes done sent message t next m (Unencoded e) are s spells stops = record {
   done = done ++ message;
   rest = [];
   begins = are ∙ sym (append-nil _);
-  got = subst (λ (l : List Event). SpellsGot (first_standing config) l (done ++ message)) (sym stops.0) (got_one config t m done message s.got spells);
+  got = subst (λ (l : List Event). SpellsGot (first_standing input.config) l (done ++ message)) (sym stops.0) (got_one input t m done message s.got spells);
   put = subst (λ (l : List Event). EncodesSent l sent) (sym stops.0) (put_one t m sent s.put);
   legal = stops.1;
   is_open = tt;
   cause = stops.2;
 }
-stops_sound config requests bytes done sent message t next m (Stopped (client.UnexpectedMessage x)) are s spells stops =
-    stays config requests bytes done sent message t next (Stopped (client.UnexpectedMessage x)) are s stops.0 (refused_sound config requests done sent message t m x t.skipped refl s spells stops.1 s.skipped)
-stops_sound config requests bytes done sent message t next m (Stopped (client.RemoteError r)) are s spells stops =
-    stays config requests bytes done sent message t next (Stopped (client.RemoteError r)) are s stops.1
-    (subst (FirstAtStartup config t message) stops.0 (first_at_startup config requests done sent message t m s spells stops.2 stops.3))
-stops_sound config requests bytes done sent message t next m (Stopped client.NotYetBuilt) are s spells stops =
-    stays config requests bytes done sent message t next (Stopped client.NotYetBuilt) are s stops.1 (m, stops.0, first_at_startup config requests done sent message t m s spells stops.2 stops.3, stops.4)
-stops_sound config requests bytes done sent message t next m (Stopped e) are s spells stops = absurd stops
+stops_sound input bytes done sent message t next m (Unexpected x) are s spells stops =
+    stays input bytes done sent message t next (Unexpected x) are s stops.0 (refused_sound input done sent message t m x t.passed refl s spells stops.1 s.passed)
+stops_sound input bytes done sent message t next m (Refused e) are s spells stops =
+    stays input bytes done sent message t next (Refused e) are s stops.0 (m, stops.3, first_at_startup input done sent message t m s spells stops.1 stops.2)
+stops_sound input bytes done sent message t next m (Unread why) are s spells stops = absurd stops
 
-onto_sound : (config : Config) (requests : List Request) (bytes done sent message : List ℕ) (t : Talk) (m : Backend) (move : Move Talk Ending) → turn config requests t m t.skipped ≡ move
-    → bytes ≡ done ++ message → Sofar config requests t done sent → Spells (standing_of config (heard_of t)).version m message → Grown (heard_of t ++ Got m ∷ []) move → Good config requests t m move → SoundAt config requests bytes (onto sent move)
-onto_sound config requests bytes done sent message t m (On next out) is are s spells grown good = (
+onto_sound : (input : Input) (bytes done sent message : List ℕ) (t : Talk) (m : Backend) (move : Move Talk Ending) → turn input t m t.passed ≡ move
+    → bytes ≡ done ++ message → Sofar input t done sent → Spells (standing_of input.config (heard_of t)).version m message → Grown (heard_of t ++ Got m ∷ []) move → Good input t m move → SoundAt input bytes (onto sent move)
+onto_sound input bytes done sent message t m (On next out) is are s spells grown good = (
   done ++ message,
   are ∙ sym (append-nil _),
   record {
-    got = subst (λ (l : List Event). SpellsGot (first_standing config) l (done ++ message)) (sym grown.1) (got_sends (first_standing config) (heard_of t ++ Got m ∷ []) grown.0 (done ++ message) (got_one config t m done message s.got spells));
+    got = subst (λ (l : List Event). SpellsGot (first_standing input.config) l (done ++ message)) (sym grown.1) (got_sends (first_standing input.config) (heard_of t ++ Got m ∷ []) grown.0 (done ++ message) (got_one input t m done message s.got spells));
     put = subst (λ (l : List Event). EncodesSent l (sent ++ out)) (sym grown.1) (put_on_sends (heard_of t) sent out grown.0 m s.put grown.2);
     is_open = good.0;
-    skipped = good.1;
-    heard = ap (λ (l : List Event). hear (talk_rules config requests) (beginning config) (gots l)) grown.1 ∙ heard_one config requests t m sent grown.0 s.heard ∙ ap (onto sent) is;
+    passed = good.1;
+    heard = ap (λ (l : List Event). hear (talk_rules input) (beginning input) (gots l)) grown.1 ∙ heard_one input t m sent grown.0 s.heard ∙ ap (onto sent) is;
   },
-  front_nil (standing_of config (heard_of next)).version,
+  front_nil (standing_of input.config (heard_of next)).version,
 )
-onto_sound config requests bytes done sent message t m (Ends e out) is are s spells grown good =
-    subst (λ (w : List ℕ). Final config requests e bytes w) (sym (append-nil sent) ∙ ap (λ (w : List ℕ). sent ++ w) (sym good.0)) (stops_sound config requests bytes done sent message t e.talk m e.outcome are s spells good.1)
+onto_sound input bytes done sent message t m (Ends e out) is are s spells grown good =
+    subst (λ (w : List ℕ). Final input e bytes w) (sym (append-nil sent) ∙ ap (λ (w : List ℕ). sent ++ w) (sym good.0)) (stops_sound input bytes done sent message t e.notes m e.outcome are s spells good.1)
 
-eat_sound : (config : Config) (requests : List Request) (bytes done sent pending : List ℕ) (t : Talk) (b : ℕ) (f : Front) → bytes ≡ done ++ (pending ++ b ∷ []) → front (standing_of config (heard_of t)).version pending ≡ More → front (standing_of config (heard_of t)).version (pending ++ b ∷ []) ≡ f
-    → Sofar config requests t done sent → SoundAt config requests bytes (eat (talk_rules config requests) t sent (pending ++ b ∷ []) f)
-eat_sound config requests bytes done sent pending t b More are more is s = (done, are, s, is)
-eat_sound config requests bytes done sent pending t b (Bad why) are more is s = record { done = done; rest = pending ++ b ∷ []; begins = are; got = s.got; put = s.put; legal = open_legal config requests t s.is_open; is_open = (s.is_open, s.skipped); cause = is }
-eat_sound config requests bytes done sent pending t b (Whole m n) are more is s =
-    onto_sound config requests bytes done sent (pending ++ b ∷ []) t m _ refl are s (whole_all (standing_of config (heard_of t)).version pending b m n more is) (turn_grown config requests t m t.skipped refl) (turn_good config requests t m done sent t.skipped refl s)
+eat_sound : (input : Input) (bytes done sent pending : List ℕ) (t : Talk) (b : ℕ) (f : Front) → bytes ≡ done ++ (pending ++ b ∷ []) → front (standing_of input.config (heard_of t)).version pending ≡ More → front (standing_of input.config (heard_of t)).version (pending ++ b ∷ []) ≡ f
+    → Sofar input t done sent → SoundAt input bytes (eat (talk_rules input) t sent (pending ++ b ∷ []) (met f))
+eat_sound input bytes done sent pending t b More are more is s = (done, are, s, is)
+eat_sound input bytes done sent pending t b (Bad why) are more is s = record { done = done; rest = pending ++ b ∷ []; begins = are; got = s.got; put = s.put; legal = open_legal input t s.is_open; is_open = (s.is_open, s.passed); cause = is }
+eat_sound input bytes done sent pending t b (Whole m n) are more is s =
+    onto_sound input bytes done sent (pending ++ b ∷ []) t m _ refl are s (whole_all (standing_of input.config (heard_of t)).version pending b m n more is) (turn_grown input t m t.passed refl) (turn_good input t m done sent t.passed refl s)
 
-misplaces_more : (config : Config) (requests : List Request) (t : Talk) (rest more : List ℕ) (m : Backend) (skipped : List Backend) → Misplaces config requests t rest m skipped → Misplaces config requests t (rest ++ more) m skipped
-misplaces_more config requests t rest more m [] c = (c.0, front_whole_more (standing_of config (heard_of t)).version rest more m c.0 c.1, c.2, c.3, c.4)
-misplaces_more config requests t rest more m (x ∷ ms) c = (c.0, c.1, c.2, c.3, c.4, c.5, front_whole_more (standing_of config (heard_of t)).version rest more (backend.ReadyForQuery c.4) c.5 c.6)
+misplaces_more : (input : Input) (t : Talk) (rest more : List ℕ) (m : Backend) (passed : List Backend) → Misplaces input t rest m passed → Misplaces input t (rest ++ more) m passed
+misplaces_more input t rest more m [] c = (c.0, front_whole_more (standing_of input.config (heard_of t)).version rest more m c.0 c.1, c.2, c.3, c.4)
+misplaces_more input t rest more m (x ∷ ms) c = (c.0, c.1, c.2, c.3, c.4, c.5, front_whole_more (standing_of input.config (heard_of t)).version rest more (backend.ReadyForQuery c.4) c.5 c.6)
 
-first_more : (config : Config) (t : Talk) (rest more : List ℕ) (m : Backend) → FirstAtStartup config t rest m → FirstAtStartup config t (rest ++ more) m
-first_more config t rest more m c = (c.0, front_whole_more (standing_of config (heard_of t)).version rest more m c.0 c.1, c.2, c.3)
+first_more : (input : Input) (t : Talk) (rest more : List ℕ) (m : Backend) → FirstAtStartup input t rest m → FirstAtStartup input t (rest ++ more) m
+first_more input t rest more m c = (c.0, front_whole_more (standing_of input.config (heard_of t)).version rest more m c.0 c.1, c.2, c.3)
 
 -- more bytes change no cause
-cause_more : (config : Config) (requests : List Request) (t : Talk) (rest more : List ℕ) (outcome : Outcome) → Cause config requests t rest outcome → Cause config requests t (rest ++ more) outcome
-cause_more config requests t rest more Complete c = c
-cause_more config requests t rest more (Unencoded e) c = c
-cause_more config requests t rest more (Stopped (client.UnexpectedMessage m)) c = misplaces_more config requests t rest more m t.skipped c
-cause_more config requests t rest more (Stopped (client.PgWireError why)) c = front_bad_more (standing_of config (heard_of t)).version rest more why c
-cause_more config requests t rest more (Stopped (client.RemoteError r)) c = first_more config t rest more (backend.ErrorResponse r) c
-cause_more config requests t rest more (Stopped client.NotYetBuilt) c = (c.0, c.1, first_more config t rest more c.0 c.2, c.3)
-cause_more config requests t rest more (Stopped e) c = absurd c
+cause_more : (input : Input) (t : Talk) (rest more : List ℕ) (outcome : Outcome) → Cause input t rest outcome → Cause input t (rest ++ more) outcome
+cause_more input t rest more Complete c = c
+cause_more input t rest more (Unencoded e) c = c
+cause_more input t rest more (Unexpected m) c = misplaces_more input t rest more m t.passed c
+cause_more input t rest more (Unread why) c = front_bad_more (standing_of input.config (heard_of t)).version rest more why c
+cause_more input t rest more (Refused e) c = (c.0, c.1, first_more input t rest more c.0 c.2)
 
-feed_sound : (config : Config) (requests : List Request) (bytes : List ℕ) (c : Course Talk Ending) (b : ℕ) → SoundAt config requests bytes c → SoundAt config requests (bytes ++ b ∷ []) (feed (talk_rules config requests) c b)
-feed_sound config requests bytes (Waits t sent pending) b s =
-    eat_sound config requests (bytes ++ b ∷ []) s.0 sent pending t b _ (ap (λ (l : List ℕ). l ++ b ∷ []) s.1 ∙ append_assoc s.0 pending (b ∷ [])) s.3 refl s.2
-feed_sound config requests bytes (Over e sent) b s = record {
+feed_sound : (input : Input) (bytes : List ℕ) (c : Course Talk Ending) (b : ℕ) → SoundAt input bytes c → SoundAt input (bytes ++ b ∷ []) (feed (talk_rules input) c b)
+feed_sound input bytes (Waits t sent pending) b s =
+    eat_sound input (bytes ++ b ∷ []) s.0 sent pending t b (front (standing_of input.config (heard_of t)).version (pending ++ b ∷ [])) (ap (λ (l : List ℕ). l ++ b ∷ []) s.1 ∙ append_assoc s.0 pending (b ∷ [])) s.3 refl s.2
+feed_sound input bytes (Over e sent) b s = record {
   done = s.done;
   rest = s.rest ++ b ∷ [];
   begins = ap (λ (l : List ℕ). l ++ b ∷ []) s.begins ∙ append_assoc s.done s.rest (b ∷ []);
@@ -480,21 +453,21 @@ feed_sound config requests bytes (Over e sent) b s = record {
   put = s.put;
   legal = s.legal;
   is_open = s.is_open;
-  cause = cause_more config requests e.talk s.rest (b ∷ []) e.outcome s.cause;
+  cause = cause_more input e.notes s.rest (b ∷ []) e.outcome s.cause;
 }
 
-run_sound : (config : Config) (requests : List Request) (before : List ℕ) (c : Course Talk Ending) (bytes : List ℕ) → SoundAt config requests before c → SoundAt config requests (before ++ bytes) (run (talk_rules config requests) c bytes)
+run_sound : (input : Input) (before : List ℕ) (c : Course Talk Ending) (bytes : List ℕ) → SoundAt input before c → SoundAt input (before ++ bytes) (run (talk_rules input) c bytes)
 unfolding run
-run_sound config requests before c [] s = subst (λ (l : List ℕ). SoundAt config requests l c) (sym (append-nil before)) s
-run_sound config requests before c (b ∷ bytes) s =
-    subst (λ (l : List ℕ). SoundAt config requests l (run (talk_rules config requests) (feed (talk_rules config requests) c b) bytes)) (append_assoc before (b ∷ []) bytes)
-    (run_sound config requests (before ++ b ∷ []) (feed (talk_rules config requests) c b) bytes (feed_sound config requests before c b s))
+run_sound input before c [] s = subst (λ (l : List ℕ). SoundAt input l c) (sym (append-nil before)) s
+run_sound input before c (b ∷ bytes) s =
+    subst (λ (l : List ℕ). SoundAt input l (run (talk_rules input) (feed (talk_rules input) c b) bytes)) (append_assoc before (b ∷ []) bytes)
+    (run_sound input (before ++ b ∷ []) (feed (talk_rules input) c b) bytes (feed_sound input before c b s))
 
-start_sound : (config : Config) (requests : List Request) (o : Result (List ℕ) PgWireError) → encodings (startup_message config ∷ []) ≡ o → SoundAt config requests [] (onto [] (opening [] (startup_message config ∷ []) Starting o))
+start_sound : (input : Input) (o : Result (List ℕ) PgWireError) → encodings (startup_message input ∷ []) ≡ o → SoundAt input [] (onto [] (opening [] (startup_message input ∷ []) Starting o))
 unfolding hear
-start_sound config requests (Err e) is =
-    let answer = some_rest config Starting in
-    let later = some_segments config requests in
+start_sound input (Err e) is =
+    let answer = some_rest input Starting tt in
+    let later = some_segments input input.requests in
     record {
       done = [];
       rest = [];
@@ -504,7 +477,7 @@ start_sound config requests (Err e) is =
       legal = inr (record {
         closed = [];
         part = [];
-        rest = Sent (startup_message config) ∷ answer.0;
+        rest = Sent (startup_message input) ∷ answer.0;
         later = later.0;
         are = refl;
         transcript = ((answer.0, refl, answer.1), later.1);
@@ -512,10 +485,10 @@ start_sound config requests (Err e) is =
       });
       is_open = tt;
       cause = (
-        startup_message config ∷ [],
+        startup_message input ∷ [],
         inr (record {
           closed = [];
-          part = Sent (startup_message config) ∷ [];
+          part = Sent (startup_message input) ∷ [];
           rest = answer.0;
           later = later.0;
           are = refl;
@@ -526,7 +499,7 @@ start_sound config requests (Err e) is =
         refl,
       );
     }
-start_sound config requests (Ok out) is = (
+start_sound input (Ok out) is = (
   [],
   refl,
   record {
@@ -534,19 +507,16 @@ start_sound config requests (Ok out) is = (
     put = is;
     is_open = record {
       completes = λ es segments rest segs. ((es, refl, rest), segs);
-      simple = λ l. absurd l;
-      simple_events = λ l. absurd l;
-      first = λ l. refl;
-      login = λ l. l;
+      stands = (refl, refl, λ l. l);
       begins = ([], refl);
     };
-    skipped = tt;
-    heard = ap (λ o. onto [] (opening [] (startup_message config ∷ []) Starting o)) is;
+    passed = tt;
+    heard = ap (λ o. onto [] (opening [] (startup_message input ∷ []) Starting o)) is;
   },
   front_nil _,
 )
 
 -- what the conversation of some bytes says of them
-pub conversation_sound : (config : Config) (requests : List Request) (bytes : List ℕ) → SoundAt config requests bytes (conversation config requests bytes)
+pub conversation_sound : (input : Input) (bytes : List ℕ) → SoundAt input bytes (conversation input bytes)
 unfolding conversation
-conversation_sound config requests bytes = run_sound config requests [] (beginning config) bytes (start_sound config requests (encodings (startup_message config ∷ [])) refl)
+conversation_sound input bytes = run_sound input [] (beginning input) bytes (start_sound input (encodings (startup_message input ∷ [])) refl)

@@ -1,13 +1,12 @@
 -- Each message of a valid input can be sent.
-use Rattle.std.proofs.Common.{◌≡◌, ◌≢◌, ◌≤◌, ◌+◌, ℕ, zero, suc, Bool, true, false, List, [], ◌∷◌, ◌++◌, length, map, Option, Some, None, Result, Ok, Err, inl, inr, arith, refl, ◌∙◌, ap, sym, subst, length-append, IfSome}
+use Rattle.std.proofs.Common.{◌≡◌, ◌≢◌, ◌<◌, ◌≤◌, ◌+◌, ℕ, Bool, true, false, List, [], ◌∷◌, ◌++◌, length, Option, Some, None, Result, Ok, Err, inl, inr, arith, refl, ◌∙◌, ap, sym, length-append, IfSome}
 use Rattle.std.specs.Prelude.{◌==◌, ◌||◌, not, codes, get_or}
-use Rattle.std.specs.List.{All, flat_map, list_any}
+use Rattle.std.specs.List.{flat_map, list_any}
 use Rattle.std.specs.FinMap as finite
 use Rattle.std.specs.Cmp.Lexicographic.{slice_cmp, nat_list_cmp_total}
 use Rattle.std.proofs.lemmas.Bool.{le-ltb}
-use Rattle.std.proofs.lemmas.Bool.Decides.{eqb_tells}
+use Rattle.std.proofs.lemmas.Bool.Decides.{eqb_tells, nat_tests}
 use Rattle.std.proofs.lemmas.List.{nil_from_length}
-use Rattle.std.proofs.lemmas.List.Elements.{All-head, All-tail}
 use Rattle.std.proofs.lemmas.List.Folds.{list_any_none, list_any-append}
 use Rattle.std.proofs.lemmas.Grind.{flat_map-append}
 use Rattle.std.specs.Ordering.{nat_cmp}
@@ -17,36 +16,40 @@ use Rattle.pgw_types.specs.declared.context.ProtocolVersion.TheVariants.{PROTOCO
 use Rattle.pgw_types.specs.declared.error.PgWireError.{PgWireError}
 use Rattle.pgw_wire.specs.declared.framing.Framing.{Framing}
 use Rattle.pgw_wire.specs.declared.framing.Framing.TheVariants.{Typed, Untyped}
-use Rattle.pgw_wire.specs.Framing.{encoded, header, length_field, saturated}
 use Rattle.pgw_wire.specs.Writing.{text, u16, has_zero, refused_if}
 use Rattle.pgw_wire.specs.Pairs.{Held, pair_written, pairs_written, is_pair_refused}
-use Rattle.pgw_msg.specs.declared.frontend.PgWireFrontendMessage.{PgWireFrontendMessage as Frontend}
-use Rattle.pgw_msg.specs.Frontend.{encoding, encodings, both}
-use Rattle.pgw_config.specs.declared.config.Config.{Config}
+use Rattle.pgw_frontend.specs.declared.frontend.PgWireFrontendMessage.{PgWireFrontendMessage as Frontend}
+use Rattle.pgw_frontend.specs.Frontend.{encoding, encodings, both}
 use Rattle.pgw_config.specs.declared.config.SslMode.{SslMode}
 use Rattle.pgw_config.specs.declared.config.SslMode.TheVariants as ssl_mode
 use Rattle.pgw_config.specs.declared.config.ChannelBinding.{ChannelBinding}
 use Rattle.pgw_config.specs.declared.config.ChannelBinding.TheVariants as channel_binding
-use Rattle.pgw_session.specs.declared.types.Request.{Request}
-use Rattle.pgw_session.specs.declared.types.Request.TheVariants.{Simple}
-use Rattle.pgw_session.specs.declared.stage.Stage.{Stage}
-use Rattle.pgw_session.specs.declared.stage.Stage.TheVariants.{Starting}
-use Rattle.pgw_session.specs.declared.stage.Reply.{Reply}
-use Rattle.pgw_session.specs.declared.stage.Reply.TheVariants.{Silent, Passes}
-use Rattle.pgw_session.specs.declared.stage.Next.{Next}
-use Rattle.pgw_session.specs.declared.stage.Next.TheVariants.{Goes, Closes, Wrong, Refuses, Spoils}
-use Rattle.pgw_session.specs.Events.{Event, Sent, Got, joined, sents}
-use Rattle.pgw_session.specs.Segments.{IsRequestSegment, startup_message, password_message, sends_of, with_set, startup_parameters, cleartext_of}
-use Rattle.pgw_session.specs.Transcript.{AreSegments, IsTranscript, IsLegalPrefix, EncodesSent, SpellsGot, Completes}
-use Rattle.pgw_session.specs.Valid.{HasNoZero, IsValidInput, IsValidRequest, parameter_size, startup_size}
+use Rattle.pgw_session.specs.Events.{Event, joined, sents}
+use Rattle.pgw_session.specs.Transcript.{IsTranscript, IsLegalPrefix, EncodesSent, SpellsGot, Completes}
 use Rattle.pgw_session.specs.Demands.{refused_demand, refused_config}
 use Rattle.pgw_session.specs.Standings.{first_standing}
-use Rattle.pgw_session.specs.Course.{Over}
+use Rattle.pgw_course.specs.Course.{Over}
 use Rattle.pgw_session.proofs.FailureLaws.{unencoded}
-use Rattle.pgw_session.specs.Talk.{Ending, Unencoded, conversation, after, stage_for, replies}
-use Rattle.pgw_session.proofs.Hears.{sents_append, sents_sends}
-use Rattle.pgw_session.proofs.Events.{encodings_append, joined_cut}
-use Rattle.pgw_session.proofs.Grammar.{Rest, RestBy, rest_by, rest_nil, rest_sent, segment_is, behind_reply}
+use Rattle.pgw_session.proofs.SentLaws.{AreSent, MaySend, transcript_sent, prefix_sent, due_sent}
+use Rattle.pgw_session.specs.Input.{Input}
+use Rattle.pgw_wire.specs.Framing.{encoded, header, length_field, saturated}
+use Rattle.pgw_wire.specs.Counted.{is_too_long}
+use Rattle.pgw_wire.specs.Reading.{lossy}
+use Rattle.pgw_wire.specs.Writing.{i32}
+use Rattle.pgw_ext.specs.Kinds.{name, is_name_refused}
+use Rattle.pgw_ext.specs.Rows.{parse, bind}
+use Rattle.pgw_startup.specs.Login.{is_method_refused}
+use Rattle.pgw_startup.specs.Password.{initial_response}
+use Rattle.pgw_startup.specs.declared.password.PasswordMessageFamily.TheVariants as family
+use Rattle.pgw_frontend.specs.declared.frontend.PgWireFrontendMessage.TheVariants as frontend
+use Rattle.pgw_hash.specs.Md5Password.{md5_password}
+use Rattle.pgw_session.specs.Logins.{user_of, password_of, password_message, cleartext_message, md5_message, first_message, final_message}
+use Rattle.pgw_session.specs.Requests.{sync}
+use Rattle.pgw_session.specs.Segments.{startup_message, with_set, startup_parameters}
+use Rattle.pgw_session.specs.Valid.{HasNoZero, IsValidInput, IsValidMessage, IsValidName, AreValid, IsLoginValid, CanLogIn, parameter_size, startup_size}
+use Rattle.pgw_session.specs.Machine.{Unencoded}
+use Rattle.pgw_session.specs.Talk.{Ending, conversation}
+use Rattle.pgw_session.proofs.LoginTexts.{nonzero_at, md5_clean, md5_short}
 
 -- ---- one message
 
@@ -87,8 +90,8 @@ no_encryption ssl_mode.Prefer channel_binding.Require open_mode open_binding = a
 no_encryption ssl_mode.Prefer channel_binding.Disable open_mode open_binding = refl
 no_encryption ssl_mode.Prefer channel_binding.Prefer open_mode open_binding = refl
 
-pub no_demand : (config : Config) (requests : List Request) → IsValidInput config requests → refused_config config ≡ None
-no_demand config requests valid = no_encryption config.ssl_mode config.channel_binding valid.encryption valid.binding
+pub no_demand : (input : Input) → IsValidInput input → refused_config input.config ≡ None
+no_demand input valid = no_encryption (input.config).ssl_mode (input.config).channel_binding valid.encryption valid.binding
 
 -- ---- the parameters as they are written
 
@@ -121,11 +124,11 @@ three (Some a) None (Some d) = refl
 three (Some a) (Some u) None = refl
 three (Some a) (Some u) (Some d) = refl
 
-startup_entries : (config : Config) → finite.entries (startup_parameters config) ≡ entry (codes "application_name") config.application_name ++ (entry (codes "database") config.dbname ++ entry (codes "user") config.user)
-startup_entries config =
-    entries_set (codes "database") config.dbname _
-    ∙ ap (put_set (codes "database") config.dbname) (entries_set (codes "user") config.user _ ∙ ap (put_set (codes "user") config.user) (entries_set (codes "application_name") config.application_name _ ∙ ap (put_set (codes "application_name") config.application_name) entries_none))
-    ∙ three config.application_name config.user config.dbname
+startup_entries : (input : Input) → finite.entries (startup_parameters input) ≡ entry (codes "application_name") (input.config).application_name ++ (entry (codes "database") (input.config).dbname ++ entry (codes "user") (input.config).user)
+startup_entries input =
+    entries_set (codes "database") (input.config).dbname _
+    ∙ ap (put_set (codes "database") (input.config).dbname) (entries_set (codes "user") (input.config).user _ ∙ ap (put_set (codes "user") (input.config).user) (entries_set (codes "application_name") (input.config).application_name _ ∙ ap (put_set (codes "application_name") (input.config).application_name) entries_none))
+    ∙ three (input.config).application_name (input.config).user (input.config).dbname
 
 -- their bytes
 entry_length : (name : List ℕ) (o : Option (List ℕ)) → length (flat_map pair_written (entry name o)) ≡ parameter_size name o
@@ -146,132 +149,126 @@ version_is PROTOCOL3_0 = refl
 version_is PROTOCOL3_2 = refl
 version_is PROTOCOL3_9999 = refl
 
-startup_length : (config : Config) → length (pairs_written (startup_parameters config)) + 9 ≡ startup_size config
-startup_length config =
-    let a = entry (codes "application_name") config.application_name in
-    let d = entry (codes "database") config.dbname in
-    let u = entry (codes "user") config.user in
-    let all : length (pairs_written (startup_parameters config)) ≡ length (flat_map pair_written (a ++ (d ++ u))) = ap (λ l. length (flat_map pair_written l)) (startup_entries config) in
-    omega (arith, all, pairs_length a (d ++ u), pairs_length d u, entry_length (codes "application_name") config.application_name, entry_length (codes "database") config.dbname, entry_length (codes "user") config.user)
+startup_length : (input : Input) → length (pairs_written (startup_parameters input)) + 9 ≡ startup_size input
+startup_length input =
+    let a = entry (codes "application_name") (input.config).application_name in
+    let d = entry (codes "database") (input.config).dbname in
+    let u = entry (codes "user") (input.config).user in
+    let all : length (pairs_written (startup_parameters input)) ≡ length (flat_map pair_written (a ++ (d ++ u))) = ap (λ l. length (flat_map pair_written l)) (startup_entries input) in
+    omega (arith, all, pairs_length a (d ++ u), pairs_length d u, entry_length (codes "application_name") (input.config).application_name, entry_length (codes "database") (input.config).dbname, entry_length (codes "user") (input.config).user)
 
 either : (xs ys : List (List ℕ × List ℕ)) → list_any is_pair_refused xs ≡ false → list_any is_pair_refused ys ≡ false → list_any is_pair_refused (xs ++ ys) ≡ false
 either xs ys x y = list_any-append is_pair_refused xs ys ∙ rw (x, y) refl
 
-startup_sound : (config : Config) (requests : List Request) → IsValidInput config requests → list_any is_pair_refused (finite.entries (startup_parameters config)) ≡ false
-startup_sound config requests valid =
-    ap (list_any is_pair_refused) (startup_entries config)
-    ∙ either (entry (codes "application_name") config.application_name) (entry (codes "database") config.dbname ++ entry (codes "user") config.user) (entry_sound (codes "application_name") config.application_name refl refl valid.application_name)
-    (either (entry (codes "database") config.dbname) (entry (codes "user") config.user) (entry_sound (codes "database") config.dbname refl refl valid.database) (entry_sound (codes "user") config.user refl refl valid.user))
+startup_sound : (input : Input) → IsValidInput input → list_any is_pair_refused (finite.entries (startup_parameters input)) ≡ false
+startup_sound input valid =
+    ap (list_any is_pair_refused) (startup_entries input)
+    ∙ either (entry (codes "application_name") (input.config).application_name) (entry (codes "database") (input.config).dbname ++ entry (codes "user") (input.config).user) (entry_sound (codes "application_name") (input.config).application_name refl refl valid.application_name)
+    (either (entry (codes "database") (input.config).dbname) (entry (codes "user") (input.config).user) (entry_sound (codes "database") (input.config).dbname refl refl valid.database) (entry_sound (codes "user") (input.config).user refl refl valid.user))
 
-startup_fault : (config : Config) (requests : List Request) → IsValidInput config requests → (not ((version_number config.protocol_version).0 == 3) || list_any is_pair_refused (finite.entries (startup_parameters config))) ≡ false
-startup_fault config requests valid = rw (version_is config.protocol_version, startup_sound config requests valid) refl
+startup_fault : (input : Input) → IsValidInput input → (not ((version_number (input.config).protocol_version).0 == 3) || list_any is_pair_refused (finite.entries (startup_parameters input))) ≡ false
+startup_fault input valid = rw (version_is (input.config).protocol_version, startup_sound input valid) refl
 
-startup_encodes : (config : Config) (requests : List Request) → IsValidInput config requests → Encodes (encoding (startup_message config))
+startup_encodes : (input : Input) → IsValidInput input → Encodes (encoding (startup_message input))
 unfolding encoding u16
-startup_encodes config requests valid =
-    written Untyped 10000 _ _ (no_fault _ (startup_fault config requests valid)) (omega (arith, startup_length config, length-append (pairs_written (startup_parameters config)) (0 ∷ []), valid.startup))
+startup_encodes input valid =
+    written Untyped 10000 _ _ (no_fault _ (startup_fault input valid)) (omega (arith, startup_length input, length-append (pairs_written (startup_parameters input)) (0 ∷ []), valid.startup))
 
-password_encodes : (config : Config) (requests : List Request) → IsValidInput config requests → Encodes (encoding (password_message config))
+-- ---- the other messages
+
+text_encodes : (t : List ℕ) → has_zero t ≡ false → length t + 5 ≤ 10000 → Encodes (encoding (password_message t))
 unfolding encoding
-password_encodes config requests valid =
-    written (Typed 112) 10000 _ (text (cleartext_of config.password)) (no_fault _ (no_zero (cleartext_of config.password) valid.password)) (omega (arith, text_length (cleartext_of config.password), valid.password_message))
+text_encodes t sound fits = written (Typed 112) 10000 _ (text t) (no_fault _ sound) (omega (arith, text_length t, fits))
 
-request_encodes : (q : Request) → IsValidRequest q → Encodes (encodings (sends_of q))
+name_sound : (n : Option (List ℕ)) → IsValidName n → is_name_refused n ≡ false
+name_sound None valid = refl
+name_sound (Some t) valid = no_zero t valid
+
+clean_text : (t : List ℕ) → has_zero t ≡ false → HasNoZero t
+clean_text t clean k d lt is = let no = nonzero_at t k d lt clean in let yes = ap (λ b. b == 0) is in absurd cc
+
+method_sound : (t : List ℕ) → 0 < length t → HasNoZero t → is_method_refused t ≡ false
+method_sound t some clean = let filled : (length t == 0) ≡ false = grind (arith, nat_tests, some) in rw (filled, no_zero t clean) refl
+
+count_sound : {A : Type 0} (xs : List A) → length xs ≤ 65535 → is_too_long xs ≡ false
+count_sound xs le = le-ltb 65535 (length xs) le
+
+message_encodes : (m : Frontend) → IsValidMessage m → Encodes (encoding m)
 unfolding encoding
-request_encodes (Simple query) valid = alone _ (written (Typed 81) 1073741822 _ (text query) (no_fault _ (no_zero query valid.0)) (omega (arith, text_length query, valid.1)))
-  where
-    alone : (o : Result (List ℕ) PgWireError) → Encodes o → Encodes (both o (Ok []))
-    alone o e = (e.0 ++ [], ap (λ x. both x (Ok [])) e.1)
+message_encodes (frontend.PasswordMessageFamily (family.Password m)) valid = written (Typed 112) 10000 _ (text m.password) (no_fault _ (no_zero m.password valid.0)) (omega (arith, valid.1))
+message_encodes (frontend.PasswordMessageFamily (family.SASLInitialResponse m)) valid = written (Typed 112) 10000 _ (initial_response m) (no_fault _ (method_sound m.auth_method valid.0 valid.1)) (omega (arith, valid.2))
+message_encodes (frontend.Query m) valid = written (Typed 81) 1073741822 _ (text m.query) (no_fault _ (no_zero m.query valid.0)) (omega (arith, valid.1))
+message_encodes (frontend.Parse m) valid =
+    written (Typed 80) 1073741822 _ (parse m) (no_fault _ (rw (name_sound m.name valid.0, no_zero m.query valid.1, count_sound m.type_oids valid.2) refl)) (omega (arith, valid.3))
+message_encodes (frontend.Bind m) valid =
+    written (Typed 66) 1073741822 _ (bind m)
+    (no_fault _ (rw (name_sound m.portal_name valid.0, name_sound m.statement_name valid.1, count_sound m.parameter_format_codes valid.2, count_sound m.parameters valid.3, count_sound m.result_column_format_codes valid.4) refl)) (omega (arith, valid.5))
+message_encodes (frontend.Execute m) valid = written (Typed 69) 10000 _ (name m.name ++ i32 m.max_rows) (no_fault _ (name_sound m.name valid.0)) (omega (arith, valid.1))
+message_encodes (frontend.Describe m) valid = written (Typed 68) 10000 _ (m.target_type ∷ name m.name) (no_fault _ (name_sound m.name valid.0)) (omega (arith, valid.1))
+message_encodes (frontend.Close m) valid = written (Typed 67) 10000 _ (m.target_type ∷ name m.name) (no_fault _ (name_sound m.name valid.0)) (omega (arith, valid.1))
+message_encodes (frontend.Flush m) valid = written (Typed 72) 10000 None [] refl (omega arith)
+message_encodes (frontend.Sync m) valid = written (Typed 83) 10000 None [] refl (omega arith)
+message_encodes (frontend.PasswordMessageFamily (family.Raw m)) valid = absurd valid
+message_encodes (frontend.PasswordMessageFamily (family.SASLResponse m)) valid = written (Typed 112) 10000 None m.payload refl (omega (arith, valid))
+message_encodes (frontend.SslNegotiation m) valid = absurd valid
+message_encodes m valid = absurd valid
 
--- ---- a transcript
+-- ---- messages that have an encoding, if the client can log in
+
+abbrev Sendable : Frontend → Type 0
+Sendable m = IsLoginValid m → Encodes (encoding m)
 
 both_encode : (a b : Result (List ℕ) PgWireError) → Encodes a → Encodes b → Encodes (both a b)
 both_encode a b x y = (x.0 ++ y.0, ap (λ o. both o b) x.1 ∙ ap (both (Ok x.0)) y.1)
 
-replies_encode : (config : Config) (requests : List Request) (reply : Reply) → IsValidInput config requests → Encodes (encodings (replies config reply))
-replies_encode config requests Silent valid = ([], refl)
-replies_encode config requests Passes valid = both_encode (encoding (password_message config)) (Ok []) (password_encodes config requests valid) ([], refl)
+all_encode : (ms : List Frontend) → AreSent Sendable ms → CanLogIn ms → Encodes (encodings ms)
+all_encode [] all can = ([], refl)
+all_encode (m ∷ ms) all can = both_encode (encoding m) (encodings ms) (all.0 can.0) (all_encode ms all.1 can.1)
 
-sends_encode : (fs : List Frontend) (es : List Event) → Encodes (encodings fs) → Encodes (encodings (sents es)) → Encodes (encodings (sents (map Sent fs ++ es)))
-sends_encode fs es x y =
-    subst Encodes (sym (ap encodings (sents_append (map Sent fs) es ∙ ap (λ (l : List Frontend). l ++ sents es) (sents_sends fs)) ∙ encodings_append fs (sents es))) (both_encode (encodings fs) (encodings (sents es)) x y)
+valid_sendable : (ms : List Frontend) → AreValid ms → AreSent Sendable ms
+valid_sendable [] valid = tt
+valid_sendable (m ∷ ms) valid = (λ can. message_encodes m valid.0, valid_sendable ms valid.1)
 
--- what may follow at a stage, for answers up to a length
-abbrev RestEncodes : Config → ℕ → Type 0
-RestEncodes config n = (s : Stage) (es : List Event) → length es ≤ n → Rest config s es → Encodes (encodings (sents es))
+md5_encodes : (input : Input) (salt : List ℕ) → Encodes (encoding (md5_message input salt))
+md5_encodes input salt =
+    let text = md5_password (user_of input) (lossy (password_of input)) salt in
+    text_encodes text (md5_clean (user_of input) (lossy (password_of input)) salt) (omega (arith, md5_short (user_of input) (lossy (password_of input)) salt))
 
-behind_encodes : (config : Config) (requests : List Request) (n : ℕ) → IsValidInput config requests → RestEncodes config n → (x : Next) (es : List Event) → length es ≤ n → RestBy config x es → Encodes (encodings (sents es))
-behind_encodes config requests n valid rec (Goes stage reply) es le r =
-    let behind = behind_reply config stage reply es r in
-    let shorter : length behind.0 ≤ n = omega (arith, le, ap length behind.1, length-append (map Sent (replies config reply)) behind.0) in
-    subst (λ (l : List Event). Encodes (encodings (sents l))) (sym behind.1) (sends_encode (replies config reply) behind.0 (replies_encode config requests reply valid) (rec stage behind.0 shorter behind.2))
-behind_encodes config requests n valid rec Closes es le none = subst (λ (l : List Event). Encodes (encodings (sents l))) (sym none) ([], refl)
-behind_encodes config requests n valid rec Wrong es le r = absurd r
-behind_encodes config requests n valid rec Refuses es le r = absurd r
-behind_encodes config requests n valid rec Spoils es le r = absurd r
-
-rest_encodes : (config : Config) (requests : List Request) (n : ℕ) → IsValidInput config requests → RestEncodes config n
-rest_encodes config requests n valid s [] le rest = absurd (rest_nil config s rest)
-rest_encodes config requests n valid s (Sent m ∷ es) le rest = absurd (rest_sent config s m es rest)
-rest_encodes config requests zero valid s (Got m ∷ es) le rest = absurd (omega (arith, le))
-rest_encodes config requests (suc n) valid s (Got m ∷ es) le rest = behind_encodes config requests n valid (rest_encodes config requests n valid) (after s m) es (omega (arith, le)) (rest_by config s m es rest)
-
-segment_encodes : (config : Config) (requests : List Request) (q : Request) (es : List Event) → IsValidInput config requests → IsValidRequest q → IsRequestSegment q es → Encodes (encodings (sents es))
-segment_encodes config requests q es valid sendable segment =
-    let seg = segment_is config q es segment in
-    subst (λ (l : List Event). Encodes (encodings (sents l))) (sym seg.1) (sends_encode (sends_of q) seg.0 (request_encodes q sendable) (rest_encodes config requests (length seg.0) valid (stage_for q) seg.0 (omega arith) seg.2))
-
-parts_encode : (xs ys : List Event) → Encodes (encodings (sents xs)) → Encodes (encodings (sents ys)) → Encodes (encodings (sents (xs ++ ys)))
-parts_encode xs ys x y = subst Encodes (sym (ap encodings (sents_append xs ys) ∙ encodings_append (sents xs) (sents ys))) (both_encode (encodings (sents xs)) (encodings (sents ys)) x y)
-
-segments_encode : (config : Config) (requests qs : List Request) (segments : List (List Event)) → IsValidInput config requests → All IsValidRequest qs → AreSegments qs segments → Encodes (encodings (sents (joined segments)))
-segments_encode config requests [] [] valid sendable segs = ([], refl)
-segments_encode config requests [] (es ∷ segments) valid sendable segs = absurd segs
-segments_encode config requests (q ∷ qs) [] valid sendable segs = absurd segs
-segments_encode config requests (q ∷ qs) (es ∷ segments) valid sendable segs =
-    parts_encode es (joined segments) (segment_encodes config requests q es valid (All-head IsValidRequest q qs sendable) segs.0) (segments_encode config requests qs segments valid (All-tail IsValidRequest q qs sendable) segs.1)
+sendable : (input : Input) → IsValidInput input → MaySend input Sendable
+sendable input valid = record {
+  startup = λ can. startup_encodes input valid;
+  cleartext = λ can. message_encodes (cleartext_message input) can;
+  md5 = λ salt can. md5_encodes input salt;
+  first = λ can. message_encodes (first_message input) can;
+  final = λ first can. message_encodes (final_message input first) can;
+  sends = λ k d lt. valid_sendable _ (valid.requests k d lt);
+  round = λ can. message_encodes sync tt;
+}
 
 -- each message sent in a transcript has an encoding
-pub transcript_encodes : (config : Config) (requests : List Request) (segments : List (List Event)) → IsValidInput config requests → IsTranscript config requests segments → (bytes : List ℕ) × EncodesSent (joined segments) bytes
-transcript_encodes config requests [] valid transcript = absurd transcript
-transcript_encodes config requests (es ∷ segments) valid transcript =
-    let start = transcript.0 in
-    let opened = both_encode (encoding (startup_message config)) (Ok []) (startup_encodes config requests valid) ([], refl) in
-    let first = sends_encode (startup_message config ∷ []) start.0 opened (rest_encodes config requests (length start.0) valid Starting start.0 (omega arith) start.2) in
-    parts_encode es (joined segments) (subst (λ (l : List Event). Encodes (encodings (sents l))) (sym start.1) first) (segments_encode config requests requests segments valid valid.queries transcript.1)
-
--- what has an encoding has one of its front
-both_front : (a b : Result (List ℕ) PgWireError) → Encodes (both a b) → Encodes a
-both_front (Err e) b x = absurd (let is = x.1 in cc)
-both_front (Ok a) b x = (a, refl)
-
-front_encodes : (xs ys : List Event) → Encodes (encodings (sents (xs ++ ys))) → Encodes (encodings (sents xs))
-front_encodes xs ys x = both_front (encodings (sents xs)) (encodings (sents ys)) (subst Encodes (ap encodings (sents_append xs ys) ∙ encodings_append (sents xs) (sents ys)) x)
+pub transcript_encodes : (input : Input) (segments : List (List Event)) → IsValidInput input → IsTranscript input segments → CanLogIn (sents (joined segments)) → (bytes : List ℕ) × EncodesSent (joined segments) bytes
+transcript_encodes input segments valid transcript can = all_encode (sents (joined segments)) (transcript_sent input Sendable segments (sendable input valid) transcript) can
 
 -- so does each message sent in a legal prefix
-pub prefix_encodes : (config : Config) (requests : List Request) (es : List Event) → IsValidInput config requests → IsLegalPrefix config requests es → (bytes : List ℕ) × EncodesSent es bytes
-prefix_encodes config requests es valid (inl w) = subst (λ (l : List Event). Encodes (encodings (sents l))) w.2 (transcript_encodes config requests w.0 valid w.1)
-prefix_encodes config requests es valid (inr p) =
-    front_encodes es (p.rest ++ joined p.later)
-    (subst (λ (l : List Event). Encodes (encodings (sents l))) (joined_cut p.closed p.part p.rest p.later ∙ ap (λ (l : List Event). l ++ (p.rest ++ joined p.later)) (sym p.are)) (transcript_encodes config requests _ valid p.transcript))
+pub prefix_encodes : (input : Input) (es : List Event) → IsValidInput input → IsLegalPrefix input es → CanLogIn (sents es) → (bytes : List ℕ) × EncodesSent es bytes
+prefix_encodes input es valid legal can = all_encode (sents es) (prefix_sent input Sendable es (sendable input valid) legal) can
 
-pub spelled_completes : (config : Config) (requests : List Request) (segments : List (List Event)) (bytes more : List ℕ) → IsValidInput config requests → IsTranscript config requests segments → SpellsGot (first_standing config) (joined segments) bytes
-    → Completes config requests (length bytes) (bytes ++ more) segments
-spelled_completes config requests segments bytes more valid transcript got =
-    let sends = transcript_encodes config requests segments valid transcript in
+pub spelled_completes : (input : Input) (segments : List (List Event)) (bytes more : List ℕ) → IsValidInput input → IsTranscript input segments → CanLogIn (sents (joined segments)) → SpellsGot (first_standing input.config) (joined segments) bytes
+    → Completes input (length bytes) (bytes ++ more) segments
+spelled_completes input segments bytes more valid transcript can got =
+    let sends = transcript_encodes input segments valid transcript can in
     record { transcript = transcript; bytes = bytes; more = more; begins = refl; within = omega arith; got = got; sent = sends.0; put = sends.1 }
 
--- what has an encoding has one of what stands behind
-both_behind : (a b : Result (List ℕ) PgWireError) → Encodes (both a b) → Encodes b
-both_behind (Err e) b x = absurd (let is = x.1 in cc)
-both_behind (Ok a) (Err e) x = absurd (let is = x.1 in cc)
-both_behind (Ok a) (Ok b) x = (b, refl)
+-- what is due and has no encoding is an answer to the request to log in
+pub never_unencoded : (input : Input) (taken sent : List ℕ) (ending : Ending) (e : PgWireError) → IsValidInput input → conversation input taken ≡ Over ending sent → ending.outcome ≡ Unencoded e
+    → (due : List Frontend) × (encodings due ≡ Err e) × (CanLogIn due → ⊥)
+never_unencoded input taken sent ending e valid is why =
+    let u = (unencoded input taken sent ending e is why).0 in
+    let due = due_sent input Sendable u.es u.due (sendable input valid) u.legal in
+    (u.due, u.unencoded, λ can. let is_ok = (all_encode u.due due can).1 in let is_err = u.unencoded in cc)
 
-pub never_unencoded : (config : Config) (requests : List Request) (taken sent : List ℕ) (ending : Ending) (e : PgWireError) → IsValidInput config requests → conversation config requests taken ≡ Over ending sent → ending.outcome ≡ Unencoded e → ⊥
-never_unencoded config requests taken sent ending e valid is why =
-    let u = (unencoded config requests taken sent ending e is why).0 in
-    let all = prefix_encodes config requests (u.es ++ map Sent u.due) valid u.legal in
-    let due = both_behind (encodings (sents u.es)) (encodings u.due) (subst Encodes (ap encodings (sents_append u.es (map Sent u.due) ∙ ap (λ (l : List Frontend). sents u.es ++ l) (sents_sends u.due)) ∙ encodings_append (sents u.es) u.due) all) in
-    let is_ok = due.1 in
-    let is_err = u.unencoded in
-    cc
+-- an MD5 password can be sent
+pub md5_valid : (input : Input) (salt : List ℕ) → IsLoginValid (md5_message input salt)
+md5_valid input salt =
+    let text = md5_password (user_of input) (lossy (password_of input)) salt in
+    (clean_text text (md5_clean (user_of input) (lossy (password_of input)) salt), omega (arith, text_length text, md5_short (user_of input) (lossy (password_of input)) salt))

@@ -1,126 +1,130 @@
 -- The segments of a session: which messages follow one another.
-use Rattle.std.specs.Prelude.{◌≡◌, ℕ, Bool, true, false, List, [], ◌∷◌, codes, Option, Some, None}
-use Rattle.std.specs.FinMap as map
+use Rattle.std.specs.Prelude.{◌≡◌, ℕ, Bool, true, false, not, List, [], ◌∷◌, ◌++◌, map, codes, Option, Some, None}
+use Rattle.std.specs.FinMap as finite
 use Rattle.pgw_wire.specs.Pairs.{Held}
-use Rattle.pgw_wire.specs.Reading.{lossy}
 use Rattle.pgw_types.specs.Versions.{version_number}
 use Rattle.pgw_types.specs.declared.context.ProtocolVersion.{ProtocolVersion}
 use Rattle.pgw_startup.specs.Negotiate.{negotiated_version}
 use Rattle.pgw_startup.specs.declared.authentication.Authentication.TheVariants as authentication
-use Rattle.pgw_startup.specs.declared.password.PasswordMessageFamily.TheVariants as family
-use Rattle.pgw_msg.specs.declared.backend.PgWireBackendMessage.{PgWireBackendMessage as Backend}
-use Rattle.pgw_msg.specs.declared.backend.PgWireBackendMessage.TheVariants as backend
-use Rattle.pgw_msg.specs.declared.frontend.PgWireFrontendMessage.{PgWireFrontendMessage as Frontend}
-use Rattle.pgw_msg.specs.declared.frontend.PgWireFrontendMessage.TheVariants as frontend
-use Rattle.pgw_config.specs.declared.config.Config.{Config}
+use Rattle.pgw_query.specs.declared.response.ReadyForQuery.{ReadyForQuery}
+use Rattle.pgw_backend.specs.declared.backend.PgWireBackendMessage.{PgWireBackendMessage as Backend}
+use Rattle.pgw_backend.specs.declared.backend.PgWireBackendMessage.TheVariants as backend
+use Rattle.pgw_frontend.specs.declared.frontend.PgWireFrontendMessage.{PgWireFrontendMessage as Frontend}
+use Rattle.pgw_frontend.specs.declared.frontend.PgWireFrontendMessage.TheVariants as frontend
 use Rattle.pgw_session.specs.declared.types.Request.{Request}
-use Rattle.pgw_session.specs.declared.types.Request.TheVariants.{Simple}
+use Rattle.pgw_session.specs.declared.stage.Kind.{Kind}
+use Rattle.pgw_session.specs.Input.{Input}
 use Rattle.pgw_session.specs.Events.{Event, Sent, Got}
+use Rattle.pgw_session.specs.Logins.{Login, login_events, IsAccepted}
+use Rattle.pgw_session.specs.declared.stage.Role.{Role}
+use Rattle.pgw_session.specs.declared.stage.Role.TheVariants.{Taken, Closing, Completing, Failing, Misplaced}
+use Rattle.pgw_session.specs.Requests.{kind_of, sends_of, sync, behind_error, role}
 
--- ---- what the client sends
+-- ---- runs of messages
 
--- a parameter of that name, where a value is set
-abbrev pub with_set : List ℕ → Option (List ℕ) → Held → Held
-with_set name None held = held
-with_set name (Some value) held = map.insert held name value
+-- each of the messages has the property
+abbrev pub AreAll : (Backend → Bool) → List Backend → Type 0
+AreAll p [] = Unit {0}
+AreAll p (m ∷ ms) = (p m ≡ true) × AreAll p ms
 
-abbrev pub startup_parameters : Config → Held
-startup_parameters config = with_set (codes "database") config.dbname (with_set (codes "user") config.user (with_set (codes "application_name") config.application_name map.empty))
-
--- the startup message: the configured version, and application name, user and database where they are set (StartupMessage)
-abbrev pub startup_message : Config → Frontend
-startup_message config = frontend.Startup (record {
-  protocol_number_major = (version_number config.protocol_version).0;
-  protocol_number_minor = (version_number config.protocol_version).1;
-  parameters = startup_parameters config;
-})
-
--- the bytes of a password, read as UTF-8; where none is set, the empty text
-abbrev pub cleartext_of : Option (List ℕ) → List ℕ
-cleartext_of None = []
-cleartext_of (Some password) = lossy password
-
--- the password in clear text (PasswordMessage)
-abbrev pub password_message : Config → Frontend
-password_message config = frontend.PasswordMessageFamily (family.Password (record { password = cleartext_of config.password }))
-
--- the messages that open a request's segment
-abbrev pub sends_of : Request → List Frontend
-sends_of (Simple query) = frontend.Query (record { query = query }) ∷ []
-
--- ---- the startup segment
-
--- the fact, where there is such a version
-abbrev pub WhereMapped : Option ProtocolVersion → Type 0 → Type 0
-WhereMapped None fact = ⊥
-WhereMapped (Some version) fact = fact
-
--- what a server may say once the client is logged in, up to its first ReadyForQuery
-abbrev pub IsWelcome : List Event → Type 0
-IsWelcome [] = ⊥
-IsWelcome (Sent m ∷ es) = ⊥
-IsWelcome (Got (backend.Authentication authentication.Ok) ∷ es) = IsWelcome es
-IsWelcome (Got (backend.ParameterStatus m) ∷ es) = IsWelcome es
-IsWelcome (Got (backend.BackendKeyData m) ∷ es) = IsWelcome es
-IsWelcome (Got (backend.NoticeResponse m) ∷ es) = IsWelcome es
-IsWelcome (Got (backend.NegotiateProtocolVersion m) ∷ es) = WhereMapped (negotiated_version m.newest_minor_protocol) (IsWelcome es)
-IsWelcome (Got (backend.ReadyForQuery m) ∷ es) = es ≡ []
-IsWelcome (Got m ∷ es) = ⊥
-
--- what it may say before: the same, or it asks for the password, which is sent then, and goes on to the welcome
-abbrev pub IsGreeting : Config → List Event → Type 0
-IsGreeting config [] = ⊥
-IsGreeting config (Sent m ∷ es) = ⊥
-IsGreeting config (Got (backend.Authentication authentication.Ok) ∷ es) = IsGreeting config es
-IsGreeting config (Got (backend.Authentication authentication.CleartextPassword) ∷ es) = (more : List Event) × (es ≡ Sent (password_message config) ∷ more) × IsWelcome more
-IsGreeting config (Got (backend.ParameterStatus m) ∷ es) = IsGreeting config es
-IsGreeting config (Got (backend.BackendKeyData m) ∷ es) = IsGreeting config es
-IsGreeting config (Got (backend.NoticeResponse m) ∷ es) = IsGreeting config es
-IsGreeting config (Got (backend.NegotiateProtocolVersion m) ∷ es) = WhereMapped (negotiated_version m.newest_minor_protocol) (IsGreeting config es)
-IsGreeting config (Got (backend.ReadyForQuery m) ∷ es) = es ≡ []
-IsGreeting config (Got m ∷ es) = ⊥
-
--- the startup segment: the startup message, and what the server says then
-abbrev pub IsStartupSegment : Config → List Event → Type 0
-IsStartupSegment config es = (answer : List Event) × (es ≡ Sent (startup_message config) ∷ answer) × IsGreeting config answer
-
--- ---- the segments of requests
+-- messages got with the property, and then ReadyForQuery
+pub record IsUpToReady (p : Backend → Bool) (es : List Event) : Type 0 where
+  pub ms : List Backend
+  pub ready : ReadyForQuery
+  pub are : es ≡ map Got ms ++ Got (backend.ReadyForQuery ready) ∷ []
+  pub all : AreAll p ms
 
 abbrev pub is_ready : Backend → Bool
 is_ready (backend.ReadyForQuery m) = true
 is_ready m = false
 
+abbrev pub is_other : Backend → Bool
+is_other m = not (is_ready m)
+
 -- none of the messages is ReadyForQuery
 abbrev pub IsQuiet : List Backend → Type 0
-IsQuiet [] = Unit {0}
-IsQuiet (m ∷ ms) = (is_ready m ≡ false) × IsQuiet ms
+IsQuiet ms = AreAll is_other ms
 
--- what may stand behind an ErrorResponse: anything, up to ReadyForQuery
-abbrev pub IsDrain : List Event → Type 0
-IsDrain [] = ⊥
-IsDrain (Sent m ∷ es) = ⊥
-IsDrain (Got (backend.ReadyForQuery m) ∷ es) = es ≡ []
-IsDrain (Got m ∷ es) = IsDrain es
+-- anything, up to ReadyForQuery
+abbrev pub IsPassedOver : List Event → Type 0
+IsPassedOver es = IsUpToReady is_other es
 
--- What a server may answer to a simple query, to ReadyForQuery (Message Flow, Simple Query). Rows stand behind a
--- RowDescription alone, with no CommandComplete between; a notice and a parameter's change may come at any time.
-abbrev pub IsReply : Bool → List Event → Type 0
-IsReply has [] = ⊥
-IsReply has (Sent m ∷ es) = ⊥
-IsReply has (Got (backend.ReadyForQuery m) ∷ es) = es ≡ []
-IsReply has (Got (backend.RowDescription m) ∷ es) = IsReply true es
-IsReply true (Got (backend.DataRow m) ∷ es) = IsReply true es
-IsReply false (Got (backend.DataRow m) ∷ es) = ⊥
-IsReply has (Got (backend.CommandComplete m) ∷ es) = IsReply false es
-IsReply has (Got (backend.EmptyQueryResponse m) ∷ es) = IsReply has es
-IsReply has (Got (backend.NoticeResponse m) ∷ es) = IsReply has es
-IsReply has (Got (backend.ParameterStatus m) ∷ es) = IsReply has es
-IsReply has (Got (backend.ErrorResponse m) ∷ es) = IsDrain es
-IsReply has (Got m ∷ es) = ⊥
+-- ---- the startup segment
+
+-- a parameter of that name, where a value is set
+abbrev pub with_set : List ℕ → Option (List ℕ) → Held → Held
+with_set name None held = held
+with_set name (Some value) held = finite.insert held name value
+
+abbrev pub startup_parameters : Input → Held
+startup_parameters input = with_set (codes "database") (input.config).dbname (with_set (codes "user") (input.config).user (with_set (codes "application_name") (input.config).application_name finite.empty))
+
+-- the startup message: the configured version, and application name, user and database where they are set (StartupMessage)
+abbrev pub startup_message : Input → Frontend
+startup_message input = frontend.Startup (record {
+  protocol_number_major = (version_number (input.config).protocol_version).0;
+  protocol_number_minor = (version_number (input.config).protocol_version).1;
+  parameters = startup_parameters input;
+})
+
+abbrev pub is_known : Option ProtocolVersion → Bool
+is_known None = false
+is_known (Some version) = true
+
+-- what a server may say at any time of the startup segment, but within a login block
+abbrev pub is_news : Backend → Bool
+is_news (backend.Authentication authentication.Ok) = true
+is_news (backend.ParameterStatus m) = true
+is_news (backend.BackendKeyData m) = true
+is_news (backend.NoticeResponse m) = true
+is_news (backend.NegotiateProtocolVersion m) = is_known (negotiated_version m.newest_minor_protocol)
+is_news m = false
+
+-- what a server says behind the startup message: news, one login block, and news up to ReadyForQuery
+pub record IsGreeting (input : Input) (es : List Event) : Type 0 where
+  pub news : List Backend
+  pub login : Login
+  pub rest : List Event
+  pub are : es ≡ map Got news ++ (login_events input login ++ rest)
+  pub all : AreAll is_news news
+  pub accepted : IsAccepted input login
+  pub ends : IsUpToReady is_news rest
+
+abbrev pub IsStartupSegment : Input → List Event → Type 0
+IsStartupSegment input es = (answer : List Event) × (es ≡ Sent (startup_message input) ∷ answer) × IsGreeting input answer
+
+-- ---- the segments of requests
+
+abbrev pub sends : Option Frontend → List Frontend
+sends None = []
+sends (Some m) = m ∷ []
+
+-- messages that the row takes, one after the other, and whether rows may come behind them
+abbrev pub AreTaken : Kind → Bool → List Backend → Bool → Type 0
+AreTaken k rows [] behind = rows ≡ behind
+AreTaken k rows (m ∷ ms) behind = (next : Bool) × (role k rows m ≡ Taken next) × AreTaken k next ms behind
+
+-- what stands behind the message that ends them
+abbrev pub IsEnd : Kind → Role → List Event → Type 0
+IsEnd k (Taken rows) es = ⊥
+IsEnd k Closing es = es ≡ []
+IsEnd k Completing es = (rest : List Event) × (es ≡ Sent sync ∷ rest) × IsPassedOver rest
+IsEnd k Failing es = (rest : List Event) × (es ≡ map Sent (sends (behind_error k)) ++ rest) × IsPassedOver rest
+IsEnd k Misplaced es = ⊥
+
+-- what a server answers to a request: messages that are taken, and one that ends them
+pub record IsAnswer (k : Kind) (rows : Bool) (es : List Event) : Type 0 where
+  pub ms : List Backend
+  pub behind : Bool
+  pub last : Backend
+  pub rest : List Event
+  pub are : es ≡ map Got ms ++ Got last ∷ rest
+  pub taken : AreTaken k rows ms behind
+  pub ends : IsEnd k (role k behind last) rest
 
 -- the segment of a request
 abbrev pub IsRequestSegment : Request → List Event → Type 0
-IsRequestSegment (Simple query) es = (answer : List Event) × (es ≡ Sent (frontend.Query (record { query = query })) ∷ answer) × IsReply false answer
+IsRequestSegment q es = (answer : List Event) × (es ≡ map Sent (sends_of q) ++ answer) × IsAnswer (kind_of q) false answer
 
 -- the events begin with a simple query
 abbrev pub IsSimple : List Event → Type 0

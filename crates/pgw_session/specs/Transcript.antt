@@ -1,17 +1,18 @@
 -- Session transcripts: whole, begun, spelled, reported.
 use Rattle.std.specs.Prelude.{◌≡◌, ◌≤◌, ◌⊎◌, ℕ, zero, suc, List, [], ◌∷◌, ◌++◌, length, map, drop, slice_get, Option, Some, None, Ok}
-use Rattle.pgw_msg.specs.Front.{Spells}
-use Rattle.pgw_msg.specs.Frontend.{encodings}
-use Rattle.pgw_msg.specs.declared.frontend.PgWireFrontendMessage.{PgWireFrontendMessage as Frontend}
-use Rattle.pgw_config.specs.declared.config.Config.{Config}
+use Rattle.pgw_backend.specs.Front.{Spells}
+use Rattle.pgw_frontend.specs.Frontend.{encodings}
+use Rattle.pgw_frontend.specs.declared.frontend.PgWireFrontendMessage.{PgWireFrontendMessage as Frontend}
 use Rattle.pgw_session.specs.declared.types.Answer.{Answer}
 use Rattle.pgw_session.specs.declared.types.Request.{Request}
 use Rattle.pgw_session.specs.declared.types.SessionReport.{SessionReport}
 use Rattle.pgw_session.specs.declared.standing.Standing.{Standing}
 use Rattle.pgw_session.specs.Events.{Event, Sent, Got, sents, joined}
 use Rattle.pgw_session.specs.Standings.{first_standing, standing_by, standing_of}
-use Rattle.pgw_session.specs.Segments.{IsStartupSegment, IsRequestSegment, startup_message, sends_of}
-use Rattle.pgw_session.specs.Answers.{answer_of}
+use Rattle.pgw_session.specs.Requests.{sends_of}
+use Rattle.pgw_session.specs.Segments.{IsStartupSegment, IsRequestSegment, startup_message}
+use Rattle.pgw_session.specs.Answers.{answers_of}
+use Rattle.pgw_session.specs.Input.{Input}
 
 -- ---- transcripts
 
@@ -23,32 +24,32 @@ AreSegments [] (es ∷ more) = ⊥
 AreSegments (q ∷ qs) [] = ⊥
 
 -- the startup segment and then one segment for each request
-abbrev pub IsTranscript : Config → List Request → List (List Event) → Type 0
-IsTranscript config requests [] = ⊥
-IsTranscript config requests (startup ∷ segments) = IsStartupSegment config startup × AreSegments requests segments
+abbrev pub IsTranscript : Input → List (List Event) → Type 0
+IsTranscript input [] = ⊥
+IsTranscript input (startup ∷ segments) = IsStartupSegment input startup × AreSegments input.requests segments
 
 -- the messages that open a segment: number 0 is the startup segment, and the requests' follow
 abbrev pub opened_by : Option Request → List Frontend
 opened_by None = []
 opened_by (Some q) = sends_of q
 
-abbrev pub opening_at : Config → List Request → ℕ → List Frontend
-opening_at config requests zero = startup_message config ∷ []
-opening_at config requests (suc k) = opened_by (slice_get requests k)
+abbrev pub opening_at : Input → ℕ → List Frontend
+opening_at input zero = startup_message input ∷ []
+opening_at input (suc k) = opened_by (slice_get input.requests k)
 
 -- a joined list that is cut where no opening is: some segments, and of the next nothing, or its opening and more
-pub record IsPart (config : Config) (requests : List Request) (es : List Event) : Type 0 where
+pub record IsPart (input : Input) (es : List Event) : Type 0 where
   pub closed : List (List Event)
   pub part : List Event
   pub rest : List Event
   pub later : List (List Event)
   pub are : es ≡ joined closed ++ part
-  pub transcript : IsTranscript config requests (closed ++ (part ++ rest) ∷ later)
-  pub opening : (part ≡ []) ⊎ ((more : List Event) × (part ≡ map Sent (opening_at config requests (length closed)) ++ more))
+  pub transcript : IsTranscript input (closed ++ (part ++ rest) ∷ later)
+  pub opening : (part ≡ []) ⊎ ((more : List Event) × (part ≡ map Sent (opening_at input (length closed)) ++ more))
 
 -- a legal prefix: something makes it a joined list, and an opening's messages stand in it all or not at all
-abbrev pub IsLegalPrefix : Config → List Request → List Event → Type 0
-IsLegalPrefix config requests es = ((segments : List (List Event)) × IsTranscript config requests segments × (joined segments ≡ es)) ⊎ IsPart config requests es
+abbrev pub IsLegalPrefix : Input → List Event → Type 0
+IsLegalPrefix input es = ((segments : List (List Event)) × IsTranscript input segments × (joined segments ≡ es)) ⊎ IsPart input es
 
 -- ---- bytes
 
@@ -69,28 +70,28 @@ abbrev pub report_with : Standing → List Answer → SessionReport
 report_with s answers = record { version = s.version; parameters = s.parameters; process_id = s.process_id; secret_key = s.secret_key; status = s.status; answers = answers }
 
 -- each answer is that of a request's own segment, in order
-unfoldable pub report_of : Config → List (List Event) → SessionReport
-report_of config segments = report_with (standing_of config (joined segments)) (map answer_of (drop 1 segments))
+unfoldable pub report_of : Input → List (List Event) → SessionReport
+report_of input segments = report_with (standing_of input.config (joined segments)) (answers_of input.requests (drop 1 segments))
 
 -- A completed session: the bytes taken begin with spellings of the messages got, those put out encode those sent,
 -- together they are a transcript for that input, and the report is its fold.
-pub record Completed (config : Config) (requests : List Request) (taken sent : List ℕ) (report : SessionReport) : Type 0 where
+pub record Completed (input : Input) (taken sent : List ℕ) (report : SessionReport) : Type 0 where
   pub segments : List (List Event)
-  pub transcript : IsTranscript config requests segments
+  pub transcript : IsTranscript input segments
   pub spelled : List ℕ
   pub rest : List ℕ
   pub begins : taken ≡ spelled ++ rest
-  pub got : SpellsGot (first_standing config) (joined segments) spelled
+  pub got : SpellsGot (first_standing input.config) (joined segments) spelled
   pub put : EncodesSent (joined segments) sent
-  pub reported : report ≡ report_of config segments
+  pub reported : report ≡ report_of input segments
 
 -- The bytes to come begin with bytes, within the limit, that complete a transcript with these segments.
-pub record Completes (config : Config) (requests : List Request) (limit : ℕ) (left : List ℕ) (segments : List (List Event)) : Type 0 where
-  pub transcript : IsTranscript config requests segments
+pub record Completes (input : Input) (limit : ℕ) (left : List ℕ) (segments : List (List Event)) : Type 0 where
+  pub transcript : IsTranscript input segments
   pub bytes : List ℕ
   pub more : List ℕ
   pub begins : left ≡ bytes ++ more
   pub within : length bytes ≤ limit
-  pub got : SpellsGot (first_standing config) (joined segments) bytes
+  pub got : SpellsGot (first_standing input.config) (joined segments) bytes
   pub sent : List ℕ
   pub put : EncodesSent (joined segments) sent

@@ -1,5 +1,5 @@
 //! What holds of sessions.
-ghost use Rattle.std.specs.Prelude.{◌≡◌, ◌≤◌, ℕ, List, [], ◌∷◌, ◌++◌, length, Option, Some, None};
+ghost use Rattle.std.specs.Prelude.{◌≡◌, ◌≤◌, ℕ, List, [], ◌∷◌, ◌++◌, length, Option, Some, None, Err};
 ghost use Rattle.std.specs.FinMap as map;
 ghost use Rattle.pgw_types.specs.declared.context.ProtocolVersion.{ProtocolVersion as TheVersion};
 ghost use Rattle.pgw_types.specs.declared.error.PgWireError.{PgWireError as TheRefusal};
@@ -7,70 +7,115 @@ ghost use Rattle.pgw_startup.specs.Negotiate.{negotiated_version};
 ghost use Rattle.pgw_startup.specs.declared.backend_key_data.BackendKeyData.{BackendKeyData as TheKey};
 ghost use Rattle.pgw_startup.specs.declared.negotiate.NegotiateProtocolVersion.{NegotiateProtocolVersion as TheOffer};
 ghost use Rattle.pgw_startup.specs.declared.parameter_status.ParameterStatus.{ParameterStatus as TheParameter};
-ghost use Rattle.pgw_msg.specs.declared.backend.PgWireBackendMessage.{PgWireBackendMessage as Backend};
-ghost use Rattle.pgw_msg.specs.declared.backend.PgWireBackendMessage.TheVariants as backend;
-ghost use Rattle.pgw_msg.specs.declared.client_error.PgWireClientError.{PgWireClientError as ClientError};
+ghost use Rattle.pgw_backend.specs.declared.backend.PgWireBackendMessage.{PgWireBackendMessage as Backend};
+ghost use Rattle.pgw_backend.specs.declared.backend.PgWireBackendMessage.TheVariants as backend;
+ghost use Rattle.pgw_backend.specs.declared.client_error.PgWireClientError.{PgWireClientError as ClientError};
 ghost use Rattle.pgw_query.specs.declared.response.ReadyForQuery.{ReadyForQuery as TheReady};
-ghost use Rattle.pgw_msg.specs.Front.{Spells};
+ghost use Rattle.pgw_backend.specs.Front.{Spells};
+ghost use Rattle.pgw_frontend.specs.Frontend.{encodings};
+ghost use Rattle.pgw_frontend.specs.declared.frontend.PgWireFrontendMessage.{PgWireFrontendMessage as Frontend};
 ghost use Rattle.pgw_config.specs.declared.config.Config.{Config as TheConfig};
 ghost use Rattle.pgw_session.specs.declared.types.Request.{Request as TheRequest};
-ghost use Rattle.pgw_session.specs.Events.{Event, Got, joined};
-ghost use Rattle.pgw_session.specs.Standings.{first_standing, standing_of, IsSameConnection, IsUnready, SetsNone};
+ghost use Rattle.pgw_session.specs.Input.{Input as TheInput};
+ghost use Rattle.pgw_session.specs.Segments.{IsStartupSegment};
+ghost use Rattle.pgw_session.specs.Events.{Event, Got, joined, sents};
+ghost use Rattle.pgw_session.specs.Standings.{first_standing, standing_of};
+ghost use Rattle.pgw_session.specs.Stays.{IsSameConnection, IsUnready, SetsNone};
 ghost use Rattle.pgw_session.specs.Answers.{tally_of, first_error};
-ghost use Rattle.pgw_session.specs.Transcript.{IsTranscript, IsLegalPrefix, SpellsGot, EncodesSent, Completed, Completes, report_of};
-ghost use Rattle.pgw_session.specs.Failures.{StoppedCause, Unsendable, WaitsAt, IsHopeless, IsUnfinished};
+ghost use Rattle.pgw_session.specs.Transcript.{AreSegments, IsTranscript, IsLegalPrefix, SpellsGot, EncodesSent, Completed, Completes, report_of};
+ghost use Rattle.pgw_session.specs.Failures.{Misplaced, Unreadable, FailsAtStartup, Unsendable, WaitsAt, IsHopeless, IsUnfinished, EndsAs, Told};
+ghost use Rattle.pgw_session.specs.Faults.{IsByteFault, IsDueFault, IsStartupError};
+ghost use Rattle.pgw_session.specs.Logins.{md5_message};
 ghost use Rattle.pgw_session.specs.Demands.{refused_config};
-ghost use Rattle.pgw_session.specs.Valid.{IsValidInput};
-ghost use Rattle.pgw_session.specs.Course.{Waits, Over};
-ghost use Rattle.pgw_session.specs.Talk.{Talk, Ending, Complete, Unencoded, Stopped, said, conversation, whole_talk, HasRefused};
+ghost use Rattle.pgw_session.specs.Valid.{IsValidInput, IsLoginValid, CanLogIn};
+ghost use Rattle.pgw_course.specs.Course.{Waits, Over, onto, seen, sent_of};
+ghost use Rattle.pgw_session.specs.Machine.{opens_next, end_with, ended, Complete, Unencoded, Unexpected, Unread, Refused};
+ghost use Rattle.pgw_session.specs.Notes.{noted_of, view};
+ghost use Rattle.pgw_session.specs.Talk.{between, first_passed, talk_book, Talk, Ending, said, conversation, whole_talk, HasRefused};
 
 /// A conversation that ends whole is a completed session.
 pub fn whole_conversations_are_sessions()
-    ensures { (config : TheConfig) (requests : List TheRequest) (taken sent : List ℕ) (ending : Ending) → conversation config requests taken ≡ Over ending sent → ending.outcome ≡ Complete →
-        Completed config requests taken sent (report_of config (ending.talk).closed) }
+    ensures { (input : TheInput) (taken sent : List ℕ) (ending : Ending) → conversation input taken ≡ Over ending sent → ending.outcome ≡ Complete →
+        Completed input taken sent (report_of input (ending.notes).closed) }
 {}
 
 /// Bytes that spell a transcript whose messages have encodings lead the conversation to it, whatever follows them.
 pub fn transcripts_are_conversed()
-    ensures { (config : TheConfig) (requests : List TheRequest) (segments : List (List Event)) (bytes sent more : List ℕ) → IsTranscript config requests segments →
-        SpellsGot (first_standing config) (joined segments) bytes → EncodesSent (joined segments) sent → conversation config requests (bytes ++ more) ≡ Over (whole_talk segments) sent }
+    ensures { (input : TheInput) (segments : List (List Event)) (bytes sent more : List ℕ) → IsTranscript input segments →
+        SpellsGot (first_standing input.config) (joined segments) bytes → EncodesSent (joined segments) sent → conversation input (bytes ++ more) ≡ Over (whole_talk segments) sent }
+{}
+
+/// Bytes that spell the segments of the requests so far lead the conversation to where the next request is opened,
+/// whatever requests are behind it.
+pub fn requests_are_taken_one_by_one()
+    ensures { (input : TheInput) (asked left : List TheRequest) (q : TheRequest) (startup : List Event) (segments : List (List Event)) (bytes sent : List ℕ) → input.requests ≡ asked ++ q ∷ left →
+        IsStartupSegment input startup → AreSegments asked segments → SpellsGot (first_standing input.config) (joined (startup ∷ segments)) bytes → EncodesSent (joined (startup ∷ segments)) sent →
+        conversation input bytes ≡ onto sent (opens_next (talk_book input) (between (startup ∷ segments)) (Some q)) }
 {}
 
 /// The next message is refused exactly where it makes no legal prefix.
 pub fn messages_without_a_place_are_refused()
     // Where the conversation waits with nothing passed over, and the bytes that come next make a message whole:
     // if it is refused, it makes no legal prefix,
-    ensures refused { (config : TheConfig) (requests : List TheRequest) (taken sent pending more : List ℕ) (t : Talk) (m : Backend) → conversation config requests taken ≡ Waits t sent pending → t.skipped ≡ [] →
-        Spells (standing_of config (said t)).version m (pending ++ more) → HasRefused (conversation config requests (taken ++ more)) → IsLegalPrefix config requests (said t ++ Got m ∷ []) → ⊥ }
+    ensures refused { (input : TheInput) (taken sent pending more : List ℕ) (t : Talk) (m : Backend) → conversation input taken ≡ Waits t sent pending → t.passed ≡ [] →
+        Spells (standing_of input.config (said t)).version m (pending ++ more) → HasRefused (conversation input (taken ++ more)) → IsLegalPrefix input (said t ++ Got m ∷ []) → ⊥ }
     // and if it makes none, it is refused.
-    ensures only { (config : TheConfig) (requests : List TheRequest) (taken sent pending more : List ℕ) (t : Talk) (m : Backend) → conversation config requests taken ≡ Waits t sent pending → t.skipped ≡ [] →
-        Spells (standing_of config (said t)).version m (pending ++ more) → (IsLegalPrefix config requests (said t ++ Got m ∷ []) → ⊥) → HasRefused (conversation config requests (taken ++ more)) }
+    ensures only { (input : TheInput) (taken sent pending more : List ℕ) (t : Talk) (m : Backend) → conversation input taken ≡ Waits t sent pending → t.passed ≡ [] →
+        Spells (standing_of input.config (said t)).version m (pending ++ more) → (IsLegalPrefix input (said t ++ Got m ∷ []) → ⊥) → HasRefused (conversation input (taken ++ more)) }
 {}
 
 /// A conversation that ends otherwise has its cause, and whatever follows completes no session; one that waits is
 /// within a message, and no front of its bytes completes a session.
 pub fn other_conversations_have_causes()
-    ensures stopped { (config : TheConfig) (requests : List TheRequest) (limit : ℕ) (taken sent left : List ℕ) (ending : Ending) (e : ClientError) → conversation config requests taken ≡ Over ending sent → ending.outcome ≡ Stopped e →
-        StoppedCause config requests limit taken sent left e × IsHopeless config requests taken }
-    ensures unencoded { (config : TheConfig) (requests : List TheRequest) (taken sent : List ℕ) (ending : Ending) (e : TheRefusal) → conversation config requests taken ≡ Over ending sent → ending.outcome ≡ Unencoded e →
-        Unsendable config requests taken sent e × IsHopeless config requests taken }
-    ensures waits { (config : TheConfig) (requests : List TheRequest) (taken sent pending : List ℕ) (t : Talk) → conversation config requests taken ≡ Waits t sent pending →
-        WaitsAt config requests taken sent t.closed t.open_events t.skipped × IsUnfinished config requests taken }
+    ensures unexpected { (input : TheInput) (taken sent : List ℕ) (ending : Ending) (m : Backend) → conversation input taken ≡ Over ending sent → ending.outcome ≡ Unexpected m →
+        Misplaced input ⊥ taken sent m × IsHopeless input taken }
+    ensures unread { (input : TheInput) (taken sent : List ℕ) (ending : Ending) (why : TheRefusal) → conversation input taken ≡ Over ending sent → ending.outcome ≡ Unread why →
+        Unreadable input taken sent why × IsHopeless input taken }
+    ensures refused { (input : TheInput) (taken sent : List ℕ) (ending : Ending) (e : ClientError) → conversation input taken ≡ Over ending sent → ending.outcome ≡ Refused e →
+        FailsAtStartup input taken sent e × IsHopeless input taken }
+    ensures unencoded { (input : TheInput) (taken sent : List ℕ) (ending : Ending) (e : TheRefusal) → conversation input taken ≡ Over ending sent → ending.outcome ≡ Unencoded e →
+        Unsendable input taken sent e × IsHopeless input taken }
+    ensures waits { (input : TheInput) (taken sent pending : List ℕ) (t : Talk) → conversation input taken ≡ Waits t sent pending →
+        WaitsAt input taken sent t.closed t.open_events t.passed × IsUnfinished input taken }
+{}
+
+/// What it means that no more bytes come, where a conversation waits.
+pub fn the_end_of_the_bytes_has_its_error()
+    ensures { (input : TheInput) (taken sent pending : List ℕ) (t : Talk) → conversation input taken ≡ Waits t sent pending →
+        EndsAs input taken sent (end_with (first_passed t.passed) (tally_of t.open_events).remote) }
+{}
+
+/// Whatever bytes are taken, they tell one of six things, and what is to be sent by then is what their conversation put out.
+pub fn all_bytes_are_told()
+    ensures { (input : TheInput) (taken : List ℕ) → Told input taken (sent_of (conversation input taken)) }
+{}
+
+/// Which refusals and errors a session can end with, of those that it does not make itself.
+pub fn refusals_are_named()
+    // The decoder's, of a server's bytes;
+    ensures bytes { (input : TheInput) (taken sent : List ℕ) (why : TheRefusal) → Unreadable input taken sent why → IsByteFault why }
+    // the encoder's, of a message that is due;
+    ensures due { (input : TheInput) (taken sent : List ℕ) (why : TheRefusal) → Unsendable input taken sent why → IsDueFault why }
+    // and those of the startup segment.
+    ensures startup { (input : TheInput) (taken sent : List ℕ) (e : ClientError) → FailsAtStartup input taken sent e → IsStartupError e }
 {}
 
 /// Each message of a valid input can be sent.
 pub fn valid_input_can_be_sent()
     // It demands nothing that is refused.
-    ensures demands { (config : TheConfig) (requests : List TheRequest) → IsValidInput config requests → refused_config config ≡ None }
-    ensures transcripts { (config : TheConfig) (requests : List TheRequest) (segments : List (List Event)) → IsValidInput config requests → IsTranscript config requests segments →
+    ensures demands { (input : TheInput) → IsValidInput input → refused_config input.config ≡ None }
+    ensures transcripts { (input : TheInput) (segments : List (List Event)) → IsValidInput input → IsTranscript input segments → CanLogIn (sents (joined segments)) →
         (bytes : List ℕ) × EncodesSent (joined segments) bytes }
-    ensures prefixes { (config : TheConfig) (requests : List TheRequest) (es : List Event) → IsValidInput config requests → IsLegalPrefix config requests es → (bytes : List ℕ) × EncodesSent es bytes }
+    // An MD5 password always can.
+    ensures md5 { (input : TheInput) (salt : List ℕ) → IsLoginValid (md5_message input salt) }
+    ensures prefixes { (input : TheInput) (es : List Event) → IsValidInput input → IsLegalPrefix input es → CanLogIn (sents es) → (bytes : List ℕ) × EncodesSent es bytes }
     // So spellings of a transcript's messages complete it,
-    ensures completes { (config : TheConfig) (requests : List TheRequest) (segments : List (List Event)) (bytes more : List ℕ) → IsValidInput config requests → IsTranscript config requests segments →
-        SpellsGot (first_standing config) (joined segments) bytes → Completes config requests (length bytes) (bytes ++ more) segments }
-    // and no conversation ends for want of an encoding.
-    ensures never_unencoded { (config : TheConfig) (requests : List TheRequest) (taken sent : List ℕ) (ending : Ending) (e : TheRefusal) → IsValidInput config requests →
-        conversation config requests taken ≡ Over ending sent → ending.outcome ≡ Unencoded e → ⊥ }
+    ensures completes { (input : TheInput) (segments : List (List Event)) (bytes more : List ℕ) → IsValidInput input → IsTranscript input segments → CanLogIn (sents (joined segments)) →
+        SpellsGot (first_standing input.config) (joined segments) bytes → Completes input (length bytes) (bytes ++ more) segments }
+    // and no conversation ends for want of an encoding, but of a message to log in with.
+    ensures never_unencoded { (input : TheInput) (taken sent : List ℕ) (ending : Ending) (e : TheRefusal) → IsValidInput input →
+        conversation input taken ≡ Over ending sent → ending.outcome ≡ Unencoded e →
+        (due : List Frontend) × (encodings due ≡ Err e) × (CanLogIn due → ⊥) }
 {}
 
 /// What a client is told counts up to the first ReadyForQuery, or as it was told last.
@@ -90,4 +135,9 @@ pub fn standings_are_told()
 /// A segment's error is its first ErrorResponse.
 pub fn the_first_error_is_kept()
     ensures { (es : List Event) → (tally_of es).remote ≡ first_error es }
+{}
+
+/// What a client notes of the bytes is a view of their conversation.
+pub fn notes_tell_the_conversation()
+    ensures { (input : TheInput) (bytes : List ℕ) → noted_of input bytes ≡ seen (view input) (ended (view input)) (conversation input bytes) }
 {}

@@ -2,7 +2,9 @@
 #![tactic(auto)]
 
 pub mod laws;
+pub mod notes;
 pub mod stage;
 pub mod standing;
+pub mod table_laws;
 pub mod tally;
 pub mod types;

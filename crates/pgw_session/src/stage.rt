@@ -1,39 +1,64 @@
 //! Where a segment stands, and what a message does to it.
 
-/// How far the open segment has come.
+use pgw_backend::client_error::PgWireClientError;
+use pgw_frontend::frontend::PgWireFrontendMessage;
+use pgw_types::octets::Octets;
+
+/// Which row of the table of requests an open segment is of.
 #[derive(Clone, Copy, Debug, PartialEq, Eq)]
+pub enum Kind {
+    Simple,
+    Prepare,
+    Bind,
+    Execute,
+    DescribeStatement,
+    DescribePortal,
+    Close,
+    Query,
+}
+
+/// What a message is to a request's segment.
+#[derive(Clone, Copy, Debug, PartialEq, Eq)]
+pub enum Role {
+    /// It is taken, and rows may come then, or not.
+    Taken(bool),
+    /// It closes the segment.
+    Closing,
+    /// It completes a portal: Sync is sent, and anything may come up to ReadyForQuery.
+    Completing,
+    /// The server's error.
+    Failing,
+    Misplaced,
+}
+
+/// How far the open segment has come.
+#[derive(Debug, Drop)]
 pub enum Stage {
     /// The startup segment, before a login block.
     Starting,
+    /// Within a SCRAM login: the server's first text is awaited,
+    Challenged,
+    /// or its last, which should have this signature.
+    Proving(Octets),
     /// The startup segment behind its login block.
     Admitted,
-    /// A simple query, with no result open.
-    Bare,
-    /// A simple query whose result is open for rows.
-    Rows,
-    /// A request that failed, up to ReadyForQuery.
-    Drains,
-}
-
-/// What is sent right behind a message.
-#[derive(Clone, Copy, Debug, PartialEq, Eq)]
-pub enum Reply {
-    Silent,
-    /// The password in clear text.
-    Passes,
+    /// A request's segment, and whether rows may come.
+    Answering(Kind, bool),
+    /// A segment that takes anything up to ReadyForQuery.
+    PassingOver,
 }
 
 /// What a message does to the open segment.
-#[derive(Clone, Copy, Debug, PartialEq, Eq)]
+#[derive(Debug, Drop)]
 pub enum Next {
-    /// It is taken; the segment goes on.
-    Goes(Stage, Reply),
+    /// It is taken, and this is sent right behind it; the segment goes on.
+    Goes(Stage, Option<PgWireFrontendMessage>),
     /// It is taken, and closes the segment.
     Closes,
     /// It has no place here.
     Wrong,
     /// It ends the session with an error of its own.
-    Refuses,
+    Refuses(PgWireClientError),
     /// It has no place here, and the messages up to ReadyForQuery are passed over first.
-    Spoils,
+    PassesOver,
 }

@@ -1,7 +1,8 @@
-//! The responses of a segment so far.
+//! What a segment gave so far.
 
-use crate::types::Response;
-use pgw_msg::field_info::FieldInfo;
+use crate::types::{ExecuteResult, Response};
+use pgw_backend::field_info::FieldInfo;
+use pgw_backend::pg_type::PgType;
 use pgw_query::data::DataRow;
 use pgw_query::response::ErrorResponse;
 use pgw_types::listed::Listed;
@@ -16,8 +17,16 @@ pub struct Opened {
 /// What a request gave so far.
 #[derive(Debug, Drop)]
 pub struct Tally {
+    /// The commands of a simple query.
     pub responses: Listed<Response>,
+    /// The result that was described last, while no command has closed it.
     pub opened: Option<Opened>,
+    /// The parameters described last.
+    pub param_types: Listed<PgType>,
+    /// How the portal first ended, with its rows up to then.
+    pub executed: Option<ExecuteResult<Listed<DataRow>>>,
+    /// The rows since then, of no described result.
+    pub rows: Listed<DataRow>,
     /// The segment's first error.
     pub remote: Option<ErrorResponse>,
 }

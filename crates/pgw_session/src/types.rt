@@ -1,20 +1,39 @@
 //! What goes into a session and what comes out of it.
 
-use pgw_msg::field_info::FieldInfo;
-use pgw_msg::tag::Tag;
+use pgw_backend::field_info::FieldInfo;
+use pgw_backend::pg_type::PgType;
+use pgw_backend::tag::Tag;
 use pgw_query::data::DataRow;
 use pgw_query::response::{ErrorResponse, TransactionStatus};
 use pgw_types::context::ProtocolVersion;
 use pgw_types::listed::Listed;
+use pgw_types::octets::Octets;
 use pgw_types::text::Text;
 use pgw_wire::params::Params;
 use pgw_wire::secret_key::SecretKey;
+
+/// What is described or closed, by its name.
+#[derive(Debug, Drop)]
+pub enum Target {
+    Statement(Option<Text>),
+    Portal(Option<Text>),
+}
 
 /// What a client asks for.
 #[derive(Debug, Drop)]
 pub enum Request {
     /// A simple query, which may hold several commands.
     Simple(Text),
+    /// A statement's name, its query and the types of its parameters.
+    Prepare(Option<Text>, Text, Listed<u32>),
+    /// A portal, its statement, the parameters as text, and the formats of the result (none: all text).
+    Bind(Option<Text>, Option<Text>, Listed<Option<Octets>>, Listed<i16>),
+    /// A portal, and how many rows at most; 0 is all.
+    Execute(Option<Text>, i32),
+    Describe(Target),
+    Close(Target),
+    /// A query with the types of its parameters and their values as text.
+    Query(Text, Listed<u32>, Listed<Option<Octets>>),
 }
 
 /// What one command of a simple query gave.
@@ -27,10 +46,37 @@ pub enum Response {
     Execution(Tag),
 }
 
+/// A statement that was prepared.
+#[derive(Debug, Drop)]
+pub struct PrepareResponse {
+    pub name: Option<Text>,
+    pub param_types: Listed<PgType>,
+}
+
+/// What was described.
+#[derive(Debug, Drop)]
+pub struct DescribeResponse {
+    pub param_types: Listed<PgType>,
+    pub fields: Listed<FieldInfo>,
+}
+
+/// What came of a portal that was run: all, or up to the number of rows.
+#[derive(Debug, Drop)]
+pub enum ExecuteResult<T> {
+    Complete(T),
+    Suspended(T),
+}
+
 /// What a request gave.
 #[derive(Debug, Drop)]
 pub enum Answer {
     Responses(Listed<Response>),
+    Prepared(PrepareResponse),
+    Bound,
+    Executed(ExecuteResult<Listed<DataRow>>),
+    Described(DescribeResponse),
+    Closed,
+    Rows(Listed<DataRow>),
     /// The server's error; the connection stays usable.
     Remote(ErrorResponse),
 }

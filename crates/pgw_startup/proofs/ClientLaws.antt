@@ -6,7 +6,7 @@ use Rattle.std.proofs.lemmas.Bool.Decides.{Decides-int_eq}
 use Rattle.std.proofs.lemmas.List.{append-nil}
 use Rattle.pgw_types.specs.declared.context.DecodeContext.{DecodeContext}
 use Rattle.pgw_wire.specs.Reading.{◌>>=◌, int_at, octets_at, rest_at, text_at}
-use Rattle.pgw_wire.specs.Formats.{made_at, IsRow, Reads, ReadsLast, SpellsText, SpellsInt}
+use Rattle.pgw_wire.specs.Formats.{made_at, IsRow, Reads, SpellsText, SpellsInt}
 use Rattle.pgw_wire.proofs.Laws.{bind_ok, ok_is, chosen, shorter_after, pair_reads}
 use Rattle.pgw_wire.proofs.FieldLaws.{text_reads, int_reads, octets_reads}
 use Rattle.pgw_wire.proofs.FrameLaws.{reads_last, rest_reads, made_last}

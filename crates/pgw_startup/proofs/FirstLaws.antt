@@ -1,80 +1,21 @@
 -- The messages without a type byte: what is read is what is spelled.
-use Rattle.std.proofs.Common.{◌≡◌, ◌⊎◌, inl, inr, ℕ, suc, ◌+◌, ◌-◌, ◌<◌, ◌≤◌, ◌^◌, Bool, true, false, ltb, eqb, List, [], ◌∷◌, ◌++◌, length, take, drop, Option, Some, None, Result, Ok, refl, sym, ap, subst, ◌∙◌, append_assoc, arith, lit<, length-append}
-use Rattle.std.specs.Int.{w16, w32, from_be_bytes}
-use Rattle.std.proofs.lemmas.Bool.{ltb-false, le-ltb, lt-ltb, ltb-true, eqb-true, eq-eqb, ne_eqb}
-use Rattle.std.proofs.lemmas.List.{take_at, drop_at, take-append-drop, length-take, length-drop, drop-drop}
+use Rattle.std.proofs.Common.{◌≡◌, inl, inr, ℕ, ◌<◌, ◌≤◌, ◌^◌, true, false, ltb, eqb, List, [], ◌∷◌, ◌++◌, length, Some, Result, Ok, refl, sym, ap, subst, ◌∙◌, arith, lit<, length-append}
+use Rattle.std.specs.Int.{w16}
+use Rattle.std.proofs.lemmas.Bool.{le-ltb, eqb-true, eq-eqb}
 use Rattle.pgw_types.specs.declared.error.PgWireError.{PgWireError}
-use Rattle.pgw_types.specs.declared.error.PgWireError.TheVariants.{InvalidSSLRequestMessage, InvalidGssEncRequestMessage, InvalidCancelRequest}
 use Rattle.pgw_types.specs.declared.context.DecodeContext.{DecodeContext}
-use Rattle.pgw_types.specs.declared.context.ProtocolVersion.{ProtocolVersion}
-use Rattle.pgw_types.specs.declared.context.ProtocolVersion.TheVariants.{PROTOCOL3_0, PROTOCOL3_2, PROTOCOL3_9999}
-use Rattle.pgw_wire.specs.declared.secret_key.SecretKey.{SecretKey}
-use Rattle.pgw_wire.specs.declared.secret_key.SecretKey.TheVariants.{I32, Bytes}
-use Rattle.pgw_wire.specs.declared.framing.Framing.TheVariants.{Typed, Untyped, Request, Code}
-use Rattle.pgw_wire.specs.Reading.{◌>>=◌, nat_at, int_at, rest_at, all_of, marked_list_at}
-use Rattle.pgw_wire.specs.Framing.{stated_length, length_frame, frame, framed, front}
-use Rattle.pgw_wire.specs.Formats.{pair_at, Pair, made_at, tried_at, SpellsNat, SpellsInt, SpellsMarked, Reads, ReadsLast}
-use Rattle.pgw_wire.specs.Keys.{key_of, SpellsKey}
+use Rattle.pgw_wire.specs.declared.framing.Framing.TheVariants.{Untyped}
+use Rattle.pgw_wire.specs.Reading.{nat_at, marked_list_at}
+use Rattle.pgw_wire.specs.Framing.{front}
+use Rattle.pgw_wire.specs.Formats.{pair_at, Pair, made_at, tried_at, SpellsNat, SpellsMarked, ReadsLast, SpellsUntyped}
 use Rattle.pgw_wire.specs.Pairs.{pair_at as param_at, from_pairs}
-use Rattle.pgw_wire.proofs.Laws.{bind_ok, ok_is, chosen}
-use Rattle.pgw_wire.proofs.FieldLaws.{nat_reads, int_reads}
+use Rattle.pgw_wire.proofs.Laws.{bind_ok, ok_is, chosen, tried_some}
+use Rattle.pgw_wire.proofs.UntypedLaws.{untyped_found, untyped_again}
+use Rattle.pgw_wire.proofs.FieldLaws.{nat_reads}
 use Rattle.pgw_wire.proofs.FrameLaws.{reads_last, pair_last, made_last, all_found, all_again}
-use Rattle.pgw_wire.proofs.MarkLaws.{key_reads}
-use Rattle.pgw_wire.proofs.MessageLaws.{front_found, front_again, some_is}
 use Rattle.pgw_startup.specs.declared.startup.Startup.{Startup}
-use Rattle.pgw_startup.specs.Startup.{three, startup_from, startup_of, SpellsPair, SpellsPairs, SpellsStartup, SpellsUntyped}
+use Rattle.pgw_startup.specs.Startup.{three, startup_from, startup_of, SpellsPair, SpellsPairs, SpellsStartup}
 use Rattle.pgw_startup.proofs.PairsLaws.{pairs_reads}
-
--- ---- with a length and no type byte
-
-pub which : (b : Bool) → (b ≡ true) ⊎ (b ≡ false)
-which true = inl refl
-which false = inr refl
-
-one_less : (a b : ℕ) → ltb (suc a) (1 + b) ≡ ltb a b
-one_less a b = elim (which (ltb a b)) [
-  | inl h ↦ lt-ltb _ _ (omega (arith, ltb-true _ _ h)) ∙ sym h
-  | inr h ↦ le-ltb _ _ (omega (arith, ltb-false _ _ h)) ∙ sym h
-]
-
--- a message without a type byte is as one behind any type byte
-module _ {M : Type 0} (limit : ℕ) (read : List ℕ → Result M PgWireError) where
-  behind : (bytes : List ℕ) → front (Typed 0) limit read (0 ∷ bytes) ≡ front Untyped limit read bytes
-  unfolding front frame length_frame
-  behind bytes =
-      let a : ltb (length (0 ∷ bytes)) 5 ≡ ltb (length bytes) 4 = one_less (length bytes) 4 in
-      let d : ltb (length (0 ∷ bytes)) (1 + stated_length 0 bytes) ≡ ltb (length bytes) (stated_length 0 bytes) = one_less (length bytes) (stated_length 0 bytes) in
-      let z : 0 + stated_length 0 bytes ≡ stated_length 0 bytes = omega arith in
-      elim (which (ltb (length bytes) 4)) [
-        | inl h ↦ rw (a, h) refl
-        | inr h ↦ elim (which (ltb limit (stated_length 0 bytes))) [
-          | inl k ↦ rw (a, h, k) refl
-          | inr k ↦ elim (which (ltb (stated_length 0 bytes) 4)) [
-            | inl m ↦ rw (a, h, k, m) refl
-            | inr m ↦ elim (which (ltb (length bytes) (stated_length 0 bytes))) [
-              | inl n ↦ rw (a, h, k, m, z, d, n) refl
-              | inr n ↦ rw (a, h, k, m, z, d, n) (rw (minus (stated_length 0 bytes), plus (stated_length 0 bytes)) refl)
-            ]
-          ]
-        ]
-      ]
-    where
-      minus : (n : ℕ) → 1 + n - 5 ≡ n - 4
-      minus n = omega arith
-
-      plus : (n : ℕ) → 1 + n ≡ suc n
-      plus n = omega arith
-
-  module _ (small : limit < 2 ^ 31) (P : M → List ℕ → Type 0) where
-    pub untyped_found : ((body : List ℕ) (m : M) → length body < 2 ^ 31 → read body ≡ Ok m → P m body) → (bytes : List ℕ) (m : M) (rest : List ℕ) → front Untyped limit read bytes ≡ Ok (Some (m, rest)) → (g : List ℕ) × (bytes ≡ g ++ rest) × SpellsUntyped limit P m g
-    untyped_found law bytes m rest e =
-        let t = front_found 0 limit small read P (0 ∷ bytes) m rest refl law (behind bytes ∙ e) in
-        let s = t.2 in
-        let whole : 0 ∷ bytes ≡ (0 ∷ (s.0 ++ s.1)) ++ rest = t.1 ∙ ap (λ (g : List ℕ). g ++ rest) s.2 in
-        (s.0 ++ s.1, ap (λ (l : List ℕ). drop 1 l) whole, (s.0, s.1, refl, s.3, s.4, s.5))
-
-    pub untyped_again : ((body : List ℕ) (m : M) → P m body → read body ≡ Ok m) → (m : M) (g rest : List ℕ) → SpellsUntyped limit P m g → front Untyped limit read (g ++ rest) ≡ Ok (Some (m, rest))
-    untyped_again law m g rest h = sym (behind (g ++ rest)) ∙ front_again 0 limit small read P law m (0 ∷ g) rest (h.0, h.1, ap (λ (l : List ℕ). 0 ∷ l) h.2, h.3, h.4, h.5)
 
 -- ---- Startup
 
@@ -84,18 +25,6 @@ three_is n m e = elim (chosen (eqb n 3) _ _ _ e) [
   | inl h ↦ let same : n ≡ m = ok_is n m h.1 in (sym same ∙ eqb-true _ _ h.0, sym same)
   | inr h ↦ absurd cc
 ]
-
-pub tried_some : {A B : Type 0} (try : A → Result B PgWireError) (p : List ℕ → Result (A × List ℕ) PgWireError) (P : A → List ℕ → Type 0) → Reads p P → Reads (tried_at try p) (λ y bytes. (x : A) × (try x ≡ Ok y) × P x bytes)
-tried_some {A} {B} try p P hp = record {
-  found = λ bytes y rest fits e.
-      let a = bind_ok (p bytes) (λ x. try x.0 >>= λ y. Ok (y, x.1)) (y, rest) e in
-      let b = bind_ok (try a.0.0) (λ y. Ok (y, a.0.1)) (y, rest) a.2 in
-      let s = hp.found bytes a.0.0 a.0.1 fits a.1 in
-      let made : B × List ℕ = (b.0, a.0.1) in
-      subst (λ (z : B × List ℕ). (front : List ℕ) × (bytes ≡ front ++ z.1) × ((x : A) × (try x ≡ Ok z.0) × P x front)) (ok_is made (y, rest) b.2)
-      (s.0, s.1, (a.0.0, b.1, s.2));
-  only = λ y front rest h. rw (hp.only h.0 front rest h.2, h.1) refl;
-}
 
 pub made_some : {A B : Type 0} (make : A → B) (p : List ℕ → Result (A × List ℕ) PgWireError) (P : A → List ℕ → Type 0) → ReadsLast p P → ReadsLast (made_at make p) (λ y bytes. (x : A) × P x bytes × (make x ≡ y))
 made_some {A} {B} make p P hp = record {

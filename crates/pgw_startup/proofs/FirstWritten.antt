@@ -1,37 +1,28 @@
 -- What is written of the messages without a type byte, and of the client's answers, spells them.
-use Rattle.std.proofs.Common.{◌≡◌, ℕ, pos, negsuc, ◌+◌, ◌<◌, ◌^◌, not, Bool, true, false, eqb, List, [], ◌∷◌, ◌++◌, length, Option, Some, None, Ok, refl, ap, ◌∙◌, append_assoc, arith, lit<, IsUtf8, length-append}
+use Rattle.std.proofs.Common.{◌≡◌, ℕ, pos, negsuc, ◌<◌, ◌^◌, not, Bool, true, false, eqb, List, [], ◌∷◌, ◌++◌, length, Option, Some, None, Ok, refl, append_assoc, arith, lit<, IsUtf8, length-append}
 use Rattle.std.specs.Prelude.{FitsSigned}
 use Rattle.std.proofs.lemmas.Int.{ints}
 use Rattle.std.specs.FinMap as map
-use Rattle.std.specs.Int.{w16, w32, to_be_bytes}
+use Rattle.std.specs.Int.{w16, w32}
 use Rattle.std.proofs.lemmas.Bool.{or_parts, eqb-true, eqb-false}
 use Rattle.std.proofs.lemmas.Str.{IsUtf8-nil}
-use Rattle.pgw_types.specs.declared.error.PgWireError.{PgWireError}
-use Rattle.pgw_types.specs.declared.context.ProtocolVersion.{ProtocolVersion}
-use Rattle.pgw_wire.specs.declared.framing.Framing.{Framing}
-use Rattle.pgw_wire.specs.declared.framing.Framing.TheVariants.{Typed, Code}
-use Rattle.pgw_wire.specs.Framing.{header, length_field, encoded}
-use Rattle.pgw_wire.specs.Formats.{SpellsNat, SpellsInt, SpellsTyped}
-use Rattle.pgw_wire.specs.Writing.{text, i32, u16, u32, has_zero, refused_if}
-use Rattle.pgw_wire.specs.Keys.{key_bytes, key_fault}
+use Rattle.pgw_wire.specs.declared.framing.Framing.TheVariants.{Typed, Untyped}
+use Rattle.pgw_wire.specs.Framing.{encoded}
+use Rattle.pgw_wire.specs.Formats.{SpellsNat, SpellsInt, SpellsTyped, SpellsUntyped}
+use Rattle.pgw_wire.specs.Writing.{text, u16, u32, has_zero, refused_if}
 use Rattle.pgw_wire.specs.Pairs.{pair_written, pairs_written, is_pair_refused}
 use Rattle.pgw_wire.proofs.FieldLaws.{wide16, wide32}
-use Rattle.pgw_wire.proofs.WrittenLaws.{text_written, nat_written, int_written, marked_written, unrefused, encoded_parts, lossy-IsUtf8}
+use Rattle.pgw_wire.proofs.WrittenLaws.{typed_written, text_written, nat_written, int_written, marked_written, unrefused, encoded_parts, lossy-IsUtf8, i32_written}
 use Rattle.pgw_startup.specs.declared.startup.Startup.{Startup}
 use Rattle.pgw_startup.specs.Sound.{IsPair, IsStartup}
-use Rattle.pgw_startup.specs.Startup.{startup, is_startup_refused, SpellsPair, SpellsStartup, SpellsUntyped}
+use Rattle.pgw_startup.specs.Startup.{startup, is_startup_refused, SpellsPair, SpellsStartup}
 use Rattle.pgw_startup.specs.declared.sasl.SASLInitialResponse.{SASLInitialResponse}
-use Rattle.pgw_startup.specs.Password.{data_written, SpellsData, initial_response, SpellsInitialResponse}
+use Rattle.pgw_startup.specs.Login.{is_method_refused}
+use Rattle.pgw_startup.specs.declared.password.Password.{Password}
+use Rattle.pgw_startup.specs.declared.sasl.SASLResponse.{SASLResponse}
+use Rattle.pgw_startup.specs.Password.{SpellsPassword, data_written, SpellsData, initial_response, SpellsInitialResponse, SpellsResponse}
+use Rattle.pgw_wire.proofs.UntypedLaws.{untyped_written}
 use Rattle.pgw_startup.proofs.PairsLaws.{positive, from_entries}
-use Rattle.pgw_startup.proofs.LoginWritten.{i32_written, key_written, code_written}
-
--- ---- frames
-
-pub untyped_written : {M : Type 0} (framing : Framing) (limit : ℕ) (P : M → List ℕ → Type 0) (m : M) (fault : Option PgWireError) (body g : List ℕ) → length_field framing ≡ 4 → ((n : ℕ) → header framing n ≡ to_be_bytes w32 (n + 4)) → limit < 2 ^ 31 → encoded framing limit fault body ≡ Ok g → (fault ≡ None → P m body)
-    → SpellsUntyped limit P m g
-untyped_written framing limit P m fault body g four head small is law =
-    let p = encoded_parts framing limit fault body g small is in
-    (to_be_bytes w32 (length body + 4), body, p.2 ∙ ap (λ (h : List ℕ). h ++ body) (head (length body)), nat_written w32 wide32 (length body + 4) (omega (arith, p.0, four, small)), omega (arith, p.0, four), law p.1)
 
 -- ---- Startup
 
@@ -74,6 +65,9 @@ startup_written m sound fine =
       ),
     )
 
+pub startup_spelled : (m : Startup) (g : List ℕ) → IsStartup m → encoded Untyped 10000 (refused_if (is_startup_refused m)) (startup m) ≡ Ok g → SpellsUntyped 10000 SpellsStartup m g
+startup_spelled m g sound is = untyped_written Untyped 10000 SpellsStartup m (refused_if (is_startup_refused m)) (startup m) g refl (λ n. refl) (lit< tt) is (startup_written m sound)
+
 -- ---- the client's answers
 
 minus_one : FitsSigned w32 (negsuc 0)
@@ -88,14 +82,15 @@ unfolding data_written
 data_spelled None small = i32_written (negsuc 0) minus_one
 data_spelled (Some payload) small = (u32 (length payload), refl, len_written (length payload) (omega (arith, length-append (u32 (length payload)) payload, small)))
 
-pub initial_written : (m : SASLInitialResponse) (g : List ℕ) → IsUtf8 m.auth_method → encoded (Typed 112) 10000 (refused_if (has_zero m.auth_method)) (initial_response m) ≡ Ok g → SpellsTyped 112 10000 SpellsInitialResponse m g
+pub password_written : (m : Password) (g : List ℕ) → IsUtf8 m.password → encoded (Typed 112) 10000 (refused_if (has_zero m.password)) (text m.password) ≡ Ok g → SpellsTyped 112 10000 SpellsPassword m g
+password_written m g sound is = typed_written 112 10000 SpellsPassword m (refused_if (has_zero m.password)) (text m.password) g (lit< tt) is (λ fine. text_written m.password (unrefused _ fine) sound)
+
+pub initial_written : (m : SASLInitialResponse) (g : List ℕ) → IsUtf8 m.auth_method → encoded (Typed 112) 10000 (refused_if (is_method_refused m.auth_method)) (initial_response m) ≡ Ok g → SpellsTyped 112 10000 SpellsInitialResponse m g
 initial_written m g sound is =
-    let p = encoded_parts (Typed 112) 10000 (refused_if (has_zero m.auth_method)) (initial_response m) g (lit< tt) is in
-    let few : length (data_written m.payload) < 2 ^ 31 = omega (arith, p.0, length-append (text m.auth_method) (data_written m.payload)) in (
-      to_be_bytes w32 (length (initial_response m) + 4),
-      initial_response m,
-      p.2,
-      nat_written w32 wide32 (length (initial_response m) + 4) (omega (arith, p.0)),
-      p.0,
-      (text m.auth_method, data_written m.payload, refl, text_written m.auth_method (unrefused _ p.1) sound, data_spelled m.payload few),
-    )
+    let p = encoded_parts (Typed 112) 10000 (refused_if (is_method_refused m.auth_method)) (initial_response m) g (lit< tt) is in
+    let few : length (data_written m.payload) < 2 ^ 31 = omega (arith, p.0, length-append (text m.auth_method) (data_written m.payload)) in
+    let fine = or_parts (eqb (length m.auth_method) 0) (has_zero m.auth_method) (unrefused _ p.1) in
+    typed_written 112 10000 SpellsInitialResponse m (refused_if (is_method_refused m.auth_method)) (initial_response m) g (lit< tt) is (λ none. (text m.auth_method, data_written m.payload, refl, text_written m.auth_method fine.1 sound, data_spelled m.payload few))
+
+pub response_written : (m : SASLResponse) (g : List ℕ) → encoded (Typed 112) 10000 None m.payload ≡ Ok g → SpellsTyped 112 10000 SpellsResponse m g
+response_written m g is = typed_written 112 10000 SpellsResponse m None m.payload g (lit< tt) is (λ fine. refl)

@@ -1,28 +1,24 @@
 -- What is written of the login's messages spells them.
-use Rattle.std.proofs.Common.{◌≡◌, ℕ, ℤ, pos, ◌<◌, ◌^◌, not, Bool, true, false, cond, ltb, eqb, List, [], ◌∷◌, ◌++◌, length, Some, None, refl, sym, append_assoc, arith, lit<, IsUtf8}
+use Rattle.std.proofs.Common.{◌≡◌, ℕ, pos, ◌<◌, ◌^◌, not, Bool, true, false, ltb, eqb, List, [], ◌∷◌, ◌++◌, length, Some, None, refl, sym, append_assoc, arith, lit<, IsUtf8}
 use Rattle.std.specs.List.{flat_map, list_any}
 use Rattle.std.specs.Int.{w32}
 use Rattle.std.proofs.lemmas.Bool.{ltb-false, or_parts, eqb-true, eqb-false}
 use Rattle.std.proofs.lemmas.Int.{ints}
 use Rattle.std.proofs.lemmas.List.{append-nil}
 use Rattle.std.proofs.lemmas.Str.{IsUtf8-nil}
-use Rattle.pgw_types.specs.declared.error.PgWireError.{PgWireError}
 use Rattle.pgw_types.specs.declared.context.ProtocolVersion.{ProtocolVersion}
-use Rattle.pgw_types.specs.declared.context.ProtocolVersion.TheVariants.{PROTOCOL3_0, PROTOCOL3_2, PROTOCOL3_9999}
-use Rattle.pgw_wire.specs.declared.secret_key.SecretKey.{SecretKey}
-use Rattle.pgw_wire.specs.declared.secret_key.SecretKey.TheVariants.{I32, Bytes}
 use Rattle.pgw_wire.specs.Writing.{text, i32, u32, has_zero, refused_if}
-use Rattle.pgw_wire.specs.Keys.{is_no_key, SpellsKey, key_bytes, key_fault}
-use Rattle.pgw_wire.specs.Formats.{SpellsText, SpellsNat, SpellsInt, SpellsName}
+use Rattle.pgw_wire.specs.Keys.{key_bytes, key_fault, SuitsKey}
+use Rattle.pgw_wire.specs.Formats.{SpellsText, SpellsInt, SpellsName}
 use Rattle.std.specs.Prelude.{FitsSigned}
 use Rattle.pgw_wire.proofs.FieldLaws.{wide32}
-use Rattle.pgw_wire.proofs.WrittenLaws.{text_written, int_written, nat_written, many_written, marked_written, unrefused, lossy-IsUtf8}
+use Rattle.pgw_wire.proofs.WrittenLaws.{code_written, i32_written, key_written, text_written, int_written, many_written, marked_written, unrefused, lossy-IsUtf8}
 use Rattle.pgw_startup.specs.declared.authentication.Authentication.{Authentication}
 use Rattle.pgw_startup.specs.declared.authentication.Authentication.TheVariants as auth
 use Rattle.pgw_startup.specs.declared.parameter_status.ParameterStatus.{ParameterStatus}
 use Rattle.pgw_startup.specs.declared.backend_key_data.BackendKeyData.{BackendKeyData}
 use Rattle.pgw_startup.specs.declared.negotiate.NegotiateProtocolVersion.{NegotiateProtocolVersion}
-use Rattle.pgw_startup.specs.Sound.{IsAuthentication, IsParameterStatus, IsKey, IsBackendKeyData, IsNegotiate, SuitsKey}
+use Rattle.pgw_startup.specs.Sound.{IsAuthentication, IsParameterStatus, IsBackendKeyData, IsNegotiate}
 use Rattle.pgw_startup.specs.Login.{SpellsAuthentication, SpellsParameterStatus, SpellsBackendKeyData, SpellsNegotiate, authentication, is_method_refused, authentication_fault, parameter_status, parameter_status_fault, backend_key_data, negotiate, is_options_refused}
 
 -- an empty text is the mark of a list
@@ -34,10 +30,6 @@ positive n h = omega (arith, eqb-false n 0 h)
 
 method_written : (t : List ℕ) → IsUtf8 t → is_method_refused t ≡ false → SpellsName (Some t) (text t)
 method_written t utf8 fine = let p = or_parts (eqb (length t) 0) (has_zero t) fine in (text_written t p.1 utf8, positive (length t) p.0)
-
-pub code_written : (n : ℕ) → n < 2 ^ 32 → SpellsNat w32 n (u32 n)
-unfolding u32
-code_written n small = nat_written w32 wide32 n small
 
 pub authentication_written : (m : Authentication) → IsAuthentication m → authentication_fault m ≡ None → SpellsAuthentication m (authentication m)
 authentication_written auth.Ok sound fine = (u32 0, [], sym (append-nil (u32 0)), code_written 0 (lit< tt), refl)
@@ -59,23 +51,6 @@ pub parameter_status_written : (m : ParameterStatus) → IsParameterStatus m →
 parameter_status_written m sound fine =
     let p = or_parts (has_zero m.name) (has_zero m.value) (unrefused _ fine) in
     (text m.name, text m.value, refl, text_written m.name p.0 sound.0, text_written m.value p.1 sound.1)
-
-no_key : (b : Bool) (e : PgWireError) → cond b (Some e) None ≡ None → b ≡ false
-no_key true e is = absurd cc
-no_key false e is = refl
-
-pub key_written : (v : ProtocolVersion) (key : SecretKey) → IsKey key → SuitsKey v key → key_fault key ≡ None → SpellsKey v key (key_bytes key)
-unfolding i32
-key_written PROTOCOL3_0 (I32 n) sound suits fine = int_written w32 wide32 n sound
-key_written PROTOCOL3_0 (Bytes bytes) sound suits fine = absurd suits
-key_written PROTOCOL3_2 (I32 n) sound suits fine = absurd suits
-key_written PROTOCOL3_2 (Bytes bytes) sound suits fine = let p = or_parts (ltb (length bytes) 4) (ltb 256 (length bytes)) (no_key (is_no_key bytes) _ fine) in (refl, ltb-false _ _ p.0, ltb-false _ _ p.1)
-key_written PROTOCOL3_9999 (I32 n) sound suits fine = absurd suits
-key_written PROTOCOL3_9999 (Bytes bytes) sound suits fine = let p = or_parts (ltb (length bytes) 4) (ltb 256 (length bytes)) (no_key (is_no_key bytes) _ fine) in (refl, ltb-false _ _ p.0, ltb-false _ _ p.1)
-
-pub i32_written : (z : ℤ) → FitsSigned w32 z → SpellsInt w32 z (i32 z)
-unfolding i32
-i32_written z fits = int_written w32 wide32 z fits
 
 pub backend_key_data_written : (v : ProtocolVersion) (m : BackendKeyData) → IsBackendKeyData m → SuitsKey v m.secret_key → key_fault m.secret_key ≡ None → SpellsBackendKeyData v m (backend_key_data m)
 backend_key_data_written v m sound suits fine = (i32 m.pid, key_bytes m.secret_key, refl, i32_written m.pid sound.0, key_written v m.secret_key sound.1 suits fine)

@@ -8,6 +8,7 @@ use Rattle.pgw_types.specs.declared.context.DecodeContext.{DecodeContext}
 use Rattle.pgw_wire.specs.Reading.{◌>>=◌, int_at, text_at, octets_at, rest_at, all_of}
 use Rattle.pgw_wire.specs.Formats.{pair_at, Pair, made_at, SpellsText, SpellsInt}
 use Rattle.pgw_wire.specs.Writing.{text, i32, u32, has_zero, refused_if}
+use Rattle.pgw_startup.specs.Login.{is_method_refused}
 use Rattle.pgw_startup.specs.declared.password.Password.{Password}
 use Rattle.pgw_startup.specs.declared.sasl.SASLInitialResponse.{SASLInitialResponse}
 use Rattle.pgw_startup.specs.declared.sasl.SASLResponse.{SASLResponse}
@@ -80,7 +81,7 @@ password_body (family.SASLResponse m) = m.payload
 abbrev pub password_fault : PasswordMessageFamily → Option PgWireError
 password_fault (family.Raw body) = None
 password_fault (family.Password m) = refused_if (has_zero m.password)
-password_fault (family.SASLInitialResponse m) = refused_if (has_zero m.auth_method)
+password_fault (family.SASLInitialResponse m) = refused_if (is_method_refused m.auth_method)
 password_fault (family.SASLResponse m) = None
 
 -- a body is read as what it is taken for, and what is another message already is refused

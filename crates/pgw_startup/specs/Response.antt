@@ -4,7 +4,7 @@ use Rattle.std.specs.Int.{w8}
 use Rattle.pgw_types.specs.declared.error.PgWireError.{PgWireError}
 use Rattle.pgw_types.specs.declared.error.PgWireError.TheVariants.{InvalidMessageType}
 use Rattle.pgw_types.specs.declared.context.DecodeContext.{DecodeContext}
-use Rattle.pgw_wire.specs.Reading.{◌>>=◌, nat_at, all_of}
+use Rattle.pgw_wire.specs.Reading.{nat_at, all_of}
 use Rattle.pgw_wire.specs.declared.framing.Framing.TheVariants.{Reply}
 use Rattle.pgw_wire.specs.Framing.{front}
 use Rattle.pgw_wire.specs.Formats.{tried_at, SpellsNat}

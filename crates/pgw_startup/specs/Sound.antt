@@ -2,10 +2,8 @@
 use Rattle.std.specs.Prelude.{ℕ, List, ◌<◌, ◌^◌, FitsSigned, IsUtf8}
 use Rattle.std.specs.List.{AllByRecursion}
 use Rattle.std.specs.Int.{w32}
-use Rattle.pgw_types.specs.declared.context.ProtocolVersion.{ProtocolVersion}
-use Rattle.pgw_types.specs.declared.context.ProtocolVersion.TheVariants.{PROTOCOL3_0, PROTOCOL3_2, PROTOCOL3_9999}
-use Rattle.pgw_wire.specs.declared.secret_key.SecretKey.{SecretKey}
-use Rattle.pgw_wire.specs.declared.secret_key.SecretKey.TheVariants.{I32, Bytes}
+use Rattle.pgw_wire.specs.Keys.{IsKey}
+use Rattle.pgw_wire.specs.Sound.{AreTexts}
 use Rattle.pgw_startup.specs.declared.authentication.Authentication.{Authentication}
 use Rattle.pgw_startup.specs.declared.authentication.Authentication.TheVariants as auth
 use Rattle.pgw_startup.specs.declared.parameter_status.ParameterStatus.{ParameterStatus}
@@ -13,9 +11,6 @@ use Rattle.pgw_startup.specs.declared.backend_key_data.BackendKeyData.{BackendKe
 use Rattle.std.specs.FinMap as map
 use Rattle.pgw_startup.specs.declared.startup.Startup.{Startup}
 use Rattle.pgw_startup.specs.declared.negotiate.NegotiateProtocolVersion.{NegotiateProtocolVersion}
-
-abbrev pub AreTexts : List (List ℕ) → Type 0
-AreTexts ts = AllByRecursion IsUtf8 ts
 
 abbrev pub IsAuthentication : Authentication → Type 0
 IsAuthentication auth.Ok = Unit {0}
@@ -29,10 +24,6 @@ IsAuthentication (auth.SASLFinal bytes) = Unit {0}
 abbrev pub IsParameterStatus : ParameterStatus → Type 0
 IsParameterStatus m = IsUtf8 m.name × IsUtf8 m.value
 
-abbrev pub IsKey : SecretKey → Type 0
-IsKey (I32 n) = FitsSigned w32 n
-IsKey (Bytes bytes) = Unit {0}
-
 abbrev pub IsBackendKeyData : BackendKeyData → Type 0
 IsBackendKeyData m = FitsSigned w32 m.pid × IsKey m.secret_key
 
@@ -44,12 +35,3 @@ IsStartup m = (m.protocol_number_major < 2 ^ 16) × (m.protocol_number_minor < 2
 
 abbrev pub IsNegotiate : NegotiateProtocolVersion → Type 0
 IsNegotiate m = FitsSigned w32 m.newest_minor_protocol × AreTexts m.unsupported_options
-
--- a key that is a number has a place in version 3.0 alone, and one of bytes in later versions
-abbrev pub SuitsKey : ProtocolVersion → SecretKey → Type 0
-SuitsKey PROTOCOL3_0 (I32 n) = Unit {0}
-SuitsKey PROTOCOL3_0 (Bytes bytes) = ⊥
-SuitsKey PROTOCOL3_2 (I32 n) = ⊥
-SuitsKey PROTOCOL3_2 (Bytes bytes) = Unit {0}
-SuitsKey PROTOCOL3_9999 (I32 n) = ⊥
-SuitsKey PROTOCOL3_9999 (Bytes bytes) = Unit {0}

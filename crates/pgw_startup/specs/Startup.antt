@@ -1,7 +1,7 @@
 -- The first message of a client.
-use Rattle.std.specs.Prelude.{◌≡◌, ℕ, ◌<◌, ◌≤◌, ◌+◌, Bool, not, ◌||◌, List, [], ◌∷◌, ◌++◌, length, Option, Some, None, Result, Ok, Err, nat_lt, ◌==◌, if◌then◌else◌}
+use Rattle.std.specs.Prelude.{◌≡◌, ℕ, ◌<◌, Bool, not, ◌||◌, List, [], ◌∷◌, ◌++◌, length, Option, Some, None, Result, Ok, Err, nat_lt, ◌==◌, if◌then◌else◌}
 use Rattle.std.specs.FinMap as map
-use Rattle.std.specs.Int.{w16, w32}
+use Rattle.std.specs.Int.{w16}
 use Rattle.std.specs.List.{list_any}
 use Rattle.pgw_types.specs.declared.error.PgWireError.{PgWireError}
 use Rattle.pgw_types.specs.declared.error.PgWireError.TheVariants.{InvalidStartupMessage}
@@ -11,10 +11,6 @@ use Rattle.pgw_wire.specs.Reading.{nat_at, all_of, marked_list_at}
 use Rattle.pgw_wire.specs.Writing.{u16}
 use Rattle.pgw_wire.specs.Formats.{pair_at, Pair, made_at, tried_at, SpellsText, SpellsNat, SpellsMarked}
 use Rattle.pgw_wire.specs.Pairs.{Held, pair_at as param_at, from_pairs, pairs_written, is_pair_refused}
-
--- a length that counts itself and is within the limit, and a body of that length
-abbrev pub SpellsUntyped : {M : Type 0} → ℕ → (M → List ℕ → Type 0) → M → List ℕ → Type 0
-SpellsUntyped limit Spells m bytes = (head : List ℕ) × (body : List ℕ) × (bytes ≡ head ++ body) × SpellsNat w32 (length body + 4) head × (length body + 4 ≤ limit) × Spells m body
 
 unfoldable pub three : ℕ → Result ℕ PgWireError
 three major = if major == 3 then Ok major else Err InvalidStartupMessage

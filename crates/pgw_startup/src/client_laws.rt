@@ -1,17 +1,20 @@
 //! What holds of a client's messages.
-ghost use Rattle.std.specs.Prelude.{◌≡◌, ◌++◌, ℕ, List, Some, Ok, IsUtf8};
+ghost use Rattle.std.specs.Prelude.{◌≡◌, ◌++◌, ℕ, List, None, Some, Ok, IsUtf8};
 ghost use Rattle.std.specs.FinMap as map;
 ghost use Rattle.pgw_types.specs.declared.context.DecodeContext.{DecodeContext as TheContext};
 ghost use Rattle.pgw_wire.specs.declared.framing.Framing.TheVariants.{Typed, Untyped};
 ghost use Rattle.pgw_wire.specs.Framing.{front, encoded};
-ghost use Rattle.pgw_wire.specs.Formats.{IsRow, SpellsTyped};
-ghost use Rattle.pgw_wire.specs.Writing.{has_zero, refused_if};
+ghost use Rattle.pgw_wire.specs.Formats.{IsRow, SpellsTyped, SpellsUntyped};
+ghost use Rattle.pgw_wire.specs.Writing.{text, has_zero, refused_if};
 ghost use Rattle.pgw_wire.specs.Pairs.{from_pairs, Held};
 ghost use Rattle.pgw_startup.specs.declared.startup.Startup.{Startup as TheStartup};
+ghost use Rattle.pgw_startup.specs.declared.password.Password.{Password as ThePassword};
 ghost use Rattle.pgw_startup.specs.declared.sasl.SASLInitialResponse.{SASLInitialResponse as TheInitial};
+ghost use Rattle.pgw_startup.specs.declared.sasl.SASLResponse.{SASLResponse as TheResponse};
+ghost use Rattle.pgw_startup.specs.Login.{is_method_refused};
 ghost use Rattle.pgw_startup.specs.Sound.{IsStartup};
 ghost use Rattle.pgw_startup.specs.Password.{password_of, SpellsPassword, initial_response_of, initial_response, SpellsInitialResponse, response_of, SpellsResponse, family_of, SpellsRaw};
-ghost use Rattle.pgw_startup.specs.Startup.{startup_of, startup, is_startup_refused, SpellsStartup, SpellsUntyped};
+ghost use Rattle.pgw_startup.specs.Startup.{startup_of, startup, is_startup_refused, SpellsStartup};
 
 /// A Startup that is read is spelled so, and what is spelled so is read; and parameters are made again from their pairs.
 pub fn startup_is_exact()
@@ -31,5 +34,15 @@ pub fn client_rows_are_exact()
 /// What is written of a message spells it.
 pub fn what_is_written_is_spelled()
     ensures startup { (m : TheStartup) (g : List ℕ) → IsStartup m → encoded Untyped 10000 (refused_if (is_startup_refused m)) (startup m) ≡ Ok g → SpellsUntyped 10000 SpellsStartup m g }
-    ensures initial_response { (m : TheInitial) (g : List ℕ) → IsUtf8 m.auth_method → encoded (Typed 112) 10000 (refused_if (has_zero m.auth_method)) (initial_response m) ≡ Ok g → SpellsTyped 112 10000 SpellsInitialResponse m g }
+    ensures password { (m : ThePassword) (g : List ℕ) → IsUtf8 m.password → encoded (Typed 112) 10000 (refused_if (has_zero m.password)) (text m.password) ≡ Ok g → SpellsTyped 112 10000 SpellsPassword m g }
+    ensures initial_response { (m : TheInitial) (g : List ℕ) → IsUtf8 m.auth_method → encoded (Typed 112) 10000 (refused_if (is_method_refused m.auth_method)) (initial_response m) ≡ Ok g → SpellsTyped 112 10000 SpellsInitialResponse m g }
+    ensures response { (m : TheResponse) (g : List ℕ) → encoded (Typed 112) 10000 None m.payload ≡ Ok g → SpellsTyped 112 10000 SpellsResponse m g }
+{}
+
+/// And it is read again, whatever follows it.
+pub fn what_is_written_comes_back()
+    ensures startup { (ctx : TheContext) (m : TheStartup) (g rest : List ℕ) → IsStartup m → encoded Untyped 10000 (refused_if (is_startup_refused m)) (startup m) ≡ Ok g → front Untyped 10000 (startup_of ctx) (g ++ rest) ≡ Ok (Some (m, rest)) }
+    ensures password { (m : ThePassword) (g rest : List ℕ) → IsUtf8 m.password → encoded (Typed 112) 10000 (refused_if (has_zero m.password)) (text m.password) ≡ Ok g → front (Typed 112) 10000 password_of (g ++ rest) ≡ Ok (Some (m, rest)) }
+    ensures initial_response { (m : TheInitial) (g rest : List ℕ) → IsUtf8 m.auth_method → encoded (Typed 112) 10000 (refused_if (is_method_refused m.auth_method)) (initial_response m) ≡ Ok g → front (Typed 112) 10000 initial_response_of (g ++ rest) ≡ Ok (Some (m, rest)) }
+    ensures response { (m : TheResponse) (g rest : List ℕ) → encoded (Typed 112) 10000 None m.payload ≡ Ok g → front (Typed 112) 10000 response_of (g ++ rest) ≡ Ok (Some (m, rest)) }
 {}

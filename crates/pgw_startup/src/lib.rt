@@ -4,6 +4,7 @@
 pub mod authentication;
 pub mod backend_key_data;
 pub mod client_laws;
+pub mod equality;
 pub mod laws;
 pub mod negotiate;
 pub mod parameter_status;

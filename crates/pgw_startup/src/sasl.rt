@@ -2,7 +2,8 @@
 ghost use Rattle.std.specs.Prelude.{◌≡◌, ◌++◌, length, None, OnOk};
 ghost use Rattle.pgw_wire.specs.declared.framing.Framing.TheVariants.{Typed};
 ghost use Rattle.pgw_wire.specs.Reading.{Gives, Reads};
-ghost use Rattle.pgw_wire.specs.Writing.{text, has_zero as holds_zero, refused_if};
+ghost use Rattle.pgw_wire.specs.Writing.{text, refused_if};
+ghost use Rattle.pgw_startup.specs.Login.{is_method_refused};
 ghost use Rattle.pgw_startup.specs.Password.{data_at, data_written, initial_response_of, initial_response, response_of};
 
 use crate::password::MESSAGE_TYPE_BYTE_PASSWORD_MESSAGE_FAMILY;
@@ -19,7 +20,7 @@ use pgw_wire::reader::FieldReader;
 use pgw_wire::writer::{append, has_zero, put_i32, put_text};
 use std::alloc::Global;
 
-/// The method that the client chose, and its first data, if there are any (SASLInitialResponse).
+/// The method that the client chose, which is not empty, and its first data, if there are any (SASLInitialResponse).
 #[derive(Debug, Drop, PartialEq, Eq)]
 pub struct SASLInitialResponse {
     pub auth_method: Text,
@@ -100,7 +101,7 @@ impl Message for SASLInitialResponse {
 
     ghost written = { initial_response };
 
-    ghost fault = { λ m. refused_if (holds_zero m.auth_method) };
+    ghost fault = { λ m. refused_if (is_method_refused m.auth_method) };
 
     fn framing() -> Framing {
         Framing::Typed(MESSAGE_TYPE_BYTE_PASSWORD_MESSAGE_FAMILY)
@@ -117,7 +118,7 @@ impl Message for SASLInitialResponse {
 
     #[tactic(auto, unfolding(pgw_wire::specs::Writing::refused_if))]
     fn encode_body(&self, buf: &mut BytesMut) -> PgWireResult<()> {
-        if has_zero(&self.auth_method) {
+        if self.auth_method.is_empty() || has_zero(&self.auth_method) {
             return Err(PgWireError::InvalidMessageBody);
         }
         let mut out = Vec::new(*buf.allocator());

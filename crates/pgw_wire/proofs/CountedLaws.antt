@@ -5,20 +5,14 @@ use Rattle.std.specs.Int.{w16}
 use Rattle.std.proofs.lemmas.Bool.{le-ltb, ltb-false}
 use Rattle.std.proofs.lemmas.List.Concat.{flat_map-cons}
 use Rattle.pgw_types.specs.declared.error.PgWireError.{PgWireError}
-use Rattle.pgw_wire.specs.Reading.{◌>>=◌, nat_at, list_at, many_at, counted}
+use Rattle.pgw_wire.specs.Reading.{nat_at, list_at, many_at, counted}
 use Rattle.pgw_wire.specs.Formats.{SpellsNat, SpellsMany, Reads}
 use Rattle.pgw_wire.specs.Writing.{u16}
 use Rattle.pgw_wire.specs.Counted.{counted16_at, SpellsCounted16, counted16, is_too_long}
 use Rattle.pgw_wire.proofs.Laws.{bind_ok, shorter_after}
 use Rattle.pgw_wire.proofs.FieldLaws.{nat_reads, many_found, many_again, wide16}
+use Rattle.pgw_wire.proofs.FrameLaws.{least_taken}
 use Rattle.pgw_wire.proofs.WrittenLaws.{nat_written}
-
-least_taken : {A : Type 0} (Spells : A → List ℕ → Type 0) (least : ℕ) → ((x : A) (f : List ℕ) → Spells x f → least ≤ length f) → (xs : List A) (f : List ℕ) → SpellsMany Spells xs f → length xs * least ≤ length f
-least_taken Spells least most [] f h = omega arith
-least_taken Spells least most (x ∷ xs) f h =
-    let one = most x h.0 h.3 in
-    let others = least_taken Spells least most xs h.1 h.4 in
-    omega (arith, length-append h.0 h.1, ap length h.2, one, others)
 
 module _ {A : Type 0} (kind : List ℕ → Result (A × List ℕ) PgWireError) (Spells : A → List ℕ → Type 0) (least : ℕ) (most : (x : A) (f : List ℕ) → Spells x f → least ≤ length f) (reads : Reads kind Spells) where
   counted16_found : (bytes : List ℕ) (x : List A) (rest : List ℕ) → length bytes < 2 ^ 31 → counted16_at least kind bytes ≡ Ok (x, rest) → (front : List ℕ) × (bytes ≡ front ++ rest) × SpellsCounted16 Spells x front

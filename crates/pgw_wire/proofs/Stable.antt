@@ -5,9 +5,9 @@ use Rattle.std.proofs.lemmas.Bool.{ltb-false, le-ltb, eqb-false, ne_eqb}
 use Rattle.std.proofs.lemmas.List.{take-take, take-append-le, drop-take}
 use Rattle.pgw_types.specs.declared.error.PgWireError.{PgWireError}
 use Rattle.pgw_wire.specs.declared.framing.Framing.{Framing}
-use Rattle.pgw_wire.specs.declared.framing.Framing.TheVariants.{Typed, Untyped, Request, Code, Reply}
+use Rattle.pgw_wire.specs.declared.framing.Framing.TheVariants.{Typed, Untyped, Opening, Code, Reply}
 use Rattle.pgw_wire.specs.Reading.{◌>>=◌}
-use Rattle.pgw_wire.specs.Framing.{sign_extended, stated_length, length_frame, frame, framed, front}
+use Rattle.pgw_wire.specs.Framing.{sign_extended, stated_length, length_frame, code_in, frame, framed, front}
 use Rattle.pgw_wire.proofs.Laws.{bind_ok, chosen}
 use Rattle.pgw_wire.proofs.MessageLaws.{some_is, framed_found}
 
@@ -101,7 +101,7 @@ length_frame_bad at limit a more e is =
 abbrev pub fewest : Framing → ℕ
 fewest (Typed byte) = 5
 fewest Untyped = 4
-fewest Request = 8
+fewest (Opening code) = 8
 fewest Code = 8
 fewest Reply = 1
 
@@ -109,7 +109,7 @@ fewest Reply = 1
 abbrev pub IsWhole : Framing → Type 0
 IsWhole (Typed byte) = Unit {0}
 IsWhole Untyped = Unit {0}
-IsWhole Request = ⊥
+IsWhole (Opening code) = ⊥
 IsWhole Code = Unit {0}
 IsWhole Reply = Unit {0}
 
@@ -117,7 +117,7 @@ frame_ends : (framing : Framing) (limit : ℕ) (a : List ℕ) (f : ℕ × ℕ) �
 unfolding frame
 frame_ends (Typed byte) limit a f is e = let h = length_frame_ends 1 limit a f e in record { some = h.some; ordered = h.ordered; within = h.within; again = h.again }
 frame_ends Untyped limit a f is e = let h = length_frame_ends 0 limit a f e in record { some = h.some; ordered = h.ordered; within = h.within; again = h.again }
-frame_ends Request limit a f is e = absurd is
+frame_ends (Opening code) limit a f is e = absurd is
 frame_ends Code limit a f is e =
     elim (chosen (ltb (length a) 8) _ _ _ e) [
       | inl h ↦ absurd cc
@@ -140,11 +140,16 @@ frame_bad : (framing : Framing) (limit : ℕ) (a more : List ℕ) (e : PgWireErr
 unfolding frame
 frame_bad (Typed byte) limit a more e is = length_frame_bad 1 limit a more e is
 frame_bad Untyped limit a more e is = length_frame_bad 0 limit a more e is
-frame_bad Request limit a more e is = elim (chosen (ltb (length a) 8) _ _ _ is) [
+frame_bad (Opening code) limit a more e is = elim (chosen (ltb (length a) 8) _ _ _ is) [
   | inl h ↦ absurd cc
   | inr h ↦
-      let long : ltb (length (a ++ more)) 8 ≡ false = le-ltb _ _ (omega (arith, ltb-false _ _ h.0, length-append a more)) in
-      rw long (length_frame_bad 0 limit a more e h.1)
+      let some : 8 ≤ length a = ltb-false _ _ h.0 in
+      let long : ltb (length (a ++ more)) 8 ≡ false = le-ltb _ _ (omega (arith, some, length-append a more)) in
+      let same : code_in (a ++ more) ≡ code_in a = ap (λ (f : List ℕ). from_be_bytes w32 f) (cut_local 4 4 8 a (a ++ more) (omega arith) (take-append-le 8 a more some)) in
+      elim (chosen (eqb (code_in a) code) _ _ _ h.1) [
+        | inl k ↦ rw (long, same, k.0) (length_frame_bad 0 limit a more e k.1)
+        | inr k ↦ rw (long, same, k.0) k.1
+      ]
 ]
 frame_bad Code limit a more e is = elim (chosen (ltb (length a) 8) _ _ _ is) [ inl h ↦ absurd cc | inr h ↦ absurd cc ]
 frame_bad Reply limit a more e is = elim (chosen (eqb (length a) 0) _ _ _ is) [ inl h ↦ absurd cc | inr h ↦ absurd cc ]

@@ -1,5 +1,5 @@
 -- The key of a connection (BackendKeyData).
-use Rattle.std.specs.Prelude.{◌≡◌, ◌≤◌, ℕ, ℤ, List, length, Bool, ◌||◌, ◌==◌, Option, Some, None, Result, Ok, Err, nat_lt, if◌then◌else◌}
+use Rattle.std.specs.Prelude.{◌≡◌, ◌≤◌, ℕ, ℤ, List, length, Bool, ◌||◌, ◌==◌, Option, Some, None, Result, Ok, Err, nat_lt, if◌then◌else◌, FitsSigned}
 use Rattle.std.specs.Int.{w32, from_be_bytes, cast_signed}
 use Rattle.pgw_types.specs.declared.error.PgWireError.{PgWireError}
 use Rattle.pgw_types.specs.declared.error.PgWireError.TheVariants.{InvalidSecretKey, InvalidMessageBody}
@@ -42,6 +42,20 @@ key_bytes (Bytes bytes) = bytes
 abbrev pub key_fault : SecretKey → Option PgWireError
 key_fault (I32 n) = None
 key_fault (Bytes bytes) = if is_no_key bytes then Some InvalidSecretKey else None
+
+-- every key of the program: its number fits
+abbrev pub IsKey : SecretKey → Type 0
+IsKey (I32 n) = FitsSigned w32 n
+IsKey (Bytes bytes) = Unit {0}
+
+-- a key that is a number has a place in version 3.0 alone, and one of bytes in later versions
+abbrev pub SuitsKey : ProtocolVersion → SecretKey → Type 0
+SuitsKey PROTOCOL3_0 (I32 n) = Unit {0}
+SuitsKey PROTOCOL3_0 (Bytes bytes) = ⊥
+SuitsKey PROTOCOL3_2 (I32 n) = ⊥
+SuitsKey PROTOCOL3_2 (Bytes bytes) = Unit {0}
+SuitsKey PROTOCOL3_9999 (I32 n) = ⊥
+SuitsKey PROTOCOL3_9999 (Bytes bytes) = Unit {0}
 
 -- the number that a key of four bytes is
 abbrev pub key_number : SecretKey → Option ℤ

@@ -1,5 +1,7 @@
 pub mod Reading
 pub mod Framing
+pub mod Sound
+pub mod Equal
 pub mod Writing
 pub mod Formats
 pub mod Pairs

@@ -2,6 +2,7 @@
 #![tactic(auto)]
 
 pub mod counted;
+pub mod equality;
 pub mod field;
 pub mod framing;
 pub mod item;
@@ -9,6 +10,5 @@ pub mod message;
 pub mod params;
 pub mod reader;
 pub mod secret_key;
-#[cfg(test)]
-mod tests;
+pub mod sound;
 pub mod writer;

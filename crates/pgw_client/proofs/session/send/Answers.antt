@@ -11,6 +11,7 @@ loop-at-preserved g c =
       at_in = omega (arith, e.bound);
       kept = e.kept ∙ i.kept;
       later = omega (arith, i.later, c.write.ensures.cause.later);
+      clean = λ t. e.no_fault t ∙ i.clean t;
       reads_nothing = λ t. let p = e.moved t in let r = i.reads_nothing t in record { left = p.left ∙ r.left; ended = p.ended ∙ r.ended; reads = p.reads ∙ r.reads };
       wrote = λ t. put_on (g.L.Link.tape c.args.link.now) c.args.bytes.now c.loop-at.at c.in_ok-n.n (e.moved t) (i.wrote t);
       flushed = λ t. let p = e.moved t in p.flushed ∙ i.flushed t;

@@ -7,6 +7,7 @@ invariant-loop-at g l = record {
   at_in : l.at ≤ length l.fn.bytes;
   kept : g.L.Link.plan l.link ≡ g.L.Link.plan l.fn.link;
   later : g.L.Link.faults l.fn.link ≤ g.L.Link.faults l.link;
+  clean : g.L.Link.tells → g.L.Link.faults l.link ≡ g.L.Link.faults l.fn.link;
   reads_nothing : g.L.Link.tells → ReadsNothing (g.L.Link.tape l.fn.link) (g.L.Link.tape l.link);
   wrote : g.L.Link.tells → (g.L.Link.tape l.link).wrote ≡ (g.L.Link.tape l.fn.link).wrote ++ take l.at l.fn.bytes;
   flushed : g.L.Link.tells → (g.L.Link.tape l.link).flushed ≡ (g.L.Link.tape l.fn.link).flushed;

@@ -1,6 +1,6 @@
 use Rattle.std.proofs.Common.{◌<◌, ◌++◌, ℕ, List, length, arith, subst, ap, ◌∙◌}
 use Rattle.pgw_client.specs.Outcome.{WroteSome}
-use Rattle.pgw_client.proofs.Steps.{refused, unsent}
+use Rattle.pgw_client.proofs.TakingLaws.{refused, unsent, whole}
 use Rattle.pgw_client.proofs.session.take_all.Goals as goal
 
 pub returns-in-Err-send-clause-talks : goal.returns-in-Err-send-clause-talks
@@ -11,7 +11,12 @@ returns-in-Err-send-clause-talks g c t f =
     let bytes_are = c.as_slice.ensures ∙ s.1 ∙ ap (λ (o : List ℕ). o ++ s.0) c.messages.invariant.empty in
     let wrote = subst (λ b. WroteSome mid new b) bytes_are (c.in-Err-send.ensures.failed t) in
     let some : 0 < length s.0 = omega (arith, ap length bytes_are, ap length c.as_slice.ensures) in
-    unsent c.advance.new.buffer.items c.advance.new.self s.0 (c.messages.invariant.going t f) s.2 some wrote
+    unsent c.advance.new.buffer.items c.advance.new.notes s.0 (c.messages.invariant.going t f) s.2 some wrote
 
 pub returns-in-Err-clause-talks : goal.returns-in-Err-clause-talks
-returns-in-Err-clause-talks g c t f = refused c.advance.new.self c.in-Err.e (c.messages.invariant.going t f) c.in-Err.ensures.step.1
+returns-in-Err-clause-talks g c t f = refused c.in-Err.e (c.messages.invariant.going t f) c.in-Err.ensures.step.1
+
+pub returns-in-Ok-Done-clause-talks : goal.returns-in-Ok-Done-clause-talks
+returns-in-Ok-Done-clause-talks g c t f =
+    let s = rw c.in-Ok-Done.field-0-is at c.in-Ok-Done.ensures.step in
+    whole c.advance.new.buffer.items c.advance.new.notes s.0 (c.messages.invariant.going t f) s.1 s.3

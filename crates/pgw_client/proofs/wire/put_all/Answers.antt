@@ -1,5 +1,5 @@
 use Rattle.std.proofs.Common.{◌++◌, take, length, List, ℕ, append_assoc, ap, arith, sym, subst, ◌∙◌, Err}
-use Rattle.pgw_msg.specs.Frontend.{encoding, encodings}
+use Rattle.pgw_frontend.specs.Frontend.{encoding, encodings}
 use Rattle.pgw_client.specs.Errors.{IsOwn}
 use Rattle.pgw_client.specs.Wire.{PutOut}
 use Rattle.pgw_client.proofs.WireLaws.{own_of, appended, all_put, put_refused}

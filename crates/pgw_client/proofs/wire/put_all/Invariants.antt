@@ -1,5 +1,5 @@
 use Rattle.std.proofs.Common.{length, ◌-◌, ◌++◌, ◌≡◌, ◌≤◌, ℕ, List, drop, Ok}
-use Rattle.pgw_msg.specs.Frontend.{encodings, both}
+use Rattle.pgw_frontend.specs.Frontend.{encodings, both}
 use Rattle.pgw_client.proofs.wire.put_all.Given as goal
 
 abbrev pub invariant-loop-at : goal.invariant-loop-at

@@ -1,0 +1,79 @@
+-- What a client finds at the front of the bytes that came.
+use Rattle.std.specs.Prelude.{◌≡◌, ℕ, ◌-◌, List, length, Option, Some, None, Result, Ok, Err, true, false}
+use Rattle.pgw_types.specs.declared.error.PgWireError.{PgWireError}
+use Rattle.pgw_types.specs.declared.context.ProtocolVersion.{ProtocolVersion}
+use Rattle.pgw_types.specs.declared.context.DecodeContext.{DecodeContext}
+use Rattle.pgw_backend.specs.declared.backend.PgWireBackendMessage.{PgWireBackendMessage}
+use Rattle.pgw_backend.specs.declared.backend.PgWireBackendMessage.TheVariants as backend
+use Rattle.pgw_wire.specs.Formats.{SpellsTyped, NoBody}
+use Rattle.pgw_startup.specs.Login.{SpellsAuthentication, SpellsParameterStatus, SpellsBackendKeyData, SpellsNegotiate}
+use Rattle.pgw_startup.specs.Response.{SpellsSslResponse, SpellsGssEncResponse}
+use Rattle.pgw_query.specs.Rows.{SpellsCommandComplete, SpellsReadyForQuery, SpellsErrorResponse, SpellsNoticeResponse, SpellsNotificationResponse, SpellsParameterDescription, SpellsRowDescription, SpellsDataRow}
+use Rattle.pgw_copy.specs.Rows.{SpellsCopyData, SpellsCopyDone, SpellsCopyFail, SpellsCopyInResponse, SpellsCopyOutResponse, SpellsCopyBothResponse}
+use Rattle.pgw_backend.specs.Backend.{backend_front}
+
+-- more bytes are needed, or a refusal, or a message with its length
+pub data Front : Type 0 where
+  More : Front
+  Bad : (why : PgWireError) → Front
+  Whole : (m : PgWireBackendMessage) → (len : ℕ) → Front
+
+-- the phase in which each message has a type byte
+abbrev pub typed_phase : ProtocolVersion → DecodeContext
+typed_phase version = record {
+  protocol_version = version;
+  awaiting_frontend_ssl = false;
+  awaiting_frontend_startup = false;
+  awaiting_backend_ssl_response = false;
+  awaiting_backend_gss_response = false;
+}
+
+abbrev pub front_of : List ℕ → Result (Option (PgWireBackendMessage × List ℕ)) PgWireError → Front
+front_of bytes (Err e) = Bad e
+front_of bytes (Ok None) = More
+front_of bytes (Ok (Some x)) = Whole x.0 (length bytes - length x.1)
+
+unfoldable pub front : ProtocolVersion → List ℕ → Front
+front version bytes = front_of bytes (backend_front (typed_phase version) bytes)
+
+-- these bytes, and no others, spell the message: its type byte, a length that is at most the row's limit, and its fields; or the one byte of an answer
+abbrev pub Spelled : ProtocolVersion → PgWireBackendMessage → List ℕ → Type 0
+Spelled version (backend.SslResponse m) = SpellsSslResponse m
+Spelled version (backend.GssEncResponse m) = SpellsGssEncResponse m
+Spelled version (backend.Authentication m) = SpellsTyped 82 30000 SpellsAuthentication m
+Spelled version (backend.ParameterStatus m) = SpellsTyped 83 30000 SpellsParameterStatus m
+Spelled version (backend.BackendKeyData m) = SpellsTyped 75 30000 (SpellsBackendKeyData version) m
+Spelled version (backend.NegotiateProtocolVersion m) = SpellsTyped 118 30000 SpellsNegotiate m
+Spelled version (backend.ParseComplete m) = SpellsTyped 49 30000 NoBody m
+Spelled version (backend.BindComplete m) = SpellsTyped 50 30000 NoBody m
+Spelled version (backend.CloseComplete m) = SpellsTyped 51 30000 NoBody m
+Spelled version (backend.PortalSuspended m) = SpellsTyped 115 30000 NoBody m
+Spelled version (backend.EmptyQueryResponse m) = SpellsTyped 73 30000 NoBody m
+Spelled version (backend.NoData m) = SpellsTyped 110 30000 NoBody m
+Spelled version (backend.CommandComplete m) = SpellsTyped 67 30000 SpellsCommandComplete m
+Spelled version (backend.ReadyForQuery m) = SpellsTyped 90 30000 SpellsReadyForQuery m
+Spelled version (backend.ErrorResponse m) = SpellsTyped 69 2147483647 SpellsErrorResponse m
+Spelled version (backend.NoticeResponse m) = SpellsTyped 78 2147483647 SpellsNoticeResponse m
+Spelled version (backend.NotificationResponse m) = SpellsTyped 65 2147483647 SpellsNotificationResponse m
+Spelled version (backend.ParameterDescription m) = SpellsTyped 116 2147483647 SpellsParameterDescription m
+Spelled version (backend.RowDescription m) = SpellsTyped 84 2147483647 SpellsRowDescription m
+Spelled version (backend.DataRow m) = SpellsTyped 68 2147483647 SpellsDataRow m
+Spelled version (backend.CopyData m) = SpellsTyped 100 1073741822 SpellsCopyData m
+Spelled version (backend.CopyDone m) = SpellsTyped 99 10000 SpellsCopyDone m
+Spelled version (backend.CopyFail m) = SpellsTyped 102 10000 SpellsCopyFail m
+Spelled version (backend.CopyInResponse m) = SpellsTyped 71 30000 SpellsCopyInResponse m
+Spelled version (backend.CopyOutResponse m) = SpellsTyped 72 30000 SpellsCopyOutResponse m
+Spelled version (backend.CopyBothResponse m) = SpellsTyped 87 30000 SpellsCopyBothResponse m
+
+-- the phase in which the message comes
+abbrev pub Awaits : DecodeContext → PgWireBackendMessage → Type 0
+Awaits ctx (backend.SslResponse m) = ctx.awaiting_backend_ssl_response ≡ true
+Awaits ctx (backend.GssEncResponse m) = (ctx.awaiting_backend_ssl_response ≡ false) × (ctx.awaiting_backend_gss_response ≡ true)
+Awaits ctx m = (ctx.awaiting_backend_ssl_response ≡ false) × (ctx.awaiting_backend_gss_response ≡ false)
+
+-- the bytes spell the message in this context
+unfoldable pub SpellsIn : DecodeContext → PgWireBackendMessage → List ℕ → Type 0
+SpellsIn ctx m bytes = Awaits ctx m × Spelled ctx.protocol_version m bytes
+
+abbrev pub Spells : ProtocolVersion → PgWireBackendMessage → List ℕ → Type 0
+Spells version m bytes = SpellsIn (typed_phase version) m bytes

@@ -1,0 +1,282 @@
+//! All messages of a server.
+ghost use Rattle.std.specs.Prelude.{◌≡◌, ◌++◌, ℕ, List, IfOk, IfSome, OnOk, Ok, Some};
+ghost use Rattle.pgw_wire.specs.Framing.{Decodes, Appends};
+ghost use Rattle.pgw_backend.specs.Backend.{copy_by, extended_by, query_by, backend_by, typed_front, backend_front, backend_encoding};
+ghost use Rattle.pgw_backend.specs.Front.{Awaits, SpellsIn};
+ghost use Rattle.pgw_backend.specs.Texts.{Suits};
+ghost use Rattle.pgw_types.specs.declared.context.DecodeContext.{DecodeContext as TheContext};
+ghost use Rattle.pgw_backend.specs.declared.backend.PgWireBackendMessage.{PgWireBackendMessage as TheMessage};
+
+use crate::sound::is_sound;
+use bytes::BytesMut;
+use pgw_copy::copy::{
+    CopyBothResponse, CopyData, CopyDone, CopyFail, CopyInResponse, CopyOutResponse,
+};
+use pgw_ext::extendedquery::{BindComplete, CloseComplete, ParseComplete, PortalSuspended};
+use pgw_query::data::{DataRow, RowDescription};
+use pgw_query::description::{NoData, ParameterDescription};
+use pgw_query::notification::NotificationResponse;
+use pgw_query::response::{
+    CommandComplete, EmptyQueryResponse, ErrorResponse, NoticeResponse, ReadyForQuery,
+};
+use pgw_startup::authentication::Authentication;
+use pgw_startup::backend_key_data::BackendKeyData;
+use pgw_startup::negotiate::NegotiateProtocolVersion;
+use pgw_startup::parameter_status::ParameterStatus;
+use pgw_startup::response::{GssEncResponse, SslResponse};
+use pgw_types::context::DecodeContext;
+use pgw_types::error::{PgWireError, PgWireResult};
+use pgw_types::listed::Duplicate;
+use pgw_types::memory::OutOfMemory;
+use pgw_wire::message::Message;
+use std::alloc::Global;
+
+/// A message of a server.
+#[derive(Debug, Drop, PartialEq, Eq)]
+pub enum PgWireBackendMessage {
+    SslResponse(SslResponse),
+    GssEncResponse(GssEncResponse),
+    Authentication(Authentication),
+    ParameterStatus(ParameterStatus),
+    BackendKeyData(BackendKeyData),
+    NegotiateProtocolVersion(NegotiateProtocolVersion),
+    ParseComplete(ParseComplete),
+    BindComplete(BindComplete),
+    CloseComplete(CloseComplete),
+    PortalSuspended(PortalSuspended),
+    EmptyQueryResponse(EmptyQueryResponse),
+    NoData(NoData),
+    CommandComplete(CommandComplete),
+    ReadyForQuery(ReadyForQuery),
+    ErrorResponse(ErrorResponse),
+    NoticeResponse(NoticeResponse),
+    NotificationResponse(NotificationResponse),
+    ParameterDescription(ParameterDescription),
+    RowDescription(RowDescription),
+    DataRow(DataRow),
+    CopyData(CopyData),
+    CopyDone(CopyDone),
+    CopyFail(CopyFail),
+    CopyInResponse(CopyInResponse),
+    CopyOutResponse(CopyOutResponse),
+    CopyBothResponse(CopyBothResponse),
+}
+
+impl PgWireBackendMessage {
+    /// Takes the message at the front, if it is whole. A refusal leaves the buffer, as does want of memory.
+    pub fn decode(
+        alloc: Global,
+        buf: &mut BytesMut,
+        ctx: &DecodeContext,
+    ) -> PgWireResult<Option<PgWireBackendMessage>>
+        // A message that is read is spelled by the bytes that were taken.
+        ensures found { IfOk result (λ o. IfSome o (λ m. (g : List ℕ) × (buf.old.items ≡ g ++ buf.new.items) × SpellsIn ctx.now m g)) }
+        // What is spelled at the front is read, unless memory runs out.
+        ensures only { (m : TheMessage) (g rest : List ℕ) → SpellsIn ctx.now m g → buf.old.items ≡ g ++ rest → Decodes result buf.old.items buf.new.items (Ok (Some (m, rest))) }
+        // Which message it is or which refusal, and when nothing is whole yet.
+        ensures exact { Decodes result buf.old.items buf.new.items (backend_front ctx.now buf.old.items) }
+    {
+        Self::decode_exact(alloc, buf, ctx)
+    }
+
+    // Takes the message at the front, if it is whole.
+    #[tactic(auto, unfolding(crate::specs::Backend::backend_front))]
+    fn decode_exact(
+        alloc: Global,
+        buf: &mut BytesMut,
+        ctx: &DecodeContext,
+    ) -> PgWireResult<Option<PgWireBackendMessage>>
+        ensures { Decodes result buf.old.items buf.new.items (backend_front ctx.now buf.old.items) }
+    {
+        if ctx.awaiting_backend_ssl_response {
+            return Ok(SslResponse::decode(alloc, buf, ctx)?.map(Self::SslResponse));
+        }
+        if ctx.awaiting_backend_gss_response {
+            return Ok(GssEncResponse::decode(alloc, buf, ctx)?.map(Self::GssEncResponse));
+        }
+        Self::decode_typed(alloc, buf, ctx)
+    }
+
+    // The same in the phase in which each message has a type byte.
+    fn decode_typed(
+        alloc: Global,
+        buf: &mut BytesMut,
+        ctx: &DecodeContext,
+    ) -> PgWireResult<Option<PgWireBackendMessage>>
+        ensures { Decodes result buf.old.items buf.new.items (typed_front ctx.now buf.old.items) }
+    {
+        if buf.len() < 2 {
+            return Ok(None);
+        }
+        let byte = buf.as_slice()[0];
+        Self::decode_backend(byte, alloc, buf, ctx)
+    }
+
+    // By the type byte: the login, and all others.
+    fn decode_backend(
+        byte: u8,
+        alloc: Global,
+        buf: &mut BytesMut,
+        ctx: &DecodeContext,
+    ) -> PgWireResult<Option<PgWireBackendMessage>>
+        ensures { Decodes result buf.old.items buf.new.items (backend_by byte ctx.now buf.old.items) }
+    {
+        match byte {
+            b'R' => Ok(Authentication::decode(alloc, buf, ctx)?.map(Self::Authentication)),
+            b'S' => Ok(ParameterStatus::decode(alloc, buf, ctx)?.map(Self::ParameterStatus)),
+            b'K' => Ok(BackendKeyData::decode(alloc, buf, ctx)?.map(Self::BackendKeyData)),
+            b'v' => Ok(NegotiateProtocolVersion::decode(alloc, buf, ctx)?.map(
+                Self::NegotiateProtocolVersion,
+            )),
+            _ => Self::decode_query(byte, alloc, buf, ctx),
+        }
+    }
+
+    // Queries, and what follows.
+    fn decode_query(
+        byte: u8,
+        alloc: Global,
+        buf: &mut BytesMut,
+        ctx: &DecodeContext,
+    ) -> PgWireResult<Option<PgWireBackendMessage>>
+        ensures { Decodes result buf.old.items buf.new.items (query_by byte ctx.now buf.old.items) }
+    {
+        match byte {
+            b'C' => Ok(CommandComplete::decode(alloc, buf, ctx)?.map(Self::CommandComplete)),
+            b'I' => Ok(EmptyQueryResponse::decode(alloc, buf, ctx)?.map(Self::EmptyQueryResponse)),
+            b'Z' => Ok(ReadyForQuery::decode(alloc, buf, ctx)?.map(Self::ReadyForQuery)),
+            b'E' => Ok(ErrorResponse::decode(alloc, buf, ctx)?.map(Self::ErrorResponse)),
+            b'N' => Ok(NoticeResponse::decode(alloc, buf, ctx)?.map(Self::NoticeResponse)),
+            b'A' => Ok(NotificationResponse::decode(alloc, buf, ctx)?.map(
+                Self::NotificationResponse,
+            )),
+            b'T' => Ok(RowDescription::decode(alloc, buf, ctx)?.map(Self::RowDescription)),
+            b'D' => Ok(DataRow::decode(alloc, buf, ctx)?.map(Self::DataRow)),
+            _ => Self::decode_extended(byte, alloc, buf, ctx),
+        }
+    }
+
+    // The extended query, and what follows.
+    fn decode_extended(
+        byte: u8,
+        alloc: Global,
+        buf: &mut BytesMut,
+        ctx: &DecodeContext,
+    ) -> PgWireResult<Option<PgWireBackendMessage>>
+        ensures { Decodes result buf.old.items buf.new.items (extended_by byte ctx.now buf.old.items) }
+    {
+        match byte {
+            b'1' => Ok(ParseComplete::decode(alloc, buf, ctx)?.map(Self::ParseComplete)),
+            b'2' => Ok(BindComplete::decode(alloc, buf, ctx)?.map(Self::BindComplete)),
+            b'3' => Ok(CloseComplete::decode(alloc, buf, ctx)?.map(Self::CloseComplete)),
+            b's' => Ok(PortalSuspended::decode(alloc, buf, ctx)?.map(Self::PortalSuspended)),
+            b'n' => Ok(NoData::decode(alloc, buf, ctx)?.map(Self::NoData)),
+            b't' => Ok(ParameterDescription::decode(alloc, buf, ctx)?.map(
+                Self::ParameterDescription,
+            )),
+            _ => Self::decode_copy(byte, alloc, buf, ctx),
+        }
+    }
+
+    // COPY.
+    fn decode_copy(
+        byte: u8,
+        alloc: Global,
+        buf: &mut BytesMut,
+        ctx: &DecodeContext,
+    ) -> PgWireResult<Option<PgWireBackendMessage>>
+        ensures { Decodes result buf.old.items buf.new.items (copy_by byte ctx.now buf.old.items) }
+    {
+        match byte {
+            b'd' => Ok(CopyData::decode(alloc, buf, ctx)?.map(Self::CopyData)),
+            b'c' => Ok(CopyDone::decode(alloc, buf, ctx)?.map(Self::CopyDone)),
+            b'f' => Ok(CopyFail::decode(alloc, buf, ctx)?.map(Self::CopyFail)),
+            b'G' => Ok(CopyInResponse::decode(alloc, buf, ctx)?.map(Self::CopyInResponse)),
+            b'H' => Ok(CopyOutResponse::decode(alloc, buf, ctx)?.map(Self::CopyOutResponse)),
+            b'W' => Ok(CopyBothResponse::decode(alloc, buf, ctx)?.map(Self::CopyBothResponse)),
+            _ => Err(PgWireError::InvalidMessageType(byte)),
+        }
+    }
+}
+
+impl PgWireBackendMessage {
+    /// Appends the whole message, or nothing.
+    pub fn encode(&self, buf: &mut BytesMut) -> PgWireResult<()>
+        // What is written spells the message, in each context that awaits it and whose version its key suits.
+        ensures spelled { OnOk result ((ctx : TheContext) → Suits ctx.protocol_version self.now → Awaits ctx self.now → (g : List ℕ) × (buf.new.items ≡ buf.old.items ++ g) × SpellsIn ctx self.now g) }
+        // What is written is read again as the message in these contexts, whatever follows it, and that is left.
+        ensures read_again { OnOk result ((ctx : TheContext) (rest : List ℕ) → Suits ctx.protocol_version self.now → Awaits ctx self.now → (g : List ℕ) × (buf.new.items ≡ buf.old.items ++ g) × (backend_front ctx (g ++ rest) ≡ Ok (Some (self.now, rest)))) }
+        // Which bytes are written, or which refusal it is.
+        ensures exact { Appends result buf.old.items buf.new.items (backend_encoding self.now) }
+    {
+        prove!(is_sound(self));
+        self.encode_exact(buf)
+    }
+
+    #[tactic(auto, unfolding(crate::specs::Backend::backend_encoding))]
+    fn encode_exact(&self, buf: &mut BytesMut) -> PgWireResult<()>
+        ensures { Appends result buf.old.items buf.new.items (backend_encoding self.now) }
+    {
+        match self {
+            Self::SslResponse(m) => m.encode(buf),
+            Self::GssEncResponse(m) => m.encode(buf),
+            Self::Authentication(m) => m.encode(buf),
+            Self::ParameterStatus(m) => m.encode(buf),
+            Self::BackendKeyData(m) => m.encode(buf),
+            Self::NegotiateProtocolVersion(m) => m.encode(buf),
+            Self::ParseComplete(m) => m.encode(buf),
+            Self::BindComplete(m) => m.encode(buf),
+            Self::CloseComplete(m) => m.encode(buf),
+            Self::PortalSuspended(m) => m.encode(buf),
+            Self::EmptyQueryResponse(m) => m.encode(buf),
+            Self::NoData(m) => m.encode(buf),
+            Self::CommandComplete(m) => m.encode(buf),
+            Self::ReadyForQuery(m) => m.encode(buf),
+            Self::ErrorResponse(m) => m.encode(buf),
+            Self::NoticeResponse(m) => m.encode(buf),
+            Self::NotificationResponse(m) => m.encode(buf),
+            Self::ParameterDescription(m) => m.encode(buf),
+            Self::RowDescription(m) => m.encode(buf),
+            Self::DataRow(m) => m.encode(buf),
+            Self::CopyData(m) => m.encode(buf),
+            Self::CopyDone(m) => m.encode(buf),
+            Self::CopyFail(m) => m.encode(buf),
+            Self::CopyInResponse(m) => m.encode(buf),
+            Self::CopyOutResponse(m) => m.encode(buf),
+            Self::CopyBothResponse(m) => m.encode(buf),
+        }
+    }
+}
+
+impl Duplicate for PgWireBackendMessage {
+    fn duplicate(&self) -> Result<PgWireBackendMessage, OutOfMemory> {
+        match self {
+            Self::SslResponse(m) => Ok(Self::SslResponse(m.duplicate()?)),
+            Self::GssEncResponse(m) => Ok(Self::GssEncResponse(m.duplicate()?)),
+            Self::Authentication(m) => Ok(Self::Authentication(m.duplicate()?)),
+            Self::ParameterStatus(m) => Ok(Self::ParameterStatus(m.duplicate()?)),
+            Self::BackendKeyData(m) => Ok(Self::BackendKeyData(m.duplicate()?)),
+            Self::NegotiateProtocolVersion(m) => Ok(Self::NegotiateProtocolVersion(m.duplicate()?)),
+            Self::ParseComplete(m) => Ok(Self::ParseComplete(m.duplicate()?)),
+            Self::BindComplete(m) => Ok(Self::BindComplete(m.duplicate()?)),
+            Self::CloseComplete(m) => Ok(Self::CloseComplete(m.duplicate()?)),
+            Self::PortalSuspended(m) => Ok(Self::PortalSuspended(m.duplicate()?)),
+            Self::EmptyQueryResponse(m) => Ok(Self::EmptyQueryResponse(m.duplicate()?)),
+            Self::NoData(m) => Ok(Self::NoData(m.duplicate()?)),
+            Self::CommandComplete(m) => Ok(Self::CommandComplete(m.duplicate()?)),
+            Self::ReadyForQuery(m) => Ok(Self::ReadyForQuery(m.duplicate()?)),
+            Self::ErrorResponse(m) => Ok(Self::ErrorResponse(m.duplicate()?)),
+            Self::NoticeResponse(m) => Ok(Self::NoticeResponse(m.duplicate()?)),
+            Self::NotificationResponse(m) => Ok(Self::NotificationResponse(m.duplicate()?)),
+            Self::ParameterDescription(m) => Ok(Self::ParameterDescription(m.duplicate()?)),
+            Self::RowDescription(m) => Ok(Self::RowDescription(m.duplicate()?)),
+            Self::DataRow(m) => Ok(Self::DataRow(m.duplicate()?)),
+            Self::CopyData(m) => Ok(Self::CopyData(m.duplicate()?)),
+            Self::CopyDone(m) => Ok(Self::CopyDone(m.duplicate()?)),
+            Self::CopyFail(m) => Ok(Self::CopyFail(m.duplicate()?)),
+            Self::CopyInResponse(m) => Ok(Self::CopyInResponse(m.duplicate()?)),
+            Self::CopyOutResponse(m) => Ok(Self::CopyOutResponse(m.duplicate()?)),
+            Self::CopyBothResponse(m) => Ok(Self::CopyBothResponse(m.duplicate()?)),
+        }
+    }
+}

@@ -1,0 +1,104 @@
+//! Why a client gives up.
+ghost use Rattle.std.specs.Prelude.{◌≡◌, IfOk, IfErr};
+ghost use Rattle.pgw_backend.specs.ClientError.{IsUnexpected};
+
+use crate::backend::PgWireBackendMessage;
+use crate::pg_type::PgType;
+use pgw_query::response::ErrorResponse;
+use pgw_types::boxed::Boxed;
+use pgw_types::error::PgWireError;
+use pgw_types::listed::Listed;
+use pgw_types::memory::OutOfMemory;
+use pgw_types::octets::Octets;
+use pgw_types::text::Text;
+use std::alloc::Global;
+use thiserror::Error;
+
+/// Why a value cannot be read as a type.
+#[derive(Clone, Copy, Debug, PartialEq, Eq)]
+pub enum SqlFault {
+    WrongType(PgType),
+    WrongLength(usize),
+    BadText,
+}
+
+/// Why a SCRAM login failed (RFC 5802, section 5).
+#[derive(Debug, Drop, PartialEq, Eq)]
+pub enum ScramFault {
+    PasswordNotUtf8,
+    NonceMismatch,
+    SaltNotBase64,
+    ServerError(Text),
+    SignatureMismatch,
+}
+
+/// Why a client gives up.
+#[derive(Debug, Drop, Error)]
+pub enum PgWireClientError {
+    #[error("invalid configuration value for `{}`", .0.as_str())]
+    InvalidConfig(Text),
+    #[error("unknown configuration key `{}`", .0.as_str())]
+    UnknownConfig(Text),
+    #[error("configuration value is not UTF-8: {0:?}")]
+    InvalidUtf8ConfigValue(Octets),
+    #[error("the server closed the connection")]
+    UnexpectedEOF,
+    #[error("unexpected message {0:?}")]
+    UnexpectedMessage(Boxed<PgWireBackendMessage>),
+    #[error("input or output failed")]
+    IoError,
+    #[error("{0}")]
+    PgWireError(PgWireError),
+    #[error("the server answered an error: {0:?}")]
+    RemoteError(ErrorResponse),
+    #[error("a value cannot be read: {0:?}")]
+    FromSqlError(SqlFault),
+    #[error("no such column in the row")]
+    DataRowIndexOutOfBounds,
+    #[error("SCRAM login failed: {0:?}")]
+    ScramError(ScramFault),
+    #[error("no supported SASL method in {0:?}")]
+    UnsupportedSASLAuthMethods(Listed<Text>),
+    #[error("the limit on bytes to read is reached")]
+    ReadLimit,
+    #[error("an earlier error left the client unusable")]
+    Broken,
+    #[error("out of memory")]
+    OutOfMemory,
+}
+
+pub type PgWireClientResult<T> = Result<T, PgWireClientError>;
+
+/// What is said of a message that may not come.
+pub fn unexpected(alloc: Global, message: PgWireBackendMessage) -> PgWireClientError
+    ensures { IsUnexpected message result }
+{
+    match Boxed::new(alloc, message) {
+        Ok(message) => PgWireClientError::UnexpectedMessage(message),
+        Err(_) => PgWireClientError::OutOfMemory,
+    }
+}
+
+impl From<OutOfMemory> for PgWireClientError {
+    ghost use Rattle.pgw_backend.specs.declared.client_error.PgWireClientError.TheVariants as client;
+
+    ghost from_gives = { λ e r. r ≡ client.OutOfMemory };
+
+    fn from(_e: OutOfMemory) -> PgWireClientError {
+        PgWireClientError::OutOfMemory
+    }
+}
+
+#[tactic(auto, unfolding(crate::specs::ClientError::of_wire))]
+impl From<PgWireError> for PgWireClientError {
+    ghost use Rattle.pgw_backend.specs.ClientError.{of_wire};
+
+    ghost from_gives = { λ e r. r ≡ of_wire e };
+
+    fn from(e: PgWireError) -> PgWireClientError {
+        match e {
+            PgWireError::OutOfMemory => PgWireClientError::OutOfMemory,
+            e => PgWireClientError::PgWireError(e),
+        }
+    }
+}

@@ -1,0 +1,239 @@
+-- How a session over a link goes on with a read, and how it ends.
+use Rattle.std.proofs.Common.{◌≡◌, ◌<◌, ◌≤◌, ℕ, ◌+◌, List, [], ◌∷◌, ◌++◌, length, Option, Some, None, Ok, Err, Bool, true, false, inl, inr, arith, refl, ◌∙◌, ap, sym, subst, append_assoc, length-append}
+use Rattle.std.proofs.lemmas.List.{append-nil, nil_from_length}
+use Rattle.pgw_link.specs.Tape.{Tape, Took, Failed, counted, end_of}
+use Rattle.pgw_backend.specs.Front.{front, More}
+use Rattle.pgw_backend.specs.declared.client_error.PgWireClientError.{PgWireClientError as ClientError}
+use Rattle.pgw_backend.specs.declared.client_error.PgWireClientError.TheVariants as client
+use Rattle.pgw_course.specs.Course.{Waits, run, sent_of}
+use Rattle.pgw_course.proofs.CourseLaws.{run_append, run_more}
+use Rattle.pgw_session.specs.declared.notes.Notes.{Notes}
+use Rattle.pgw_session.specs.Input.{Input}
+use Rattle.pgw_session.specs.Machine.{rules_by}
+use Rattle.pgw_session.specs.Notes.{notes_book}
+use Rattle.pgw_session.proofs.ReadingLaws.{reads_more, steady_by}
+use Rattle.pgw_client.specs.Errors.{Unless}
+use Rattle.pgw_client.specs.Machine.{NotesCourse, notes_end, runs}
+use Rattle.pgw_client.specs.Outcome.{ReadsNothing, Broke, Settled, Came, Reading, Conversed, Paused, Waiting, FillFails, failed, memory, at_limit, at_end}
+use Rattle.pgw_client.specs.Outcome as outcomes
+use Rattle.pgw_client.proofs.TakingLaws.{begins_at, memory_or}
+
+-- ---- the link's end
+
+never_ended : {n : ℕ} (ended : Option ℕ) → ended ≡ None → ended ≡ Some n → ⊥
+never_ended ended none some = cc
+
+-- it has not been answered
+unpaused : (course : NotesCourse) (sent : List ℕ) (old new : Tape) → (old.ended ≡ None → new.ended ≡ None) → Paused course sent old new
+unpaused course sent old new not none n some = absurd (never_ended new.ended (not none) some)
+
+first_end : (ended after : Option ℕ) (flushed n : ℕ) → ended ≡ None → after ≡ end_of ended flushed → after ≡ Some n → n ≡ flushed
+first_end ended after flushed n none is some = let e : end_of ended flushed ≡ Some flushed = ap (λ o. end_of o flushed) none in cc
+
+any_end : (ended : Option ℕ) (flushed : ℕ) → (n : ℕ) × (end_of ended flushed ≡ Some n)
+any_end None flushed = (flushed, refl)
+any_end (Some n) flushed = (n, refl)
+
+-- a read came to it where the course waits
+paused_at : (course : NotesCourse) (old mid new : Tape) (piece : List ℕ) → Took mid new piece → (old.ended ≡ None → mid.ended ≡ None) → mid.flushed ≡ length mid.wrote → (length piece ≡ 0 → Waiting course new.wrote)
+    → Paused course new.wrote old new
+paused_at course old mid new [] moved not flushed waiting none n some =
+    (first_end mid.ended new.ended mid.flushed n (not none) (moved.ended refl) some ∙ flushed ∙ ap length (sym moved.wrote), waiting refl)
+paused_at course old mid new (b ∷ piece) moved not flushed waiting none n some = absurd (never_ended new.ended (moved.goes_on (omega arith) ∙ not none) some)
+
+-- ---- between reads
+
+-- the messages at the buffer's front were taken
+pub settled : {input : Input} {old_notes notes next : Notes} {old mid new : Tape} {buffer rest : List ℕ} {count : ℕ} (done : Bool)
+    → Reading input old_notes notes old mid buffer count → done ≡ false
+    → Settled input (runs input notes mid.wrote buffer) next mid new rest done
+    → Reading input old_notes next old new rest count × (front next.standing.version rest ≡ More)
+settled {input} {old_notes} {notes} {next} {old} {mid} {new} {buffer} {rest} {count} done reading not_done s =
+    let came = subst (λ d. Came input (runs input notes mid.wrote buffer) next new.wrote rest d) not_done s.came in
+    let r = s.reads_nothing in (
+      record {
+        taken = reading.taken;
+        counts = reading.counts;
+        left = reading.left ∙ ap (λ (l : List ℕ). reading.taken ++ l) (sym r.left);
+        course = reading.course ∙ came.0;
+        flushed = s.flushed;
+        reads = omega (arith, reading.reads, r.reads);
+        no_shorter = omega (arith, reading.no_shorter, s.no_shorter);
+        writes = omega (arith, reading.writes, s.writes);
+        not_ended = λ none. r.ended ∙ reading.not_ended none;
+      },
+      came.1,
+    )
+
+-- the course waits
+waits : {input : Input} {old_notes notes : Notes} {old new : Tape} {buffer : List ℕ} {count : ℕ}
+    → (reading : Reading input old_notes notes old new buffer count) → front notes.standing.version buffer ≡ More → runs input old_notes old.wrote reading.taken ≡ Waits notes new.wrote buffer
+waits {input} {old_notes} {notes} {old} {new} {buffer} reading more =
+    reading.course ∙ run_more (rules_by notes_book input) (steady_by notes_book input) notes new.wrote buffer (reads_more notes.standing.version buffer more)
+
+-- taking them broke off
+pub broke : {input : Input} {old_notes notes : Notes} {old mid new : Tape} {buffer : List ℕ} {count : ℕ} (next : Notes) (limit : ℕ) (e : ClientError)
+    → Reading input old_notes notes old mid buffer count → count ≤ limit → Broke (runs input notes mid.wrote buffer) mid new e → Conversed input old_notes next limit old new (Err e)
+broke {input} {old_notes} {notes} {old} {mid} {new} {buffer} {count} next limit e reading within b =
+    let r = b.reads_nothing in
+    let all = subst (λ c. Broke c mid new e) (sym reading.course) b in
+    record {
+      taken = reading.taken;
+      left = reading.left ∙ ap (λ (l : List ℕ). reading.taken ++ l) (sym r.left);
+      within = omega (arith, reading.counts);
+      answered = record { begins = all.begins; reason = failed all.stopping };
+      reads = omega (arith, reading.reads, r.reads);
+      no_shorter = omega (arith, reading.no_shorter, b.no_shorter);
+      writes = omega (arith, reading.writes, b.writes);
+      paused = unpaused _ new.wrote old new (λ none. r.ended ∙ reading.not_ended none);
+    }
+
+-- the session was whole
+pub finished : {input : Input} {old_notes notes next : Notes} {old mid new : Tape} {buffer rest : List ℕ} {count : ℕ} (limit : ℕ) (done : Bool) (answer : Unit {0})
+    → Reading input old_notes notes old mid buffer count → count ≤ limit → done ≡ true → Settled input (runs input notes mid.wrote buffer) next mid new rest done
+    → Conversed input old_notes next limit old new (Ok answer)
+finished {input} {old_notes} {notes} {next} {old} {mid} {new} {buffer} {rest} {count} limit done answer reading within is_done s =
+    let came = subst (λ d. Came input (runs input notes mid.wrote buffer) next new.wrote rest d) is_done s.came in
+    let r = s.reads_nothing in
+    record {
+      taken = reading.taken;
+      left = reading.left ∙ ap (λ (l : List ℕ). reading.taken ++ l) (sym r.left);
+      within = omega (arith, reading.counts);
+      answered = (came.0, reading.course ∙ came.1, came.2);
+      reads = omega (arith, reading.reads, r.reads);
+      no_shorter = omega (arith, reading.no_shorter, s.no_shorter);
+      writes = omega (arith, reading.writes, s.writes);
+      paused = unpaused _ new.wrote old new (λ none. r.ended ∙ reading.not_ended none);
+    }
+
+-- an answer while the course waits, with nothing moved since
+pub waited : {input : Input} {old_notes notes : Notes} {old new : Tape} {buffer : List ℕ} {count : ℕ} (next : Notes) (limit : ℕ)
+    → Reading input old_notes notes old new buffer count → front notes.standing.version buffer ≡ More → count ≡ limit → Conversed input old_notes next limit old new (Err client.ReadLimit)
+waited {input} {old_notes} {notes} {old} {new} {buffer} {count} next limit reading more at =
+    let w = waits reading more in
+    record {
+      taken = reading.taken;
+      left = reading.left;
+      within = omega (arith, reading.counts, at);
+      answered = record {
+        begins = ([], ap sent_of w ∙ sym (append-nil new.wrote));
+        reason = at_limit refl (notes, buffer, w) (reading.counts ∙ at);
+      };
+      reads = omega (arith, reading.reads);
+      no_shorter = reading.no_shorter;
+      writes = omega (arith, reading.writes);
+      paused = unpaused _ new.wrote old new reading.not_ended;
+    }
+
+-- ---- a read
+
+-- it brought bytes
+took : {input : Input} {old_notes notes : Notes} {old mid new : Tape} {buffer : List ℕ} {count : ℕ} (piece : List ℕ)
+    → (reading : Reading input old_notes notes old mid buffer count) → Took mid new piece
+    → runs input old_notes old.wrote (reading.taken ++ piece) ≡ runs input notes new.wrote (buffer ++ piece)
+took {input} {old_notes} {notes} {old} {mid} {new} {buffer} piece reading moved =
+    let rules = rules_by notes_book input in
+    run_append rules (Waits old_notes old.wrote []) reading.taken piece
+    ∙ ap (λ c. run rules c piece) reading.course
+    ∙ sym (run_append rules (Waits notes mid.wrote []) buffer piece)
+    ∙ ap (λ (w : List ℕ). runs input notes w (buffer ++ piece)) (sym moved.wrote)
+
+pub read_on : {input : Input} {old_notes notes : Notes} {old mid new : Tape} {buffer now : List ℕ} {count : ℕ} (piece : List ℕ) (n : ℕ)
+    → Reading input old_notes notes old mid buffer count → Took mid new piece → length piece ≡ n → 0 < n → now ≡ buffer ++ piece
+    → Reading input old_notes notes old new now (count + n)
+read_on {input} {old_notes} {notes} {old} {mid} {new} {buffer} {now} {count} piece n reading moved len some now_is = record {
+  taken = reading.taken ++ piece;
+  counts = omega (arith, length-append reading.taken piece, reading.counts, len);
+  left = reading.left ∙ ap (λ (l : List ℕ). reading.taken ++ l) moved.left ∙ sym (append_assoc reading.taken piece new.left);
+  course = took piece reading moved ∙ ap (λ (b : List ℕ). runs input notes new.wrote b) (sym now_is);
+  flushed = moved.flushed ∙ reading.flushed ∙ ap length (sym moved.wrote);
+  reads = omega (arith, reading.reads, moved.reads, length-append reading.taken piece, len, some);
+  no_shorter = omega (arith, reading.no_shorter, ap length moved.wrote);
+  writes = omega (arith, reading.writes, moved.writes, ap length moved.wrote);
+  not_ended = λ none. moved.goes_on (omega (arith, len, some)) ∙ reading.not_ended none;
+}
+
+-- it failed
+unread_io : {input : Input} {old_notes notes : Notes} {old mid new : Tape} {buffer : List ℕ} {count : ℕ} (next : Notes) (limit : ℕ) (e : ClientError)
+    → Reading input old_notes notes old mid buffer count → front notes.standing.version buffer ≡ More → count ≤ limit → e ≡ client.IoError → Failed mid new (counted mid.reads) mid.writes
+    → Conversed input old_notes next limit old new (Err e)
+unread_io {input} {old_notes} {notes} {old} {mid} {new} {buffer} {count} next limit e reading more within is_io fault =
+    let w = waits reading more ∙ ap (λ (o : List ℕ). Waits notes o buffer) (sym fault.wrote) in
+    record {
+      taken = reading.taken;
+      left = reading.left ∙ ap (λ (l : List ℕ). reading.taken ++ l) (sym fault.left);
+      within = omega (arith, reading.counts);
+      answered = record {
+        begins = ([], ap sent_of w ∙ sym (append-nil new.wrote));
+        reason = outcomes.unread is_io (notes, buffer, w);
+      };
+      reads = omega (arith, reading.reads, fault.reads);
+      no_shorter = omega (arith, reading.no_shorter, ap length fault.wrote);
+      writes = omega (arith, reading.writes, fault.writes, ap length fault.wrote);
+      paused = unpaused _ new.wrote old new (λ none. fault.ended ∙ reading.not_ended none);
+    }
+
+-- where it brought nothing, the course waits as before
+still_waits : {input : Input} {old_notes notes : Notes} {old mid new : Tape} {buffer : List ℕ} {count : ℕ} (piece : List ℕ)
+    → (reading : Reading input old_notes notes old mid buffer count) → front notes.standing.version buffer ≡ More → Took mid new piece → length piece ≡ 0 → runs input old_notes old.wrote (reading.taken ++ piece) ≡ Waits notes new.wrote buffer
+still_waits {input} {old_notes} {notes} {old} {mid} {new} {buffer} piece reading more moved none =
+    ap (λ (p : List ℕ). runs input old_notes old.wrote (reading.taken ++ p)) (nil_from_length piece none)
+    ∙ ap (runs input old_notes old.wrote) (append-nil reading.taken)
+    ∙ waits reading more
+    ∙ ap (λ (o : List ℕ). Waits notes o buffer) (sym moved.wrote)
+
+-- its bytes could not be kept
+unkept : {input : Input} {old_notes notes : Notes} {old mid new : Tape} {buffer : List ℕ} {count : ℕ} (next : Notes) (limit : ℕ) (e : ClientError) (piece : List ℕ)
+    → Reading input old_notes notes old mid buffer count → front notes.standing.version buffer ≡ More → count + length piece ≤ limit → e ≡ client.OutOfMemory → Took mid new piece
+    → Conversed input old_notes next limit old new (Err e)
+unkept {input} {old_notes} {notes} {old} {mid} {new} {buffer} {count} next limit e piece reading more within is moved = record {
+  taken = reading.taken ++ piece;
+  left = reading.left ∙ ap (λ (l : List ℕ). reading.taken ++ l) moved.left ∙ sym (append_assoc reading.taken piece new.left);
+  within = omega (arith, length-append reading.taken piece, reading.counts);
+  answered = record {
+    begins = begins_at input notes new.wrote (buffer ++ piece) _ (took piece reading moved);
+    reason = failed (memory is);
+  };
+  reads = omega (arith, reading.reads, moved.reads, length-append reading.taken piece);
+  no_shorter = omega (arith, reading.no_shorter, ap length moved.wrote);
+  writes = omega (arith, reading.writes, moved.writes, ap length moved.wrote);
+  paused = paused_at _ old mid new piece moved reading.not_ended reading.flushed (λ none. (notes, buffer, still_waits piece reading more moved none));
+}
+
+-- it came to the link's end
+pub ended : {input : Input} {old_notes notes : Notes} {old mid new : Tape} {buffer : List ℕ} {count : ℕ} (next : Notes) (limit : ℕ) (piece : List ℕ) (e : ClientError)
+    → Reading input old_notes notes old mid buffer count → front notes.standing.version buffer ≡ More → count < limit → Took mid new piece → length piece ≡ 0 → Unless e (e ≡ notes_end notes)
+    → Conversed input old_notes next limit old new (Err e)
+ended {input} {old_notes} {notes} {old} {mid} {new} {buffer} {count} next limit piece e reading more within moved none is =
+    let w = still_waits piece reading more moved none in
+    let end = any_end mid.ended mid.flushed in
+    record {
+      taken = reading.taken ++ piece;
+      left = reading.left ∙ ap (λ (l : List ℕ). reading.taken ++ l) moved.left ∙ sym (append_assoc reading.taken piece new.left);
+      within = omega (arith, length-append reading.taken piece, reading.counts, within, none);
+      answered = record {
+        begins = ([], ap sent_of w ∙ sym (append-nil new.wrote));
+        reason = elim (memory_or e) [
+          | inl lack ↦ failed (memory lack)
+          | inr ne ↦
+              at_end notes buffer w
+              (record {
+                nothing_left = sym (moved.left ∙ ap (λ (p : List ℕ). p ++ new.left) (nil_from_length piece none)) ∙ moved.at_end none;
+                below = omega (arith, length-append reading.taken piece, reading.counts, within, none);
+                asked = (end.0, moved.ended none ∙ end.1);
+              })
+              (is ne)
+        ];
+      };
+      reads = omega (arith, reading.reads, moved.reads, length-append reading.taken piece);
+      no_shorter = omega (arith, reading.no_shorter, ap length moved.wrote);
+      writes = omega (arith, reading.writes, moved.writes, ap length moved.wrote);
+      paused = paused_at _ old mid new piece moved reading.not_ended reading.flushed (λ same. (notes, buffer, w));
+    }
+
+-- it failed, or its bytes could not be kept
+pub unread : {input : Input} {old_notes notes : Notes} {old mid new : Tape} {buffer : List ℕ} {count : ℕ} (next : Notes) (limit room : ℕ) (e : ClientError)
+    → Reading input old_notes notes old mid buffer count → front notes.standing.version buffer ≡ More → count + room ≤ limit → FillFails mid new room e
+    → Conversed input old_notes next limit old new (Err e)
+unread next limit room e reading more within (inl fault) = unread_io next limit e reading more (omega arith) fault.0 fault.1
+unread next limit room e reading more within (inr kept) = unkept next limit e kept.1 reading more (omega (arith, kept.2)) kept.0 kept.3

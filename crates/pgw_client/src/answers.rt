@@ -1,0 +1,264 @@
+//! The answer of a request, by what its segment gave.
+ghost use Rattle.std.specs.Prelude.{◌≡◌, ◌++◌, map, IfOk, OnOk};
+ghost use Rattle.pgw_backend.specs.Fields.{field_info_of, type_of};
+ghost use Rattle.pgw_session.specs.Answers.{answer_by, columns_of, executed_of, no_tally, noted, result_of, rows_until, tally_after, with_end, with_row, response_of};
+
+use pgw_backend::backend::PgWireBackendMessage;
+use pgw_backend::field_info::FieldInfo;
+use pgw_backend::pg_type::PgType;
+use pgw_backend::tag::Tag;
+use pgw_query::data::{DataRow, FieldDescription};
+use pgw_query::response::CommandComplete;
+use pgw_session::tally::{Opened, Tally};
+use pgw_session::types::{
+    Answer, DescribeResponse, ExecuteResult, PrepareResponse, Request, Response,
+};
+use pgw_types::listed::{Duplicate, Listed};
+use pgw_types::memory::OutOfMemory;
+use std::alloc::Global;
+use std::mem::replace;
+
+/// That of a segment of which nothing was got.
+pub fn no_tally(alloc: Global) -> Tally
+    ensures { result ≡ no_tally }
+{
+    Tally {
+        responses: Listed::new(alloc),
+        opened: None,
+        param_types: Listed::new(alloc),
+        executed: None,
+        rows: Listed::new(alloc),
+        remote: None,
+    }
+}
+
+// ---- what a message gives
+
+// The columns that a row description tells of.
+fn columns(alloc: Global, fields: Vec<FieldDescription>) -> Result<Listed<FieldInfo>, OutOfMemory>
+    ensures { IfOk result (λ columns. columns ≡ map field_info_of fields.items) }
+{
+    let mut columns = Listed::new(alloc);
+    for field in fields {
+        columns.push(FieldInfo::from_description(field))?;
+    }
+    Ok(columns)
+}
+
+// The types of some numbers.
+fn types(alloc: Global, oids: &[u32]) -> Result<Listed<PgType>, OutOfMemory>
+    ensures { IfOk result (λ types. types ≡ map type_of oids.now) }
+{
+    let mut types = Listed::new(alloc);
+    for oid in oids {
+        types.push(PgType::from_oid(*oid))?;
+    }
+    Ok(types)
+}
+
+fn note_row(tally: &mut Tally, row: DataRow) -> Result<(), OutOfMemory>
+    ensures { OnOk result (tally.new ≡ with_row tally.old.opened tally.old row) }
+{
+    match &mut tally.opened {
+        Some(opened) => opened.rows.push(row),
+        None => tally.rows.push(row),
+    }
+}
+
+// The portal ends with all of its rows.
+fn complete(alloc: Global, tally: &mut Tally)
+    ensures { tally.new ≡ with_end tally.old.executed tally.old (ExecuteResult.Complete tally.old.rows) }
+{
+    if tally.executed.is_none() {
+        let rows = replace(&mut tally.rows, Listed::new(alloc));
+        tally.executed = Some(ExecuteResult::Complete(rows));
+    }
+}
+
+// The portal stops with some of them.
+fn suspend(alloc: Global, tally: &mut Tally)
+    ensures { tally.new ≡ with_end tally.old.executed tally.old (ExecuteResult.Suspended tally.old.rows) }
+{
+    if tally.executed.is_none() {
+        let rows = replace(&mut tally.rows, Listed::new(alloc));
+        tally.executed = Some(ExecuteResult::Suspended(rows));
+    }
+}
+
+// The response of a command.
+fn response_of(
+    alloc: Global,
+    opened: Option<Opened>,
+    command: &CommandComplete,
+) -> Result<Response, OutOfMemory>
+    ensures { IfOk result (λ response. response ≡ response_of opened command.now.tag) }
+{
+    let tag = Tag::parse(alloc, command.tag.as_str())?;
+    match opened {
+        Some(Opened { fields, rows }) => Ok(Response::Query(tag, fields, rows)),
+        None => Ok(Response::Execution(tag)),
+    }
+}
+
+fn note_command(
+    alloc: Global,
+    tally: &mut Tally,
+    command: CommandComplete,
+) -> Result<(), OutOfMemory>
+    ensures { OnOk result (tally.new ≡ noted tally.old (PgWireBackendMessage.CommandComplete command)) }
+{
+    let response = response_of(alloc, tally.opened.take(), &command)?;
+    tally.responses.push(response)?;
+    complete(alloc, tally);
+    Ok(())
+}
+
+/// Notes a message. Behind an error nothing more is noted.
+pub fn note(
+    alloc: Global,
+    tally: &mut Tally,
+    message: PgWireBackendMessage,
+) -> Result<(), OutOfMemory>
+    ensures { OnOk result (tally.new ≡ tally_after tally.old message) }
+{
+    if tally.remote.is_some() {
+        return Ok(());
+    }
+    match message {
+        PgWireBackendMessage::RowDescription(m) => {
+            let fields = columns(alloc, m.fields.into_vec())?;
+            tally.opened = Some(Opened {
+                fields,
+                rows: Listed::new(alloc),
+            });
+        }
+        PgWireBackendMessage::ParameterDescription(m) => {
+            tally.param_types = types(alloc, m.types.as_slice())?;
+        }
+        PgWireBackendMessage::DataRow(row) => note_row(tally, row)?,
+        PgWireBackendMessage::CommandComplete(command) => note_command(alloc, tally, command)?,
+        PgWireBackendMessage::EmptyQueryResponse(_) => {
+            tally.responses.push(Response::EmptyQuery)?;
+            complete(alloc, tally);
+        }
+        PgWireBackendMessage::PortalSuspended(_) => suspend(alloc, tally),
+        PgWireBackendMessage::ErrorResponse(error) => tally.remote = Some(error),
+        PgWireBackendMessage::Authentication(_request) => {}
+        PgWireBackendMessage::ParameterStatus(_parameter) => {}
+        PgWireBackendMessage::BackendKeyData(_key) => {}
+        PgWireBackendMessage::NegotiateProtocolVersion(_version) => {}
+        PgWireBackendMessage::ReadyForQuery(_ready) => {}
+        PgWireBackendMessage::NoticeResponse(_notice) => {}
+        PgWireBackendMessage::NotificationResponse(_notification) => {}
+        PgWireBackendMessage::CopyData(_data) => {}
+        PgWireBackendMessage::CopyFail(_reason) => {}
+        PgWireBackendMessage::CopyInResponse(_formats) => {}
+        PgWireBackendMessage::CopyOutResponse(_formats) => {}
+        PgWireBackendMessage::CopyBothResponse(_formats) => {}
+        PgWireBackendMessage::SslResponse(_)
+        | PgWireBackendMessage::GssEncResponse(_)
+        | PgWireBackendMessage::ParseComplete(_)
+        | PgWireBackendMessage::BindComplete(_)
+        | PgWireBackendMessage::CloseComplete(_)
+        | PgWireBackendMessage::NoData(_)
+        | PgWireBackendMessage::CopyDone(_) => {}
+    }
+    Ok(())
+}
+
+// ---- the answer
+
+fn executed_of(
+    alloc: Global,
+    executed: Option<ExecuteResult<Listed<DataRow>>>,
+) -> ExecuteResult<Listed<DataRow>>
+    ensures { result ≡ executed_of executed }
+{
+    match executed {
+        Some(executed) => executed,
+        None => ExecuteResult::Complete(Listed::new(alloc)),
+    }
+}
+
+// The rows up to the portal's end.
+fn rows_until(alloc: Global, executed: Option<ExecuteResult<Listed<DataRow>>>) -> Listed<DataRow>
+    ensures { result ≡ rows_until executed }
+{
+    match executed {
+        Some(ExecuteResult::Complete(rows)) => rows,
+        Some(ExecuteResult::Suspended(rows)) => rows,
+        None => Listed::new(alloc),
+    }
+}
+
+// Some rows and others behind them.
+fn with_rows(
+    mut rows: Listed<DataRow>,
+    behind: Listed<DataRow>,
+) -> Result<Listed<DataRow>, OutOfMemory>
+    ensures { IfOk result (λ all. all ≡ rows ++ behind) }
+{
+    for row in behind.into_vec() {
+        rows.push(row)?;
+    }
+    Ok(rows)
+}
+
+fn columns_of(alloc: Global, opened: Option<Opened>) -> Listed<FieldInfo>
+    ensures { result ≡ columns_of opened }
+{
+    match opened {
+        Some(
+            Opened {
+                fields,
+                rows: _rows,
+            },
+        ) => fields,
+        None => Listed::new(alloc),
+    }
+}
+
+// What a request gives where no error came.
+fn result_of(alloc: Global, request: &Request, tally: Tally) -> Result<Answer, OutOfMemory>
+    ensures { IfOk result (λ answer. answer ≡ result_of request.now tally) }
+{
+    let Tally {
+        responses,
+        opened,
+        param_types,
+        executed,
+        rows,
+        remote: _remote,
+    } = tally;
+    match request {
+        Request::Simple(_) => Ok(Answer::Responses(responses)),
+        Request::Prepare(name, ..) => {
+            let name = name.duplicate()?;
+            Ok(Answer::Prepared(PrepareResponse { name, param_types }))
+        }
+        Request::Bind(..) => Ok(Answer::Bound),
+        Request::Execute(..) => Ok(Answer::Executed(executed_of(alloc, executed))),
+        Request::Describe(_) => {
+            let fields = columns_of(alloc, opened);
+            Ok(Answer::Described(DescribeResponse {
+                param_types,
+                fields,
+            }))
+        }
+        Request::Close(_) => Ok(Answer::Closed),
+        Request::Query(..) => {
+            let rows = with_rows(rows_until(alloc, executed), rows)?;
+            Ok(Answer::Rows(rows))
+        }
+    }
+}
+
+/// The answer of a request whose segment has closed.
+pub fn answer_by(alloc: Global, request: &Request, mut tally: Tally) -> Result<Answer, OutOfMemory>
+    ensures { IfOk result (λ answer. answer ≡ answer_by request.now tally) }
+{
+    match tally.remote.take() {
+        Some(error) => Ok(Answer::Remote(error)),
+        None => result_of(alloc, request, tally),
+    }
+}

@@ -1,0 +1,179 @@
+//! What a client sends to log in.
+ghost use Rattle.std.specs.Prelude.{◌≡◌, codes, Some, None, true, is_some, option_map, unwrap_or, IfOk};
+ghost use Rattle.std.specs.List.{list_any};
+ghost use Rattle.std.specs.Str.{bytes_eq, is_utf8};
+ghost use Rattle.pgw_hash.specs.Saslprep.{prepared};
+ghost use Rattle.pgw_scram.specs.Base64.{nonce_text};
+ghost use Rattle.pgw_wire.specs.Reading.{lossy};
+ghost use Rattle.pgw_session.specs.Logins.{cleartext_message, final_refusal, first_message, md5_message, password_message, password_of, scram_user, user_of};
+ghost use Rattle.pgw_client.specs.Input.{input_of};
+
+use crate::input::Input;
+use pgw_backend::client_error::{PgWireClientError, ScramFault};
+use pgw_frontend::frontend::PgWireFrontendMessage;
+use pgw_hash::md5_password::hash_md5_password;
+use pgw_hash::saslprep::saslprep;
+use pgw_scram::exchange::client_first;
+use pgw_scram::messages::ServerFinal;
+use pgw_scram::nonce::random_nonce;
+use pgw_startup::password::{Password, PasswordMessageFamily};
+use pgw_startup::sasl::{SASLInitialResponse, SASLResponse};
+use pgw_types::error::PgWireError;
+use pgw_types::listed::Listed;
+use pgw_types::memory::OutOfMemory;
+use pgw_types::octets::Octets;
+use pgw_types::text::Text;
+use pgw_wire::reader::lossy_text;
+use std::alloc::Global;
+use std::str;
+
+/// The user name, or the empty text where none is set.
+pub fn user_of<'a>(input: &Input<'a>) -> &'a str
+    ensures { result.now ≡ user_of (input_of input.now) }
+{
+    match &input.config.user {
+        Some(user) => user.as_str(),
+        None => "",
+    }
+}
+
+/// The bytes of the password, or none where none is set.
+pub fn password_of<'a>(input: &Input<'a>) -> &'a [u8]
+    ensures { result.now ≡ password_of (input_of input.now) }
+{
+    match &input.config.password {
+        Some(password) => password.as_slice(),
+        None => &[],
+    }
+}
+
+// The password, read as UTF-8.
+fn password_text(alloc: Global, input: &Input<'_>) -> Result<Text, OutOfMemory>
+    ensures { IfOk result (λ text. text ≡ lossy (password_of (input_of input.now))) }
+{
+    match lossy_text(alloc, password_of(input)) {
+        Ok(text) => Ok(text),
+        Err(_) => Err(OutOfMemory),
+    }
+}
+
+fn password_message(password: Text) -> PgWireFrontendMessage
+    ensures { result ≡ password_message password }
+{
+    PgWireFrontendMessage::PasswordMessageFamily(PasswordMessageFamily::Password(Password {
+        password,
+    }))
+}
+
+/// The password in clear text (AuthenticationCleartextPassword).
+pub fn cleartext_message(
+    alloc: Global,
+    input: &Input<'_>,
+) -> Result<PgWireFrontendMessage, OutOfMemory>
+    ensures { IfOk result (λ m. m ≡ cleartext_message (input_of input.now)) }
+{
+    Ok(password_message(password_text(alloc, input)?))
+}
+
+/// The password hashed with the user name and a salt (AuthenticationMD5Password).
+pub fn md5_message(
+    alloc: Global,
+    input: &Input<'_>,
+    salt: &Octets,
+) -> Result<PgWireFrontendMessage, OutOfMemory>
+    ensures { IfOk result (λ m. m ≡ md5_message (input_of input.now) salt.now) }
+{
+    let password = password_text(alloc, input)?;
+    let hashed = hash_md5_password(alloc, user_of(input), password.as_str(), salt.as_slice())?;
+    Ok(password_message(hashed))
+}
+
+// ---- SCRAM
+
+fn is_scram(method: &Text) -> bool
+    ensures { result ≡ bytes_eq (codes "SCRAM-SHA-256") method.now }
+{
+    "SCRAM-SHA-256" == method.as_str()
+}
+
+/// Whether `SCRAM-SHA-256` is among the methods.
+pub fn offers_scram(methods: &Listed<Text>) -> bool
+    ensures { result ≡ list_any (bytes_eq (codes "SCRAM-SHA-256")) methods.now }
+{
+    methods.as_slice().iter().any(|method| is_scram(method))
+}
+
+/// Whether some bytes are UTF-8.
+pub fn is_utf8(bytes: &[u8]) -> bool
+    ensures { result ≡ is_utf8 bytes.now }
+{
+    match str::from_utf8(bytes) {
+        Ok(_) => true,
+        Err(_) => false,
+    }
+}
+
+/// The user name as SCRAM has it: prepared, or empty where it has no prepared form.
+pub fn scram_user(alloc: Global, input: &Input<'_>) -> Result<Text, OutOfMemory>
+    ensures { IfOk result (λ text. text ≡ scram_user (input_of input.now)) }
+{
+    match saslprep(alloc, user_of(input))? {
+        Some(user) => Ok(user),
+        None => Ok(Text::new(alloc)),
+    }
+}
+
+/// The first message of the login, of a prepared user name (SASLInitialResponse).
+pub fn first_message(
+    alloc: Global,
+    input: &Input<'_>,
+    user: &Text,
+) -> Result<PgWireFrontendMessage, OutOfMemory>
+    requires { user.now ≡ scram_user (input_of input.now) }
+    ensures { IfOk result (λ m. m ≡ first_message (input_of input.now)) }
+{
+    let nonce = random_nonce(alloc, input.nonce)?;
+    let text = client_first(alloc, user.as_str(), nonce.as_str())?;
+    let payload = Octets::from_slice(alloc, text.as_str().as_bytes())?;
+    let auth_method = Text::from_str(alloc, "SCRAM-SHA-256")?;
+    Ok(PgWireFrontendMessage::PasswordMessageFamily(PasswordMessageFamily::SASLInitialResponse(
+        SASLInitialResponse {
+            auth_method,
+            payload: Some(payload),
+        },
+    )))
+}
+
+/// The answer to the server's first text (SASLResponse).
+pub fn response_message(alloc: Global, text: &Text) -> Result<PgWireFrontendMessage, OutOfMemory>
+    ensures { IfOk result (λ m. m ≡ PgWireFrontendMessage.PasswordMessageFamily (PasswordMessageFamily.SASLResponse (record { payload = text.now }))) }
+{
+    let payload = Octets::from_slice(alloc, text.as_str().as_bytes())?;
+    Ok(PgWireFrontendMessage::PasswordMessageFamily(PasswordMessageFamily::SASLResponse(
+        SASLResponse { payload },
+    )))
+}
+
+/// Why the server's last text is refused, where a signature is expected.
+pub fn final_refusal(
+    alloc: Global,
+    expected: &Octets,
+    last: &Octets,
+) -> Result<Option<PgWireClientError>, OutOfMemory>
+    ensures { IfOk result (λ refusal. refusal ≡ final_refusal expected.now last.now) }
+{
+    match ServerFinal::read(alloc, last.as_slice()) {
+        Ok(ServerFinal::Signature(text)) => {
+            if text.as_str().as_bytes() == expected.as_slice() {
+                Ok(None)
+            } else {
+                Ok(Some(PgWireClientError::ScramError(ScramFault::SignatureMismatch)))
+            }
+        }
+        Ok(ServerFinal::Failed(text)) => Ok(Some(PgWireClientError::ScramError(
+            ScramFault::ServerError(text),
+        ))),
+        Err(PgWireError::OutOfMemory) => Err(OutOfMemory),
+        Err(why) => Ok(Some(PgWireClientError::PgWireError(why))),
+    }
+}

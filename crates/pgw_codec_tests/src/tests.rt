@@ -1,0 +1,11 @@
+//! What no clause says: worked bytes, printed texts, constants, and that each call succeeds where there is memory.
+
+mod client;
+mod columns;
+mod constants;
+mod errors;
+mod lists;
+mod login;
+mod server;
+mod shared;
+mod values;

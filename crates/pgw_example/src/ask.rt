@@ -1,0 +1,28 @@
+//! One query over a link.
+ghost use Rattle.std.specs.Prelude.{IfOk};
+ghost use Rattle.pgw_client.specs.Errors.{IoHasCause};
+ghost use Rattle.pgw_client.specs.Sessions.{MovedBy};
+ghost use Rattle.pgw_example.specs.Ask.{Asked};
+
+use pgw_client::{Config, Link, PgWireClientResult, Request, SessionReport, Text, run_session};
+use std::alloc::Global;
+
+/// Logs in by a connection text, asks for what the query gives, and reports. An error of the server is the report's
+/// one answer, and no error of this call.
+pub fn ask<L: Link>(
+    alloc: Global,
+    link: &mut L,
+    text: &str,
+    sql: &str,
+    nonce: &[u8; 18],
+    limit: u64,
+) -> PgWireClientResult<SessionReport>
+    // IoError comes only where a call of the link failed.
+    ensures cause { IoHasCause (L.faults link.old) (L.faults link.new) result }
+    // The report is that of a completed session with this query, under the configuration that the text gives.
+    ensures asked { L.tells → IfOk result (λ report. MovedBy (L.tape link.old) (L.tape link.new) (λ taken sent. Asked text.now sql.now nonce.now taken sent report)) }
+{
+    let config = Config::parse(alloc, text)?;
+    let requests = [Request::Simple(Text::from_str(alloc, sql)?)];
+    run_session(alloc, link, &config, &requests, nonce, limit)
+}

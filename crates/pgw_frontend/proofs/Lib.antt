@@ -1,0 +1,2 @@
+pub mod FrontendLaws
+pub mod FrontendWritten

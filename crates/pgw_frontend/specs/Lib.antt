@@ -1,0 +1,3 @@
+pub mod Frontend
+pub mod FrontendSpells
+pub mod FrontendTexts

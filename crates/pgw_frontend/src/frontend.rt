@@ -1,0 +1,286 @@
+//! All messages of a client.
+ghost use Rattle.std.specs.Prelude.{◌≡◌, ◌++◌, ℕ, List, IfOk, IfSome, OnOk, Ok, Some};
+ghost use Rattle.pgw_types.specs.declared.context.ProtocolVersion.{ProtocolVersion as TheVersion};
+ghost use Rattle.pgw_types.specs.declared.context.DecodeContext.{DecodeContext as TheContext};
+ghost use Rattle.pgw_wire.specs.Framing.{Appends, Decodes};
+ghost use Rattle.pgw_frontend.specs.Frontend.{encoding, negotiation_front, first_front, typed_front, frontend_front, is_extended};
+ghost use Rattle.pgw_frontend.specs.FrontendSpells.{SpellsFrontend, Awaits, as_read, SuitsFrontend};
+ghost use Rattle.pgw_frontend.specs.declared.frontend.PgWireFrontendMessage.{PgWireFrontendMessage as TheMessage};
+
+use crate::sound::is_sound;
+use bytes::BytesMut;
+use pgw_copy::copy::{CopyData, CopyDone, CopyFail};
+use pgw_ext::extendedquery::{Bind, Close, Describe, Execute, Flush, Parse, PortalSuspended, Sync};
+use pgw_opening::cancel::CancelRequest;
+use pgw_opening::gss_enc_request::GssEncRequest;
+use pgw_opening::ssl_request::SslRequest;
+use pgw_opening::terminate::Terminate;
+use pgw_query::simplequery::Query;
+use pgw_startup::password::PasswordMessageFamily;
+use pgw_startup::startup::Startup;
+use pgw_types::context::DecodeContext;
+use pgw_types::error::{PgWireError, PgWireResult};
+use pgw_types::listed::Duplicate;
+use pgw_types::memory::OutOfMemory;
+use pgw_wire::message::Message;
+use std::alloc::Global;
+
+/// What a client asks for before its first message.
+#[derive(Debug, Drop, PartialEq, Eq)]
+pub enum SslNegotiationMetaMessage {
+    PostgresSsl(SslRequest),
+    PostgresGss(GssEncRequest),
+    /// No encryption: the bytes at the front begin a first message.
+    None,
+}
+
+impl Duplicate for SslNegotiationMetaMessage {
+    fn duplicate(&self) -> Result<SslNegotiationMetaMessage, OutOfMemory> {
+        match self {
+            SslNegotiationMetaMessage::PostgresSsl(x) => Ok(SslNegotiationMetaMessage::PostgresSsl(
+                *x,
+            )),
+            SslNegotiationMetaMessage::PostgresGss(x) => Ok(SslNegotiationMetaMessage::PostgresGss(
+                *x,
+            )),
+            SslNegotiationMetaMessage::None => Ok(SslNegotiationMetaMessage::None),
+        }
+    }
+}
+
+/// A message of a client.
+#[derive(Debug, Drop, PartialEq, Eq)]
+pub enum PgWireFrontendMessage {
+    SslNegotiation(SslNegotiationMetaMessage),
+    Startup(Startup),
+    CancelRequest(CancelRequest),
+    PasswordMessageFamily(PasswordMessageFamily),
+    /// Of a client this is only written: its byte is no type byte of a client's message.
+    PortalSuspended(PortalSuspended),
+    Query(Query),
+    Parse(Parse),
+    Bind(Bind),
+    Close(Close),
+    Describe(Describe),
+    Execute(Execute),
+    Flush(Flush),
+    Sync(Sync),
+    Terminate(Terminate),
+    CopyData(CopyData),
+    CopyDone(CopyDone),
+    CopyFail(CopyFail),
+}
+
+impl PgWireFrontendMessage {
+    /// Takes the message at the front, if it is whole, which the two flags of the context name. A refusal leaves the buffer, as does want of memory.
+    pub fn decode(
+        alloc: Global,
+        buf: &mut BytesMut,
+        ctx: &DecodeContext,
+    ) -> PgWireResult<Option<PgWireFrontendMessage>>
+        // A message that is read is spelled by the bytes that were taken.
+        ensures found { IfOk result (λ o. IfSome o (λ m. (g : List ℕ) × (buf.old.items ≡ g ++ buf.new.items) × SpellsFrontend ctx.now.protocol_version m g)) }
+        // What is spelled at the front is read, in its phase, unless memory runs out.
+        ensures only { (m : TheMessage) (g rest : List ℕ) → Awaits ctx.now m → SpellsFrontend ctx.now.protocol_version m g → buf.old.items ≡ g ++ rest → Decodes result buf.old.items buf.new.items (Ok (Some (m, rest))) }
+        // Which message it is or which refusal, and when nothing is whole yet.
+        ensures exact { Decodes result buf.old.items buf.new.items (frontend_front ctx.now buf.old.items) }
+    {
+        decode_exact(alloc, buf, ctx)
+    }
+
+    /// Appends the whole message, or nothing.
+    pub fn encode(&self, buf: &mut BytesMut) -> PgWireResult<()>
+        // What is written spells what comes back of the message, under each version that its key suits.
+        ensures spelled { OnOk result ((v : TheVersion) → SuitsFrontend v self.now → (g : List ℕ) × (buf.new.items ≡ buf.old.items ++ g) × SpellsFrontend v (as_read self.now) g) }
+        // In a context that awaits the message it comes back, whatever follows it, and what follows is left.
+        ensures read_again { OnOk result ((ctx : TheContext) (rest : List ℕ) → SuitsFrontend ctx.protocol_version self.now → Awaits ctx (as_read self.now) → (g : List ℕ) × (buf.new.items ≡ buf.old.items ++ g) × (frontend_front ctx (g ++ rest) ≡ Ok (Some (as_read self.now, rest)))) }
+        // Which bytes are written, or which refusal it is.
+        ensures exact { Appends result buf.old.items buf.new.items (encoding self.now) }
+    {
+        prove!(is_sound(self));
+        self.encode_exact(buf)
+    }
+
+    #[tactic(auto, unfolding(crate::specs::Frontend::encoding))]
+    fn encode_exact(&self, buf: &mut BytesMut) -> PgWireResult<()>
+        ensures { Appends result buf.old.items buf.new.items (encoding self.now) }
+    {
+        match self {
+            PgWireFrontendMessage::SslNegotiation(m) => match m {
+                SslNegotiationMetaMessage::PostgresSsl(m) => m.encode(buf),
+                SslNegotiationMetaMessage::PostgresGss(m) => m.encode(buf),
+                SslNegotiationMetaMessage::None => Ok(()),
+            },
+            PgWireFrontendMessage::Startup(m) => m.encode(buf),
+            PgWireFrontendMessage::CancelRequest(m) => m.encode(buf),
+            PgWireFrontendMessage::PasswordMessageFamily(m) => m.encode(buf),
+            PgWireFrontendMessage::PortalSuspended(m) => m.encode(buf),
+            PgWireFrontendMessage::Query(m) => m.encode(buf),
+            PgWireFrontendMessage::Parse(m) => m.encode(buf),
+            PgWireFrontendMessage::Bind(m) => m.encode(buf),
+            PgWireFrontendMessage::Close(m) => m.encode(buf),
+            PgWireFrontendMessage::Describe(m) => m.encode(buf),
+            PgWireFrontendMessage::Execute(m) => m.encode(buf),
+            PgWireFrontendMessage::Flush(m) => m.encode(buf),
+            PgWireFrontendMessage::Sync(m) => m.encode(buf),
+            PgWireFrontendMessage::Terminate(m) => m.encode(buf),
+            PgWireFrontendMessage::CopyData(m) => m.encode(buf),
+            PgWireFrontendMessage::CopyDone(m) => m.encode(buf),
+            PgWireFrontendMessage::CopyFail(m) => m.encode(buf),
+        }
+    }
+
+    /// Whether the message is one of the extended query.
+    pub fn is_extended_query(&self) -> bool
+        ensures { result ≡ is_extended self.now }
+    {
+        match self {
+            PgWireFrontendMessage::Parse(_)
+            | PgWireFrontendMessage::Bind(_)
+            | PgWireFrontendMessage::Close(_)
+            | PgWireFrontendMessage::Describe(_)
+            | PgWireFrontendMessage::Execute(_)
+            | PgWireFrontendMessage::PortalSuspended(_)
+            | PgWireFrontendMessage::Flush(_)
+            | PgWireFrontendMessage::Sync(_) => true,
+            _ => false,
+        }
+    }
+}
+
+// A request for encryption, or that there is none.
+#[tactic(auto, unfolding(crate::specs::Frontend::negotiation_front))]
+fn decode_negotiation(
+    alloc: Global,
+    buf: &mut BytesMut,
+    ctx: &DecodeContext,
+) -> PgWireResult<Option<PgWireFrontendMessage>>
+    ensures { Decodes result buf.old.items buf.new.items (negotiation_front ctx.now buf.old.items) }
+{
+    if buf.len() < 8 {
+        return Ok(None);
+    }
+    if SslRequest::is_ssl_request_packet(buf.as_slice()) {
+        return Ok(SslRequest::decode(alloc, buf, ctx)?.map(|m| {
+            PgWireFrontendMessage::SslNegotiation(SslNegotiationMetaMessage::PostgresSsl(m))
+        }));
+    }
+    if GssEncRequest::is_gss_enc_request_packet(buf.as_slice()) {
+        return Ok(GssEncRequest::decode(alloc, buf, ctx)?.map(|m| {
+            PgWireFrontendMessage::SslNegotiation(SslNegotiationMetaMessage::PostgresGss(m))
+        }));
+    }
+    Ok(Some(PgWireFrontendMessage::SslNegotiation(SslNegotiationMetaMessage::None)))
+}
+
+// A Startup, or a CancelRequest in its place.
+#[tactic(auto, unfolding(crate::specs::Frontend::first_front))]
+fn decode_first(
+    alloc: Global,
+    buf: &mut BytesMut,
+    ctx: &DecodeContext,
+) -> PgWireResult<Option<PgWireFrontendMessage>>
+    ensures { Decodes result buf.old.items buf.new.items (first_front ctx.now buf.old.items) }
+{
+    if buf.len() < 8 {
+        return Ok(None);
+    }
+    if CancelRequest::is_cancel_request_packet(buf.as_slice()) {
+        Ok(CancelRequest::decode(alloc, buf, ctx)?.map(PgWireFrontendMessage::CancelRequest))
+    } else {
+        Ok(Startup::decode(alloc, buf, ctx)?.map(PgWireFrontendMessage::Startup))
+    }
+}
+
+// A message with a type byte.
+#[tactic(auto, unfolding(crate::specs::Frontend::typed_front))]
+fn decode_typed(
+    alloc: Global,
+    buf: &mut BytesMut,
+    ctx: &DecodeContext,
+) -> PgWireResult<Option<PgWireFrontendMessage>>
+    ensures { Decodes result buf.old.items buf.new.items (typed_front ctx.now buf.old.items) }
+{
+    if buf.len() < 2 {
+        return Ok(None);
+    }
+    let byte = buf.as_slice()[0];
+    match byte {
+        b'p' => Ok(PasswordMessageFamily::decode(alloc, buf, ctx)?.map(
+            PgWireFrontendMessage::PasswordMessageFamily,
+        )),
+        b'Q' => Ok(Query::decode(alloc, buf, ctx)?.map(PgWireFrontendMessage::Query)),
+        b'P' => Ok(Parse::decode(alloc, buf, ctx)?.map(PgWireFrontendMessage::Parse)),
+        b'B' => Ok(Bind::decode(alloc, buf, ctx)?.map(PgWireFrontendMessage::Bind)),
+        b'C' => Ok(Close::decode(alloc, buf, ctx)?.map(PgWireFrontendMessage::Close)),
+        b'D' => Ok(Describe::decode(alloc, buf, ctx)?.map(PgWireFrontendMessage::Describe)),
+        b'E' => Ok(Execute::decode(alloc, buf, ctx)?.map(PgWireFrontendMessage::Execute)),
+        b'H' => Ok(Flush::decode(alloc, buf, ctx)?.map(PgWireFrontendMessage::Flush)),
+        b'S' => Ok(Sync::decode(alloc, buf, ctx)?.map(PgWireFrontendMessage::Sync)),
+        b'X' => Ok(Terminate::decode(alloc, buf, ctx)?.map(PgWireFrontendMessage::Terminate)),
+        b'd' => Ok(CopyData::decode(alloc, buf, ctx)?.map(PgWireFrontendMessage::CopyData)),
+        b'c' => Ok(CopyDone::decode(alloc, buf, ctx)?.map(PgWireFrontendMessage::CopyDone)),
+        b'f' => Ok(CopyFail::decode(alloc, buf, ctx)?.map(PgWireFrontendMessage::CopyFail)),
+        _ => Err(PgWireError::InvalidMessageType(byte)),
+    }
+}
+
+// Takes the message at the front, if it is whole.
+#[tactic(auto, unfolding(crate::specs::Frontend::frontend_front))]
+fn decode_exact(
+    alloc: Global,
+    buf: &mut BytesMut,
+    ctx: &DecodeContext,
+) -> PgWireResult<Option<PgWireFrontendMessage>>
+    ensures { Decodes result buf.old.items buf.new.items (frontend_front ctx.now buf.old.items) }
+{
+    if ctx.awaiting_frontend_ssl {
+        decode_negotiation(alloc, buf, ctx)
+    } else if ctx.awaiting_frontend_startup {
+        decode_first(alloc, buf, ctx)
+    } else {
+        decode_typed(alloc, buf, ctx)
+    }
+}
+
+impl Duplicate for PgWireFrontendMessage {
+    fn duplicate(&self) -> Result<PgWireFrontendMessage, OutOfMemory> {
+        match self {
+            PgWireFrontendMessage::SslNegotiation(x) => Ok(PgWireFrontendMessage::SslNegotiation(
+                x.duplicate()?,
+            )),
+            PgWireFrontendMessage::Startup(x) => Ok(PgWireFrontendMessage::Startup(x.duplicate()?)),
+            PgWireFrontendMessage::CancelRequest(x) => Ok(PgWireFrontendMessage::CancelRequest(
+                x.duplicate()?,
+            )),
+            PgWireFrontendMessage::PasswordMessageFamily(x) => Ok(
+                PgWireFrontendMessage::PasswordMessageFamily(x.duplicate()?),
+            ),
+            PgWireFrontendMessage::PortalSuspended(x) => Ok(PgWireFrontendMessage::PortalSuspended(
+                x.duplicate()?,
+            )),
+            PgWireFrontendMessage::Query(x) => Ok(PgWireFrontendMessage::Query(x.duplicate()?)),
+            PgWireFrontendMessage::Parse(x) => Ok(PgWireFrontendMessage::Parse(x.duplicate()?)),
+            PgWireFrontendMessage::Bind(x) => Ok(PgWireFrontendMessage::Bind(x.duplicate()?)),
+            PgWireFrontendMessage::Close(x) => Ok(PgWireFrontendMessage::Close(x.duplicate()?)),
+            PgWireFrontendMessage::Describe(x) => Ok(PgWireFrontendMessage::Describe(
+                x.duplicate()?,
+            )),
+            PgWireFrontendMessage::Execute(x) => Ok(PgWireFrontendMessage::Execute(x.duplicate()?)),
+            PgWireFrontendMessage::Flush(x) => Ok(PgWireFrontendMessage::Flush(x.duplicate()?)),
+            PgWireFrontendMessage::Sync(x) => Ok(PgWireFrontendMessage::Sync(x.duplicate()?)),
+            PgWireFrontendMessage::Terminate(x) => Ok(PgWireFrontendMessage::Terminate(
+                x.duplicate()?,
+            )),
+            PgWireFrontendMessage::CopyData(x) => Ok(PgWireFrontendMessage::CopyData(
+                x.duplicate()?,
+            )),
+            PgWireFrontendMessage::CopyDone(x) => Ok(PgWireFrontendMessage::CopyDone(
+                x.duplicate()?,
+            )),
+            PgWireFrontendMessage::CopyFail(x) => Ok(PgWireFrontendMessage::CopyFail(
+                x.duplicate()?,
+            )),
+        }
+    }
+}

@@ -1,7 +1,0 @@
-pub mod BackendStable
-pub mod FrontLaws
-pub mod TagLaws
-pub mod BackendLaws
-pub mod BackendWritten
-pub mod FrontendLaws
-pub mod FrontendWritten

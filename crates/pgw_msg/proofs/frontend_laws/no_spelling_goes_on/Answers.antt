@@ -1,5 +1,0 @@
-use Rattle.pgw_msg.proofs.FrontendLaws.{ends, same}
-use Rattle.pgw_msg.proofs.frontend_laws.no_spelling_goes_on.Goals as goal
-
-pub returns : goal.returns
-returns c = record { ends = ends; same = same }

@@ -1,5 +1,0 @@
-use Rattle.pgw_msg.proofs.BackendLaws.{goes_on}
-use Rattle.pgw_msg.proofs.laws.no_spelling_goes_on.Goals as goal
-
-pub returns : goal.returns
-returns c = goes_on

@@ -1,7 +1,0 @@
-use Rattle.std.proofs.Common.{take}
-use Rattle.pgw_query.specs.Sound.{IsOid}
-use Rattle.std.specs.List.{AllByRecursion}
-use Rattle.pgw_msg.proofs.sound.are_oids.Given as goal
-
-abbrev pub invariant-loop-oid : goal.invariant-loop-oid
-invariant-loop-oid l = AllByRecursion IsOid (take l.oid-index l.oids)

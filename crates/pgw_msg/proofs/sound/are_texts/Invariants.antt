@@ -1,6 +1,0 @@
-use Rattle.std.proofs.Common.{take, IsUtf8}
-use Rattle.std.specs.List.{AllByRecursion}
-use Rattle.pgw_msg.proofs.sound.are_texts.Given as goal
-
-abbrev pub invariant-loop-text : goal.invariant-loop-text
-invariant-loop-text l = AllByRecursion IsUtf8 (take l.text-index l.texts)

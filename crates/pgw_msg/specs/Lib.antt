@@ -1,9 +1,0 @@
-pub mod Backend
-pub mod ClientError
-pub mod Texts
-pub mod Front
-pub mod Frontend
-pub mod Tags
-pub mod Fields
-pub mod FrontendSpells
-pub mod FrontendTexts

@@ -1,0 +1,3 @@
+pub mod Openings
+pub mod Terminate
+pub mod Sound

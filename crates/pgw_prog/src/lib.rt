@@ -1,0 +1,17 @@
+//! Client sessions from scripts: what the program does.
+#![tactic(auto)]
+
+mod answer_lines;
+mod command;
+mod error_names;
+mod grammar;
+mod held;
+mod line;
+mod pieces;
+mod printed;
+mod printing;
+pub mod program;
+mod request_line;
+mod script;
+pub mod start;
+mod transfer;

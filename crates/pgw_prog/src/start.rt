@@ -1,0 +1,39 @@
+//! The program over standard input and output.
+
+use crate::program::run_program;
+use pgw_link::standard::{StdSink, StdSource};
+use rand::RngExt;
+use rand::rngs::StdRng;
+use std::{env, io};
+
+/// Runs the command that the words behind the program's name ask for, and says with which status to end.
+pub fn start(rt: &HostRuntime) -> u8 {
+    match words_of(rt) {
+        Ok(words) => run(rt, &words),
+        Err(error) if error.kind() == io::ErrorKind::OutOfMemory => 4,
+        // A word that is no text is no command.
+        Err(_) => run(rt, &[String::new(rt.alloc())]),
+    }
+}
+
+/// The words behind the program's name.
+fn words_of(rt: &HostRuntime) -> io::Result<Vec<String>> {
+    let mut words = Vec::new(rt.alloc());
+    for word in env::args(rt)?.skip(1) {
+        words.push(word)?;
+    }
+    Ok(words)
+}
+
+/// Runs a command over standard input and output, with fresh bytes.
+fn run(rt: &HostRuntime, words: &[String]) -> u8 {
+    let rng: io::Result<StdRng> = rand::make_rng(rt);
+    let Ok(mut rng) = rng else {
+        return 3;
+    };
+    let nonce: [u8; 18] = rng.random();
+    let words32: [u8; 32] = rng.random();
+    let mut input = StdSource::new(rt.reader());
+    let mut output = StdSink::new(io::writer(rt));
+    run_program(rt.alloc(), words, &mut input, &mut output, &nonce, &words32)
+}

@@ -1,0 +1,8 @@
+//! Whole runs of the program over sources and sinks in memory.
+
+mod config;
+mod extended;
+mod program;
+mod script;
+mod session;
+mod shared;

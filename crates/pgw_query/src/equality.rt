@@ -1,0 +1,28 @@
+//! Equality of the messages of queries.
+ghost use Rattle.pgw_wire.specs.Equal.{IsExact};
+
+use crate::data::{DataRow, FieldDescription, RowDescription};
+use crate::description::{NoData, ParameterDescription};
+use crate::notification::NotificationResponse;
+use crate::response::{
+    CommandComplete, EmptyQueryResponse, ErrorResponse, NoticeResponse, ReadyForQuery,
+    TransactionStatus,
+};
+use crate::simplequery::Query;
+
+/// Two messages are equal exactly where they are the same.
+pub fn equality_is_exact()
+    ensures query { IsExact ⟦<Query as PartialEq>⟧.eq }
+    ensures transaction_status { IsExact ⟦<TransactionStatus as PartialEq>⟧.eq }
+    ensures ready_for_query { IsExact ⟦<ReadyForQuery as PartialEq>⟧.eq }
+    ensures command_complete { IsExact ⟦<CommandComplete as PartialEq>⟧.eq }
+    ensures empty_query_response { IsExact ⟦<EmptyQueryResponse as PartialEq>⟧.eq }
+    ensures error_response { IsExact ⟦<ErrorResponse as PartialEq>⟧.eq }
+    ensures notice_response { IsExact ⟦<NoticeResponse as PartialEq>⟧.eq }
+    ensures notification_response { IsExact ⟦<NotificationResponse as PartialEq>⟧.eq }
+    ensures field_description { IsExact ⟦<FieldDescription as PartialEq>⟧.eq }
+    ensures row_description { IsExact ⟦<RowDescription as PartialEq>⟧.eq }
+    ensures parameter_description { IsExact ⟦<ParameterDescription as PartialEq>⟧.eq }
+    ensures data_row { IsExact ⟦<DataRow as PartialEq>⟧.eq }
+    ensures no_data { IsExact ⟦<NoData as PartialEq>⟧.eq }
+{}

@@ -1,0 +1,386 @@
+//! Threads on one registry.
+ghost use Rattle.std.specs.Prelude.{◌≡◌, IfSome};
+ghost use Rattle.std.specs.Arc.{arc_value};
+
+use crate::error::{LookError, RegistryError};
+use crate::manager::{CancelToken, ConnectionGuard, ConnectionHandle, ConnectionManager, Pass};
+use pgw_wire::secret_key::SecretKey;
+use std::alloc::Global;
+use std::sync::atomic::{AtomicBool, Ordering};
+use std::sync::{Arc, Wait};
+use std::test::Fail;
+use std::thread;
+use std::thread::Threads;
+
+type Look = Result<Option<()>, LookError>;
+
+type Canceled = Result<bool, RegistryError>;
+
+// How many calls were answered.
+fn finish<R: Wait>(rt: &R, manager: &ConnectionManager, pass: &mut Pass, token: CancelToken) -> u64
+    requires { pass.old.of ≡ manager.now }
+    ensures { pass.new.of ≡ pass.old.of }
+{
+    match token.finish(rt, manager, pass) {
+        Ok(()) => 1,
+        Err(token) => {
+            token.abandon(pass);
+            0
+        }
+    }
+}
+
+fn close<R: Wait>(
+    rt: &R,
+    manager: &ConnectionManager,
+    pass: &mut Pass,
+    handle: ConnectionHandle,
+) -> u64
+    requires { pass.old.of ≡ manager.now }
+    ensures { pass.new.of ≡ pass.old.of }
+{
+    match handle.close(rt, manager, pass) {
+        Ok(()) => 1,
+        Err(handle) => {
+            handle.abandon(pass);
+            0
+        }
+    }
+}
+
+fn release<R: Wait>(rt: &R, pass: &mut Pass, guard: ConnectionGuard) -> u64
+    requires { pass.old.of ≡ arc_value guard.manager }
+    ensures { pass.new.of ≡ pass.old.of }
+{
+    match guard.release(rt, pass) {
+        Ok(()) => 1,
+        Err(guard) => {
+            guard.abandon(pass);
+            0
+        }
+    }
+}
+
+// A query that is started, canceled and finished.
+fn query<R: Wait>(
+    rt: &R,
+    manager: &ConnectionManager,
+    pass: &mut Pass,
+    handle: &ConnectionHandle,
+) -> u64
+    requires { pass.old.of ≡ manager.now }
+    ensures { pass.new.of ≡ pass.old.of }
+{
+    let Ok(token) = handle.start_query(rt, manager, pass) else {
+        return 0;
+    };
+    let canceled = match handle.cancel(rt, manager, pass) {
+        Ok(_) => 1u64,
+        Err(_) => 0,
+    };
+    canceled
+        .saturating_add(finish(rt, manager, pass, token))
+        .saturating_add(1)
+}
+
+// A connection with a query.
+fn connection<R: Wait>(
+    rt: &R,
+    alloc: Global,
+    manager: &Arc<ConnectionManager>,
+    pass: &mut Pass,
+    pid: i32,
+) -> u64
+    requires { pass.old.of ≡ arc_value manager.now }
+    ensures { pass.new.of ≡ pass.old.of }
+{
+    let Ok((handle, guard)) = ConnectionManager::register(
+        rt,
+        alloc,
+        manager,
+        pass,
+        pid,
+        SecretKey::I32(1),
+    ) else {
+        return 0;
+    };
+    let answered = query(rt, manager, pass, &handle);
+    answered
+        .saturating_add(close(rt, manager, pass, handle))
+        .saturating_add(release(rt, pass, guard))
+        .saturating_add(1)
+}
+
+fn hundred<R: Wait>(
+    rt: &R,
+    alloc: Global,
+    manager: &Arc<ConnectionManager>,
+    mut pass: Pass,
+    pid: i32,
+) -> (Pass, u64)
+    requires { pass.of ≡ arc_value manager.now }
+    ensures { result.0.of ≡ pass.of }
+{
+    let mut answered = 0u64;
+    for _ in 0..100 {
+        answered = answered.saturating_add(connection(rt, alloc, manager, &mut pass, pid));
+    }
+    (pass, answered)
+}
+
+// What two threads did.
+fn both(manager: &ConnectionManager, first: (Pass, u64), second: (Pass, u64)) -> Option<(Pass, u64)>
+    requires first { first.0.of ≡ manager.now }
+    requires second { second.0.of ≡ manager.now }
+    ensures { IfSome result (λ r. r.0.of ≡ manager.now) }
+{
+    let (mut pass, answered) = first;
+    let (other, others) = second;
+    pass.meet(manager, other).ok()?;
+    Some((pass, answered.saturating_add(others)))
+}
+
+fn two<R: Threads + Wait + Sync>(
+    rt: &R,
+    alloc: Global,
+    manager: &Arc<ConnectionManager>,
+    first: Pass,
+    second: Pass,
+) -> Option<(Pass, u64)>
+    requires first { first.of ≡ arc_value manager.now }
+    requires second { second.of ≡ arc_value manager.now }
+    ensures { IfSome result (λ r. r.0.of ≡ arc_value manager.now) }
+{
+    let (first, second) = thread::join(
+        rt,
+        || -> (Pass, u64)
+            requires { first.of ≡ arc_value manager.now }
+            ensures { result.0.of ≡ first.of }
+        { hundred(rt, alloc, manager, first, 1) },
+        || -> (Pass, u64)
+            requires { second.of ≡ arc_value manager.now }
+            ensures { result.0.of ≡ second.of }
+        { hundred(rt, alloc, manager, second, 1) },
+    );
+    both(manager, first, second)
+}
+
+fn four<R: Threads + Wait + Sync>(
+    rt: &R,
+    alloc: Global,
+    manager: &Arc<ConnectionManager>,
+    mut first: Pass,
+) -> Option<(u64, u64)>
+    requires { first.of ≡ arc_value manager.now }
+{
+    let second = manager.pass(&mut first).ok()?;
+    let third = manager.pass(&mut first).ok()?;
+    let fourth = manager.pass(&mut first).ok()?;
+    let (left, right) = thread::join(
+        rt,
+        || -> Option<(Pass, u64)>
+            requires { (first.of ≡ arc_value manager.now) × (second.of ≡ arc_value manager.now) }
+            ensures { IfSome result (λ r. r.0.of ≡ arc_value manager.entry.now) }
+        { two(rt, alloc, manager, first, second) },
+        || -> Option<(Pass, u64)>
+            requires { (third.of ≡ arc_value manager.now) × (fourth.of ≡ arc_value manager.now) }
+            ensures { IfSome result (λ r. r.0.of ≡ arc_value manager.entry.now) }
+        { two(rt, alloc, manager, third, fourth) },
+    );
+    let (mut pass, answered) = both(manager, left?, right?)?;
+    Some((manager.events(&mut pass), answered))
+}
+
+#[test]
+fn four_threads_count_each_call(rt: HostRuntime) -> Result<(), Fail> {
+    let (manager, pass) = ConnectionManager::new(rt.alloc())?;
+    let manager = Arc::new(rt.alloc(), manager)?;
+    let (events, answered) = four(&rt, rt.alloc(), &manager, pass).ok_or("a pass was not made")?;
+    assert_eq!(rt; events, answered);
+    assert_eq!(rt; events, 2400);
+    Ok(())
+}
+
+#[test]
+fn passes_meet(rt: HostRuntime) -> Result<(), Fail> {
+    let (manager, mut first) = ConnectionManager::new(rt.alloc())?;
+    let mut second = manager.pass(&mut first)?;
+    assert_eq!(rt; manager.events(&mut first), 0);
+    if let Ok(handle) = manager.handle(&rt, &mut second) {
+        assert_eq!(rt; query(&rt, &manager, &mut second, &handle), 3);
+        assert_eq!(rt; close(&rt, &manager, &mut second, handle), 1);
+    }
+    assert_eq!(rt; manager.events(&mut second), 5);
+    assert!(rt; first.meet(&manager, second).is_ok());
+    assert_eq!(rt; manager.events(&mut first), 5);
+    let mut third = manager.pass(&mut first)?;
+    assert_eq!(rt;
+        manager.cancel(&rt, &mut third, 999, &SecretKey::I32(0)),
+        Ok(false)
+    );
+    assert_eq!(rt; manager.events(&mut first), 6);
+    Ok(())
+}
+
+// What is told of two queries of one connection.
+fn replaced<R: Wait>(
+    rt: &R,
+    manager: &ConnectionManager,
+    pass: &mut Pass,
+    handle: &ConnectionHandle,
+) -> Option<(Look, Canceled, Look, Look)>
+    requires { pass.old.of ≡ manager.now }
+    ensures { pass.new.of ≡ pass.old.of }
+{
+    let first = handle.start_query(rt, manager, pass).ok()?;
+    let Ok(second) = handle.start_query(rt, manager, pass) else {
+        finish(rt, manager, pass, first);
+        return None;
+    };
+    let looked = first.try_recv(rt, manager, pass);
+    let canceled = handle.cancel(rt, manager, pass);
+    let fired = second.try_recv(rt, manager, pass);
+    let again = second.try_recv(rt, manager, pass);
+    finish(rt, manager, pass, first);
+    finish(rt, manager, pass, second);
+    Some((looked, canceled, fired, again))
+}
+
+// What a cancel by the pair answers, before and after one of two guards is released.
+fn twice<R: Wait>(
+    rt: &R,
+    alloc: Global,
+    manager: &Arc<ConnectionManager>,
+    pass: &mut Pass,
+) -> Option<(Canceled, Canceled)>
+    requires { pass.old.of ≡ arc_value manager.now }
+    ensures { pass.new.of ≡ pass.old.of }
+{
+    let key = SecretKey::I32(5);
+    let (handle, guard) = ConnectionManager::register(
+        rt,
+        alloc,
+        manager,
+        pass,
+        7,
+        SecretKey::I32(5),
+    ).ok()?;
+    let before = manager.cancel(rt, pass, 7, &key);
+    let Ok((other, spare)) = ConnectionManager::register(
+        rt,
+        alloc,
+        manager,
+        pass,
+        7,
+        SecretKey::I32(5),
+    ) else {
+        close(rt, manager, pass, handle);
+        release(rt, pass, guard);
+        return None;
+    };
+    release(rt, pass, guard);
+    let after = manager.cancel(rt, pass, 7, &key);
+    close(rt, manager, pass, handle);
+    close(rt, manager, pass, other);
+    release(rt, pass, spare);
+    Some((before, after))
+}
+
+// Starts a query and looks at it until it has fired, which it then tells the other thread.
+fn watch<R: Wait>(
+    rt: &R,
+    manager: &ConnectionManager,
+    mut pass: Pass,
+    handle: &ConnectionHandle,
+    done: &AtomicBool,
+) -> (Pass, bool)
+    requires { pass.of ≡ manager.now }
+    ensures { result.0.of ≡ pass.of }
+{
+    let Ok(token) = handle.start_query(rt, manager, &mut pass) else {
+        return (pass, false);
+    };
+    let mut fired = false;
+    for _ in 0..1000000 {
+        if let Ok(Some(())) = token.try_recv(rt, manager, &mut pass) {
+            fired = true;
+            break;
+        }
+    }
+    done.store(true, Ordering::SeqCst);
+    finish(rt, manager, &mut pass, token);
+    (pass, fired)
+}
+
+// Cancels by the pair until it is told to stop.
+fn strike<R: Wait>(rt: &R, manager: &ConnectionManager, mut pass: Pass, done: &AtomicBool) -> bool
+    requires { pass.of ≡ manager.now }
+{
+    for _ in 0..1000000 {
+        if done.load(Ordering::SeqCst) {
+            return true;
+        }
+        let _ = manager.cancel(rt, &mut pass, 7, &SecretKey::I32(5));
+    }
+    false
+}
+
+// Whether a query of one thread is fired by another.
+fn fires<R: Threads + Wait + Sync>(
+    rt: &R,
+    alloc: Global,
+    manager: &Arc<ConnectionManager>,
+    mut pass: Pass,
+    other: Pass,
+) -> bool
+    requires { (pass.of ≡ arc_value manager.now) × (other.of ≡ arc_value manager.now) }
+{
+    let Ok((handle, guard)) = ConnectionManager::register(
+        rt,
+        alloc,
+        manager,
+        &mut pass,
+        7,
+        SecretKey::I32(5),
+    ) else {
+        return false;
+    };
+    let done = AtomicBool::new(false);
+    let ((mut pass, fired), _) = thread::join(
+        rt,
+        || -> (Pass, bool)
+            requires { pass.of ≡ arc_value manager.now }
+            ensures { result.0.of ≡ pass.of }
+        { watch(rt, manager, pass, &handle, &done) },
+        || -> bool
+            requires { other.of ≡ arc_value manager.now }
+        { strike(rt, manager, other, &done) },
+    );
+    close(rt, manager, &mut pass, handle);
+    release(rt, &mut pass, guard);
+    fired
+}
+
+#[test]
+fn threads_cancel(rt: HostRuntime) -> Result<(), Fail> {
+    let (manager, mut pass) = ConnectionManager::new(rt.alloc())?;
+    let other = manager.pass(&mut pass)?;
+    let manager = Arc::new(rt.alloc(), manager)?;
+    if let Ok(handle) = manager.handle(&rt, &mut pass) {
+        let told = replaced(&rt, &manager, &mut pass, &handle);
+        close(&rt, &manager, &mut pass, handle);
+        assert_eq!(rt;
+            told,
+            Some((
+                Err(LookError::Canceled),
+                Ok(true),
+                Ok(Some(())),
+                Err(LookError::Canceled)
+            ))
+        );
+    }
+    let told = twice(&rt, rt.alloc(), &manager, &mut pass);
+    assert_eq!(rt; told, Some((Ok(true), Ok(false))));
+    assert!(rt; fires(&rt, rt.alloc(), &manager, pass, other));
+    Ok(())
+}

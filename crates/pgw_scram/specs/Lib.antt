@@ -1,0 +1,13 @@
+pub mod Answers
+pub mod Attributes
+pub mod Base64
+pub mod Messages
+pub mod Readers
+pub mod Formulas
+pub mod Exchange
+pub mod Shown
+pub mod ShownMessages
+pub mod Refusals
+pub mod Client
+pub mod Server
+pub mod Honest

@@ -1,0 +1,115 @@
+//! What a client sends (RFC 5802, section 5), of texts that are prepared.
+ghost use Rattle.std.specs.Prelude.{◌≡◌, ◌++◌, IfOk, Some, None, option_map, codes, IsUtf8};
+ghost use Rattle.pgw_hash.specs.Pbkdf2.{salted_password};
+ghost use Rattle.pgw_scram.specs.Base64.{base64, salt_of};
+ghost use Rattle.pgw_scram.specs.Formulas.{auth_message, client_proof, server_signature};
+ghost use Rattle.pgw_scram.specs.Exchange.{client_first_bare, client_first, without_proof, client_final, signature};
+ghost use Rattle.pgw_scram.specs.Answers.{AnswersClient};
+ghost use Rattle.pgw_scram.specs.Refusals.{begins_with};
+ghost use Rattle.pgw_scram.specs.Client.{replied};
+
+use crate::encoding::decode_salt;
+use crate::messages::ServerFirst;
+use crate::proof::{client_proof, server_signature};
+use pgw_backend::client_error::{PgWireClientError, PgWireClientResult, ScramFault};
+use pgw_hash::pbkdf2::gen_salted_password;
+use pgw_types::memory::OutOfMemory;
+use pgw_types::text::Text;
+use std::alloc::Global;
+use std::str;
+
+/// The client's first message behind its header.
+pub fn client_first_bare(alloc: Global, user: &str, nonce: &str) -> Result<Text, OutOfMemory>
+    ensures { IfOk result (λ text. text ≡ client_first_bare user.now nonce.now) }
+{
+    let text = format!(in alloc; "n={user},r={nonce}")?;
+    Ok(Text::from_string(text))
+}
+
+/// The client's first message, of a prepared user name and the nonce's text.
+#[tactic(auto, unfolding(crate::specs::Exchange::client_first))]
+pub fn client_first(alloc: Global, user: &str, nonce: &str) -> Result<Text, OutOfMemory>
+    ensures { IfOk result (λ text. text ≡ client_first user.now nonce.now) }
+{
+    let text = format!(in alloc; "n,,n={user},r={nonce}")?;
+    Ok(Text::from_string(text))
+}
+
+/// The client's last message without its proof.
+fn without_proof(alloc: Global, nonce: &str) -> Result<Text, OutOfMemory>
+    ensures { IfOk result (λ text. text ≡ without_proof nonce.now) }
+{
+    let text = format!(in alloc; "c=biws,r={nonce}")?;
+    Ok(Text::from_string(text))
+}
+
+/// The client's last message, and the text of the signature that the server owes for it.
+#[derive(Drop)]
+pub struct ClientReply {
+    pub message: Text,
+    pub signature: [u8; 44],
+}
+
+/// The reply by the SaltedPassword and the nonce in the server's first message.
+fn reply(
+    alloc: Global,
+    salted: &[u8],
+    bare: &str,
+    server_first: &[u8],
+    server_nonce: &str,
+) -> Result<ClientReply, OutOfMemory>
+    ensures message { IfOk result (λ r. r.message ≡ without_proof server_nonce.now ++ codes ",p=" ++ base64 (client_proof salted.now (auth_message bare.now server_first.now (without_proof server_nonce.now)))) }
+    ensures signature { IfOk result (λ r. r.signature ≡ base64 (server_signature salted.now (auth_message bare.now server_first.now (without_proof server_nonce.now)))) }
+{
+    let without = without_proof(alloc, server_nonce)?;
+    let bytes = without.as_str().as_bytes();
+    let proof = client_proof(salted, bare.as_bytes(), server_first, bytes);
+    let signature = server_signature(salted, bare.as_bytes(), server_first, bytes);
+    let message = with_proof(alloc, without.as_str(), &proof)?;
+    Ok(ClientReply { message, signature })
+}
+
+/// The client's last message with a proof's text.
+fn with_proof(alloc: Global, without_proof: &str, proof: &[u8; 44]) -> Result<Text, OutOfMemory>
+    requires { IsUtf8 proof.now }
+    ensures { IfOk result (λ text. text ≡ without_proof.now ++ codes ",p=" ++ proof.now) }
+{
+    let proof = str::from_utf8(proof).unwrap();
+    let text = format!(in alloc; "{without_proof},p={proof}")?;
+    Ok(Text::from_string(text))
+}
+
+fn begins_with(text: &str, front: &str) -> bool
+    ensures { result ≡ begins_with text.now front.now }
+{
+    text.as_bytes().starts_with(front.as_bytes())
+}
+
+/// The client's last message, of a prepared user name, a password, the nonce's text and the
+/// server's first message.
+pub fn client_final(
+    alloc: Global,
+    user: &str,
+    password: &str,
+    nonce: &str,
+    server_first: &[u8],
+) -> PgWireClientResult<ClientReply>
+    ensures { AnswersClient result (replied user.now password.now nonce.now server_first.now) }
+{
+    let parts = ServerFirst::read(alloc, server_first)?;
+    if !begins_with(parts.nonce.as_str(), nonce) {
+        return Err(PgWireClientError::ScramError(ScramFault::NonceMismatch));
+    }
+    let Some(salt) = decode_salt(alloc, parts.salt.as_str().as_bytes())? else {
+        return Err(PgWireClientError::ScramError(ScramFault::SaltNotBase64));
+    };
+    let salted = gen_salted_password(alloc, password, &salt, parts.count)?;
+    let bare = client_first_bare(alloc, user, nonce)?;
+    Ok(reply(
+        alloc,
+        &salted,
+        bare.as_str(),
+        server_first,
+        parts.nonce.as_str(),
+    )?)
+}

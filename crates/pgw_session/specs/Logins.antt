@@ -1,0 +1,94 @@
+-- How a client logs in.
+use Rattle.std.specs.Prelude.{◌≡◌, ℕ, List, [], ◌∷◌, codes, Option, Some, None, unwrap_or}
+use Rattle.std.specs.List.{list_any}
+use Rattle.std.specs.Str.{bytes_eq, is_utf8}
+use Rattle.pgw_wire.specs.Reading.{lossy}
+use Rattle.pgw_startup.specs.declared.authentication.Authentication.TheVariants as authentication
+use Rattle.pgw_startup.specs.declared.password.PasswordMessageFamily.TheVariants as family
+use Rattle.pgw_backend.specs.declared.backend.PgWireBackendMessage.TheVariants as backend
+use Rattle.pgw_frontend.specs.declared.frontend.PgWireFrontendMessage.{PgWireFrontendMessage as Frontend}
+use Rattle.pgw_frontend.specs.declared.frontend.PgWireFrontendMessage.TheVariants as frontend
+use Rattle.pgw_backend.specs.declared.client_error.PgWireClientError.{PgWireClientError as ClientError}
+use Rattle.pgw_backend.specs.declared.client_error.PgWireClientError.TheVariants as client
+use Rattle.pgw_backend.specs.declared.client_error.ScramFault.TheVariants as scram_fault
+use Rattle.pgw_hash.specs.Md5Password.{md5_password}
+use Rattle.pgw_hash.specs.Saslprep.{prepared}
+use Rattle.pgw_scram.specs.Base64.{nonce_text}
+use Rattle.pgw_scram.specs.Refusals as scram
+use Rattle.pgw_scram.specs.Answers.{unless_so, first_of}
+use Rattle.pgw_scram.specs.Refusals.{user_refusal}
+use Rattle.pgw_scram.specs.Exchange.{client_first, client_final, signature}
+use Rattle.pgw_session.specs.Input.{Input}
+use Rattle.pgw_session.specs.Events.{Event, Sent, Got}
+
+-- ---- what is sent
+
+-- user name and password are the empty text where none is set
+abbrev pub user_of : Input → List ℕ
+user_of input = unwrap_or (input.config).user []
+
+abbrev pub password_of : Input → List ℕ
+password_of input = unwrap_or (input.config).password []
+
+-- the user name as SCRAM has it
+abbrev pub scram_user : Input → List ℕ
+scram_user input = unwrap_or (prepared (user_of input)) []
+
+abbrev pub password_message : List ℕ → Frontend
+password_message text = frontend.PasswordMessageFamily (family.Password (record { password = text }))
+
+-- the password in clear text, read as UTF-8, lossily
+abbrev pub cleartext_message : Input → Frontend
+cleartext_message input = password_message (lossy (password_of input))
+
+abbrev pub md5_message : Input → List ℕ → Frontend
+md5_message input salt = password_message (md5_password (user_of input) (lossy (password_of input)) salt)
+
+abbrev pub first_message : Input → Frontend
+first_message input = frontend.PasswordMessageFamily (family.SASLInitialResponse (record { auth_method = codes "SCRAM-SHA-256"; payload = Some (client_first (scram_user input) (nonce_text input.nonce)) }))
+
+abbrev pub final_message : Input → List ℕ → Frontend
+final_message input first = frontend.PasswordMessageFamily (family.SASLResponse (record { payload = client_final (scram_user input) (password_of input) (nonce_text input.nonce) first }))
+
+-- ---- what of the server's is refused
+
+-- a list of methods without SCRAM-SHA-256; or the password is not UTF-8; or the user name has no prepared form
+abbrev pub methods_refusal : Input → List (List ℕ) → Option ClientError
+methods_refusal input methods =
+    first_of (unless_so (list_any (bytes_eq (codes "SCRAM-SHA-256")) methods) (client.UnsupportedSASLAuthMethods methods))
+    (first_of (unless_so (is_utf8 (password_of input)) (client.ScramError scram_fault.PasswordNotUtf8))
+    (user_refusal (prepared (user_of input))))
+
+-- server-first outside its grammar; or its nonce does not begin with the client's; or its salt is none
+abbrev pub first_refusal : Input → List ℕ → Option ClientError
+first_refusal input first = scram.first_refusal (nonce_text input.nonce) first
+
+-- the signature that server-final should have behind server-first
+abbrev pub expected_of : Input → List ℕ → List ℕ
+expected_of input first = signature (scram_user input) (password_of input) (nonce_text input.nonce) first
+
+-- server-final outside its grammar; or it tells a failure; or its signature is another
+abbrev pub final_refusal : List ℕ → List ℕ → Option ClientError
+final_refusal expected final = scram.final_refusal expected final
+
+-- ---- login blocks
+
+pub data Login : Type 0 where
+  Unasked : Login
+  Cleartext : Login
+  Md5 : (salt : List ℕ) → Login
+  Scram : (methods : List (List ℕ)) → (first : List ℕ) → (final : List ℕ) → Login
+
+abbrev pub login_events : Input → Login → List Event
+login_events input Unasked = []
+login_events input Cleartext = Got (backend.Authentication authentication.CleartextPassword) ∷ Sent (cleartext_message input) ∷ []
+login_events input (Md5 salt) = Got (backend.Authentication (authentication.MD5Password salt)) ∷ Sent (md5_message input salt) ∷ []
+login_events input (Scram methods first final) =
+    Got (backend.Authentication (authentication.SASL methods)) ∷ Sent (first_message input)
+    ∷ Got (backend.Authentication (authentication.SASLContinue first)) ∷ Sent (final_message input first)
+    ∷ Got (backend.Authentication (authentication.SASLFinal final)) ∷ []
+
+-- nothing of the server's is refused
+abbrev pub IsAccepted : Input → Login → Type 0
+IsAccepted input (Scram methods first final) = (methods_refusal input methods ≡ None) × (first_refusal input first ≡ None) × (final_refusal (expected_of input first) final ≡ None)
+IsAccepted input login = Unit {0}

@@ -1,0 +1,16 @@
+-- How a client reads: what stands at the front of a server's bytes under a version. Not part of the claim: it only
+-- carries proofs.
+use Rattle.std.specs.Prelude.{ℕ, List}
+use Rattle.pgw_types.specs.declared.context.ProtocolVersion.{ProtocolVersion}
+use Rattle.pgw_types.specs.declared.error.PgWireError.{PgWireError}
+use Rattle.pgw_backend.specs.Front as message
+use Rattle.pgw_backend.specs.declared.backend.PgWireBackendMessage.{PgWireBackendMessage as Backend}
+use Rattle.pgw_course.specs.Course.{Front, More, Bad, Whole}
+
+abbrev pub met : message.Front → Front Backend PgWireError
+met message.More = More
+met (message.Bad why) = Bad why
+met (message.Whole m len) = Whole m len
+
+abbrev pub reading : ProtocolVersion → List ℕ → Front Backend PgWireError
+reading version bytes = met (message.front version bytes)

@@ -1,0 +1,81 @@
+-- The table: what a message does at a stage of the open segment. Not part of the claim: it only carries proofs.
+use Rattle.std.specs.Prelude.{ℕ, Bool, true, false, List, Option, Some, None}
+use Rattle.pgw_startup.specs.declared.authentication.Authentication.TheVariants as authentication
+use Rattle.pgw_backend.specs.declared.backend.PgWireBackendMessage.{PgWireBackendMessage as Backend}
+use Rattle.pgw_backend.specs.declared.backend.PgWireBackendMessage.TheVariants as backend
+use Rattle.pgw_backend.specs.declared.client_error.PgWireClientError.{PgWireClientError as ClientError}
+use Rattle.pgw_backend.specs.declared.client_error.PgWireClientError.TheVariants as client
+use Rattle.pgw_session.specs.declared.types.Request.{Request}
+use Rattle.pgw_session.specs.declared.stage.Kind.{Kind}
+use Rattle.pgw_session.specs.declared.stage.Stage.{Stage}
+use Rattle.pgw_session.specs.declared.stage.Stage.TheVariants.{Starting, Challenged, Proving, Admitted, Answering, PassingOver}
+use Rattle.pgw_session.specs.declared.stage.Next.{Next}
+use Rattle.pgw_session.specs.declared.stage.Next.TheVariants.{Goes, Closes, Wrong, Refuses, PassesOver}
+use Rattle.pgw_session.specs.Input.{Input}
+use Rattle.pgw_session.specs.Logins.{cleartext_message, md5_message, first_message, final_message, methods_refusal, first_refusal, expected_of, final_refusal}
+use Rattle.pgw_session.specs.declared.stage.Role.{Role}
+use Rattle.pgw_session.specs.declared.stage.Role.TheVariants.{Taken, Closing, Completing, Failing, Misplaced}
+use Rattle.pgw_session.specs.Requests.{kind_of, sync, behind_error, passes_over, role}
+use Rattle.pgw_session.specs.Segments.{is_news, is_ready}
+
+-- news are taken at a stage of the startup segment; else it is by the message
+abbrev pub news_or : Bool → Stage → Next → Next
+news_or true s next = Goes s None
+news_or false s next = next
+
+-- behind a login block, or before it
+abbrev pub by_welcome : Backend → Next
+by_welcome (backend.ReadyForQuery m) = Closes
+by_welcome (backend.ErrorResponse e) = Refuses (client.RemoteError e)
+by_welcome m = Wrong
+
+-- it is refused, or goes on
+abbrev pub unless : Option ClientError → Next → Next
+unless None next = next
+unless (Some e) next = Refuses e
+
+abbrev pub by_login : Input → Backend → Next
+by_login input (backend.Authentication authentication.CleartextPassword) = Goes Admitted (Some (cleartext_message input))
+by_login input (backend.Authentication (authentication.MD5Password salt)) = Goes Admitted (Some (md5_message input salt))
+by_login input (backend.Authentication (authentication.SASL methods)) = unless (methods_refusal input methods) (Goes Challenged (Some (first_message input)))
+by_login input m = by_welcome m
+
+-- within a SCRAM login
+abbrev pub by_first : Input → Backend → Next
+by_first input (backend.Authentication (authentication.SASLContinue first)) = unless (first_refusal input first) (Goes (Proving (expected_of input first)) (Some (final_message input first)))
+by_first input (backend.ErrorResponse e) = Refuses (client.RemoteError e)
+by_first input m = Wrong
+
+abbrev pub by_final : List ℕ → Backend → Next
+by_final expected (backend.Authentication (authentication.SASLFinal final)) = unless (final_refusal expected final) (Goes Admitted None)
+by_final expected (backend.ErrorResponse e) = Refuses (client.RemoteError e)
+by_final expected m = Wrong
+
+abbrev pub misplaced : Bool → Next
+misplaced true = PassesOver
+misplaced false = Wrong
+
+-- the row of a request
+abbrev pub by_role : Kind → Role → Next
+by_role k (Taken rows) = Goes (Answering k rows) None
+by_role k Closing = Closes
+by_role k Completing = Goes PassingOver (Some sync)
+by_role k Failing = Goes PassingOver (behind_error k)
+by_role k Misplaced = misplaced (passes_over k)
+
+abbrev pub by_ready : Bool → Next
+by_ready true = Closes
+by_ready false = Goes PassingOver None
+
+-- what a message does at a stage
+abbrev pub after : Input → Stage → Backend → Next
+after input Starting m = news_or (is_news m) Starting (by_login input m)
+after input Challenged m = by_first input m
+after input (Proving expected) m = by_final expected m
+after input Admitted m = news_or (is_news m) Admitted (by_welcome m)
+after input (Answering k rows) m = by_role k (role k rows m)
+after input PassingOver m = by_ready (is_ready m)
+
+-- the stage behind a request's opening
+abbrev pub stage_for : Request → Stage
+stage_for q = Answering (kind_of q) false
