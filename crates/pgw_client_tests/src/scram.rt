@@ -1,7 +1,9 @@
+//! A SCRAM login against the server's end of it.
+
 use bytes::BytesMut;
 use pgw_backend::backend::PgWireBackendMessage;
 use pgw_client::{
-    Config, Link, Listed, MemoryLink, Octets, PgWireClientError, Request, ScramFault, Text,
+    Config, Listed, MemoryLink, Octets, PgWireClientError, ScramFault, SessionReport, Text,
     TransactionStatus, run_session,
 };
 use pgw_hash::pbkdf2::gen_salted_password;
@@ -15,92 +17,115 @@ use std::test::Fail;
 
 const NONCE: [u8; 18] = [3; 18];
 
-// What an honest server answers to bob, whose password is secret: the server's two texts.
-fn server_texts(alloc: Global) -> Result<(Text, Text), Fail> {
-    let client = ScramClientAuth::new(
-        Text::from_str(alloc, "bob")?,
-        Text::from_str(alloc, "secret")?,
-    );
-    let (client_first, client) = client.build_client_first(alloc, &NONCE)?;
+// What the server keeps of bob's password, which is secret.
+fn stored(alloc: Global) -> Result<Password, Fail> {
     let salted = gen_salted_password(alloc, "secret", b"salt", 2)?;
     let salt = Octets::from_slice(alloc, b"salt")?;
-    let stored = Password::new(Some(salt), Octets::from_slice(alloc, &salted)?);
-    let mut server = ScramServerAuth::new();
-    server.set_iterations(2);
-    let first = client_first.as_str().as_bytes();
-    let (server_first, server) = server.on_client_first_message(alloc, first, &stored, &[5; 18])?;
-    let (client_final, _) = client.build_client_final(alloc, server_first.as_str().as_bytes())?;
-    let server_final = server.on_client_final_message(alloc, client_final.as_str().as_bytes())?;
-    Ok((server_first, server_final))
+    Ok(Password::new(Some(salt), Octets::from_slice(alloc, &salted)?))
 }
 
-// The bytes of a server that asks for SCRAM and says these texts.
-fn server_bytes(alloc: Global, first: &str, last: &str) -> Result<Octets, Fail> {
+fn put(out: &mut BytesMut, message: PgWireBackendMessage) -> Result<(), Fail> {
+    message.encode(out)?;
+    Ok(())
+}
+
+fn put_methods(alloc: Global, out: &mut BytesMut) -> Result<(), Fail> {
     let mut methods = Listed::new(alloc);
     methods.push(Text::from_str(alloc, "SCRAM-SHA-256-PLUS")?)?;
     methods.push(Text::from_str(alloc, "SCRAM-SHA-256")?)?;
-    let first = Octets::from_slice(alloc, first.as_bytes())?;
-    let last = Octets::from_slice(alloc, last.as_bytes())?;
-    let messages = [
-        Authentication::SASL(methods),
-        Authentication::SASLContinue(first),
-        Authentication::SASLFinal(last),
-        Authentication::Ok,
-    ];
-    let mut bytes = BytesMut::new(alloc);
-    for message in messages {
-        PgWireBackendMessage::Authentication(message).encode(&mut bytes)?;
-    }
+    put(
+        out,
+        PgWireBackendMessage::Authentication(Authentication::SASL(methods)),
+    )
+}
+
+fn put_first(alloc: Global, out: &mut BytesMut, text: &str) -> Result<(), Fail> {
+    let text = Octets::from_slice(alloc, text.as_bytes())?;
+    put(
+        out,
+        PgWireBackendMessage::Authentication(Authentication::SASLContinue(text)),
+    )
+}
+
+fn put_final(alloc: Global, out: &mut BytesMut, text: &str) -> Result<(), Fail> {
+    let text = Octets::from_slice(alloc, text.as_bytes())?;
+    put(
+        out,
+        PgWireBackendMessage::Authentication(Authentication::SASLFinal(text)),
+    )
+}
+
+fn put_end(out: &mut BytesMut) -> Result<(), Fail> {
+    put(
+        out,
+        PgWireBackendMessage::Authentication(Authentication::Ok),
+    )?;
     let ready = ReadyForQuery::new(TransactionStatus::Idle);
-    PgWireBackendMessage::ReadyForQuery(ready).encode(&mut bytes)?;
-    Ok(Octets::from_slice(alloc, bytes.as_slice())?)
+    put(out, PgWireBackendMessage::ReadyForQuery(ready))
+}
+
+// The bytes of an honest server in a login of bob's; or of one that ends with a text of its own.
+fn server_bytes(alloc: Global, forged: &str) -> Result<BytesMut, Fail> {
+    let user = Text::from_str(alloc, "bob")?;
+    let client = ScramClientAuth::new(user, Text::from_str(alloc, "secret")?);
+    let stored = stored(alloc)?;
+    let (first, client) = client.build_client_first(alloc, &NONCE)?;
+    let mut server = ScramServerAuth::new();
+    server.set_iterations(2);
+    let mut out = BytesMut::new(alloc);
+    put_methods(alloc, &mut out)?;
+    let first = first.as_str().as_bytes();
+    let (first, server) = server.on_client_first_message(alloc, first, &stored, &[5; 18])?;
+    put_first(alloc, &mut out, first.as_str())?;
+    let (last, _) = client.build_client_final(alloc, first.as_str().as_bytes())?;
+    let last = server.on_client_final_message(alloc, last.as_str().as_bytes())?;
+    if forged.is_empty() {
+        put_final(alloc, &mut out, last.as_str())?;
+    } else {
+        put_final(alloc, &mut out, forged)?;
+    }
+    put_end(&mut out)?;
+    Ok(out)
 }
 
 // A login as bob over a link that moves few bytes at a time.
-fn logged_in(alloc: Global, server: Octets, password: &[u8]) -> Result<bool, PgWireClientError> {
+fn log_in(
+    alloc: Global,
+    forged: &str,
+    password: &[u8],
+) -> Result<Result<SessionReport, PgWireClientError>, Fail> {
+    let server = server_bytes(alloc, forged)?;
+    let server = Octets::from_slice(alloc, server.as_slice())?;
     let mut link = MemoryLink::new(alloc, server, 7, Listed::new(alloc), Listed::new(alloc));
     let mut config = Config::new(alloc);
     config.set_user(alloc, "bob")?;
     config.set_password(alloc, password)?;
-    let requests: [Request; 0] = [];
-    let report = run_session(alloc, &mut link, &config, &requests, &NONCE, 10_000)?;
-    Ok(report.status == TransactionStatus::Idle)
+    Ok(run_session(alloc, &mut link, &config, &[], &NONCE, 10_000))
 }
 
-#[test]
-fn scram_login(rt: HostRuntime) -> Result<(), Fail> {
-    let alloc = rt.alloc();
-    let (first, last) = server_texts(alloc)?;
-    let server = server_bytes(alloc, first.as_str(), last.as_str())?;
-    assert_eq!(rt; logged_in(alloc, server, b"secret")?, true);
-    Ok(())
+// How a login as bob ends.
+fn ended(alloc: Global, forged: &str, password: &[u8]) -> Result<&'static str, Fail> {
+    Ok(match log_in(alloc, forged, password)? {
+        Ok(_report) => "logged in",
+        Err(PgWireClientError::ScramError(ScramFault::SignatureMismatch)) => "another signature",
+        Err(PgWireClientError::ScramError(ScramFault::PasswordNotUtf8)) => "no text",
+        Err(_error) => "another error",
+    })
 }
 
-// Another signature than the one of this exchange; a password that is no text; another password than the server's.
+// The honest server; another signature than the one of this exchange; a password that is no text; another password than
+// the server's.
 #[test]
-fn scram_refusals(rt: HostRuntime) -> Result<(), Fail> {
+fn scram_logins(rt: HostRuntime) -> Result<(), Fail> {
     let alloc = rt.alloc();
-    let (first, last) = server_texts(alloc)?;
-    let forged = server_bytes(alloc, first.as_str(), "v=AAAA")?;
-    assert!(rt;
-        matches!(
-            logged_in(alloc, forged, b"secret"),
-            Err(PgWireClientError::ScramError(ScramFault::SignatureMismatch))
-        )
-    );
-    let server = server_bytes(alloc, first.as_str(), last.as_str())?;
-    assert!(rt;
-        matches!(
-            logged_in(alloc, server, b"\xff"),
-            Err(PgWireClientError::ScramError(ScramFault::PasswordNotUtf8))
-        )
-    );
-    let server = server_bytes(alloc, first.as_str(), last.as_str())?;
-    assert!(rt;
-        matches!(
-            logged_in(alloc, server, b"other"),
-            Err(PgWireClientError::ScramError(ScramFault::SignatureMismatch))
-        )
-    );
+    let cases: [(&str, &[u8], &str); 4] = [
+        ("", b"secret", "logged in"),
+        ("v=AAAA", b"secret", "another signature"),
+        ("", b"\xff", "no text"),
+        ("", b"other", "another signature"),
+    ];
+    for (forged, password, want) in cases {
+        assert_eq!(rt; ended(alloc, forged, password)?, want);
+    }
     Ok(())
 }

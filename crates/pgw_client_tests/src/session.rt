@@ -1,6 +1,6 @@
 use pgw_client::{
-    Answer, Config, ExecuteResult, Listed, MemoryLink, Octets, Request, SessionReport, Target,
-    Text, run_session,
+    Answer, Config, ExecuteResult, Listed, MemoryLink, Octets, PgWireClientError, PgWireError,
+    Request, SessionReport, Target, Text, run_session,
 };
 use std::alloc::Global;
 use std::test::Fail;
@@ -45,6 +45,32 @@ fn logins_are_sent(rt: HostRuntime) -> Result<(), Fail> {
         let (written, _report) = held(alloc, config, &[], server)?;
         assert_eq!(rt; written.as_slice(), want, "{config}");
     }
+    Ok(())
+}
+
+// What a client has sent before its answer to a server's first SCRAM message.
+const ASKED: &[u8] =
+    b"\0\0\0\x12\0\x03\0\0user\0bob\0\0p\0\0\0\x39SCRAM-SHA-256\0\0\0\0\x23n,,n=bob,r=AAAAAAAAAAAAAAAAAAAAAAAA";
+
+// A server's nonce so long that the answer to it is larger than its message may be: nothing of it is written.
+#[test]
+fn an_answer_too_large(rt: HostRuntime) -> Result<(), Fail> {
+    let alloc = rt.alloc();
+    let mut server = Vec::from_slice(alloc, b"R\0\0\0\x17\0\0\0\x0aSCRAM-SHA-256\0\0")?;
+    server.extend_from_slice(b"R\0\0\x27\x29\0\0\0\x0br=AAAAAAAAAAAAAAAAAAAAAAAA")?;
+    server.extend_from_slice(&[b'x'; 9980])?;
+    server.extend_from_slice(b",s=YmFy,i=1")?;
+    let config = Config::parse(alloc, "user=bob password=pencil")?;
+    let server = Octets::from_slice(alloc, &server)?;
+    let mut link = MemoryLink::new(alloc, server, 500, Listed::new(alloc), Listed::new(alloc));
+    let result = run_session(alloc, &mut link, &config, &[], &[0; 18], 20000);
+    assert!(rt;
+        matches!(
+            result,
+            Err(PgWireClientError::PgWireError(PgWireError::MessageTooLarge(10000, 10064)))
+        )
+    );
+    assert_eq!(rt; link.written(), ASKED);
     Ok(())
 }
 

@@ -8,6 +8,7 @@ ghost use Rattle.pgw_registry.specs.declared.call.Call.TheVariants.{Cancel, Canc
 ghost use Rattle.pgw_registry.specs.declared.call.Reply.TheVariants.{Canceled, Started, Handled, Done, Looked};
 
 use crate::error::{LookError, RegistryError};
+use crate::pairs::copied;
 use crate::registry::Registry;
 use crate::sight::{Desk, Place};
 use crate::turn::{commit, count, cut, enter, leave, look, take_in, take_out};
@@ -121,10 +122,11 @@ impl ConnectionManager {
     {
         let key = secret_key.to_bytes(alloc)?;
         let given = key.duplicate()?;
+        let copy = copied(alloc, key.as_slice())?;
         let Ok(owner) = Arc::try_clone(manager) else {
             return Err(RegistryError::OutOfMemory);
         };
-        let number = manager.add(rt, pass, pid, key.as_slice(), given)?;
+        let number = manager.add(rt, pass, pid, key.as_slice(), given, copy)?;
         let guard = ConnectionGuard {
             manager: owner,
             pid,
@@ -209,7 +211,7 @@ impl ConnectionManager {
         Ok(reply)
     }
 
-    // The number of the pair's handle.
+    // The number of the pair's handle. No memory that grows with the key is taken while the turn is held.
     fn add<R: Wait>(
         &self,
         rt: &R,
@@ -217,9 +219,11 @@ impl ConnectionManager {
         pid: i32,
         key: &[u8],
         given: Octets,
+        copy: Vec<u8>,
     ) -> Result<u64, RegistryError>
         requires pass { pass.old.of ≡ self.now }
         requires given { given ≡ key.now }
+        requires copy { copy.items ≡ key.now }
         ensures ok { IfOk result (λ h. Makes (Register pid key.now) (Handled h) pass.old pass.new) }
         ensures err { IfErr result (λ e. Grew e pass.old pass.new) }
     {
@@ -229,7 +233,7 @@ impl ConnectionManager {
             leave(&self.desk, &mut pass.place, registry);
             return Err(RegistryError::Exhausted);
         }
-        match registry.register(pid, given) {
+        match registry.register_copied(pid, given, copy) {
             Ok(number) => {
                 commit::<Brand>(&self.desk, &mut pass.place, 0, pid, key);
                 leave(&self.desk, &mut pass.place, registry);

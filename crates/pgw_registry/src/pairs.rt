@@ -1,5 +1,5 @@
 //! Process numbers with keys.
-ghost use Rattle.std.specs.Prelude.{◌≡◌, ℕ, ℤ, true, List, [], OnOk, OnErr, Some, None, cond};
+ghost use Rattle.std.specs.Prelude.{◌≡◌, ℕ, ℤ, true, List, [], IfOk, OnOk, OnErr, Some, None, cond};
 ghost use Rattle.std.specs.Ordering.{int_cmp, eq_by_cmp};
 ghost use Rattle.std.specs.FinMap as map;
 ghost use Rattle.std.specs.BTreeMap.{IsOrdered, is_at};
@@ -63,13 +63,20 @@ impl Pairs {
         find_in(&self.numbers, &pid, key)
     }
 
-    /// Puts a handle in the place of the one that stands there, if any.
-    pub fn insert(&mut self, pid: i32, key: &[u8], handle: u64) -> Result<(), OutOfMemory>
-        ensures ok { OnOk result (self.new ≡ map.insert self.old (pid, key.now) handle) }
+    /// Puts a handle in the place of the one that stands there, if any. It keeps the key that it is given, so the
+    /// memory that it takes does not grow with the key.
+    pub fn insert(&mut self, pid: i32, key: Vec<u8>, handle: u64) -> Result<(), OutOfMemory>
+        ensures ok { OnOk result (self.new ≡ map.insert self.old (pid, key.items) handle) }
         ensures err { OnErr result (self.new ≡ self.old) }
     {
-        let key = Vec::from_slice(self.alloc, key)?;
         add_to(&mut self.numbers, self.alloc, &pid, key, handle)
+    }
+
+    /// A copy of a key, to be inserted.
+    pub fn copied(&self, key: &[u8]) -> Result<Vec<u8>, OutOfMemory>
+        ensures { IfOk result (λ copy. copy.items ≡ key.now) }
+    {
+        copied(self.alloc, key)
     }
 
     pub fn remove(&mut self, pid: i32, key: &[u8])
@@ -77,6 +84,13 @@ impl Pairs {
     {
         take_from(&mut self.numbers, &pid, key);
     }
+}
+
+/// A copy of a key.
+pub fn copied(alloc: Global, key: &[u8]) -> Result<Vec<u8>, OutOfMemory>
+    ensures { IfOk result (λ copy. copy.items ≡ key.now) }
+{
+    Ok(Vec::from_slice(alloc, key)?)
 }
 
 fn find_in(numbers: &BTreeMap<i32, Keys>, pid: &i32, key: &[u8]) -> Option<u64>

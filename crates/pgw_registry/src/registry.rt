@@ -108,15 +108,37 @@ impl Registry {
         if self.events == u64::MAX {
             return Err(RegistryError::Exhausted);
         }
+        let Ok(copy) = self.pairs.copied(key.as_slice()) else {
+            return Err(RegistryError::OutOfMemory);
+        };
+        self.register_copied(pid, key, copy)
+    }
+
+    /// The same with a copy of the key that was made before, so that what it allocates does not
+    /// grow with the key.
+    pub fn register_copied(
+        &mut self,
+        pid: i32,
+        key: Octets,
+        copy: Vec<u8>,
+    ) -> Result<u64, RegistryError>
+        requires { copy.items ≡ key }
+        ensures ok { IfOk result (λ h. Makes (Register pid key) (Handled h) self.old self.new) }
+        ensures err { IfErr result (λ e. GrowFails e self.old self.new) }
+    {
+        if self.events == u64::MAX {
+            return Err(RegistryError::Exhausted);
+        }
         if let Some(number) = self.pairs.get(pid, key.as_slice()) {
             self.hold(number);
             return Ok(number);
         }
-        self.register_new(pid, key)
+        self.register_new(pid, key, copy)
     }
 
     // The handle of a pair that is not there yet. A name that no pair has is written over.
-    fn register_new(&mut self, pid: i32, key: Octets) -> Result<u64, RegistryError>
+    fn register_new(&mut self, pid: i32, key: Octets, copy: Vec<u8>) -> Result<u64, RegistryError>
+        requires copied { copy.items ≡ key }
         requires room { self.old.events < 18446744073709551615 }
         requires absent { handle_of self.old pid key ≡ None }
         ensures ok { IfOk result (λ h. Makes (Register pid key) (Handled h) self.old self.new) }
@@ -129,7 +151,7 @@ impl Registry {
         };
         let name = key.duplicate()?;
         self.names.insert(number, Pair { pid, key: name })?;
-        self.pairs.insert(pid, key.as_slice(), number)?;
+        self.pairs.insert(pid, copy, number)?;
         match self.handles.insert(number, handle) {
             Ok(()) => {
                 self.handles_made = number;

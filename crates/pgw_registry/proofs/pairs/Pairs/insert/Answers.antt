@@ -15,14 +15,14 @@ returns-clause-ok c =
     let fits : to_z w32 (of_z w32 c.args.pid) ≡ c.args.pid = grind (arith, to_z-of_z) in
     let old = c.self.inside.numbers.entries in
     let new = c.add_to.new.numbers.entries in
-    let pair : ◌≡◌ {A = ℤ × List ℕ} (to_z w32 (of_z w32 c.args.pid), c.in_ok-key.key.items) (c.args.pid, c.args.key.now) = λ i. (fits i, c.in_ok-key.ensures.items i) in
+    let pair : ◌≡◌ {A = ℤ × List ℕ} (to_z w32 (of_z w32 c.args.pid), c.args.key.items) (c.args.pid, c.args.key.items) = λ i. (fits i, c.args.key.items) in
     on_ok_from c.add_to.result
-    (λ written. written_entries pair_cmp_total pairs_alone (flat old) (flat new) (c.args.pid, c.args.key.now) c.args.handle
+    (λ written. written_entries pair_cmp_total pairs_alone (flat old) (flat new) (c.args.pid, c.args.key.items) c.args.handle
     (λ q. at_flat new c.add_to.ensures.ordered q.0 q.1
     ∙ written q.0 q.1
     ∙ ap (λ z. cond (eq_by_cmp pair_cmp z q) (Some c.args.handle) (at_pair old q.0 q.1)) pair
-    ∙ ap (cond (eq_by_cmp pair_cmp (c.args.pid, c.args.key.now) q) (Some c.args.handle)) (sym (at_flat old c.self.invariant q.0 q.1)))
-    ∙ ap (λ m. map.insert m (c.args.pid, c.args.key.now) c.args.handle) c.self.view_is)
+    ∙ ap (cond (eq_by_cmp pair_cmp (c.args.pid, c.args.key.items) q) (Some c.args.handle)) (sym (at_flat old c.self.invariant q.0 q.1)))
+    ∙ ap (λ m. map.insert m (c.args.pid, c.args.key.items) c.args.handle) c.self.view_is)
     c.add_to.ensures.ok
 
 pub returns-clause-err : goal.returns-clause-err
