@@ -4,6 +4,7 @@ ghost use Rattle.pgw_backend.specs.ClientError.{IsUnexpected};
 
 use crate::backend::PgWireBackendMessage;
 use crate::pg_type::PgType;
+use crate::told::{Names, key_fault, message_name};
 use pgw_query::response::ErrorResponse;
 use pgw_types::boxed::Boxed;
 use pgw_types::error::PgWireError;
@@ -11,7 +12,7 @@ use pgw_types::listed::Listed;
 use pgw_types::memory::OutOfMemory;
 use pgw_types::octets::Octets;
 use pgw_types::text::Text;
-use std::alloc::Global;
+use std::alloc::{AllocError, AllocFailed, Global};
 use thiserror::Error;
 
 /// Why a value cannot be read as a type.
@@ -35,29 +36,29 @@ pub enum ScramFault {
 /// Why a client gives up.
 #[derive(Debug, Drop, Error)]
 pub enum PgWireClientError {
-    #[error("invalid configuration value for `{}`", .0.as_str())]
+    #[error("`{}`: {}", .0.as_str(), key_fault(.0.as_str()))]
     InvalidConfig(Text),
     #[error("unknown configuration key `{}`", .0.as_str())]
     UnknownConfig(Text),
-    #[error("configuration value is not UTF-8: {0:?}")]
+    #[error("a value of the configuration is not UTF-8: {:?}", .0.as_slice())]
     InvalidUtf8ConfigValue(Octets),
     #[error("the server closed the connection")]
     UnexpectedEOF,
-    #[error("unexpected message {0:?}")]
+    #[error("the server sent {} where it has no place", message_name(.0.as_ref()))]
     UnexpectedMessage(Boxed<PgWireBackendMessage>),
     #[error("input or output failed")]
     IoError,
     #[error("{0}")]
     PgWireError(PgWireError),
-    #[error("the server answered an error: {0:?}")]
+    #[error("{0}")]
     RemoteError(ErrorResponse),
-    #[error("a value cannot be read: {0:?}")]
+    #[error("a value cannot be read so: {0}")]
     FromSqlError(SqlFault),
     #[error("no such column in the row")]
     DataRowIndexOutOfBounds,
-    #[error("SCRAM login failed: {0:?}")]
+    #[error("SCRAM login failed: {0}")]
     ScramError(ScramFault),
-    #[error("no supported SASL method in {0:?}")]
+    #[error("the server offers no SASL method that is supported: {}", Names(.0.as_slice()))]
     UnsupportedSASLAuthMethods(Listed<Text>),
     #[error("the limit on bytes to read is reached")]
     ReadLimit,
@@ -76,6 +77,26 @@ pub fn unexpected(alloc: Global, message: PgWireBackendMessage) -> PgWireClientE
     match Boxed::new(alloc, message) {
         Ok(message) => PgWireClientError::UnexpectedMessage(message),
         Err(_) => PgWireClientError::OutOfMemory,
+    }
+}
+
+impl From<AllocError> for PgWireClientError {
+    ghost use Rattle.pgw_backend.specs.declared.client_error.PgWireClientError.TheVariants as client;
+
+    ghost from_gives = { λ e r. r ≡ client.OutOfMemory };
+
+    fn from(_e: AllocError) -> PgWireClientError {
+        PgWireClientError::OutOfMemory
+    }
+}
+
+impl<T: Drop> From<AllocFailed<T>> for PgWireClientError {
+    ghost use Rattle.pgw_backend.specs.declared.client_error.PgWireClientError.TheVariants as client;
+
+    ghost from_gives = { λ e r. r ≡ client.OutOfMemory };
+
+    fn from(_e: AllocFailed<T>) -> PgWireClientError {
+        PgWireClientError::OutOfMemory
     }
 }
 

@@ -9,3 +9,4 @@ pub mod laws;
 pub mod pg_type;
 mod sound;
 pub mod tag;
+mod told;

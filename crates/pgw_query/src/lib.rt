@@ -8,3 +8,4 @@ pub mod laws;
 pub mod notification;
 pub mod response;
 pub mod simplequery;
+mod told;

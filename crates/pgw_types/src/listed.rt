@@ -1,14 +1,19 @@
 //! A list.
-ghost use Rattle.std.specs.Prelude.{◌≡◌, [], ◌∷◌, ◌++◌, OnOk, OnErr, IfOk};
+ghost use Rattle.std.specs.Prelude.{◌≡◌, [], ◌∷◌, ◌++◌, ◌<◌, ◌^◌, length, OnOk, OnErr, IfOk};
 ghost use Rattle.std.specs.Cmp.Lexicographic.{pointwise};
 ghost use Rattle.std.specs.Cmp.Rules.{comparing};
+ghost use Rattle.std.specs.Iterator.Runs.{EveryRun, ItemsMapTo};
+ghost use Rattle.std.specs.Slice.Iter.{iter_rest, iter_steps};
 ghost use Rattle.std.proofs.Common.{rules};
 
 use crate::memory::OutOfMemory;
 use std::alloc::Global;
 use std::marker::Model;
+use std::ops::DerefSlice;
+use std::slice;
 
-/// A list, which a contract sees as such.
+/// A list, which a contract sees as such. Like a `Vec` it has a slice's methods, as `len` and `iter`, and `for` goes over
+/// `&list`.
 #[derive(Debug, Drop)]
 pub struct Listed<T> {
     items: Vec<T>,
@@ -42,6 +47,28 @@ impl<T> Listed<T> {
     {
         let Listed { items } = self;
         items
+    }
+}
+
+impl<T> DerefSlice for Listed<T> {
+    type Elem = T;
+
+    ghost deref_gives = { λ l items. items ≡ l };
+
+    fn deref(&self) -> &[T] {
+        self.as_slice()
+    }
+}
+
+impl<'a, T> IntoIterator for &'a Listed<T> {
+    type Item = &'a T;
+
+    type IntoIter = slice::Iter<'a, T>;
+
+    ghost into_iter_gives = { λ l it. (iter_rest it ≡ l.now) × (length (iter_rest it) < 2 ^ 64) × EveryRun (iter_steps {A = T}) (λ run. ItemsMapTo run (λ x. x.now) (iter_rest run.from)) };
+
+    fn into_iter(self) -> slice::Iter<'a, T> {
+        self.as_slice().iter()
     }
 }
 

@@ -8,6 +8,7 @@ use crate::memory::OutOfMemory;
 use bytes::Bytes;
 use std::alloc::Global;
 use std::marker::Model;
+use std::ops::DerefSlice;
 
 /// Bytes, which a contract sees as a list.
 #[derive(Debug, Drop)]
@@ -58,6 +59,16 @@ impl Octets {
     {
         let bytes = self.bytes.slice(from..to)?;
         Ok(Octets { bytes })
+    }
+}
+
+impl DerefSlice for Octets {
+    type Elem = u8;
+
+    ghost deref_gives = { λ o bytes. bytes ≡ o };
+
+    fn deref(&self) -> &[u8] {
+        self.as_slice()
     }
 }
 

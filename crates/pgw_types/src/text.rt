@@ -10,6 +10,7 @@ use crate::listed::Duplicate;
 use crate::memory::OutOfMemory;
 use std::alloc::{AllocError, Global};
 use std::cmp::Ordering;
+use std::fmt;
 use std::marker::Model;
 
 /// Text, which a contract sees as its UTF-8.
@@ -73,6 +74,15 @@ impl Text {
         ensures { result ≡ (length self.now == 0) }
     {
         self.len() == 0
+    }
+}
+
+/// The text itself.
+impl fmt::Display for Text {
+    ghost output = { λ t. Some t };
+
+    fn fmt<W: fmt::Write>(&self, f: &mut fmt::Formatter<W>) -> fmt::Result {
+        f.write_str(self.as_str())
     }
 }
 

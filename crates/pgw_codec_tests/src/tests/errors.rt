@@ -1,12 +1,17 @@
 //! Errors and notices, their fields and their texts.
 
 use crate::tests::shared::buffer;
+use pgw_backend::backend::PgWireBackendMessage;
+use pgw_backend::client_error::{PgWireClientError, ScramFault, SqlFault, unexpected};
+use pgw_backend::pg_type::PgType;
+use pgw_query::description::NoData;
 use pgw_query::response::{ErrorResponse, NoticeResponse};
 use pgw_types::boxed::Boxed;
 use pgw_types::error::{ApiFault, OauthFault, OauthRefusal, PgWireError, ScramMessageFault};
 use pgw_types::error_info::ErrorInfo;
 use pgw_types::listed::{Duplicate, Listed};
 use pgw_types::memory::OutOfMemory;
+use pgw_types::octets::Octets;
 use pgw_types::text::Text;
 use pgw_wire::message::Message;
 use std::alloc::{AllocError, Global};
@@ -217,6 +222,115 @@ fn errors_are_told(rt: HostRuntime) -> Result<(), Fail> {
     }
     for (number, want) in QUERY_ERRORS.iter().enumerate() {
         assert_eq!(rt; told(alloc, query_error(alloc, number)?)?.as_str(), *want);
+    }
+    Ok(())
+}
+
+// Why a client gives up.
+fn client_error(alloc: Global, number: usize) -> Result<PgWireClientError, OutOfMemory> {
+    let text = Text::from_str(alloc, "x")?;
+    Ok(match number {
+        0 => PgWireClientError::InvalidConfig(text),
+        1 => PgWireClientError::UnknownConfig(text),
+        2 => PgWireClientError::InvalidUtf8ConfigValue(Octets::from_slice(alloc, b"\xff")?),
+        3 => PgWireClientError::UnexpectedEOF,
+        4 => unexpected(alloc, PgWireBackendMessage::NoData(NoData::new())),
+        5 => PgWireClientError::IoError,
+        6 => PgWireClientError::PgWireError(PgWireError::InvalidMessageBody),
+        7 => PgWireClientError::RemoteError(ErrorResponse::new(fields_of(alloc, &WHOLE)?)),
+        8 => PgWireClientError::RemoteError(ErrorResponse::new(fields_of(alloc, &WHOLE[..4])?)),
+        9 => PgWireClientError::FromSqlError(SqlFault::WrongType(PgType::Text)),
+        10 => PgWireClientError::FromSqlError(SqlFault::WrongLength(3)),
+        11 => PgWireClientError::FromSqlError(SqlFault::BadText),
+        12 => PgWireClientError::DataRowIndexOutOfBounds,
+        13 => PgWireClientError::ScramError(ScramFault::PasswordNotUtf8),
+        14 => PgWireClientError::ScramError(ScramFault::NonceMismatch),
+        15 => PgWireClientError::ScramError(ScramFault::SaltNotBase64),
+        16 => PgWireClientError::ScramError(ScramFault::ServerError(text)),
+        17 => PgWireClientError::ScramError(ScramFault::SignatureMismatch),
+        18 => methods_error(alloc, text)?,
+        19 => PgWireClientError::ReadLimit,
+        20 => PgWireClientError::Broken,
+        _ => PgWireClientError::OutOfMemory,
+    })
+}
+
+fn methods_error(alloc: Global, first: Text) -> Result<PgWireClientError, OutOfMemory> {
+    let mut methods = Listed::new(alloc);
+    methods.push(first)?;
+    methods.push(Text::from_str(alloc, "y")?)?;
+    Ok(PgWireClientError::UnsupportedSASLAuthMethods(methods))
+}
+
+const CLIENT_ERRORS: [&str; 22] = [
+    "`x`: a value of the configuration is not one that its key takes",
+    "unknown configuration key `x`",
+    "a value of the configuration is not UTF-8: [255]",
+    "the server closed the connection",
+    "the server sent NoData where it has no place",
+    "input or output failed",
+    "invalid message body",
+    "ERROR 42703: no such column\nDETAIL: detail\nHINT: hint",
+    "ERROR 42703: no such column",
+    "a value cannot be read so: it is of type 25",
+    "a value cannot be read so: it has 3 bytes",
+    "a value cannot be read so: its text is none of the type's",
+    "no such column in the row",
+    "SCRAM login failed: the password is not UTF-8",
+    "SCRAM login failed: the server's nonce does not begin with the client's",
+    "SCRAM login failed: the server's salt is not base64",
+    "SCRAM login failed: the server refused it: x",
+    "SCRAM login failed: the server did not prove that it knows the password",
+    "the server offers no SASL method that is supported: x, y",
+    "the limit on bytes to read is reached",
+    "an earlier error left the client unusable",
+    "out of memory",
+];
+
+// What people read of a client's error.
+fn printed(alloc: Global, number: usize) -> Result<String, OutOfMemory> {
+    let error = client_error(alloc, number)?;
+    Ok(format!(in alloc; "{error}")?)
+}
+
+#[test]
+fn client_errors_are_told(rt: HostRuntime) -> Result<(), Fail> {
+    let alloc = rt.alloc();
+    for (number, want) in CLIENT_ERRORS.iter().enumerate() {
+        assert_eq!(rt; printed(alloc, number)?.as_str(), *want);
+    }
+    Ok(())
+}
+
+// What people read of a configuration that is refused by one of these keys.
+#[test]
+fn refused_keys_are_told(rt: HostRuntime) -> Result<(), Fail> {
+    let alloc = rt.alloc();
+    let cases = [
+        (
+            "syntax",
+            "`syntax`: the connection text has a part that is no key with a value",
+        ),
+        (
+            "sslmode",
+            "`sslmode`: the value of sslmode is unknown or not supported: no connection is ever encrypted",
+        ),
+        (
+            "channel_binding",
+            "`channel_binding`: the value of channel_binding is unknown or not supported: no login is bound to a connection",
+        ),
+        (
+            "user",
+            "`user`: the user name has no form for a SCRAM login",
+        ),
+        (
+            "host",
+            "`host`: no host and no address is given, or one is not well-formed",
+        ),
+    ];
+    for (key, want) in cases {
+        let error = PgWireClientError::InvalidConfig(Text::from_str(alloc, key)?);
+        assert_eq!(rt; format!(in alloc; "{error}")?.as_str(), want);
     }
     Ok(())
 }
