@@ -1,19 +1,36 @@
-# run: builds the program, which proves it, and runs the session script crates/hothummei_session/stdin.
+# try: runs the session script crates/hothummei_session/stdin before anything is proved, within a minute.
+# run: builds the program, which proves it, and runs the same script.
 # test: the gate. plant: wrong bodies that a crate's contracts let through (make plant CRATE=pgw_wire).
+SHELL = /bin/bash
 PROGRAM = crates/hothummei/out/hothummei
 LOG = build.log
 
-.PHONY: run test fmt plant
+.PHONY: try run install test fmt plant needs-rt
 
-run:
-	@(cd crates/hothummei && rt run hothummei < ../hothummei_session/stdin 2> ../../$(LOG)) || { echo "make run: the build or the run failed, see $(LOG)" >&2; exit 1; }
-	@echo "the program lies at $(PROGRAM): run it on another script by $(PROGRAM) < SCRIPT" >&2
+needs-rt:
+	@command -v rt > /dev/null || { echo "rt is not in the PATH: install the Rattle kit that README.md names, and put its folder bin into the PATH" >&2; exit 1; }
 
-test:
+try: needs-rt
+	@cd crates/hothummei && rt try hothummei < ../hothummei_session/stdin
+
+run: needs-rt
+	@echo "proves each crate below the program that has changed, and builds it: the first time this may take half an hour and 6 GB of memory (make try takes a minute); the whole log is $(LOG)" >&2
+	@(cd crates/hothummei && rt run hothummei < ../hothummei_session/stdin 2> >(tee ../../$(LOG) | grep --line-buffered -E '^rt: chose|^so far' >&2)) || { echo "make run: the build or the run failed, see $(LOG)" >&2; exit 1; }
+	@cp $(PROGRAM) hothummei
+	@echo "the program is ./hothummei: run it on another script by ./hothummei < SCRIPT" >&2
+
+# install: copies the program to PREFIX/bin (make install PREFIX=/usr/local).
+PREFIX = /usr/local
+install:
+	@test -x $(PROGRAM) || { echo "make run builds the program first" >&2; exit 1; }
+	install -D -m 755 $(PROGRAM) $(DESTDIR)$(PREFIX)/bin/hothummei
+
+test: needs-rt
 	rt ci
 
 fmt:
 	@for crate in crates/*/; do (cd $$crate && rt fmt) || exit 1; done
 
-plant:
+plant: needs-rt
+	@test -n "$(CRATE)" || { echo "make plant wants a crate, as make plant CRATE=pgw_wire; crates.txt lists them" >&2; exit 1; }
 	cd crates/$(CRATE) && rt plant
