@@ -41,7 +41,8 @@ fn proof_and_signature(rt: HostRuntime) -> Result<(), Fail> {
 }
 
 // The exchange of RFC 7677, section 3; that of RFC 5802, section 5, with SHA-256; and the first with
-// another text of the server's, over which the proof is another. A password is prepared.
+// another text of the server's, over which the proof is another. A password is prepared. All but the
+// first were computed with Python's hashlib.
 #[test]
 fn replies(rt: HostRuntime) -> Result<(), Fail> {
     let cases: [(&str, &str, &str, &str, &str); 4] = [
@@ -364,6 +365,7 @@ fn waiting(alloc: Global) -> PgWireResult<ScramServerAuthWaitingForClientFinal> 
     Ok(waiting)
 }
 
+// The last proof is right for the password `bar` (computed with Python's hashlib).
 #[test]
 fn server_refusals(rt: HostRuntime) -> Result<(), Fail> {
     let alloc = rt.alloc();
@@ -383,7 +385,7 @@ fn server_refusals(rt: HostRuntime) -> Result<(), Fail> {
             PgWireError::InvalidScramMessage(ScramMessageFault::Nonce),
         ),
         (
-            b"c=biws,r=aAAAAAAAAAAAAAAAAAAAAAAAA,p=AAAA",
+            b"c=biws,r=aAAAAAAAAAAAAAAAAAAAAAAAA,p=wGh5TqqLhfK9rmqB9v8A2F1bPbUFV2HXK/N5KNZWhTA=",
             PgWireError::InvalidPassword(foo),
         ),
     ];

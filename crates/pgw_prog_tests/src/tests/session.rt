@@ -253,6 +253,45 @@ fn failing_queries(rt: HostRuntime) -> Result<(), Fail> {
     Ok(())
 }
 
+const ASKED: &str =
+    "sent 00000012000300007573657200626f6200007000000039534352414d2d5348412d32353600000000236e2c2c6e3d626f622c723d414141414141414141414141414141414141414141414141\n";
+
+// What follows the server's request for SCRAM-SHA-256 and the client's first message: another nonce, counts below and above
+// those that stand, a salt that is no base64, a notice, and the end.
+#[test]
+fn failing_scram(rt: HostRuntime) -> Result<(), Fail> {
+    let alloc = rt.alloc();
+    let cases: [(&str, &str); 6] = [
+        (
+            "52 0000001a 0000000b 723d424141412c733d596d46792c693d3132",
+            "error ScramError\n",
+        ),
+        (
+            "52 00000019 0000000b 723d424141412c733d596d46792c693d30",
+            "error PgWireError/InvalidScramMessage\n",
+        ),
+        (
+            "52 00000037 0000000b 723d414141414141414141414141414141414141414141414141782c733d596d46792c693d34323934393637323936",
+            "error PgWireError/InvalidScramMessage\n",
+        ),
+        (
+            "52 0000002b 0000000b 723d414141414141414141414141414141414141414141414141782c733d2a2c693d31",
+            "error ScramError\n",
+        ),
+        ("4e 00000005 00", "error UnexpectedMessage\n"),
+        ("", "error UnexpectedEOF\n"),
+    ];
+    for (next, error) in cases {
+        let asks = "server 52 00000017 0000000a 534352414d2d5348412d323536 00 00\nserver ";
+        let rest = joined(alloc, &[asks, next])?;
+        let script = told(alloc, "user=bob", "", rest.as_str())?;
+        let want = joined(alloc, &[ASKED, error])?;
+        let (text, _) = ran(alloc, &[], script.as_str().as_bytes(), &[], &[])?;
+        assert_eq!(rt; text.as_slice(), want.as_str().as_bytes(), "{next}");
+    }
+    Ok(())
+}
+
 // Logins by MD5, and a list of methods without SCRAM-SHA-256.
 #[test]
 fn script_logins(rt: HostRuntime) -> Result<(), Fail> {
