@@ -5,7 +5,7 @@ use Rattle.std.proofs.lemmas.Bool.{eqb-true}
 use Rattle.std.proofs.lemmas.List.{append-nil}
 use Rattle.pgw_types.specs.declared.error.PgWireError.{PgWireError}
 use Rattle.pgw_types.specs.declared.context.DecodeContext.{DecodeContext}
-use Rattle.pgw_wire.specs.declared.framing.Framing.TheVariants.{Typed, Reply}
+use Rattle.pgw_wire.specs.declared.framing.Framing.TheVariants.{Typed, OneByte}
 use Rattle.pgw_wire.specs.Framing.{front, Decodes, as_one_of}
 use Rattle.pgw_wire.specs.Formats.{IsRow, SpellsTyped, NoBody}
 use Rattle.pgw_wire.proofs.Laws.{bind_ok, chosen}
@@ -86,9 +86,9 @@ module _ (ctx : DecodeContext) (m : PgWireBackendMessage) (bytes rest : List ℕ
   all_parts : backend_front ctx bytes ≡ Ok (Some (m, rest)) → Found
   unfolding backend_front IsTyped SpellsIn
   all_parts e = elim (chosen ctx.awaiting_backend_ssl_response _ _ _ e) [
-    | inl h ↦ as_found backend.SslResponse (front Reply 10000 (ssl_response_of ctx) bytes) (λ x e. let c = (ssl_response ctx).found bytes x rest e in (c.0, c.1, (h.0, c.2))) h.1
+    | inl h ↦ as_found backend.SslResponse (front OneByte 10000 (ssl_response_of ctx) bytes) (λ x e. let c = (ssl_response ctx).found bytes x rest e in (c.0, c.1, (h.0, c.2))) h.1
     | inr t ↦ elim (chosen ctx.awaiting_backend_gss_response _ _ _ t.1) [
-      | inl h ↦ as_found backend.GssEncResponse (front Reply 10000 (gss_enc_response_of ctx) bytes) (λ x e. let c = (gss_enc_response ctx).found bytes x rest e in (c.0, c.1, ((t.0, h.0), c.2))) h.1
+      | inl h ↦ as_found backend.GssEncResponse (front OneByte 10000 (gss_enc_response_of ctx) bytes) (λ x e. let c = (gss_enc_response ctx).found bytes x rest e in (c.0, c.1, ((t.0, h.0), c.2))) h.1
       | inr h ↦ typed_part (t.0, h.0) h.1
     ]
   ]
@@ -123,10 +123,10 @@ one_again ctx make byte limit read P row arm typed x g rest h =
 pub backend_again : (ctx : DecodeContext) (m : PgWireBackendMessage) (g rest : List ℕ) → SpellsIn ctx m g → backend_front ctx (g ++ rest) ≡ Ok (Some (m, rest))
 unfolding SpellsIn IsTyped backend_front
 backend_again ctx (backend.SslResponse m) g rest h =
-    let read : front Reply 10000 (ssl_response_of ctx) (g ++ rest) ≡ Ok (Some (m, rest)) = (ssl_response ctx).only m g rest h.1 in
+    let read : front OneByte 10000 (ssl_response_of ctx) (g ++ rest) ≡ Ok (Some (m, rest)) = (ssl_response ctx).only m g rest h.1 in
     when ctx.awaiting_backend_ssl_response _ _ h.0 ∙ ap (as_one_of backend.SslResponse) read
 backend_again ctx (backend.GssEncResponse m) g rest h =
-    let read : front Reply 10000 (gss_enc_response_of ctx) (g ++ rest) ≡ Ok (Some (m, rest)) = (gss_enc_response ctx).only m g rest h.1 in
+    let read : front OneByte 10000 (gss_enc_response_of ctx) (g ++ rest) ≡ Ok (Some (m, rest)) = (gss_enc_response ctx).only m g rest h.1 in
     unless ctx.awaiting_backend_ssl_response _ _ h.0.0 ∙ when ctx.awaiting_backend_gss_response _ _ h.0.1 ∙ ap (as_one_of backend.GssEncResponse) read
 backend_again ctx (backend.Authentication m) g rest h = one_again ctx backend.Authentication 82 30000 (authentication_of ctx) SpellsAuthentication (authentication ctx) (λ bytes. refl) h.0 m g rest h.1
 backend_again ctx (backend.ParameterStatus m) g rest h = one_again ctx backend.ParameterStatus 83 30000 (parameter_status_of ctx) SpellsParameterStatus (parameter_status ctx) (λ bytes. refl) h.0 m g rest h.1

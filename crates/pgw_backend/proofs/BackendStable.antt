@@ -5,7 +5,7 @@ use Rattle.std.proofs.lemmas.List.{get_or-take, take-append-le}
 use Rattle.pgw_types.specs.declared.error.PgWireError.{PgWireError}
 use Rattle.pgw_types.specs.declared.error.PgWireError.TheVariants.{InvalidMessageType}
 use Rattle.pgw_types.specs.declared.context.DecodeContext.{DecodeContext}
-use Rattle.pgw_wire.specs.declared.framing.Framing.TheVariants.{Typed, Reply}
+use Rattle.pgw_wire.specs.declared.framing.Framing.TheVariants.{Typed, OneByte}
 use Rattle.pgw_wire.specs.Framing.{front, as_one_of}
 use Rattle.pgw_wire.proofs.Laws.{bind_ok, chosen}
 use Rattle.pgw_wire.proofs.MessageLaws.{made_of}
@@ -117,6 +117,6 @@ typed_stable ctx = record {
 pub backend_stable : (ctx : DecodeContext) → Stable 1 (backend_front ctx)
 unfolding backend_front
 backend_stable ctx =
-    stable_choice 1 ctx.awaiting_backend_ssl_response _ _ (stable_as backend.SslResponse 1 (front Reply 10000 (ssl_response_of ctx)) (front_stable Reply 10000 (ssl_response_of ctx) tt))
-    (stable_choice 1 ctx.awaiting_backend_gss_response _ _ (stable_as backend.GssEncResponse 1 (front Reply 10000 (gss_enc_response_of ctx)) (front_stable Reply 10000 (gss_enc_response_of ctx) tt))
+    stable_choice 1 ctx.awaiting_backend_ssl_response _ _ (stable_as backend.SslResponse 1 (front OneByte 10000 (ssl_response_of ctx)) (front_stable OneByte 10000 (ssl_response_of ctx) tt))
+    (stable_choice 1 ctx.awaiting_backend_gss_response _ _ (stable_as backend.GssEncResponse 1 (front OneByte 10000 (gss_enc_response_of ctx)) (front_stable OneByte 10000 (gss_enc_response_of ctx) tt))
     (typed_stable ctx))

@@ -5,7 +5,7 @@ use Rattle.std.specs.Int.{w8}
 use Rattle.pgw_types.specs.declared.error.PgWireError.{PgWireError}
 use Rattle.pgw_types.specs.declared.context.ProtocolVersion.{ProtocolVersion}
 use Rattle.pgw_types.specs.declared.context.DecodeContext.{DecodeContext}
-use Rattle.pgw_wire.specs.declared.framing.Framing.TheVariants.{Reply}
+use Rattle.pgw_wire.specs.declared.framing.Framing.TheVariants.{OneByte}
 use Rattle.pgw_wire.specs.Framing.{Appends}
 use Rattle.pgw_wire.specs.Counted.{counted16, is_too_long}
 use Rattle.pgw_wire.specs.Formats.{SpellsNat, NoBody}
@@ -29,8 +29,8 @@ use Rattle.pgw_backend.proofs.BackendLaws.{backend_again}
 
 pub backend_written : (version : ProtocolVersion) (m : PgWireBackendMessage) (g : List ℕ) → IsSound m → Suits version m → backend_encoding m ≡ Ok g → Spelled version m g
 unfolding backend_encoding
-backend_written version (backend.SslResponse m) g sound suits is = subst (λ (f : List ℕ). SpellsNat w8 (ssl_byte m) f) (sym (encoded_parts Reply 10000 None (ssl_byte m ∷ []) g (lit< tt) is).2) (ssl_written m)
-backend_written version (backend.GssEncResponse m) g sound suits is = subst (λ (f : List ℕ). SpellsNat w8 (gss_byte m) f) (sym (encoded_parts Reply 10000 None (gss_byte m ∷ []) g (lit< tt) is).2) (gss_written m)
+backend_written version (backend.SslResponse m) g sound suits is = subst (λ (f : List ℕ). SpellsNat w8 (ssl_byte m) f) (sym (encoded_parts OneByte 10000 None (ssl_byte m ∷ []) g (lit< tt) is).2) (ssl_written m)
+backend_written version (backend.GssEncResponse m) g sound suits is = subst (λ (f : List ℕ). SpellsNat w8 (gss_byte m) f) (sym (encoded_parts OneByte 10000 None (gss_byte m ∷ []) g (lit< tt) is).2) (gss_written m)
 backend_written version (backend.Authentication m) g sound suits is = typed_written 82 30000 SpellsAuthentication m (authentication_fault m) (authentication m) g (lit< tt) is (λ fine. authentication_written m sound fine)
 backend_written version (backend.ParameterStatus m) g sound suits is = typed_written 83 30000 SpellsParameterStatus m (parameter_status_fault m) (parameter_status m) g (lit< tt) is (λ fine. parameter_status_written m sound fine)
 backend_written version (backend.BackendKeyData m) g sound suits is = typed_written 75 30000 (SpellsBackendKeyData version) m (key_fault m.secret_key) (backend_key_data m) g (lit< tt) is (λ fine. backend_key_data_written version m sound suits fine)

@@ -3,7 +3,7 @@ use Rattle.std.specs.Prelude.{ℕ, List, [], ◌∷◌, length, Option, None, Re
 use Rattle.pgw_types.specs.declared.error.PgWireError.{PgWireError}
 use Rattle.pgw_types.specs.declared.error.PgWireError.TheVariants.{InvalidMessageType}
 use Rattle.pgw_types.specs.declared.context.DecodeContext.{DecodeContext}
-use Rattle.pgw_wire.specs.declared.framing.Framing.TheVariants.{Typed, Reply}
+use Rattle.pgw_wire.specs.declared.framing.Framing.TheVariants.{Typed, OneByte}
 use Rattle.pgw_wire.specs.Framing.{front, as_one_of, encoded}
 use Rattle.pgw_wire.specs.Counted.{counted16, is_too_long}
 use Rattle.pgw_wire.specs.Writing.{text, u32, has_zero, refused_if}
@@ -69,14 +69,14 @@ typed_front ctx bytes =
 -- one byte answers a request for encryption
 unfoldable pub backend_front : DecodeContext → List ℕ → Result (Option (PgWireBackendMessage × List ℕ)) PgWireError
 backend_front ctx bytes =
-    if ctx.awaiting_backend_ssl_response then as_one_of backend.SslResponse (front Reply 10000 (ssl_response_of ctx) bytes)
-    else (if ctx.awaiting_backend_gss_response then as_one_of backend.GssEncResponse (front Reply 10000 (gss_enc_response_of ctx) bytes)
+    if ctx.awaiting_backend_ssl_response then as_one_of backend.SslResponse (front OneByte 10000 (ssl_response_of ctx) bytes)
+    else (if ctx.awaiting_backend_gss_response then as_one_of backend.GssEncResponse (front OneByte 10000 (gss_enc_response_of ctx) bytes)
     else typed_front ctx bytes)
 
 -- the one spelling that is written of a message, or why there is none
 unfoldable pub backend_encoding : PgWireBackendMessage → Result (List ℕ) PgWireError
-backend_encoding (backend.SslResponse m) = encoded Reply 10000 None (ssl_byte m ∷ [])
-backend_encoding (backend.GssEncResponse m) = encoded Reply 10000 None (gss_byte m ∷ [])
+backend_encoding (backend.SslResponse m) = encoded OneByte 10000 None (ssl_byte m ∷ [])
+backend_encoding (backend.GssEncResponse m) = encoded OneByte 10000 None (gss_byte m ∷ [])
 backend_encoding (backend.Authentication m) = encoded (Typed 82) 30000 (authentication_fault m) (authentication m)
 backend_encoding (backend.ParameterStatus m) = encoded (Typed 83) 30000 (parameter_status_fault m) (parameter_status m)
 backend_encoding (backend.BackendKeyData m) = encoded (Typed 75) 30000 (key_fault m.secret_key) (backend_key_data m)

@@ -28,6 +28,7 @@ use pgw_types::context::DecodeContext;
 use pgw_types::error::{PgWireError, PgWireResult};
 use pgw_types::listed::Duplicate;
 use pgw_types::memory::OutOfMemory;
+use pgw_wire::buffer::Buffer;
 use pgw_wire::message::Message;
 use std::alloc::Global;
 
@@ -79,53 +80,70 @@ impl PgWireBackendMessage {
         Self::decode_exact(alloc, buf, ctx)
     }
 
-    // Takes the message at the front, if it is whole.
-    #[tactic(auto, unfolding(crate::specs::Backend::backend_front))]
-    fn decode_exact(
+    /// The same at the front of any buffer. What the message keeps of its bytes is a part of the buffer's: a cut of octets, which copies nothing and shares their block.
+    pub fn decode_from<B: Buffer>(
         alloc: Global,
-        buf: &mut BytesMut,
+        buf: &mut B,
         ctx: &DecodeContext,
     ) -> PgWireResult<Option<PgWireBackendMessage>>
-        ensures { Decodes result buf.old.items buf.new.items (backend_front ctx.now buf.old.items) }
+        // A message that is read is spelled by the bytes that were taken.
+        ensures found { IfOk result (λ o. IfSome o (λ m. (g : List ℕ) × (B.held buf.old ≡ g ++ B.held buf.new) × SpellsIn ctx.now m g)) }
+        // What is spelled at the front is read, unless memory runs out.
+        ensures only { (m : TheMessage) (g rest : List ℕ) → SpellsIn ctx.now m g → B.held buf.old ≡ g ++ rest → Decodes result (B.held buf.old) (B.held buf.new) (Ok (Some (m, rest))) }
+        // Which message it is or which refusal, and when nothing is whole yet.
+        ensures exact { Decodes result (B.held buf.old) (B.held buf.new) (backend_front ctx.now (B.held buf.old)) }
+    {
+        Self::decode_exact(alloc, buf, ctx)
+    }
+
+    // Takes the message at the front, if it is whole.
+    #[tactic(auto, unfolding(crate::specs::Backend::backend_front))]
+    fn decode_exact<B: Buffer>(
+        alloc: Global,
+        buf: &mut B,
+        ctx: &DecodeContext,
+    ) -> PgWireResult<Option<PgWireBackendMessage>>
+        ensures { Decodes result (B.held buf.old) (B.held buf.new) (backend_front ctx.now (B.held buf.old)) }
     {
         if ctx.awaiting_backend_ssl_response {
-            return Ok(SslResponse::decode(alloc, buf, ctx)?.map(Self::SslResponse));
+            return Ok(SslResponse::decode_from(alloc, buf, ctx)?.map(Self::SslResponse));
         }
         if ctx.awaiting_backend_gss_response {
-            return Ok(GssEncResponse::decode(alloc, buf, ctx)?.map(Self::GssEncResponse));
+            return Ok(GssEncResponse::decode_from(alloc, buf, ctx)?.map(Self::GssEncResponse));
         }
         Self::decode_typed(alloc, buf, ctx)
     }
 
     // The same in the phase in which each message has a type byte.
-    fn decode_typed(
+    fn decode_typed<B: Buffer>(
         alloc: Global,
-        buf: &mut BytesMut,
+        buf: &mut B,
         ctx: &DecodeContext,
     ) -> PgWireResult<Option<PgWireBackendMessage>>
-        ensures { Decodes result buf.old.items buf.new.items (typed_front ctx.now buf.old.items) }
+        ensures { Decodes result (B.held buf.old) (B.held buf.new) (typed_front ctx.now (B.held buf.old)) }
     {
-        if buf.len() < 2 {
+        let bytes = buf.bytes();
+        if bytes.len() < 2 {
             return Ok(None);
         }
-        let byte = buf.as_slice()[0];
+        let byte = bytes[0];
         Self::decode_backend(byte, alloc, buf, ctx)
     }
 
     // By the type byte: the login, and all others.
-    fn decode_backend(
+    fn decode_backend<B: Buffer>(
         byte: u8,
         alloc: Global,
-        buf: &mut BytesMut,
+        buf: &mut B,
         ctx: &DecodeContext,
     ) -> PgWireResult<Option<PgWireBackendMessage>>
-        ensures { Decodes result buf.old.items buf.new.items (backend_by byte ctx.now buf.old.items) }
+        ensures { Decodes result (B.held buf.old) (B.held buf.new) (backend_by byte ctx.now (B.held buf.old)) }
     {
         match byte {
-            b'R' => Ok(Authentication::decode(alloc, buf, ctx)?.map(Self::Authentication)),
-            b'S' => Ok(ParameterStatus::decode(alloc, buf, ctx)?.map(Self::ParameterStatus)),
-            b'K' => Ok(BackendKeyData::decode(alloc, buf, ctx)?.map(Self::BackendKeyData)),
-            b'v' => Ok(NegotiateProtocolVersion::decode(alloc, buf, ctx)?.map(
+            b'R' => Ok(Authentication::decode_from(alloc, buf, ctx)?.map(Self::Authentication)),
+            b'S' => Ok(ParameterStatus::decode_from(alloc, buf, ctx)?.map(Self::ParameterStatus)),
+            b'K' => Ok(BackendKeyData::decode_from(alloc, buf, ctx)?.map(Self::BackendKeyData)),
+            b'v' => Ok(NegotiateProtocolVersion::decode_from(alloc, buf, ctx)?.map(
                 Self::NegotiateProtocolVersion,
             )),
             _ => Self::decode_query(byte, alloc, buf, ctx),
@@ -133,45 +151,47 @@ impl PgWireBackendMessage {
     }
 
     // Queries, and what follows.
-    fn decode_query(
+    fn decode_query<B: Buffer>(
         byte: u8,
         alloc: Global,
-        buf: &mut BytesMut,
+        buf: &mut B,
         ctx: &DecodeContext,
     ) -> PgWireResult<Option<PgWireBackendMessage>>
-        ensures { Decodes result buf.old.items buf.new.items (query_by byte ctx.now buf.old.items) }
+        ensures { Decodes result (B.held buf.old) (B.held buf.new) (query_by byte ctx.now (B.held buf.old)) }
     {
         match byte {
-            b'C' => Ok(CommandComplete::decode(alloc, buf, ctx)?.map(Self::CommandComplete)),
-            b'I' => Ok(EmptyQueryResponse::decode(alloc, buf, ctx)?.map(Self::EmptyQueryResponse)),
-            b'Z' => Ok(ReadyForQuery::decode(alloc, buf, ctx)?.map(Self::ReadyForQuery)),
-            b'E' => Ok(ErrorResponse::decode(alloc, buf, ctx)?.map(Self::ErrorResponse)),
-            b'N' => Ok(NoticeResponse::decode(alloc, buf, ctx)?.map(Self::NoticeResponse)),
-            b'A' => Ok(NotificationResponse::decode(alloc, buf, ctx)?.map(
+            b'C' => Ok(CommandComplete::decode_from(alloc, buf, ctx)?.map(Self::CommandComplete)),
+            b'I' => Ok(EmptyQueryResponse::decode_from(alloc, buf, ctx)?.map(
+                Self::EmptyQueryResponse,
+            )),
+            b'Z' => Ok(ReadyForQuery::decode_from(alloc, buf, ctx)?.map(Self::ReadyForQuery)),
+            b'E' => Ok(ErrorResponse::decode_from(alloc, buf, ctx)?.map(Self::ErrorResponse)),
+            b'N' => Ok(NoticeResponse::decode_from(alloc, buf, ctx)?.map(Self::NoticeResponse)),
+            b'A' => Ok(NotificationResponse::decode_from(alloc, buf, ctx)?.map(
                 Self::NotificationResponse,
             )),
-            b'T' => Ok(RowDescription::decode(alloc, buf, ctx)?.map(Self::RowDescription)),
-            b'D' => Ok(DataRow::decode(alloc, buf, ctx)?.map(Self::DataRow)),
+            b'T' => Ok(RowDescription::decode_from(alloc, buf, ctx)?.map(Self::RowDescription)),
+            b'D' => Ok(DataRow::decode_from(alloc, buf, ctx)?.map(Self::DataRow)),
             _ => Self::decode_extended(byte, alloc, buf, ctx),
         }
     }
 
     // The extended query, and what follows.
-    fn decode_extended(
+    fn decode_extended<B: Buffer>(
         byte: u8,
         alloc: Global,
-        buf: &mut BytesMut,
+        buf: &mut B,
         ctx: &DecodeContext,
     ) -> PgWireResult<Option<PgWireBackendMessage>>
-        ensures { Decodes result buf.old.items buf.new.items (extended_by byte ctx.now buf.old.items) }
+        ensures { Decodes result (B.held buf.old) (B.held buf.new) (extended_by byte ctx.now (B.held buf.old)) }
     {
         match byte {
-            b'1' => Ok(ParseComplete::decode(alloc, buf, ctx)?.map(Self::ParseComplete)),
-            b'2' => Ok(BindComplete::decode(alloc, buf, ctx)?.map(Self::BindComplete)),
-            b'3' => Ok(CloseComplete::decode(alloc, buf, ctx)?.map(Self::CloseComplete)),
-            b's' => Ok(PortalSuspended::decode(alloc, buf, ctx)?.map(Self::PortalSuspended)),
-            b'n' => Ok(NoData::decode(alloc, buf, ctx)?.map(Self::NoData)),
-            b't' => Ok(ParameterDescription::decode(alloc, buf, ctx)?.map(
+            b'1' => Ok(ParseComplete::decode_from(alloc, buf, ctx)?.map(Self::ParseComplete)),
+            b'2' => Ok(BindComplete::decode_from(alloc, buf, ctx)?.map(Self::BindComplete)),
+            b'3' => Ok(CloseComplete::decode_from(alloc, buf, ctx)?.map(Self::CloseComplete)),
+            b's' => Ok(PortalSuspended::decode_from(alloc, buf, ctx)?.map(Self::PortalSuspended)),
+            b'n' => Ok(NoData::decode_from(alloc, buf, ctx)?.map(Self::NoData)),
+            b't' => Ok(ParameterDescription::decode_from(alloc, buf, ctx)?.map(
                 Self::ParameterDescription,
             )),
             _ => Self::decode_copy(byte, alloc, buf, ctx),
@@ -179,21 +199,21 @@ impl PgWireBackendMessage {
     }
 
     // COPY.
-    fn decode_copy(
+    fn decode_copy<B: Buffer>(
         byte: u8,
         alloc: Global,
-        buf: &mut BytesMut,
+        buf: &mut B,
         ctx: &DecodeContext,
     ) -> PgWireResult<Option<PgWireBackendMessage>>
-        ensures { Decodes result buf.old.items buf.new.items (copy_by byte ctx.now buf.old.items) }
+        ensures { Decodes result (B.held buf.old) (B.held buf.new) (copy_by byte ctx.now (B.held buf.old)) }
     {
         match byte {
-            b'd' => Ok(CopyData::decode(alloc, buf, ctx)?.map(Self::CopyData)),
-            b'c' => Ok(CopyDone::decode(alloc, buf, ctx)?.map(Self::CopyDone)),
-            b'f' => Ok(CopyFail::decode(alloc, buf, ctx)?.map(Self::CopyFail)),
-            b'G' => Ok(CopyInResponse::decode(alloc, buf, ctx)?.map(Self::CopyInResponse)),
-            b'H' => Ok(CopyOutResponse::decode(alloc, buf, ctx)?.map(Self::CopyOutResponse)),
-            b'W' => Ok(CopyBothResponse::decode(alloc, buf, ctx)?.map(Self::CopyBothResponse)),
+            b'd' => Ok(CopyData::decode_from(alloc, buf, ctx)?.map(Self::CopyData)),
+            b'c' => Ok(CopyDone::decode_from(alloc, buf, ctx)?.map(Self::CopyDone)),
+            b'f' => Ok(CopyFail::decode_from(alloc, buf, ctx)?.map(Self::CopyFail)),
+            b'G' => Ok(CopyInResponse::decode_from(alloc, buf, ctx)?.map(Self::CopyInResponse)),
+            b'H' => Ok(CopyOutResponse::decode_from(alloc, buf, ctx)?.map(Self::CopyOutResponse)),
+            b'W' => Ok(CopyBothResponse::decode_from(alloc, buf, ctx)?.map(Self::CopyBothResponse)),
             _ => Err(PgWireError::InvalidMessageType(byte)),
         }
     }

@@ -8,4 +8,5 @@ mod lists;
 mod login;
 mod server;
 mod shared;
+mod shown;
 mod values;

@@ -4,7 +4,6 @@ ghost use Rattle.pgw_wire.specs.declared.framing.Framing.TheVariants.{Typed};
 ghost use Rattle.pgw_wire.specs.Writing.{text, has_zero as holds_zero, refused_if};
 ghost use Rattle.pgw_copy.specs.Rows.{copy_data_of, copy_done_of, copy_fail_of};
 
-use bytes::BytesMut;
 use pgw_types::context::DecodeContext;
 use pgw_types::error::{PgWireError, PgWireResult};
 use pgw_types::listed::Duplicate;
@@ -14,7 +13,7 @@ use pgw_types::text::Text;
 use pgw_wire::framing::Framing;
 use pgw_wire::message::Message;
 use pgw_wire::reader::FieldReader;
-use pgw_wire::writer::{append, has_zero, put_text};
+use pgw_wire::writer::{Writer, has_zero, put_text, refused_if};
 use std::alloc::Global;
 
 pub const MESSAGE_TYPE_BYTE_COPY_DATA: u8 = b'd';
@@ -60,8 +59,12 @@ impl Message for CopyData {
         self.payload.len() + 4
     }
 
-    fn encode_body(&self, buf: &mut BytesMut) -> PgWireResult<()> {
-        append(buf, self.payload.as_slice())
+    fn refusal(&self) -> Option<PgWireError> {
+        None
+    }
+
+    fn put_body(&self, out: &mut Writer) -> Result<(), OutOfMemory> {
+        out.put_slice(self.payload.as_slice())
     }
 
     #[tactic(auto, unfolding(crate::specs::Rows::copy_data_of))]
@@ -116,7 +119,11 @@ impl Message for CopyDone {
         4
     }
 
-    fn encode_body(&self, _buf: &mut BytesMut) -> PgWireResult<()> {
+    fn refusal(&self) -> Option<PgWireError> {
+        None
+    }
+
+    fn put_body(&self, _out: &mut Writer) -> Result<(), OutOfMemory> {
         Ok(())
     }
 
@@ -171,14 +178,12 @@ impl Message for CopyFail {
         self.message.len() + 5
     }
 
-    #[tactic(auto, unfolding(pgw_wire::specs::Writing::refused_if))]
-    fn encode_body(&self, buf: &mut BytesMut) -> PgWireResult<()> {
-        if has_zero(&self.message) {
-            return Err(PgWireError::InvalidMessageBody);
-        }
-        let mut out = Vec::new(*buf.allocator());
-        put_text(&mut out, &self.message)?;
-        append(buf, &out)
+    fn refusal(&self) -> Option<PgWireError> {
+        refused_if(has_zero(&self.message))
+    }
+
+    fn put_body(&self, out: &mut Writer) -> Result<(), OutOfMemory> {
+        put_text(out, &self.message)
     }
 
     #[tactic(auto, unfolding(crate::specs::Rows::copy_fail_of))]

@@ -1,12 +1,10 @@
 //! What a server answers to COPY.
-ghost use Rattle.std.specs.Prelude.{◌≡◌};
+ghost use Rattle.std.specs.Prelude.{◌≡◌, ◌++◌, OnOk};
 ghost use Rattle.pgw_wire.specs.declared.framing.Framing.TheVariants.{Typed};
-ghost use Rattle.pgw_wire.specs.Framing.{Appends, body_or};
 ghost use Rattle.pgw_wire.specs.Reading.{Reads};
 ghost use Rattle.pgw_wire.specs.Writing.{refused_if};
 ghost use Rattle.pgw_copy.specs.Rows.{columns_at, formats, is_miscounted as is_miscounted_list, copy_in_response_of, copy_out_response_of, copy_both_response_of};
 
-use bytes::BytesMut;
 use pgw_types::context::DecodeContext;
 use pgw_types::error::{PgWireError, PgWireResult};
 use pgw_types::listed::{Duplicate, Listed};
@@ -16,7 +14,7 @@ use pgw_wire::field::{list_len, put_list, take_list, unsigned_count};
 use pgw_wire::framing::Framing;
 use pgw_wire::message::Message;
 use pgw_wire::reader::FieldReader;
-use pgw_wire::writer::{append, put_i16};
+use pgw_wire::writer::{Writer, put_i16, put_u8, refused_if};
 use std::alloc::Global;
 
 pub const MESSAGE_TYPE_BYTE_COPY_IN_RESPONSE: u8 = b'G';
@@ -44,24 +42,18 @@ fn is_miscounted(columns: i16, column_formats: &[i16]) -> bool
     columns < 0 || columns as usize != column_formats.len()
 }
 
-// Appends them.
-#[tactic(auto, unfolding(pgw_wire::specs::Writing::refused_if))]
-fn append_formats(
-    buf: &mut BytesMut,
+fn put_formats(
+    out: &mut Writer,
     format: i8,
     columns: i16,
     column_formats: &[i16],
-) -> PgWireResult<()>
-    ensures { Appends result buf.old.items buf.new.items (body_or (refused_if (is_miscounted_list columns column_formats.now)) (formats format columns column_formats.now)) }
+) -> Result<(), OutOfMemory>
+    ensures ok { OnOk result (out.new.body ≡ out.old.body ++ formats format columns column_formats.now) }
+    ensures kept { out.new.before ≡ out.old.before }
 {
-    if is_miscounted(columns, column_formats) {
-        return Err(PgWireError::InvalidMessageBody);
-    }
-    let mut out = Vec::new(*buf.allocator());
-    out.push(format.cast_unsigned())?;
-    put_i16(&mut out, columns)?;
-    put_list(&mut out, column_formats)?;
-    append(buf, &out)
+    put_u8(out, format.cast_unsigned())?;
+    put_i16(out, columns)?;
+    put_list(out, column_formats)
 }
 
 /// The server waits for data (CopyInResponse).
@@ -108,9 +100,13 @@ impl Message for CopyInResponse {
         list_len(self.column_formats.as_slice(), 7)
     }
 
-    fn encode_body(&self, buf: &mut BytesMut) -> PgWireResult<()> {
-        append_formats(
-            buf,
+    fn refusal(&self) -> Option<PgWireError> {
+        refused_if(is_miscounted(self.columns, self.column_formats.as_slice()))
+    }
+
+    fn put_body(&self, out: &mut Writer) -> Result<(), OutOfMemory> {
+        put_formats(
+            out,
             self.format,
             self.columns,
             self.column_formats.as_slice(),
@@ -178,9 +174,13 @@ impl Message for CopyOutResponse {
         list_len(self.column_formats.as_slice(), 7)
     }
 
-    fn encode_body(&self, buf: &mut BytesMut) -> PgWireResult<()> {
-        append_formats(
-            buf,
+    fn refusal(&self) -> Option<PgWireError> {
+        refused_if(is_miscounted(self.columns, self.column_formats.as_slice()))
+    }
+
+    fn put_body(&self, out: &mut Writer) -> Result<(), OutOfMemory> {
+        put_formats(
+            out,
             self.format,
             self.columns,
             self.column_formats.as_slice(),
@@ -248,9 +248,13 @@ impl Message for CopyBothResponse {
         list_len(self.column_formats.as_slice(), 7)
     }
 
-    fn encode_body(&self, buf: &mut BytesMut) -> PgWireResult<()> {
-        append_formats(
-            buf,
+    fn refusal(&self) -> Option<PgWireError> {
+        refused_if(is_miscounted(self.columns, self.column_formats.as_slice()))
+    }
+
+    fn put_body(&self, out: &mut Writer) -> Result<(), OutOfMemory> {
+        put_formats(
+            out,
             self.format,
             self.columns,
             self.column_formats.as_slice(),

@@ -8,7 +8,6 @@ ghost use Rattle.pgw_wire.specs.Counted.{is_too_long};
 
 use crate::kinds::{is_name_refused, name_len, put_name};
 use crate::parameter::{parameters_len, put_parameters, take_parameters};
-use bytes::BytesMut;
 use pgw_types::context::DecodeContext;
 use pgw_types::error::{PgWireError, PgWireResult};
 use pgw_types::listed::{Duplicate, Listed};
@@ -20,7 +19,7 @@ use pgw_wire::field::list_len;
 use pgw_wire::framing::Framing;
 use pgw_wire::message::Message;
 use pgw_wire::reader::FieldReader;
-use pgw_wire::writer::append;
+use pgw_wire::writer::{Writer, refused_if};
 use std::alloc::Global;
 
 pub const MESSAGE_TYPE_BYTE_BIND: u8 = b'B';
@@ -106,18 +105,16 @@ impl Message for Bind {
         list_len(self.result_column_format_codes.as_slice(), len)
     }
 
-    #[tactic(auto, unfolding(pgw_wire::specs::Writing::refused_if))]
-    fn encode_body(&self, buf: &mut BytesMut) -> PgWireResult<()> {
-        if is_refused(self) {
-            return Err(PgWireError::InvalidMessageBody);
-        }
-        let mut out = Vec::new(*buf.allocator());
-        put_name(&mut out, &self.portal_name)?;
-        put_name(&mut out, &self.statement_name)?;
-        put_counted16(&mut out, self.parameter_format_codes.as_slice())?;
-        put_parameters(&mut out, self.parameters.as_slice())?;
-        put_counted16(&mut out, self.result_column_format_codes.as_slice())?;
-        append(buf, &out)
+    fn refusal(&self) -> Option<PgWireError> {
+        refused_if(is_refused(self))
+    }
+
+    fn put_body(&self, out: &mut Writer) -> Result<(), OutOfMemory> {
+        put_name(out, &self.portal_name)?;
+        put_name(out, &self.statement_name)?;
+        put_counted16(out, self.parameter_format_codes.as_slice())?;
+        put_parameters(out, self.parameters.as_slice())?;
+        put_counted16(out, self.result_column_format_codes.as_slice())
     }
 
     #[tactic(auto, unfolding(crate::specs::Rows::bind_of))]
@@ -174,7 +171,11 @@ impl Message for BindComplete {
         4
     }
 
-    fn encode_body(&self, _buf: &mut BytesMut) -> PgWireResult<()> {
+    fn refusal(&self) -> Option<PgWireError> {
+        None
+    }
+
+    fn put_body(&self, _out: &mut Writer) -> Result<(), OutOfMemory> {
         Ok(())
     }
 

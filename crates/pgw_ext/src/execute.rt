@@ -6,7 +6,6 @@ ghost use Rattle.pgw_ext.specs.Kinds.{name as name_bytes, is_name_refused as is_
 ghost use Rattle.pgw_ext.specs.Rows.{execute_of, portal_suspended_of};
 
 use crate::kinds::{is_name_refused, name_len, put_name};
-use bytes::BytesMut;
 use pgw_types::context::DecodeContext;
 use pgw_types::error::{PgWireError, PgWireResult};
 use pgw_types::listed::Duplicate;
@@ -16,7 +15,7 @@ use pgw_types::text::Text;
 use pgw_wire::framing::Framing;
 use pgw_wire::message::Message;
 use pgw_wire::reader::FieldReader;
-use pgw_wire::writer::{append, put_i32};
+use pgw_wire::writer::{Writer, put_i32, refused_if};
 use std::alloc::Global;
 
 pub const MESSAGE_TYPE_BYTE_EXECUTE: u8 = b'E';
@@ -62,15 +61,13 @@ impl Message for Execute {
         name_len(&self.name, 8)
     }
 
-    #[tactic(auto, unfolding(pgw_wire::specs::Writing::refused_if))]
-    fn encode_body(&self, buf: &mut BytesMut) -> PgWireResult<()> {
-        if is_name_refused(&self.name) {
-            return Err(PgWireError::InvalidMessageBody);
-        }
-        let mut out = Vec::new(*buf.allocator());
-        put_name(&mut out, &self.name)?;
-        put_i32(&mut out, self.max_rows)?;
-        append(buf, &out)
+    fn refusal(&self) -> Option<PgWireError> {
+        refused_if(is_name_refused(&self.name))
+    }
+
+    fn put_body(&self, out: &mut Writer) -> Result<(), OutOfMemory> {
+        put_name(out, &self.name)?;
+        put_i32(out, self.max_rows)
     }
 
     #[tactic(auto, unfolding(crate::specs::Rows::execute_of))]
@@ -127,7 +124,11 @@ impl Message for PortalSuspended {
         4
     }
 
-    fn encode_body(&self, _buf: &mut BytesMut) -> PgWireResult<()> {
+    fn refusal(&self) -> Option<PgWireError> {
+        None
+    }
+
+    fn put_body(&self, _out: &mut Writer) -> Result<(), OutOfMemory> {
         Ok(())
     }
 

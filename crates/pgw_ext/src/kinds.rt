@@ -5,7 +5,7 @@ ghost use Rattle.pgw_ext.specs.Kinds.{name as name_bytes, is_name_refused as is_
 
 use pgw_types::memory::OutOfMemory;
 use pgw_types::text::Text;
-use pgw_wire::writer::{has_zero, put_text};
+use pgw_wire::writer::{Writer, has_zero, put_text, put_u8};
 
 /// Whether a name holds a zero byte, so that it has no spelling.
 pub fn is_name_refused(name: &Option<Text>) -> bool
@@ -19,12 +19,13 @@ pub fn is_name_refused(name: &Option<Text>) -> bool
 
 /// Appends a name.
 #[tactic(auto, unfolding(crate::specs::Kinds::name))]
-pub fn put_name(out: &mut Vec<u8>, name: &Option<Text>) -> Result<(), OutOfMemory>
-    ensures { OnOk result (out.new.items ≡ out.old.items ++ name_bytes name.now) }
+pub fn put_name(out: &mut Writer, name: &Option<Text>) -> Result<(), OutOfMemory>
+    ensures ok { OnOk result (out.new.body ≡ out.old.body ++ name_bytes name.now) }
+    ensures kept { out.new.before ≡ out.old.before }
 {
     match name {
         Some(text) => put_text(out, text),
-        None => Ok(out.push(0)?),
+        None => put_u8(out, 0),
     }
 }
 

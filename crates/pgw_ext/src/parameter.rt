@@ -11,7 +11,7 @@ use pgw_types::listed::Listed;
 use pgw_types::memory::OutOfMemory;
 use pgw_types::octets::Octets;
 use pgw_wire::reader::FieldReader;
-use pgw_wire::writer::{put_i32, put_u16};
+use pgw_wire::writer::{Writer, put_i32, put_u16};
 use std::alloc::Global;
 
 // One value, where none is NULL.
@@ -56,20 +56,21 @@ pub fn take_parameters(
 }
 
 #[tactic(auto, unfolding(crate::specs::Kinds::parameter, pgw_wire::specs::Writing::u32))]
-fn put_parameter(out: &mut Vec<u8>, value: &Option<Octets>) -> Result<(), OutOfMemory>
-    ensures { OnOk result (out.new.items ≡ out.old.items ++ parameter value.now) }
+fn put_parameter(out: &mut Writer, value: &Option<Octets>) -> Result<(), OutOfMemory>
+    ensures ok { OnOk result (out.new.body ≡ out.old.body ++ parameter value.now) }
+    ensures kept { out.new.before ≡ out.old.before }
 {
     let Some(value) = value else {
         return put_i32(out, -1);
     };
     let [_, _, _, _, a, b, c, d] = value.len().to_be_bytes();
-    out.extend_from_slice(&[a, b, c, d])?;
-    out.extend_from_slice(value.as_slice())?;
-    Ok(())
+    out.put_slice(&[a, b, c, d])?;
+    out.put_slice(value.as_slice())
 }
 
-fn put_many(out: &mut Vec<u8>, values: &[Option<Octets>]) -> Result<(), OutOfMemory>
-    ensures { OnOk result (out.new.items ≡ out.old.items ++ flat_map parameter values.now) }
+fn put_many(out: &mut Writer, values: &[Option<Octets>]) -> Result<(), OutOfMemory>
+    ensures ok { OnOk result (out.new.body ≡ out.old.body ++ flat_map parameter values.now) }
+    ensures kept { out.new.before ≡ out.old.before }
 {
     for value in values {
         put_parameter(out, value)?;
@@ -78,9 +79,10 @@ fn put_many(out: &mut Vec<u8>, values: &[Option<Octets>]) -> Result<(), OutOfMem
 }
 
 /// Appends a count of 16 bits and the values.
-pub fn put_parameters(out: &mut Vec<u8>, values: &[Option<Octets>]) -> Result<(), OutOfMemory>
+pub fn put_parameters(out: &mut Writer, values: &[Option<Octets>]) -> Result<(), OutOfMemory>
     requires { length values.now < 2 ^ 16 }
-    ensures { OnOk result (out.new.items ≡ out.old.items ++ counted16 parameter values.now) }
+    ensures ok { OnOk result (out.new.body ≡ out.old.body ++ counted16 parameter values.now) }
+    ensures kept { out.new.before ≡ out.old.before }
 {
     put_u16(out, values.len() as u16)?;
     put_many(out, values)

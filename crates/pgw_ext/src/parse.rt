@@ -5,7 +5,6 @@ ghost use Rattle.pgw_wire.specs.Writing.{refused_if};
 ghost use Rattle.pgw_ext.specs.Rows.{parse_of, parse, is_parse_refused, parse_complete_of};
 
 use crate::kinds::{is_name_refused, name_len, put_name};
-use bytes::BytesMut;
 use pgw_types::context::DecodeContext;
 use pgw_types::error::{PgWireError, PgWireResult};
 use pgw_types::listed::{Duplicate, Listed};
@@ -17,7 +16,7 @@ use pgw_wire::field::list_len;
 use pgw_wire::framing::Framing;
 use pgw_wire::message::Message;
 use pgw_wire::reader::FieldReader;
-use pgw_wire::writer::{append, has_zero, put_text};
+use pgw_wire::writer::{Writer, has_zero, put_text, refused_if};
 use std::alloc::Global;
 
 pub const MESSAGE_TYPE_BYTE_PARSE: u8 = b'P';
@@ -78,16 +77,14 @@ impl Message for Parse {
         )
     }
 
-    #[tactic(auto, unfolding(pgw_wire::specs::Writing::refused_if))]
-    fn encode_body(&self, buf: &mut BytesMut) -> PgWireResult<()> {
-        if is_refused(self) {
-            return Err(PgWireError::InvalidMessageBody);
-        }
-        let mut out = Vec::new(*buf.allocator());
-        put_name(&mut out, &self.name)?;
-        put_text(&mut out, &self.query)?;
-        put_counted16(&mut out, self.type_oids.as_slice())?;
-        append(buf, &out)
+    fn refusal(&self) -> Option<PgWireError> {
+        refused_if(is_refused(self))
+    }
+
+    fn put_body(&self, out: &mut Writer) -> Result<(), OutOfMemory> {
+        put_name(out, &self.name)?;
+        put_text(out, &self.query)?;
+        put_counted16(out, self.type_oids.as_slice())
     }
 
     #[tactic(auto, unfolding(crate::specs::Rows::parse_of))]
@@ -140,7 +137,11 @@ impl Message for ParseComplete {
         4
     }
 
-    fn encode_body(&self, _buf: &mut BytesMut) -> PgWireResult<()> {
+    fn refusal(&self) -> Option<PgWireError> {
+        None
+    }
+
+    fn put_body(&self, _out: &mut Writer) -> Result<(), OutOfMemory> {
         Ok(())
     }
 

@@ -1,14 +1,12 @@
 //! Closing and describing statements and portals.
-ghost use Rattle.std.specs.Prelude.{◌≡◌, ◌∷◌, [], None};
+ghost use Rattle.std.specs.Prelude.{◌≡◌, ◌++◌, ◌∷◌, [], None, OnOk};
 ghost use Rattle.pgw_wire.specs.declared.framing.Framing.TheVariants.{Typed};
-ghost use Rattle.pgw_wire.specs.Framing.{Appends, body_or};
 ghost use Rattle.pgw_wire.specs.Reading.{Reads};
 ghost use Rattle.pgw_wire.specs.Writing.{refused_if};
 ghost use Rattle.pgw_ext.specs.Kinds.{name as name_bytes, is_name_refused as is_name_refused_list};
 ghost use Rattle.pgw_ext.specs.Rows.{target_at, close_of, close_complete_of, describe_of};
 
 use crate::kinds::{is_name_refused, name_len, put_name};
-use bytes::BytesMut;
 use pgw_types::context::DecodeContext;
 use pgw_types::error::{PgWireError, PgWireResult};
 use pgw_types::listed::Duplicate;
@@ -18,7 +16,7 @@ use pgw_types::text::Text;
 use pgw_wire::framing::Framing;
 use pgw_wire::message::Message;
 use pgw_wire::reader::FieldReader;
-use pgw_wire::writer::append;
+use pgw_wire::writer::{Writer, put_u8, refused_if};
 use std::alloc::Global;
 
 pub const MESSAGE_TYPE_BYTE_CLOSE: u8 = b'C';
@@ -41,18 +39,16 @@ fn take_target(alloc: Global, reader: &mut FieldReader<'_>) -> PgWireResult<(u8,
     Ok((target_type, name))
 }
 
-// Appends the byte of a kind and a name.
-#[tactic(auto, unfolding(pgw_wire::specs::Writing::refused_if))]
-fn append_target(buf: &mut BytesMut, target_type: u8, name: &Option<Text>) -> PgWireResult<()>
-    ensures { Appends result buf.old.items buf.new.items (body_or (refused_if (is_name_refused_list name.now)) (target_type ∷ name_bytes name.now)) }
+fn put_target(
+    out: &mut Writer,
+    target_type: u8,
+    name: &Option<Text>,
+) -> Result<(), OutOfMemory>
+    ensures ok { OnOk result (out.new.body ≡ out.old.body ++ target_type ∷ name_bytes name.now) }
+    ensures kept { out.new.before ≡ out.old.before }
 {
-    if is_name_refused(name) {
-        return Err(PgWireError::InvalidMessageBody);
-    }
-    let mut out = Vec::new(*buf.allocator());
-    out.push(target_type)?;
-    put_name(&mut out, name)?;
-    append(buf, &out)
+    put_u8(out, target_type)?;
+    put_name(out, name)
 }
 
 /// A statement or a portal to be closed (Close).
@@ -93,8 +89,12 @@ impl Message for Close {
         name_len(&self.name, 5)
     }
 
-    fn encode_body(&self, buf: &mut BytesMut) -> PgWireResult<()> {
-        append_target(buf, self.target_type, &self.name)
+    fn refusal(&self) -> Option<PgWireError> {
+        refused_if(is_name_refused(&self.name))
+    }
+
+    fn put_body(&self, out: &mut Writer) -> Result<(), OutOfMemory> {
+        put_target(out, self.target_type, &self.name)
     }
 
     #[tactic(auto, unfolding(crate::specs::Rows::close_of))]
@@ -150,7 +150,11 @@ impl Message for CloseComplete {
         4
     }
 
-    fn encode_body(&self, _buf: &mut BytesMut) -> PgWireResult<()> {
+    fn refusal(&self) -> Option<PgWireError> {
+        None
+    }
+
+    fn put_body(&self, _out: &mut Writer) -> Result<(), OutOfMemory> {
         Ok(())
     }
 
@@ -209,8 +213,12 @@ impl Message for Describe {
         name_len(&self.name, 5)
     }
 
-    fn encode_body(&self, buf: &mut BytesMut) -> PgWireResult<()> {
-        append_target(buf, self.target_type, &self.name)
+    fn refusal(&self) -> Option<PgWireError> {
+        refused_if(is_name_refused(&self.name))
+    }
+
+    fn put_body(&self, out: &mut Writer) -> Result<(), OutOfMemory> {
+        put_target(out, self.target_type, &self.name)
     }
 
     #[tactic(auto, unfolding(crate::specs::Rows::describe_of))]

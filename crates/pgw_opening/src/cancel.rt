@@ -5,7 +5,6 @@ ghost use Rattle.pgw_wire.specs.Keys.{key_fault};
 ghost use Rattle.pgw_opening.specs.Openings.{has_code, cancel_request_of, cancel_request};
 
 use crate::packet::has_code_at_front;
-use bytes::BytesMut;
 use pgw_types::context::DecodeContext;
 use pgw_types::error::{PgWireError, PgWireResult};
 use pgw_types::listed::Duplicate;
@@ -15,7 +14,7 @@ use pgw_wire::framing::Framing;
 use pgw_wire::message::Message;
 use pgw_wire::reader::FieldReader;
 use pgw_wire::secret_key::SecretKey;
-use pgw_wire::writer::append;
+use pgw_wire::writer::{Writer, put_i32, put_u32};
 use std::alloc::Global;
 
 // The code that stands in place of a version.
@@ -70,15 +69,14 @@ impl Message for CancelRequest {
         }
     }
 
-    #[tactic(auto, unfolding(pgw_wire::specs::Writing::i32, pgw_wire::specs::Writing::u32))]
-    fn encode_body(&self, buf: &mut BytesMut) -> PgWireResult<()> {
-        let mut key = BytesMut::new(*buf.allocator());
-        self.secret_key.encode(&mut key)?;
-        let mut out = Vec::new(*buf.allocator());
-        out.extend_from_slice(&CANCEL_REQUEST_CODE.to_be_bytes())?;
-        out.extend_from_slice(&self.pid.cast_unsigned().to_be_bytes())?;
-        out.extend_from_slice(key.as_slice())?;
-        append(buf, &out)
+    fn refusal(&self) -> Option<PgWireError> {
+        self.secret_key.refusal()
+    }
+
+    fn put_body(&self, out: &mut Writer) -> Result<(), OutOfMemory> {
+        put_u32(out, CANCEL_REQUEST_CODE)?;
+        put_i32(out, self.pid)?;
+        self.secret_key.put(out)
     }
 
     #[tactic(auto, unfolding(crate::specs::Openings::cancel_request_of, crate::specs::Openings::only_code))]

@@ -5,7 +5,6 @@ ghost use Rattle.pgw_wire.specs.Writing.{u32 as u32_bytes};
 ghost use Rattle.pgw_opening.specs.Openings.{has_code, gss_enc_request_of};
 
 use crate::packet::has_code_at_front;
-use bytes::BytesMut;
 use pgw_types::context::DecodeContext;
 use pgw_types::error::{PgWireError, PgWireResult};
 use pgw_types::listed::Duplicate;
@@ -14,7 +13,7 @@ use pgw_types::octets::Octets;
 use pgw_wire::framing::Framing;
 use pgw_wire::message::Message;
 use pgw_wire::reader::FieldReader;
-use pgw_wire::writer::{append, put_u32};
+use pgw_wire::writer::{Writer, put_u32};
 use std::alloc::Global;
 
 /// The connection is to be encrypted by GSSAPI (GSSENCRequest).
@@ -66,10 +65,12 @@ impl Message for GssEncRequest {
         GssEncRequest::BODY_SIZE
     }
 
-    fn encode_body(&self, buf: &mut BytesMut) -> PgWireResult<()> {
-        let mut out = Vec::new(*buf.allocator());
-        put_u32(&mut out, GssEncRequest::BODY_MAGIC_NUMBER as u32)?;
-        append(buf, &out)
+    fn refusal(&self) -> Option<PgWireError> {
+        None
+    }
+
+    fn put_body(&self, out: &mut Writer) -> Result<(), OutOfMemory> {
+        put_u32(out, GssEncRequest::BODY_MAGIC_NUMBER as u32)
     }
 
     #[tactic(auto, unfolding(crate::specs::Openings::gss_enc_request_of, crate::specs::Openings::only_code))]

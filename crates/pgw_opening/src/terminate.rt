@@ -3,15 +3,15 @@ ghost use Rattle.std.specs.Prelude.{◌≡◌, [], None};
 ghost use Rattle.pgw_wire.specs.declared.framing.Framing.TheVariants.{Typed};
 ghost use Rattle.pgw_opening.specs.Terminate.{terminate_of};
 
-use bytes::BytesMut;
 use pgw_types::context::DecodeContext;
-use pgw_types::error::PgWireResult;
+use pgw_types::error::{PgWireError, PgWireResult};
 use pgw_types::listed::Duplicate;
 use pgw_types::memory::OutOfMemory;
 use pgw_types::octets::Octets;
 use pgw_wire::framing::Framing;
 use pgw_wire::message::Message;
 use pgw_wire::reader::FieldReader;
+use pgw_wire::writer::Writer;
 use std::alloc::Global;
 
 pub const MESSAGE_TYPE_BYTE_TERMINATE: u8 = b'X';
@@ -51,7 +51,11 @@ impl Message for Terminate {
         4
     }
 
-    fn encode_body(&self, _buf: &mut BytesMut) -> PgWireResult<()> {
+    fn refusal(&self) -> Option<PgWireError> {
+        None
+    }
+
+    fn put_body(&self, _out: &mut Writer) -> Result<(), OutOfMemory> {
         Ok(())
     }
 

@@ -6,7 +6,6 @@ ghost use Rattle.pgw_wire.specs.Reading.{Reads};
 ghost use Rattle.pgw_wire.specs.Writing.{has_zero as holds_zero, refused_if};
 ghost use Rattle.pgw_query.specs.Rows.{field_at, field, row_description_of, row_description, is_refused as is_refused_list, data_row_of, data_row};
 
-use bytes::BytesMut;
 use pgw_types::context::DecodeContext;
 use pgw_types::error::{PgWireError, PgWireResult};
 use pgw_types::listed::{Duplicate, Listed};
@@ -17,7 +16,7 @@ use pgw_wire::field::{Field, list_len, put_list, take_list, unsigned_count};
 use pgw_wire::framing::Framing;
 use pgw_wire::message::Message;
 use pgw_wire::reader::FieldReader;
-use pgw_wire::writer::{append, has_zero, put_i16, put_i32, put_text, put_u16, put_u32};
+use pgw_wire::writer::{Writer, has_zero, put_i16, put_i32, put_text, put_u16, put_u32, refused_if};
 use std::alloc::Global;
 
 pub const MESSAGE_TYPE_BYTE_ROW_DESCRITION: u8 = b'T';
@@ -92,15 +91,14 @@ impl Field for FieldDescription {
     }
 
     #[tactic(auto, using(std::proofs::Common::append_assoc))]
-    fn put(&self, out: &mut Vec<u8>) -> Result<(), OutOfMemory> {
+    fn put(&self, out: &mut Writer) -> Result<(), OutOfMemory> {
         put_text(out, &self.name)?;
         put_i32(out, self.table_id)?;
         put_i16(out, self.column_id)?;
         put_u32(out, self.type_id)?;
         put_i16(out, self.type_size)?;
         put_i32(out, self.type_modifier)?;
-        put_i16(out, self.format_code)?;
-        Ok(())
+        put_i16(out, self.format_code)
     }
 
     #[tactic(auto, unfolding(pgw_wire::specs::Writing::text, pgw_wire::specs::Writing::i16, pgw_wire::specs::Writing::i32, pgw_wire::specs::Writing::u32))]
@@ -159,16 +157,15 @@ impl Message for RowDescription {
         list_len(self.fields.as_slice(), 6)
     }
 
-    #[tactic(auto, unfolding(pgw_wire::specs::Writing::refused_if))]
-    fn encode_body(&self, buf: &mut BytesMut) -> PgWireResult<()> {
+    fn refusal(&self) -> Option<PgWireError> {
         let fields = self.fields.as_slice();
-        if is_refused(fields) {
-            return Err(PgWireError::InvalidMessageBody);
-        }
-        let mut out = Vec::new(*buf.allocator());
-        put_u16(&mut out, fields.len() as u16)?;
-        put_list(&mut out, fields)?;
-        append(buf, &out)
+        refused_if(is_refused(fields))
+    }
+
+    fn put_body(&self, out: &mut Writer) -> Result<(), OutOfMemory> {
+        let fields = self.fields.as_slice();
+        put_u16(out, fields.len() as u16)?;
+        put_list(out, fields)
     }
 
     #[tactic(auto, unfolding(crate::specs::Rows::row_description_of))]
@@ -227,11 +224,13 @@ impl Message for DataRow {
         self.payload.len() + 6
     }
 
-    fn encode_body(&self, buf: &mut BytesMut) -> PgWireResult<()> {
-        let mut out = Vec::new(*buf.allocator());
-        put_i16(&mut out, self.field_count)?;
-        out.extend_from_slice(self.payload.as_slice())?;
-        append(buf, &out)
+    fn refusal(&self) -> Option<PgWireError> {
+        None
+    }
+
+    fn put_body(&self, out: &mut Writer) -> Result<(), OutOfMemory> {
+        put_i16(out, self.field_count)?;
+        out.put_slice(self.payload.as_slice())
     }
 
     #[tactic(auto, unfolding(crate::specs::Rows::data_row_of))]

@@ -5,7 +5,6 @@ ghost use Rattle.pgw_wire.specs.Counted.{is_too_long, counted16};
 ghost use Rattle.pgw_wire.specs.Writing.{u32 as u32_bytes, refused_if};
 ghost use Rattle.pgw_query.specs.Rows.{parameter_description_of, no_data_of};
 
-use bytes::BytesMut;
 use pgw_types::context::DecodeContext;
 use pgw_types::error::{PgWireError, PgWireResult};
 use pgw_types::listed::{Duplicate, Listed};
@@ -16,7 +15,7 @@ use pgw_wire::field::list_len;
 use pgw_wire::framing::Framing;
 use pgw_wire::message::Message;
 use pgw_wire::reader::FieldReader;
-use pgw_wire::writer::append;
+use pgw_wire::writer::{Writer, refused_if};
 use std::alloc::Global;
 
 pub const MESSAGE_TYPE_BYTE_PARAMETER_DESCRITION: u8 = b't';
@@ -61,15 +60,14 @@ impl Message for ParameterDescription {
         list_len(self.types.as_slice(), 6)
     }
 
-    #[tactic(auto, unfolding(pgw_wire::specs::Writing::refused_if))]
-    fn encode_body(&self, buf: &mut BytesMut) -> PgWireResult<()> {
+    fn refusal(&self) -> Option<PgWireError> {
         let types = self.types.as_slice();
-        if types.len() > 65535 {
-            return Err(PgWireError::InvalidMessageBody);
-        }
-        let mut out = Vec::new(*buf.allocator());
-        put_counted16(&mut out, types)?;
-        append(buf, &out)
+        refused_if(types.len() > 65535)
+    }
+
+    fn put_body(&self, out: &mut Writer) -> Result<(), OutOfMemory> {
+        let types = self.types.as_slice();
+        put_counted16(out, types)
     }
 
     #[tactic(auto, unfolding(crate::specs::Rows::parameter_description_of))]
@@ -120,7 +118,11 @@ impl Message for NoData {
         4
     }
 
-    fn encode_body(&self, _buf: &mut BytesMut) -> PgWireResult<()> {
+    fn refusal(&self) -> Option<PgWireError> {
+        None
+    }
+
+    fn put_body(&self, _out: &mut Writer) -> Result<(), OutOfMemory> {
         Ok(())
     }
 

@@ -4,7 +4,6 @@ ghost use Rattle.pgw_wire.specs.declared.framing.Framing.TheVariants.{Typed};
 ghost use Rattle.pgw_wire.specs.Writing.{refused_if};
 ghost use Rattle.pgw_query.specs.Rows.{notification_response_of, notification_response, is_notification_refused};
 
-use bytes::BytesMut;
 use pgw_types::context::DecodeContext;
 use pgw_types::error::{PgWireError, PgWireResult};
 use pgw_types::listed::Duplicate;
@@ -14,7 +13,7 @@ use pgw_types::text::Text;
 use pgw_wire::framing::Framing;
 use pgw_wire::message::Message;
 use pgw_wire::reader::FieldReader;
-use pgw_wire::writer::{append, has_zero, put_i32, put_text};
+use pgw_wire::writer::{Writer, has_zero, put_i32, put_text, refused_if};
 use std::alloc::Global;
 
 pub const MESSAGE_TYPE_BYTE_NOTIFICATION_RESPONSE: u8 = b'A';
@@ -63,16 +62,14 @@ impl Message for NotificationResponse {
         (self.channel.len() + 10).saturating_add(self.payload.len())
     }
 
-    #[tactic(auto, unfolding(pgw_wire::specs::Writing::refused_if))]
-    fn encode_body(&self, buf: &mut BytesMut) -> PgWireResult<()> {
-        if has_zero(&self.channel) || has_zero(&self.payload) {
-            return Err(PgWireError::InvalidMessageBody);
-        }
-        let mut out = Vec::new(*buf.allocator());
-        put_i32(&mut out, self.pid)?;
-        put_text(&mut out, &self.channel)?;
-        put_text(&mut out, &self.payload)?;
-        append(buf, &out)
+    fn refusal(&self) -> Option<PgWireError> {
+        refused_if(has_zero(&self.channel) || has_zero(&self.payload))
+    }
+
+    fn put_body(&self, out: &mut Writer) -> Result<(), OutOfMemory> {
+        put_i32(out, self.pid)?;
+        put_text(out, &self.channel)?;
+        put_text(out, &self.payload)
     }
 
     #[tactic(auto, unfolding(crate::specs::Rows::notification_response_of))]

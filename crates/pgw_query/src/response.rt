@@ -1,15 +1,13 @@
 //! What a server says.
-ghost use Rattle.std.specs.Prelude.{◌≡◌, ◌∷◌, [], None, IfOk};
+ghost use Rattle.std.specs.Prelude.{◌≡◌, ◌++◌, ◌∷◌, [], None, IfOk, OnOk};
 ghost use Rattle.pgw_types.specs.Infos.{fields_of, info_from};
 ghost use Rattle.pgw_wire.specs.declared.framing.Framing.TheVariants.{Typed};
 ghost use Rattle.pgw_wire.specs.Writing.{text, has_zero as holds_zero, refused_if};
 ghost use Rattle.std.specs.List.{list_any, flat_map};
-ghost use Rattle.pgw_wire.specs.Framing.{Appends, body_or};
 ghost use Rattle.pgw_wire.specs.Codes.{is_code_refused};
 ghost use Rattle.pgw_query.specs.Rows.{status_of, status_byte, ready_for_query_of, command_complete_of, empty_query_response_of, error_response_of, notice_response_of, codes_at, codes, codes_fault};
 ghost use Rattle.pgw_wire.specs.Reading.{Reads};
 
-use bytes::BytesMut;
 use pgw_types::context::DecodeContext;
 use pgw_types::error::{PgWireError, PgWireResult};
 use pgw_types::error_info::ErrorInfo;
@@ -22,7 +20,7 @@ use pgw_wire::framing::Framing;
 use pgw_wire::item::take_up_to_mark;
 use pgw_wire::message::Message;
 use pgw_wire::reader::FieldReader;
-use pgw_wire::writer::{append, has_zero, put_text};
+use pgw_wire::writer::{Writer, has_zero, put_text, put_u8, refused_if};
 use std::alloc::Global;
 
 pub const MESSAGE_TYPE_BYTE_COMMAND_COMPLETE: u8 = b'C';
@@ -102,13 +100,17 @@ impl Message for ReadyForQuery {
         5
     }
 
-    fn encode_body(&self, buf: &mut BytesMut) -> PgWireResult<()> {
+    fn refusal(&self) -> Option<PgWireError> {
+        None
+    }
+
+    fn put_body(&self, out: &mut Writer) -> Result<(), OutOfMemory> {
         let byte = match self.status {
             TransactionStatus::Idle => READY_STATUS_IDLE,
             TransactionStatus::Transaction => READY_STATUS_TRANSACTION_BLOCK,
             TransactionStatus::Error => READY_STATUS_FAILED_TRANSACTION_BLOCK,
         };
-        append(buf, &[byte])
+        out.put_slice(&[byte])
     }
 
     #[tactic(auto, unfolding(crate::specs::Rows::ready_for_query_of))]
@@ -163,14 +165,12 @@ impl Message for CommandComplete {
         self.tag.len() + 5
     }
 
-    #[tactic(auto, unfolding(pgw_wire::specs::Writing::refused_if))]
-    fn encode_body(&self, buf: &mut BytesMut) -> PgWireResult<()> {
-        if has_zero(&self.tag) {
-            return Err(PgWireError::InvalidMessageBody);
-        }
-        let mut out = Vec::new(*buf.allocator());
-        put_text(&mut out, &self.tag)?;
-        append(buf, &out)
+    fn refusal(&self) -> Option<PgWireError> {
+        refused_if(has_zero(&self.tag))
+    }
+
+    fn put_body(&self, out: &mut Writer) -> Result<(), OutOfMemory> {
+        put_text(out, &self.tag)
     }
 
     #[tactic(auto, unfolding(crate::specs::Rows::command_complete_of))]
@@ -221,7 +221,11 @@ impl Message for EmptyQueryResponse {
         4
     }
 
-    fn encode_body(&self, _buf: &mut BytesMut) -> PgWireResult<()> {
+    fn refusal(&self) -> Option<PgWireError> {
+        None
+    }
+
+    fn put_body(&self, _out: &mut Writer) -> Result<(), OutOfMemory> {
         Ok(())
     }
 
@@ -256,18 +260,13 @@ fn is_refused_field(field: &(u8, Text)) -> bool
     field.0 == 0 || has_zero(&field.1)
 }
 
-// Appends the fields and the mark.
-#[tactic(auto, unfolding(pgw_wire::specs::Writing::refused_if))]
-fn append_codes(buf: &mut BytesMut, fields: &[(u8, Text)]) -> PgWireResult<()>
-    ensures { Appends result buf.old.items buf.new.items (body_or (codes_fault fields.now) (codes fields.now)) }
+// The fields and the mark.
+fn put_codes(out: &mut Writer, fields: &[(u8, Text)]) -> Result<(), OutOfMemory>
+    ensures ok { OnOk result (out.new.body ≡ out.old.body ++ codes fields.now) }
+    ensures kept { out.new.before ≡ out.old.before }
 {
-    if any_refused(fields) {
-        return Err(PgWireError::InvalidMessageBody);
-    }
-    let mut out = Vec::new(*buf.allocator());
-    put_list(&mut out, fields)?;
-    out.push(0)?;
-    append(buf, &out)
+    put_list(out, fields)?;
+    put_u8(out, 0)
 }
 
 /// An error, as fields with their codes (ErrorResponse).
@@ -316,8 +315,12 @@ impl Message for ErrorResponse {
         list_len(self.fields.as_slice(), 5)
     }
 
-    fn encode_body(&self, buf: &mut BytesMut) -> PgWireResult<()> {
-        append_codes(buf, self.fields.as_slice())
+    fn refusal(&self) -> Option<PgWireError> {
+        refused_if(any_refused(self.fields.as_slice()))
+    }
+
+    fn put_body(&self, out: &mut Writer) -> Result<(), OutOfMemory> {
+        put_codes(out, self.fields.as_slice())
     }
 
     #[tactic(auto, unfolding(crate::specs::Rows::error_response_of))]
@@ -379,8 +382,12 @@ impl Message for NoticeResponse {
         list_len(self.fields.as_slice(), 5)
     }
 
-    fn encode_body(&self, buf: &mut BytesMut) -> PgWireResult<()> {
-        append_codes(buf, self.fields.as_slice())
+    fn refusal(&self) -> Option<PgWireError> {
+        refused_if(any_refused(self.fields.as_slice()))
+    }
+
+    fn put_body(&self, out: &mut Writer) -> Result<(), OutOfMemory> {
+        put_codes(out, self.fields.as_slice())
     }
 
     #[tactic(auto, unfolding(crate::specs::Rows::notice_response_of))]

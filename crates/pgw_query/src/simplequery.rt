@@ -4,7 +4,6 @@ ghost use Rattle.pgw_wire.specs.declared.framing.Framing.TheVariants.{Typed};
 ghost use Rattle.pgw_wire.specs.Writing.{text, has_zero as holds_zero, refused_if};
 ghost use Rattle.pgw_query.specs.Rows.{query_of};
 
-use bytes::BytesMut;
 use pgw_types::context::DecodeContext;
 use pgw_types::error::{PgWireError, PgWireResult};
 use pgw_types::listed::Duplicate;
@@ -14,7 +13,7 @@ use pgw_types::text::Text;
 use pgw_wire::framing::Framing;
 use pgw_wire::message::Message;
 use pgw_wire::reader::FieldReader;
-use pgw_wire::writer::{append, has_zero, put_text};
+use pgw_wire::writer::{Writer, has_zero, put_text, refused_if};
 use std::alloc::Global;
 
 pub const MESSAGE_TYPE_BYTE_QUERY: u8 = b'Q';
@@ -57,14 +56,12 @@ impl Message for Query {
         self.query.len() + 5
     }
 
-    #[tactic(auto, unfolding(pgw_wire::specs::Writing::refused_if))]
-    fn encode_body(&self, buf: &mut BytesMut) -> PgWireResult<()> {
-        if has_zero(&self.query) {
-            return Err(PgWireError::InvalidMessageBody);
-        }
-        let mut out = Vec::new(*buf.allocator());
-        put_text(&mut out, &self.query)?;
-        append(buf, &out)
+    fn refusal(&self) -> Option<PgWireError> {
+        refused_if(has_zero(&self.query))
+    }
+
+    fn put_body(&self, out: &mut Writer) -> Result<(), OutOfMemory> {
+        put_text(out, &self.query)
     }
 
     #[tactic(auto, unfolding(crate::specs::Rows::query_of))]

@@ -7,7 +7,7 @@ use Rattle.pgw_types.specs.declared.context.DecodeContext.{DecodeContext}
 use Rattle.pgw_types.specs.declared.context.ProtocolVersion.{ProtocolVersion}
 use Rattle.pgw_types.specs.declared.context.ProtocolVersion.TheVariants.{PROTOCOL3_0, PROTOCOL3_2, PROTOCOL3_9999}
 use Rattle.pgw_wire.specs.declared.framing.Framing.{Framing}
-use Rattle.pgw_wire.specs.declared.framing.Framing.TheVariants.{Typed, Untyped, Opening, Code, Reply}
+use Rattle.pgw_wire.specs.declared.framing.Framing.TheVariants.{Typed, Untyped, Opening, Code, OneByte}
 use Rattle.pgw_wire.specs.Reading.{◌>>=◌, nat_at, int_at, cut_at, text_at, name_at, octets_at, rest_at, ended, all_of, extended_count, counted, many_at, list_at, marked, up_to_mark, marked_list_at}
 use Rattle.pgw_wire.specs.Formats.{pair_at, made_at, counted_at, tried_at}
 use Rattle.pgw_wire.specs.Counted.{counted16_at}
@@ -269,7 +269,7 @@ length_frame_fine at limit bytes =
 -- the framings of a server's messages
 abbrev IsOfServer : Framing → Type 0
 IsOfServer (Typed byte) = Unit {0}
-IsOfServer Reply = Unit {0}
+IsOfServer OneByte = Unit {0}
 IsOfServer Untyped = ⊥
 IsOfServer (Opening code) = ⊥
 IsOfServer Code = ⊥
@@ -277,7 +277,7 @@ IsOfServer Code = ⊥
 frame_fine : (framing : Framing) (limit : ℕ) → IsOfServer framing → IsFine (frame framing limit)
 unfolding frame
 frame_fine (Typed byte) limit of bytes = length_frame_fine 1 limit bytes
-frame_fine Reply limit of bytes = either (length bytes == 0) _ _ tt tt
+frame_fine OneByte limit of bytes = either (length bytes == 0) _ _ tt tt
 frame_fine Untyped limit of bytes = absurd of
 frame_fine (Opening code) limit of bytes = absurd of
 frame_fine Code limit of bytes = absurd of
@@ -329,8 +329,8 @@ backend_by_fine byte ctx bytes =
 backend_fine : (ctx : DecodeContext) → IsFine (backend_front ctx)
 unfolding backend_front
 backend_fine ctx bytes =
-    either ctx.awaiting_backend_ssl_response _ _ (as_one_fine _ Reply tt 10000 (ssl_response_of ctx) (ssl_fine ctx) bytes)
-    (either ctx.awaiting_backend_gss_response _ _ (as_one_fine _ Reply tt 10000 (gss_enc_response_of ctx) (gss_fine ctx) bytes)
+    either ctx.awaiting_backend_ssl_response _ _ (as_one_fine _ OneByte tt 10000 (ssl_response_of ctx) (ssl_fine ctx) bytes)
+    (either ctx.awaiting_backend_gss_response _ _ (as_one_fine _ OneByte tt 10000 (gss_enc_response_of ctx) (gss_fine ctx) bytes)
     (either (nat_lt (length bytes) 2) _ _ tt (backend_by_fine (slice_index bytes 0) ctx bytes)))
 
 bad_fine : (bytes : List ℕ) (r : Result (Option (PgWireBackendMessage × List ℕ)) PgWireError) (why : PgWireError) → Fine r → message.front_of bytes r ≡ message.Bad why → IsByteFault why

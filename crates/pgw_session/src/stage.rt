@@ -3,6 +3,7 @@
 use pgw_backend::client_error::PgWireClientError;
 use pgw_frontend::frontend::PgWireFrontendMessage;
 use pgw_types::octets::Octets;
+use std::fmt;
 
 /// Which row of the table of requests an open segment is of.
 #[derive(Clone, Copy, Debug, PartialEq, Eq)]
@@ -32,7 +33,7 @@ pub enum Role {
 }
 
 /// How far the open segment has come.
-#[derive(Debug, Drop)]
+#[derive(Drop)]
 pub enum Stage {
     /// The startup segment, before a login block.
     Starting,
@@ -46,6 +47,22 @@ pub enum Stage {
     Answering(Kind, bool),
     /// A segment that takes anything up to ReadyForQuery.
     PassingOver,
+}
+
+/// It does not show the signature that is awaited.
+impl fmt::Debug for Stage {
+    fn fmt<W: fmt::Write>(&self, f: &mut fmt::Formatter<W>) -> fmt::Result {
+        match self {
+            Stage::Starting => f.write_str("Starting"),
+            Stage::Challenged => f.write_str("Challenged"),
+            Stage::Proving(_expected) => f.write_str("Proving(_)"),
+            Stage::Admitted => f.write_str("Admitted"),
+            Stage::Answering(kind, rows) => {
+                f.debug_tuple("Answering").field(kind).field(rows).finish()
+            }
+            Stage::PassingOver => f.write_str("PassingOver"),
+        }
+    }
 }
 
 /// What a message does to the open segment.

@@ -2,12 +2,10 @@
 ghost use Rattle.std.specs.Prelude.{◌≡◌, Ok, ◌==◌, ◌∷◌, [], ◌++◌, length, OnOk};
 ghost use Rattle.std.specs.List.{list_any, flat_map};
 ghost use Rattle.pgw_wire.specs.declared.framing.Framing.TheVariants.{Typed};
-ghost use Rattle.pgw_wire.specs.Framing.{Appends, body_or};
 ghost use Rattle.pgw_wire.specs.Reading.{Reads};
 ghost use Rattle.pgw_wire.specs.Writing.{text as text_bytes, u32 as u32_bytes};
 ghost use Rattle.pgw_startup.specs.Login.{by_code, authentication_of, authentication, is_method_refused, authentication_fault};
 
-use bytes::BytesMut;
 use pgw_types::context::DecodeContext;
 use pgw_types::error::{PgWireError, PgWireResult};
 use pgw_types::listed::{Duplicate, Listed};
@@ -19,7 +17,7 @@ use pgw_wire::framing::Framing;
 use pgw_wire::item::take_up_to_mark;
 use pgw_wire::message::Message;
 use pgw_wire::reader::FieldReader;
-use pgw_wire::writer::{append, has_zero, put_u32};
+use pgw_wire::writer::{Writer, has_zero, put_u32, put_u8, refused_if};
 use std::alloc::Global;
 
 pub const MESSAGE_TYPE_BYTE_AUTHENTICATION: u8 = b'R';
@@ -70,24 +68,22 @@ fn take_by_code(
     }
 }
 
-// Appends a code and bytes.
-fn append_coded(buf: &mut BytesMut, code: u32, bytes: &[u8]) -> PgWireResult<()>
-    ensures { Appends result buf.old.items buf.new.items (Ok (u32_bytes code ++ bytes.now)) }
+// A code and bytes.
+fn put_coded(out: &mut Writer, code: u32, bytes: &[u8]) -> Result<(), OutOfMemory>
+    ensures ok { OnOk result (out.new.body ≡ out.old.body ++ u32_bytes code ++ bytes.now) }
+    ensures kept { out.new.before ≡ out.old.before }
 {
-    let mut out = Vec::new(*buf.allocator());
-    put_u32(&mut out, code)?;
-    out.extend_from_slice(bytes)?;
-    append(buf, &out)
+    put_u32(out, code)?;
+    out.put_slice(bytes)
 }
 
-fn append_methods(buf: &mut BytesMut, methods: &[Text]) -> PgWireResult<()>
-    ensures { Appends result buf.old.items buf.new.items (Ok (u32_bytes 10 ++ flat_map text_bytes methods.now ++ 0 ∷ [])) }
+fn put_methods(out: &mut Writer, methods: &[Text]) -> Result<(), OutOfMemory>
+    ensures ok { OnOk result (out.new.body ≡ out.old.body ++ u32_bytes 10 ++ flat_map text_bytes methods.now ++ 0 ∷ []) }
+    ensures kept { out.new.before ≡ out.old.before }
 {
-    let mut out = Vec::new(*buf.allocator());
-    put_u32(&mut out, 10)?;
-    put_list(&mut out, methods)?;
-    out.push(0)?;
-    append(buf, &out)
+    put_u32(out, 10)?;
+    put_list(out, methods)?;
+    put_u8(out, 0)
 }
 
 impl Message for Authentication {
@@ -121,26 +117,23 @@ impl Message for Authentication {
         }
     }
 
-    #[tactic(auto, unfolding(pgw_wire::specs::Writing::refused_if))]
-    fn encode_body(&self, buf: &mut BytesMut) -> PgWireResult<()> {
+    fn refusal(&self) -> Option<PgWireError> {
         match self {
-            Authentication::Ok => append_coded(buf, 0, &[]),
-            Authentication::KerberosV5 => append_coded(buf, 2, &[]),
-            Authentication::CleartextPassword => append_coded(buf, 3, &[]),
-            Authentication::MD5Password(salt) => {
-                if salt.len() != 4 {
-                    return Err(PgWireError::InvalidMessageBody);
-                }
-                append_coded(buf, 5, salt.as_slice())
-            }
-            Authentication::SASL(methods) => {
-                if any_refused(methods.as_slice()) {
-                    return Err(PgWireError::InvalidMessageBody);
-                }
-                append_methods(buf, methods.as_slice())
-            }
-            Authentication::SASLContinue(bytes) => append_coded(buf, 11, bytes.as_slice()),
-            Authentication::SASLFinal(bytes) => append_coded(buf, 12, bytes.as_slice()),
+            Authentication::MD5Password(salt) => refused_if(salt.len() != 4),
+            Authentication::SASL(methods) => refused_if(any_refused(methods.as_slice())),
+            _ => None,
+        }
+    }
+
+    fn put_body(&self, out: &mut Writer) -> Result<(), OutOfMemory> {
+        match self {
+            Authentication::Ok => put_u32(out, 0),
+            Authentication::KerberosV5 => put_u32(out, 2),
+            Authentication::CleartextPassword => put_u32(out, 3),
+            Authentication::MD5Password(salt) => put_coded(out, 5, salt.as_slice()),
+            Authentication::SASL(methods) => put_methods(out, methods.as_slice()),
+            Authentication::SASLContinue(bytes) => put_coded(out, 11, bytes.as_slice()),
+            Authentication::SASLFinal(bytes) => put_coded(out, 12, bytes.as_slice()),
         }
     }
 

@@ -4,9 +4,8 @@ ghost use Rattle.pgw_wire.specs.declared.framing.Framing.TheVariants.{Typed};
 ghost use Rattle.pgw_wire.specs.Keys.{key_fault};
 ghost use Rattle.pgw_startup.specs.Login.{backend_key_data_of, backend_key_data};
 
-use bytes::BytesMut;
 use pgw_types::context::DecodeContext;
-use pgw_types::error::PgWireResult;
+use pgw_types::error::{PgWireError, PgWireResult};
 use pgw_types::listed::Duplicate;
 use pgw_types::memory::OutOfMemory;
 use pgw_types::octets::Octets;
@@ -14,7 +13,7 @@ use pgw_wire::framing::Framing;
 use pgw_wire::message::Message;
 use pgw_wire::reader::FieldReader;
 use pgw_wire::secret_key::SecretKey;
-use pgw_wire::writer::append;
+use pgw_wire::writer::{Writer, put_i32};
 use std::alloc::Global;
 
 pub const MESSAGE_TYPE_BYTE_BACKEND_KEY_DATA: u8 = b'K';
@@ -61,14 +60,13 @@ impl Message for BackendKeyData {
         }
     }
 
-    #[tactic(auto, unfolding(pgw_wire::specs::Writing::i32))]
-    fn encode_body(&self, buf: &mut BytesMut) -> PgWireResult<()> {
-        let mut key = BytesMut::new(*buf.allocator());
-        self.secret_key.encode(&mut key)?;
-        let mut out = Vec::new(*buf.allocator());
-        out.extend_from_slice(&self.pid.cast_unsigned().to_be_bytes())?;
-        out.extend_from_slice(key.as_slice())?;
-        append(buf, &out)
+    fn refusal(&self) -> Option<PgWireError> {
+        self.secret_key.refusal()
+    }
+
+    fn put_body(&self, out: &mut Writer) -> Result<(), OutOfMemory> {
+        put_i32(out, self.pid)?;
+        self.secret_key.put(out)
     }
 
     #[tactic(auto, unfolding(crate::specs::Login::backend_key_data_of))]

@@ -6,7 +6,6 @@ ghost use Rattle.pgw_wire.specs.Writing.{has_zero as holds_zero, refused_if};
 ghost use Rattle.pgw_startup.specs.Login.{negotiate_of, negotiate, is_options_refused};
 ghost use Rattle.pgw_startup.specs.Negotiate.{known_version as version_known, negotiated_version as version_offered};
 
-use bytes::BytesMut;
 use pgw_types::context::{DecodeContext, ProtocolVersion};
 use pgw_types::error::{PgWireError, PgWireResult};
 use pgw_types::listed::{Duplicate, Listed};
@@ -17,7 +16,7 @@ use pgw_wire::field::{list_len, put_list, take_list, unsigned_count};
 use pgw_wire::framing::Framing;
 use pgw_wire::message::Message;
 use pgw_wire::reader::FieldReader;
-use pgw_wire::writer::{append, has_zero, put_i32, put_u32};
+use pgw_wire::writer::{Writer, has_zero, put_i32, put_u32, refused_if};
 use std::alloc::Global;
 
 pub const MESSAGE_TYPE_BYTE_NEGOTIATE_PROTOCOL_VERSION: u8 = b'v';
@@ -79,17 +78,16 @@ impl Message for NegotiateProtocolVersion {
         list_len(self.unsupported_options.as_slice(), 12)
     }
 
-    #[tactic(auto, unfolding(pgw_wire::specs::Writing::refused_if))]
-    fn encode_body(&self, buf: &mut BytesMut) -> PgWireResult<()> {
+    fn refusal(&self) -> Option<PgWireError> {
         let options = self.unsupported_options.as_slice();
-        if is_refused(options) {
-            return Err(PgWireError::InvalidMessageBody);
-        }
-        let mut out = Vec::new(*buf.allocator());
-        put_i32(&mut out, self.newest_minor_protocol)?;
-        put_u32(&mut out, options.len() as u32)?;
-        put_list(&mut out, options)?;
-        append(buf, &out)
+        refused_if(is_refused(options))
+    }
+
+    fn put_body(&self, out: &mut Writer) -> Result<(), OutOfMemory> {
+        let options = self.unsupported_options.as_slice();
+        put_i32(out, self.newest_minor_protocol)?;
+        put_u32(out, options.len() as u32)?;
+        put_list(out, options)
     }
 
     #[tactic(auto, unfolding(crate::specs::Login::negotiate_of))]

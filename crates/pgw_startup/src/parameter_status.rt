@@ -3,7 +3,6 @@ ghost use Rattle.std.specs.Prelude.{◌≡◌, ◌∷◌, [], ◌++◌, ◌||◌
 ghost use Rattle.pgw_wire.specs.declared.framing.Framing.TheVariants.{Typed};
 ghost use Rattle.pgw_startup.specs.Login.{parameter_status_of, parameter_status, parameter_status_fault};
 
-use bytes::BytesMut;
 use pgw_types::context::DecodeContext;
 use pgw_types::error::{PgWireError, PgWireResult};
 use pgw_types::listed::Duplicate;
@@ -13,7 +12,7 @@ use pgw_types::text::Text;
 use pgw_wire::framing::Framing;
 use pgw_wire::message::Message;
 use pgw_wire::reader::FieldReader;
-use pgw_wire::writer::{append, has_zero, put_text};
+use pgw_wire::writer::{Writer, has_zero, put_text, refused_if};
 use std::alloc::Global;
 
 pub const MESSAGE_TYPE_BYTE_PARAMETER_STATUS: u8 = b'S';
@@ -57,15 +56,13 @@ impl Message for ParameterStatus {
         (self.name.len() + 6).saturating_add(self.value.len())
     }
 
-    #[tactic(auto, unfolding(pgw_wire::specs::Writing::refused_if))]
-    fn encode_body(&self, buf: &mut BytesMut) -> PgWireResult<()> {
-        if has_zero(&self.name) || has_zero(&self.value) {
-            return Err(PgWireError::InvalidMessageBody);
-        }
-        let mut out = Vec::new(*buf.allocator());
-        put_text(&mut out, &self.name)?;
-        put_text(&mut out, &self.value)?;
-        append(buf, &out)
+    fn refusal(&self) -> Option<PgWireError> {
+        refused_if(has_zero(&self.name) || has_zero(&self.value))
+    }
+
+    fn put_body(&self, out: &mut Writer) -> Result<(), OutOfMemory> {
+        put_text(out, &self.name)?;
+        put_text(out, &self.value)
     }
 
     #[tactic(auto, unfolding(crate::specs::Login::parameter_status_of))]

@@ -6,7 +6,6 @@ ghost use Rattle.pgw_wire.specs.Writing.{text, has_zero as holds_zero, refused_i
 ghost use Rattle.pgw_startup.specs.Password.{password_of, family_of, password_body, password_fault, as_password, as_initial_response, as_response};
 
 use crate::sasl::{SASLInitialResponse, SASLResponse, read_initial_response, read_response};
-use bytes::BytesMut;
 use pgw_types::context::DecodeContext;
 use pgw_types::error::{PgWireError, PgWireResult};
 use pgw_types::listed::Duplicate;
@@ -16,15 +15,23 @@ use pgw_types::text::Text;
 use pgw_wire::framing::Framing;
 use pgw_wire::message::Message;
 use pgw_wire::reader::FieldReader;
-use pgw_wire::writer::{append, has_zero, put_text};
+use pgw_wire::writer::{Writer, has_zero, put_text, refused_if};
 use std::alloc::Global;
+use std::fmt;
 
 pub const MESSAGE_TYPE_BYTE_PASSWORD_MESSAGE_FAMILY: u8 = b'p';
 
 /// A password in clear text or hashed by MD5 (PasswordMessage).
-#[derive(Debug, Drop, PartialEq, Eq)]
+#[derive(Drop, PartialEq, Eq)]
 pub struct Password {
     pub password: Text,
+}
+
+/// It does not show the password.
+impl fmt::Debug for Password {
+    fn fmt<W: fmt::Write>(&self, f: &mut fmt::Formatter<W>) -> fmt::Result {
+        f.write_str("Password(_)")
+    }
 }
 
 impl Password {
@@ -69,14 +76,12 @@ impl Message for Password {
         self.password.len() + 5
     }
 
-    #[tactic(auto, unfolding(pgw_wire::specs::Writing::refused_if))]
-    fn encode_body(&self, buf: &mut BytesMut) -> PgWireResult<()> {
-        if has_zero(&self.password) {
-            return Err(PgWireError::InvalidMessageBody);
-        }
-        let mut out = Vec::new(*buf.allocator());
-        put_text(&mut out, &self.password)?;
-        append(buf, &out)
+    fn refusal(&self) -> Option<PgWireError> {
+        refused_if(has_zero(&self.password))
+    }
+
+    fn put_body(&self, out: &mut Writer) -> Result<(), OutOfMemory> {
+        put_text(out, &self.password)
     }
 
     fn decode_body(alloc: Global, body: &Octets, _ctx: &DecodeContext) -> PgWireResult<Password> {
@@ -85,13 +90,25 @@ impl Message for Password {
 }
 
 /// The messages of type byte `p`, which a server tells apart by what it asked for.
-#[derive(Debug, Drop, PartialEq, Eq)]
+#[derive(Drop, PartialEq, Eq)]
 pub enum PasswordMessageFamily {
     /// A body that is not read yet.
     Raw(Octets),
     Password(Password),
     SASLInitialResponse(SASLInitialResponse),
     SASLResponse(SASLResponse),
+}
+
+/// It shows which message it is, and nothing of a body.
+impl fmt::Debug for PasswordMessageFamily {
+    fn fmt<W: fmt::Write>(&self, f: &mut fmt::Formatter<W>) -> fmt::Result {
+        match self {
+            PasswordMessageFamily::Raw(_body) => f.write_str("Raw(_)"),
+            PasswordMessageFamily::Password(m) => m.fmt(f),
+            PasswordMessageFamily::SASLInitialResponse(m) => m.fmt(f),
+            PasswordMessageFamily::SASLResponse(m) => m.fmt(f),
+        }
+    }
 }
 
 impl PasswordMessageFamily {
@@ -157,12 +174,21 @@ impl Message for PasswordMessageFamily {
         }
     }
 
-    fn encode_body(&self, buf: &mut BytesMut) -> PgWireResult<()> {
+    fn refusal(&self) -> Option<PgWireError> {
         match self {
-            PasswordMessageFamily::Raw(body) => append(buf, body.as_slice()),
-            PasswordMessageFamily::Password(m) => m.encode_body(buf),
-            PasswordMessageFamily::SASLInitialResponse(m) => m.encode_body(buf),
-            PasswordMessageFamily::SASLResponse(m) => m.encode_body(buf),
+            PasswordMessageFamily::Raw(_body) => None,
+            PasswordMessageFamily::Password(m) => m.refusal(),
+            PasswordMessageFamily::SASLInitialResponse(m) => m.refusal(),
+            PasswordMessageFamily::SASLResponse(m) => m.refusal(),
+        }
+    }
+
+    fn put_body(&self, out: &mut Writer) -> Result<(), OutOfMemory> {
+        match self {
+            PasswordMessageFamily::Raw(body) => out.put_slice(body.as_slice()),
+            PasswordMessageFamily::Password(m) => m.put_body(out),
+            PasswordMessageFamily::SASLInitialResponse(m) => m.put_body(out),
+            PasswordMessageFamily::SASLResponse(m) => m.put_body(out),
         }
     }
 

@@ -1,9 +1,8 @@
 //! What a server answers to a request for encryption.
 ghost use Rattle.std.specs.Prelude.{◌≡◌, ◌∷◌, [], None};
-ghost use Rattle.pgw_wire.specs.declared.framing.Framing.TheVariants.{Reply};
+ghost use Rattle.pgw_wire.specs.declared.framing.Framing.TheVariants.{OneByte};
 ghost use Rattle.pgw_startup.specs.Response.{ssl_response_of, gss_enc_response_of, ssl_byte, gss_byte};
 
-use bytes::BytesMut;
 use pgw_types::context::DecodeContext;
 use pgw_types::error::{PgWireError, PgWireResult};
 use pgw_types::listed::Duplicate;
@@ -12,7 +11,7 @@ use pgw_types::octets::Octets;
 use pgw_wire::framing::Framing;
 use pgw_wire::message::Message;
 use pgw_wire::reader::FieldReader;
-use pgw_wire::writer::append;
+use pgw_wire::writer::Writer;
 use std::alloc::Global;
 
 /// Whether the server goes on under TLS (the byte that answers an SSLRequest).
@@ -32,7 +31,7 @@ impl SslResponse {
 }
 
 impl Message for SslResponse {
-    ghost row_framing = { Reply };
+    ghost row_framing = { OneByte };
 
     ghost limit = { 10000 };
 
@@ -43,7 +42,7 @@ impl Message for SslResponse {
     ghost fault = { λ m. None };
 
     fn framing() -> Framing {
-        Framing::Reply
+        Framing::OneByte
     }
 
     fn max_message_length() -> usize {
@@ -54,12 +53,16 @@ impl Message for SslResponse {
         SslResponse::MESSAGE_LENGTH
     }
 
-    fn encode_body(&self, buf: &mut BytesMut) -> PgWireResult<()> {
+    fn refusal(&self) -> Option<PgWireError> {
+        None
+    }
+
+    fn put_body(&self, out: &mut Writer) -> Result<(), OutOfMemory> {
         let byte = match self {
             SslResponse::Accept => SslResponse::BYTE_ACCEPT,
             SslResponse::Refuse => SslResponse::BYTE_REFUSE,
         };
-        append(buf, &[byte])
+        out.put_slice(&[byte])
     }
 
     #[tactic(auto, unfolding(crate::specs::Response::ssl_response_of, crate::specs::Response::ssl_reply))]
@@ -103,7 +106,7 @@ impl GssEncResponse {
 }
 
 impl Message for GssEncResponse {
-    ghost row_framing = { Reply };
+    ghost row_framing = { OneByte };
 
     ghost limit = { 10000 };
 
@@ -114,7 +117,7 @@ impl Message for GssEncResponse {
     ghost fault = { λ m. None };
 
     fn framing() -> Framing {
-        Framing::Reply
+        Framing::OneByte
     }
 
     fn max_message_length() -> usize {
@@ -125,12 +128,16 @@ impl Message for GssEncResponse {
         GssEncResponse::MESSAGE_LENGTH
     }
 
-    fn encode_body(&self, buf: &mut BytesMut) -> PgWireResult<()> {
+    fn refusal(&self) -> Option<PgWireError> {
+        None
+    }
+
+    fn put_body(&self, out: &mut Writer) -> Result<(), OutOfMemory> {
         let byte = match self {
             GssEncResponse::Accept => GssEncResponse::BYTE_ACCEPT,
             GssEncResponse::Refuse => GssEncResponse::BYTE_REFUSE,
         };
-        append(buf, &[byte])
+        out.put_slice(&[byte])
     }
 
     #[tactic(auto, unfolding(crate::specs::Response::gss_enc_response_of, crate::specs::Response::gss_reply))]

@@ -7,7 +7,6 @@ ghost use Rattle.pgw_startup.specs.Login.{is_method_refused};
 ghost use Rattle.pgw_startup.specs.Password.{data_at, data_written, initial_response_of, initial_response, response_of};
 
 use crate::password::MESSAGE_TYPE_BYTE_PASSWORD_MESSAGE_FAMILY;
-use bytes::BytesMut;
 use pgw_types::context::DecodeContext;
 use pgw_types::error::{PgWireError, PgWireResult};
 use pgw_types::listed::Duplicate;
@@ -17,14 +16,22 @@ use pgw_types::text::Text;
 use pgw_wire::framing::Framing;
 use pgw_wire::message::Message;
 use pgw_wire::reader::FieldReader;
-use pgw_wire::writer::{append, has_zero, put_i32, put_text};
+use pgw_wire::writer::{Writer, has_zero, put_i32, put_text, refused_if};
 use std::alloc::Global;
+use std::fmt;
 
 /// The method that the client chose, which is not empty, and its first data, if there are any (SASLInitialResponse).
-#[derive(Debug, Drop, PartialEq, Eq)]
+#[derive(Drop, PartialEq, Eq)]
 pub struct SASLInitialResponse {
     pub auth_method: Text,
     pub payload: Option<Octets>,
+}
+
+/// It does not show the data.
+impl fmt::Debug for SASLInitialResponse {
+    fn fmt<W: fmt::Write>(&self, f: &mut fmt::Formatter<W>) -> fmt::Result {
+        f.write_str("SASLInitialResponse(_)")
+    }
 }
 
 impl SASLInitialResponse {
@@ -55,16 +62,16 @@ fn take_data(reader: &mut FieldReader<'_>) -> PgWireResult<Option<Octets>>
 }
 
 #[tactic(auto, unfolding(crate::specs::Password::data_written, pgw_wire::specs::Writing::u32))]
-fn put_data(out: &mut Vec<u8>, payload: &Option<Octets>) -> Result<(), OutOfMemory>
-    ensures { OnOk result (out.new.items ≡ out.old.items ++ data_written payload.now) }
+fn put_data(out: &mut Writer, payload: &Option<Octets>) -> Result<(), OutOfMemory>
+    ensures ok { OnOk result (out.new.body ≡ out.old.body ++ data_written payload.now) }
+    ensures kept { out.new.before ≡ out.old.before }
 {
     let Some(payload) = payload else {
         return put_i32(out, -1);
     };
     let [_, _, _, _, a, b, c, d] = payload.len().to_be_bytes();
-    out.extend_from_slice(&[a, b, c, d])?;
-    out.extend_from_slice(payload.as_slice())?;
-    Ok(())
+    out.put_slice(&[a, b, c, d])?;
+    out.put_slice(payload.as_slice())
 }
 
 #[tactic(auto, unfolding(crate::specs::Password::data_written, pgw_wire::specs::Writing::u32, pgw_wire::specs::Writing::i32))]
@@ -116,15 +123,13 @@ impl Message for SASLInitialResponse {
         (self.auth_method.len() + 5).saturating_add(data_len(&self.payload))
     }
 
-    #[tactic(auto, unfolding(pgw_wire::specs::Writing::refused_if))]
-    fn encode_body(&self, buf: &mut BytesMut) -> PgWireResult<()> {
-        if self.auth_method.is_empty() || has_zero(&self.auth_method) {
-            return Err(PgWireError::InvalidMessageBody);
-        }
-        let mut out = Vec::new(*buf.allocator());
-        put_text(&mut out, &self.auth_method)?;
-        put_data(&mut out, &self.payload)?;
-        append(buf, &out)
+    fn refusal(&self) -> Option<PgWireError> {
+        refused_if(self.auth_method.is_empty() || has_zero(&self.auth_method))
+    }
+
+    fn put_body(&self, out: &mut Writer) -> Result<(), OutOfMemory> {
+        put_text(out, &self.auth_method)?;
+        put_data(out, &self.payload)
     }
 
     fn decode_body(
@@ -146,9 +151,16 @@ impl Duplicate for SASLInitialResponse {
 }
 
 /// The client's further data (SASLResponse).
-#[derive(Debug, Drop, PartialEq, Eq)]
+#[derive(Drop, PartialEq, Eq)]
 pub struct SASLResponse {
     pub payload: Octets,
+}
+
+/// It does not show the data.
+impl fmt::Debug for SASLResponse {
+    fn fmt<W: fmt::Write>(&self, f: &mut fmt::Formatter<W>) -> fmt::Result {
+        f.write_str("SASLResponse(_)")
+    }
 }
 
 impl SASLResponse {
@@ -193,8 +205,12 @@ impl Message for SASLResponse {
         self.payload.len() + 4
     }
 
-    fn encode_body(&self, buf: &mut BytesMut) -> PgWireResult<()> {
-        append(buf, self.payload.as_slice())
+    fn refusal(&self) -> Option<PgWireError> {
+        None
+    }
+
+    fn put_body(&self, out: &mut Writer) -> Result<(), OutOfMemory> {
+        out.put_slice(self.payload.as_slice())
     }
 
     fn decode_body(

@@ -7,7 +7,6 @@ ghost use Rattle.pgw_wire.specs.Writing.{refused_if};
 ghost use Rattle.pgw_wire.specs.declared.framing.Framing.TheVariants.{Untyped};
 ghost use Rattle.pgw_startup.specs.Startup.{startup_of, startup, is_startup_refused};
 
-use bytes::BytesMut;
 use pgw_types::context::DecodeContext;
 use pgw_types::error::{PgWireError, PgWireResult};
 use pgw_types::listed::Duplicate;
@@ -19,7 +18,7 @@ use pgw_wire::item::take_up_to_mark;
 use pgw_wire::message::Message;
 use pgw_wire::params::Params;
 use pgw_wire::reader::FieldReader;
-use pgw_wire::writer::{append, put_u16};
+use pgw_wire::writer::{Writer, put_u16, put_u8, refused_if};
 use std::alloc::Global;
 
 /// The version that a client asks for, and its parameters (StartupMessage).
@@ -94,17 +93,15 @@ impl Message for Startup {
         self.parameters.written_len(9)
     }
 
-    #[tactic(auto, unfolding(pgw_wire::specs::Writing::refused_if))]
-    fn encode_body(&self, buf: &mut BytesMut) -> PgWireResult<()> {
-        if is_refused(self) {
-            return Err(PgWireError::InvalidMessageBody);
-        }
-        let mut out = Vec::new(*buf.allocator());
-        put_u16(&mut out, self.protocol_number_major)?;
-        put_u16(&mut out, self.protocol_number_minor)?;
-        self.parameters.put(&mut out)?;
-        out.push(0)?;
-        append(buf, &out)
+    fn refusal(&self) -> Option<PgWireError> {
+        refused_if(is_refused(self))
+    }
+
+    fn put_body(&self, out: &mut Writer) -> Result<(), OutOfMemory> {
+        put_u16(out, self.protocol_number_major)?;
+        put_u16(out, self.protocol_number_minor)?;
+        self.parameters.put(out)?;
+        put_u8(out, 0)
     }
 
     #[tactic(auto, unfolding(crate::specs::Startup::startup_of, crate::specs::Startup::three))]

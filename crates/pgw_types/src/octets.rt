@@ -1,5 +1,5 @@
 //! Bytes.
-ghost use Rattle.std.specs.Prelude.{◌≡◌, ◌↔◌, IsTrue, ◌<◌, ◌^◌, ◌≤◌, ◌==◌, length, slice_range, IfOk, nat_eq};
+ghost use Rattle.std.specs.Prelude.{◌≡◌, ◌↔◌, IsTrue, ◌<◌, ◌^◌, ◌≤◌, ◌==◌, length, drop, slice_range, IfOk, nat_eq};
 ghost use Rattle.std.specs.Cmp.Lexicographic.{pointwise, nat_list_eq_equiv};
 ghost use Rattle.std.specs.Cmp.{partial_equiv_from_equiv};
 
@@ -10,7 +10,7 @@ use std::alloc::Global;
 use std::marker::Model;
 use std::ops::DerefSlice;
 
-/// Bytes, which a contract sees as a list.
+/// Bytes, which a contract sees as a list. They may be a cut of a block that others share, which stays alive as long as they do.
 #[derive(Debug, Drop)]
 pub struct Octets {
     bytes: Bytes,
@@ -30,6 +30,13 @@ impl Octets {
     {
         let bytes = Bytes::copy_from_slice(alloc, bytes)?;
         Ok(Octets { bytes })
+    }
+
+    /// The same bytes. It copies none.
+    pub fn from_bytes(bytes: Bytes) -> Octets
+        ensures { result ≡ bytes }
+    {
+        Octets { bytes }
     }
 
     pub fn as_slice(&self) -> &[u8]
@@ -59,6 +66,14 @@ impl Octets {
     {
         let bytes = self.bytes.slice(from..to)?;
         Ok(Octets { bytes })
+    }
+
+    /// Gives up the bytes at the front.
+    pub fn advance(&mut self, count: usize)
+        requires { count ≤ length self.old }
+        ensures { self.new ≡ drop count self.old }
+    {
+        self.bytes.advance(count);
     }
 }
 

@@ -5,7 +5,7 @@ use Rattle.std.proofs.lemmas.Bool.{ltb-false, le-ltb, eqb-false, ne_eqb}
 use Rattle.std.proofs.lemmas.List.{take-take, take-append-le, drop-take}
 use Rattle.pgw_types.specs.declared.error.PgWireError.{PgWireError}
 use Rattle.pgw_wire.specs.declared.framing.Framing.{Framing}
-use Rattle.pgw_wire.specs.declared.framing.Framing.TheVariants.{Typed, Untyped, Opening, Code, Reply}
+use Rattle.pgw_wire.specs.declared.framing.Framing.TheVariants.{Typed, Untyped, Opening, Code, OneByte}
 use Rattle.pgw_wire.specs.Reading.{◌>>=◌}
 use Rattle.pgw_wire.specs.Framing.{sign_extended, stated_length, length_frame, code_in, frame, framed, front}
 use Rattle.pgw_wire.proofs.Laws.{bind_ok, chosen}
@@ -103,7 +103,7 @@ fewest (Typed byte) = 5
 fewest Untyped = 4
 fewest (Opening code) = 8
 fewest Code = 8
-fewest Reply = 1
+fewest OneByte = 1
 
 -- a length of four to seven bytes ends before the eight bytes that are awaited, and no message of that framing has one
 abbrev pub IsWhole : Framing → Type 0
@@ -111,7 +111,7 @@ IsWhole (Typed byte) = Unit {0}
 IsWhole Untyped = Unit {0}
 IsWhole (Opening code) = ⊥
 IsWhole Code = Unit {0}
-IsWhole Reply = Unit {0}
+IsWhole OneByte = Unit {0}
 
 frame_ends : (framing : Framing) (limit : ℕ) (a : List ℕ) (f : ℕ × ℕ) → IsWhole framing → frame framing limit a ≡ Ok (Some f) → FrameEnds (frame framing limit) (fewest framing) a f
 unfolding frame
@@ -124,12 +124,12 @@ frame_ends Code limit a f is e =
       | inr h ↦ subst (λ (f : ℕ × ℕ). FrameEnds (frame Code limit) 8 a f) (some_is (4, 8) f h.1)
           (record { some = omega arith; ordered = omega arith; within = ltb-false _ _ h.0; again = λ b same long. let one : ltb (length b) 8 ≡ false = le-ltb _ _ long in rw one refl })
     ]
-frame_ends Reply limit a f is e =
+frame_ends OneByte limit a f is e =
     elim (chosen (eqb (length a) 0) _ _ _ e) [
       | inl h ↦ absurd cc
       | inr h ↦
           let some : 1 ≤ length a = omega (arith, eqb-false (length a) 0 h.0) in
-          subst (λ (f : ℕ × ℕ). FrameEnds (frame Reply limit) 1 a f) (some_is (0, 1) f h.1)
+          subst (λ (f : ℕ × ℕ). FrameEnds (frame OneByte limit) 1 a f) (some_is (0, 1) f h.1)
           (record { some = omega arith; ordered = omega arith; within = some; again = λ b same long. let one : eqb (length b) 0 ≡ false = not_zero (length b) long in rw one refl })
     ]
   where
@@ -152,7 +152,7 @@ frame_bad (Opening code) limit a more e is = elim (chosen (ltb (length a) 8) _ _
       ]
 ]
 frame_bad Code limit a more e is = elim (chosen (ltb (length a) 8) _ _ _ is) [ inl h ↦ absurd cc | inr h ↦ absurd cc ]
-frame_bad Reply limit a more e is = elim (chosen (eqb (length a) 0) _ _ _ is) [ inl h ↦ absurd cc | inr h ↦ absurd cc ]
+frame_bad OneByte limit a more e is = elim (chosen (eqb (length a) 0) _ _ _ is) [ inl h ↦ absurd cc | inr h ↦ absurd cc ]
 
 -- ---- a message at the front
 

@@ -11,3 +11,4 @@ pub mod Codes
 pub mod CodeLaws
 pub mod Keys
 pub mod Counted
+pub mod Draft

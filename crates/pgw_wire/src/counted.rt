@@ -5,7 +5,7 @@ ghost use Rattle.pgw_wire.specs.Counted.{counted16_at, counted16};
 
 use crate::field::{Field, put_list, take_list};
 use crate::reader::FieldReader;
-use crate::writer::put_u16;
+use crate::writer::{Writer, put_u16};
 use pgw_types::error::PgWireResult;
 use pgw_types::listed::Listed;
 use pgw_types::memory::OutOfMemory;
@@ -24,9 +24,10 @@ pub fn take_counted16<T: Field>(
 }
 
 /// Appends a count of 16 bits and the elements.
-pub fn put_counted16<T: Field>(out: &mut Vec<u8>, items: &[T]) -> Result<(), OutOfMemory>
+pub fn put_counted16<T: Field>(out: &mut Writer, items: &[T]) -> Result<(), OutOfMemory>
     requires { length items.now < 2 ^ 16 }
-    ensures { OnOk result (out.new.items ≡ out.old.items ++ counted16 T.spelled items.now) }
+    ensures ok { OnOk result (out.new.body ≡ out.old.body ++ counted16 T.spelled items.now) }
+    ensures kept { out.new.before ≡ out.old.before }
 {
     put_u16(out, items.len() as u16)?;
     put_list(out, items)

@@ -1,6 +1,7 @@
 //! The base of the codec.
 #![tactic(auto)]
 
+pub mod buffer;
 pub mod counted;
 pub mod equality;
 pub mod field;

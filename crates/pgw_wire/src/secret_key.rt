@@ -1,11 +1,11 @@
 //! The key of a connection, by which a query is canceled.
-ghost use Rattle.std.specs.Prelude.{◌≡◌, ◌↔◌, pos, IsTrue, IfOk};
+ghost use Rattle.std.specs.Prelude.{◌≡◌, ◌↔◌, ◌++◌, pos, IsTrue, IfOk, OnOk};
 ghost use Rattle.pgw_wire.specs.Reading.{Gives};
 ghost use Rattle.pgw_wire.specs.Framing.{Appends, body_or};
 ghost use Rattle.pgw_wire.specs.declared.secret_key.SecretKey.TheVariants.{I32, Bytes as KeyBytes};
 ghost use Rattle.pgw_wire.specs.Keys.{is_no_key as has_no_key, number_of, key_of, key_bytes, key_fault, key_number};
 
-use crate::writer::append;
+use crate::writer::{Writer, append, put_i32};
 use bytes::BytesMut;
 use pgw_types::context::{DecodeContext, ProtocolVersion};
 use pgw_types::error::{PgWireError, PgWireResult};
@@ -84,6 +84,33 @@ impl SecretKey {
         match self {
             SecretKey::I32(n) => Some(*n),
             SecretKey::Bytes(bytes) => four_bytes(bytes.as_slice()),
+        }
+    }
+
+    /// Why the key has no spelling: it has too few bytes, or too many.
+    pub fn refusal(&self) -> Option<PgWireError>
+        ensures { result ≡ key_fault self.now }
+    {
+        match self {
+            SecretKey::I32(_) => None,
+            SecretKey::Bytes(bytes) => {
+                if is_no_key(bytes) {
+                    Some(PgWireError::InvalidSecretKey)
+                } else {
+                    None
+                }
+            }
+        }
+    }
+
+    /// Writes the key's bytes.
+    pub fn put(&self, out: &mut Writer) -> Result<(), OutOfMemory>
+        ensures ok { OnOk result (out.new.body ≡ out.old.body ++ key_bytes self.now) }
+        ensures kept { out.new.before ≡ out.old.before }
+    {
+        match self {
+            SecretKey::I32(n) => put_i32(out, *n),
+            SecretKey::Bytes(bytes) => out.put_slice(bytes.as_slice()),
         }
     }
 
