@@ -27,6 +27,9 @@ pub use pgw_link::link::{Link, LinkFault};
 pub use pgw_link::memory::MemoryLink;
 pub use pgw_query::data::DataRow;
 pub use pgw_query::response::{ErrorResponse, TransactionStatus};
+pub use pgw_rows::decoder::DataRowDecoder;
+pub use pgw_rows::from_sql::{FromSql, FromSqlText};
+pub use pgw_rows::result::DataRowsReader;
 pub use pgw_session::types::{
     Answer, DescribeResponse, ExecuteResult, PrepareResponse, Request, Response, SessionReport,
     Target,

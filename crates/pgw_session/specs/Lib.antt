@@ -4,6 +4,7 @@ pub mod Standings
 pub mod Stays
 pub mod Logins
 pub mod Requests
+pub mod Responses
 pub mod Segments
 pub mod Flow
 pub mod Answers

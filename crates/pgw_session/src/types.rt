@@ -5,12 +5,14 @@ use pgw_backend::pg_type::PgType;
 use pgw_backend::tag::Tag;
 use pgw_query::data::DataRow;
 use pgw_query::response::{ErrorResponse, TransactionStatus};
+use pgw_rows::result::DataRowsReader;
 use pgw_types::context::ProtocolVersion;
 use pgw_types::listed::Listed;
 use pgw_types::octets::Octets;
 use pgw_types::text::Text;
 use pgw_wire::params::Params;
 use pgw_wire::secret_key::SecretKey;
+use std::alloc::Global;
 
 /// What is described or closed, by its name.
 #[derive(Debug, Drop)]
@@ -44,6 +46,22 @@ pub enum Response {
     Query(Tag, Listed<FieldInfo>, Listed<DataRow>),
     /// The tag of a command without rows.
     Execution(Tag),
+}
+
+impl Response {
+    ghost use Rattle.std.specs.Prelude.{◌≡◌};
+    ghost use Rattle.pgw_session.specs.Responses.{rows_in};
+
+    /// The rows of a result, to be read; of any other response, none.
+    pub fn into_data_rows_reader(self, alloc: Global) -> DataRowsReader
+        ensures { result ≡ rows_in self }
+    {
+        match self {
+            Response::EmptyQuery => DataRowsReader::empty(alloc),
+            Response::Query(_tag, fields, rows) => DataRowsReader::new(fields, rows),
+            Response::Execution(_tag) => DataRowsReader::empty(alloc),
+        }
+    }
 }
 
 /// A statement that was prepared.

@@ -1,0 +1,96 @@
+-- Rows, and the values in them (PostgreSQL 18, section 54.7, Message Formats, DataRow).
+use Rattle.std.specs.Prelude.{◌≡◌, ℕ, ◌+◌, List, [], ◌∷◌, slice_get, Option, Some, None, Result, Ok, Err}
+use Rattle.std.specs.Option.{option_copied}
+use Rattle.std.specs.Result.{result_ok}
+use Rattle.std.specs.Borrow.{Bor}
+use Rattle.pgw_ext.specs.Kinds.{parameter_at}
+use Rattle.pgw_query.specs.declared.data.DataRow.{DataRow}
+use Rattle.pgw_backend.specs.declared.field_info.FieldInfo.{FieldInfo}
+use Rattle.pgw_backend.specs.declared.field_info.FieldFormat.{FieldFormat}
+use Rattle.pgw_backend.specs.declared.field_info.FieldFormat.TheVariants as formats
+use Rattle.pgw_backend.specs.declared.pg_type.PgType.{PgType}
+use Rattle.pgw_backend.specs.declared.client_error.SqlFault.{SqlFault}
+use Rattle.pgw_backend.specs.declared.client_error.PgWireClientError.{PgWireClientError}
+use Rattle.pgw_backend.specs.declared.client_error.PgWireClientError.TheVariants as client
+
+-- ---- rows
+
+-- rows that wait to be read, and their columns
+pub record Waiting : Type 0 where
+  pub fields : List FieldInfo
+  pub rows : List DataRow
+
+-- a place in a row: the columns of the row, how many of its values are passed, and the bytes of the others
+pub record Place : Type 0 where
+  pub fields : List FieldInfo
+  pub passed : ℕ
+  pub bytes : List ℕ
+
+abbrev pub row_start : List FieldInfo → DataRow → Place
+row_start fields row = record { fields = fields; passed = 0; bytes = row.payload }
+
+-- the first row is given and no longer waits; none is, where none waits
+abbrev pub GivesFirst : Waiting → Option DataRow → Waiting → Type 0
+GivesFirst old None new = (old.rows ≡ []) × (new ≡ old)
+GivesFirst old (Some row) new = (old.rows ≡ row ∷ new.rows) × (new.fields ≡ old.fields)
+
+-- ---- values
+
+-- a value and the bytes behind it: the Int32 number of its bytes, and the bytes; a negative number is NULL and has none
+abbrev pub value_at : List ℕ → Option (Option (List ℕ) × List ℕ)
+value_at bytes = result_ok (parameter_at bytes)
+
+-- what stands at a place: its column, the value and the bytes behind it
+abbrev pub Standing : Type 0
+Standing = FieldInfo × (Option (List ℕ) × List ℕ)
+
+abbrev pub both : {A B : Type 0} → Option A → Option B → Option (A × B)
+both (Some x) (Some y) = Some (x, y)
+both (Some x) None = None
+both None y = None
+
+-- none where no column is left, or the bytes end within the value
+abbrev pub standing_at : Place → Option Standing
+standing_at place = both (slice_get place.fields place.passed) (value_at place.bytes)
+
+-- the place behind a value
+abbrev pub behind : Place → List ℕ → Place
+behind place rest = record place { passed = place.passed + 1; bytes = rest }
+
+-- ---- answers
+
+-- a call gave what the type reads, or memory ran out where it may
+abbrev pub Gives : {A : Type 0} → Type 0 → Result A SqlFault → Result A PgWireClientError → Type 0
+Gives Lacks read (Ok x) = read ≡ Ok x
+Gives Lacks read (Err (client.FromSqlError fault)) = read ≡ Err fault
+Gives Lacks read (Err client.OutOfMemory) = Lacks
+Gives Lacks read (Err e) = ⊥
+
+abbrev pub some_of : {A : Type 0} → Result A SqlFault → Result (Option A) SqlFault
+some_of (Ok x) = Ok (Some x)
+some_of (Err fault) = Err fault
+
+-- a call answers what is read of the value at a place, and leaves the place behind it; NULL is none. Where no value
+-- stands it answers so and stays
+abbrev pub Answers : {A : Type 0} → Type 0 → (FieldInfo → List ℕ → Result A SqlFault) → Option Standing → Place → Place → Result (Option A) PgWireClientError → Type 0
+Answers Lacks read None old new result = (result ≡ Err client.DataRowIndexOutOfBounds) × (new ≡ old)
+Answers Lacks read (Some (field, (None, rest))) old new result = (result ≡ Ok None) × (new ≡ behind old rest)
+Answers Lacks read (Some (field, (Some raw, rest))) old new result = Gives Lacks (some_of (read field raw)) result × (new ≡ behind old rest)
+
+abbrev pub in_format : {A : Type 0} → FieldFormat → A → A → A
+in_format formats.Binary binary text = binary
+in_format formats.Text binary text = text
+
+-- a column's values are read in its format, as its type
+abbrev pub read_by : {A : Type 0} → (PgType → List ℕ → Result A SqlFault) → (PgType → List ℕ → Result A SqlFault) → FieldInfo → List ℕ → Result A SqlFault
+read_by of_binary of_text field raw = in_format field.format (of_binary field.datatype raw) (of_text field.datatype raw)
+
+-- an answer that lends bytes, as those bytes
+abbrev pub lent : Result (Option (Bor (List ℕ))) PgWireClientError → Result (Option (List ℕ)) PgWireClientError
+lent (Ok bytes) = Ok (option_copied bytes)
+lent (Err e) = Err e
+
+-- a call lends the value at a place; NULL is none. Where no value stands it answers so
+abbrev pub IsLent : Option Standing → Result (Option (List ℕ)) PgWireClientError → Type 0
+IsLent None result = result ≡ Err client.DataRowIndexOutOfBounds
+IsLent (Some (field, (value, rest))) result = result ≡ Ok value

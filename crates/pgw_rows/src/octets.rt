@@ -1,0 +1,75 @@
+//! Bytes.
+ghost use Rattle.std.specs.Prelude.{◌≡◌, ◌&&◌, ◌==◌, IsTrue, slice_index};
+ghost use Rattle.pgw_rows.specs.Rows.{Gives};
+ghost use Rattle.pgw_rows.specs.Values.{octets_in, octets_of_binary, octets_of_text, or_bad_text};
+
+use crate::from_sql::{FromSql, FromSqlText};
+use hex::FromHexError;
+use pgw_backend::client_error::{PgWireClientError, PgWireClientResult, SqlFault};
+use pgw_backend::pg_type::PgType;
+use pgw_types::octets::Octets;
+use std::alloc::Global;
+
+// The bytes that hex digits stand for, behind `\x`.
+fn hex_in(alloc: Global, text: &[u8]) -> PgWireClientResult<Octets>
+    ensures { Gives (Unit {0}) (or_bad_text (octets_in text.now)) result }
+{
+    let [b'\\', b'x', digits @ ..] = text else {
+        return Err(PgWireClientError::FromSqlError(SqlFault::BadText));
+    };
+    match hex::decode(alloc, digits) {
+        Ok(bytes) => match Octets::from_slice(alloc, bytes.as_slice()) {
+            Ok(octets) => Ok(octets),
+            Err(_) => Err(PgWireClientError::OutOfMemory),
+        },
+        Err(FromHexError::OutOfMemory) => Err(PgWireClientError::OutOfMemory),
+        Err(_) => Err(PgWireClientError::FromSqlError(SqlFault::BadText)),
+    }
+}
+
+impl FromSql for Octets {
+    ghost of_binary = { octets_of_binary };
+
+    ghost may_lack = { Unit {0} };
+
+    fn from_sql(alloc: Global, ty: &PgType, raw: &[u8]) -> PgWireClientResult<Octets> {
+        match ty {
+            PgType::Bytea => {}
+            _ => return Err(PgWireClientError::FromSqlError(SqlFault::WrongType(*ty))),
+        }
+        match Octets::from_slice(alloc, raw) {
+            Ok(octets) => Ok(octets),
+            Err(_) => Err(PgWireClientError::OutOfMemory),
+        }
+    }
+
+    fn from_row(
+        _alloc: Global,
+        ty: &PgType,
+        row: &Octets,
+        from: usize,
+        to: usize,
+    ) -> PgWireClientResult<Octets> {
+        match ty {
+            PgType::Bytea => {}
+            _ => return Err(PgWireClientError::FromSqlError(SqlFault::WrongType(*ty))),
+        }
+        match row.slice(from, to) {
+            Ok(octets) => Ok(octets),
+            Err(_) => Err(PgWireClientError::OutOfMemory),
+        }
+    }
+}
+
+impl FromSqlText for Octets {
+    ghost of_text = { octets_of_text };
+
+    ghost may_lack = { Unit {0} };
+
+    fn from_sql_text(alloc: Global, ty: &PgType, input: &[u8]) -> PgWireClientResult<Octets> {
+        match ty {
+            PgType::Bytea => hex_in(alloc, input),
+            _ => Err(PgWireClientError::FromSqlError(SqlFault::WrongType(*ty))),
+        }
+    }
+}

@@ -1,0 +1,7 @@
+//! Tests of the rows of a result.
+#![tactic(auto)]
+
+#[cfg(test)]
+mod rows;
+#[cfg(test)]
+mod values;
