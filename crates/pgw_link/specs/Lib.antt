@@ -5,3 +5,4 @@ pub mod Memory
 pub mod MemoryStream
 pub mod Dials
 pub mod MemoryDials
+pub mod Sockets

@@ -8,7 +8,10 @@ pub mod memory;
 pub mod memory_dialer;
 pub mod memory_stream;
 pub mod piece;
+pub mod socket;
+pub mod socket_dialer;
 pub mod standard;
 pub mod stream;
+pub mod stream_link;
 #[cfg(test)]
 mod tests;
