@@ -46,3 +46,13 @@ impl Duplicate for HostAddr {
         Ok(*self)
     }
 }
+
+impl Duplicate for Address {
+    fn duplicate(&self) -> Result<Address, OutOfMemory> {
+        match self {
+            Address::Ip(addr, port) => Ok(Address::Ip(*addr, *port)),
+            Address::Host(name, port) => Ok(Address::Host(name.duplicate()?, *port)),
+            Address::Unix(path) => Ok(Address::Unix(path.duplicate()?)),
+        }
+    }
+}

@@ -3,3 +3,6 @@ pub mod Stream
 pub mod Calls
 pub mod Memory
 pub mod MemoryStream
+pub mod Dials
+pub mod MemoryDials
+pub mod Sockets

@@ -43,4 +43,11 @@ impl Calls {
         }
         fails
     }
+
+    /// Whether a call has failed.
+    pub fn have_failed(&self) -> bool
+        ensures { result ≡ nat_lt 0 self.now.failed }
+    {
+        self.failed > 0
+    }
 }

@@ -76,6 +76,13 @@ impl MemoryLink {
     {
         self.wanting > 0
     }
+
+    /// Whether a call has failed.
+    pub fn has_failed(&self) -> bool
+        ensures { result ≡ nat_lt 0 (faults_of self.now) }
+    {
+        self.reads.have_failed() || self.writes.have_failed() || self.wanting > 0
+    }
 }
 
 /// What was flushed by the link's end, where this read answered it or an earlier one did.

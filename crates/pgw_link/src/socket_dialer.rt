@@ -1,0 +1,171 @@
+//! A dialer over the system's sockets.
+ghost use Rattle.std.specs.Prelude.{◌≡◌, IfOk};
+
+use crate::dialer::{DialError, Dialer};
+use crate::socket::ClientSocket;
+use crate::stream_link::StreamLink;
+use pgw_conninfo::address::{Address, HostAddr};
+use std::io;
+use std::io::{Eprint, ErrorKind};
+use std::net::{IpAddr, Ipv4Addr, Ipv6Addr, Net, SocketAddr, TcpStream, ToSocketAddrs};
+use std::os::unix::net::UnixStream;
+use std::time::Duration;
+
+/// A dialer over the system's sockets. It tells nothing of what they carry. Why a dial failed, or a call of a link, it
+/// says on standard error.
+///
+/// Host names are looked up by the system, and the addresses found are tried in turn within one dial.
+#[derive(Drop)]
+pub struct SocketDialer<R: Net<Stream = TcpStream> + Eprint + Drop> {
+    rt: R,
+    timeouts: Timeouts,
+    faults: u64,
+}
+
+/// How long to wait for a connection to each address, for a read and for a write; without end where it is None or zero.
+/// What takes longer is a fault. A Unix socket connects at once.
+#[derive(Clone, Copy, Debug, PartialEq, Eq, Drop)]
+pub struct Timeouts {
+    pub connect: Option<Duration>,
+    pub read: Option<Duration>,
+    pub write: Option<Duration>,
+}
+
+impl Timeouts {
+    /// No timeout at all.
+    pub const NONE: Timeouts = Timeouts {
+        connect: None,
+        read: None,
+        write: None,
+    };
+}
+
+fn unless_zero(timeout: Option<Duration>) -> Option<Duration> {
+    timeout.filter(|time| !time.is_zero())
+}
+
+fn ip_of(addr: HostAddr) -> IpAddr {
+    match addr {
+        HostAddr::V4(octets) => IpAddr::V4(Ipv4Addr::from(octets)),
+        HostAddr::V6(segments) => IpAddr::V6(Ipv6Addr::from(segments)),
+    }
+}
+
+impl<R: Net<Stream = TcpStream> + Eprint + Drop> SocketDialer<R> {
+    ghost use Rattle.pgw_link.specs.Sockets.{socket_faults};
+
+    pub fn new(rt: R, timeouts: Timeouts) -> SocketDialer<R>
+        ensures { result.faults ≡ 0 }
+    {
+        SocketDialer {
+            rt,
+            timeouts,
+            faults: 0,
+        }
+    }
+
+    fn open_tcp(&self, addr: SocketAddr) -> io::Result<ClientSocket>
+        ensures { IfOk result (λ s. socket_faults s ≡ 0) }
+    {
+        let stream = match unless_zero(self.timeouts.connect) {
+            Some(time) => TcpStream::connect_timeout(&self.rt, &addr, time)?,
+            None => TcpStream::connect(&self.rt, addr)?,
+        };
+        stream.set_nodelay(true)?;
+        stream.set_read_timeout(unless_zero(self.timeouts.read))?;
+        stream.set_write_timeout(unless_zero(self.timeouts.write))?;
+        Ok(ClientSocket::Plain(StreamLink::new(stream)))
+    }
+
+    fn open_host(&self, name: &str, port: u16) -> io::Result<ClientSocket>
+        ensures { IfOk result (λ s. socket_faults s ≡ 0) }
+    {
+        let mut last = io::Error::new(ErrorKind::NotFound, "the name has no address");
+        for addr in (name, port).to_socket_addrs(&self.rt)? {
+            match self.open_tcp(addr) {
+                Ok(socket) => return Ok(socket),
+                Err(error) => last = error,
+            }
+        }
+        Err(last)
+    }
+
+    fn open_unix(&self, path: &str) -> io::Result<ClientSocket>
+        ensures { IfOk result (λ s. socket_faults s ≡ 0) }
+    {
+        let stream = UnixStream::connect(&self.rt, path)?;
+        stream.set_read_timeout(unless_zero(self.timeouts.read))?;
+        stream.set_write_timeout(unless_zero(self.timeouts.write))?;
+        Ok(ClientSocket::Unix(StreamLink::new(stream)))
+    }
+
+    fn open(&self, address: &Address) -> io::Result<ClientSocket>
+        ensures { IfOk result (λ s. socket_faults s ≡ 0) }
+    {
+        match address {
+            Address::Ip(addr, port) => self.open_tcp(SocketAddr::new(ip_of(*addr), *port)),
+            Address::Host(name, port) => self.open_host(name.as_str(), *port),
+            Address::Unix(path) => self.open_unix(path.as_str()),
+        }
+    }
+
+    fn say(&self, what: &str, error: io::Error) {
+        let _ = match error.kind() {
+            ErrorKind::WouldBlock | ErrorKind::TimedOut => eprintln!(self.rt; "{what}: timed out"),
+            _ => eprintln!(self.rt; "{what}: {error}"),
+        };
+    }
+
+    fn say_at(&self, address: &Address, error: io::Error) {
+        let _ = match address {
+            Address::Ip(addr, port) => {
+                eprint!(self.rt;
+                    "cannot connect to {}",
+                    SocketAddr::new(ip_of(*addr), *port)
+                )
+            }
+            Address::Host(name, port) => eprint!(self.rt;
+                "cannot connect to {}:{port}",
+                name.as_str()
+            ),
+            Address::Unix(path) => eprint!(self.rt; "cannot connect to {}", path.as_str()),
+        };
+        self.say("", error);
+    }
+}
+
+impl<R: Net<Stream = TcpStream> + Eprint + Drop> Dialer for SocketDialer<R> {
+    ghost use Rattle.std.specs.Prelude.{[], None};
+
+    type Link = ClientSocket;
+
+    ghost tells = { ⊥ };
+
+    ghost tape = { λ s. record { dials = 0; address = None; offer = []; shut = None } };
+
+    ghost faults = { λ s. s.faults };
+
+    ghost links_tell = { λ t. t };
+
+    fn dial(&mut self, address: &Address) -> Result<ClientSocket, DialError> {
+        match self.open(address) {
+            Ok(socket) => Ok(socket),
+            Err(error) if error.kind() == ErrorKind::OutOfMemory => Err(DialError::OutOfMemory),
+            Err(error) => {
+                self.say_at(address, error);
+                self.faults = self.faults.saturating_add(1);
+                Err(DialError::Fault)
+            }
+        }
+    }
+
+    fn close(&mut self, used: ClientSocket) {
+        if used.faults() > 0 {
+            self.faults = self.faults.saturating_add(1);
+        }
+        // The socket is closed before anything is said: it may have the number of standard error.
+        if let Some(error) = used.into_failure() {
+            self.say("the connection failed", error);
+        }
+    }
+}
