@@ -31,7 +31,7 @@ read_alone : {M E : Type 0} (read : List ℕ → Front M E) (is : IsReading read
 read_alone read is bytes m n e = ap read (sym (append-nil (take n bytes))) ∙ is.whole bytes [] m n e
 
 -- a message stays whole
-read_more : {M E : Type 0} (read : List ℕ → Front M E) (is : IsReading read) (bytes more : List ℕ) (m : M) (n : ℕ) → read bytes ≡ Whole m n → read (bytes ++ more) ≡ Whole m n
+pub read_more : {M E : Type 0} (read : List ℕ → Front M E) (is : IsReading read) (bytes more : List ℕ) (m : M) (n : ℕ) → read bytes ≡ Whole m n → read (bytes ++ more) ≡ Whole m n
 read_more read is bytes more m n e =
     ap read (ap (λ (l : List ℕ). l ++ more) (sym (take-append-drop n bytes)) ∙ append_assoc (take n bytes) (drop n bytes) more)
     ∙ is.whole bytes (drop n bytes ++ more) m n e

@@ -1,6 +1,7 @@
 //! What holds of every machine over bytes.
 ghost use Rattle.std.specs.Prelude.{◌≡◌, ℕ, List, [], ◌++◌, drop};
 ghost use Rattle.pgw_course.specs.Course.{More, Bad, Whole, Course, Waits, Over, Rules, IsSteady, onto, run, sent_of, WantsMore, seen, IsView};
+ghost use Rattle.pgw_course.specs.Play.{Leads, play_of};
 
 /// However the bytes are cut, the machine comes to the same.
 pub fn cuts_do_not_matter<S, R, M, E>()
@@ -36,4 +37,9 @@ pub fn nothing_whole_is_left<S, R, M, E>()
 /// A machine that is a view of another runs as the other does.
 pub fn views_run_alike<S, T, Q, R, M, E>()
     ensures { (f : S → T) (g : Q → R) (first : Rules S Q M E) (second : Rules T R M E) → IsView f g first second → (course : Course S Q) (bytes : List ℕ) → run second (seen f g course) bytes ≡ seen f g (run first course bytes) }
+{}
+
+/// Where the steps are a function, such a machine is led where the function's machine runs.
+pub fn where_steps_are_a_function<S, R, M, E>()
+    ensures { (rules : Rules S R M E) → IsSteady rules → (state : S) (bytes : List ℕ) (course : Course S R) → Leads (play_of rules) state bytes course → run rules (Waits state [] []) bytes ≡ course }
 {}
