@@ -23,8 +23,12 @@ pub use pgw_config::config::{
     ChannelBinding, Config, Host, HostAddr, LoadBalanceHosts, SslMode, SslNegotiation,
     TargetSessionAttrs,
 };
+pub use pgw_link::dialer::{DialError, Dialer};
 pub use pgw_link::link::{Link, LinkFault};
 pub use pgw_link::memory::MemoryLink;
+pub use pgw_link::memory_dialer::MemoryDialer;
+pub use pgw_link::socket::ClientSocket;
+pub use pgw_link::socket_dialer::{SocketDialer, Timeouts};
 pub use pgw_query::data::DataRow;
 pub use pgw_query::response::{ErrorResponse, TransactionStatus};
 pub use pgw_rows::decoder::DataRowDecoder;

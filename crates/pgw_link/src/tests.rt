@@ -1,13 +1,20 @@
+ghost use Rattle.std.specs.Prelude.{◌≤◌, IfOk};
+
+use crate::dialer::{DialError, Dialer};
 use crate::link::{Link, LinkFault};
 use crate::memory::MemoryLink;
+use crate::memory_dialer::MemoryDialer;
 use crate::memory_stream::{MemorySink, MemorySource};
 use crate::standard::{StdSink, StdSource};
 use crate::stream::{Sink, Source};
+use crate::stream_link::StreamLink;
+use pgw_conninfo::address::Address;
 use pgw_types::listed::Listed;
 use pgw_types::octets::Octets;
+use pgw_types::text::Text;
 use std::alloc::Global;
 use std::io;
-use std::io::Write;
+use std::io::{ErrorKind, Read, Write};
 use std::test::Fail;
 
 fn numbers(alloc: Global, items: &[u64]) -> Result<Listed<u64>, Fail> {
@@ -152,4 +159,105 @@ fn streams_over_readers_and_writers(rt: HostRuntime) {
     assert_eq!(rt; poured(&mut sink), [3, 3]);
     let mut full = StdSink::new(Full);
     assert_eq!(rt; poured(&mut full), [9, 9]);
+}
+
+// A stream that is interrupted, then moves so many bytes, and then fails.
+#[derive(Drop)]
+struct Faulty {
+    calls: u8,
+    moves: usize,
+}
+
+impl Faulty {
+    fn answer(&mut self, room: usize) -> io::Result<usize>
+        ensures { IfOk result (λ n. n ≤ room) }
+    {
+        self.calls = self.calls.saturating_add(1);
+        match self.calls {
+            1 => Err(io::Error::from(ErrorKind::Interrupted)),
+            2 => Ok(self.moves.min(room)),
+            _ => Err(io::Error::from(ErrorKind::ConnectionReset)),
+        }
+    }
+}
+
+impl Read for Faulty {
+    fn read(&mut self, buf: &mut [u8]) -> io::Result<usize> {
+        self.answer(buf.len())
+    }
+}
+
+impl Write for Faulty {
+    fn write(&mut self, buf: &[u8]) -> io::Result<usize> {
+        self.answer(buf.len())
+    }
+
+    fn flush(&mut self) -> io::Result<()> {
+        Ok(())
+    }
+}
+
+#[test]
+fn links_over_streams(rt: HostRuntime) {
+    let cases: [(usize, [usize; 4], [usize; 3], u64); 2] = [
+        (2, [2, 9, 9, 9], [2, 9, 9], 2),
+        (0, [0, 9, 9, 9], [9, 9, 9], 3),
+    ];
+    for (moves, read, wrote, faults) in cases {
+        let mut link = StreamLink::new(Faulty { calls: 0, moves });
+        assert_eq!(rt; reads(&mut link), read);
+        assert_eq!(rt; link.faults(), 3);
+        let mut link = StreamLink::new(Faulty { calls: 0, moves });
+        assert_eq!(rt; writes(&mut link, b"abc"), wrote);
+        assert!(rt; link.flush().is_ok());
+        assert_eq!(rt; link.faults(), faults);
+        let why = link.into_failure().map(|error| error.kind());
+        assert_eq!(rt; why, Some(ErrorKind::ConnectionReset));
+    }
+}
+
+// A dialer with one link, on which a read fails.
+fn dialer_of_one(alloc: Global, fail_dials: &[u64]) -> Result<MemoryDialer, Fail> {
+    let server = Octets::from_slice(alloc, b"wxyz")?;
+    let fail_reads = numbers(alloc, &[1])?;
+    let fail_dials = numbers(alloc, fail_dials)?;
+    let mut links = Listed::new(alloc);
+    links.push(MemoryLink::new(alloc, server, 10, fail_reads, Listed::new(alloc)))?;
+    Ok(MemoryDialer::new(links, fail_dials))
+}
+
+// What a dial reads from its link, which is then closed; 0 stands for a dial that fails.
+fn dialled<D: Dialer>(dialer: &mut D, address: &Address) -> usize {
+    match dialer.dial(address) {
+        Ok(mut link) => {
+            let answers = reads(&mut link);
+            dialer.close(link);
+            answers[1]
+        }
+        Err(DialError::Fault) => 0,
+        Err(DialError::OutOfMemory) => 9,
+    }
+}
+
+#[test]
+fn dialers_in_memory(rt: HostRuntime) -> Result<(), Fail> {
+    let alloc = rt.alloc();
+    let address = Address::Host(Text::from_str(alloc, "db")?, 5432);
+    let cases: [(&[u64], [usize; 3]); 3] = [
+        (&[], [3, 0, 0]),
+        (&[1], [0, 3, 0]),
+        (&[2, 3], [3, 0, 0]),
+    ];
+    for (fails, want) in cases {
+        let mut dialer = dialer_of_one(alloc, fails)?;
+        assert!(rt; dialer.closed().is_none());
+        let got = [
+            dialled(&mut dialer, &address),
+            dialled(&mut dialer, &address),
+            dialled(&mut dialer, &address),
+        ];
+        assert_eq!(rt; got, want);
+        assert!(rt; dialer.closed().is_some_and(|link| link.has_failed()));
+    }
+    Ok(())
 }
