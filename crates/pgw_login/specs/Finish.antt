@@ -1,0 +1,109 @@
+-- How a login ends (Protocol Flow, "Start-up": from AuthenticationOk to ReadyForQuery).
+use Rattle.std.specs.Prelude.{◌≡◌, ◌⊎◌, ◌≤◌, ℕ, Bool, true, false, ℤ, pos, List, [], ◌∷◌, ◌++◌, map, Option, Some, None, is_some, Result, Ok, Err}
+use Rattle.std.specs.FinMap as finite
+use Rattle.pgw_types.specs.declared.error.PgWireError.{PgWireError}
+use Rattle.pgw_types.specs.declared.error.PgWireError.TheVariants.{PidsExhausted, RegistryExhausted, OutOfMemory}
+use Rattle.pgw_types.specs.declared.context.ProtocolVersion.{ProtocolVersion}
+use Rattle.pgw_wire.specs.Pairs.{Held}
+use Rattle.pgw_wire.specs.declared.secret_key.SecretKey.{SecretKey}
+use Rattle.pgw_startup.specs.declared.authentication.Authentication.TheVariants as auth
+use Rattle.pgw_query.specs.declared.response.TransactionStatus.TheVariants.{Idle}
+use Rattle.pgw_backend.specs.declared.backend.PgWireBackendMessage.{PgWireBackendMessage as Message}
+use Rattle.pgw_backend.specs.declared.backend.PgWireBackendMessage.TheVariants as backend
+use Rattle.pgw_registry.specs.Key.{key_of}
+use Rattle.pgw_registry.specs.Numbers.{IsDistinct}
+use Rattle.pgw_registry.specs.Seats.{Numbers}
+use Rattle.pgw_registry.specs.Generator.{NoNumber}
+use Rattle.pgw_registry.specs.Passes.{Known}
+use Rattle.pgw_registry.specs.declared.error.PidError.{PidError}
+use Rattle.pgw_registry.specs.declared.error.PidError.TheVariants as pid
+use Rattle.pgw_registry.specs.declared.error.RegistryError.{RegistryError}
+use Rattle.pgw_registry.specs.declared.error.RegistryError.TheVariants as registry
+use Rattle.pgw_login.specs.Client.{Client, with_key, with_state}
+use Rattle.pgw_login.specs.Registered.{Pair}
+use Rattle.pgw_login.specs.Acts.{Standing, Answer, Then, Refuses, Passes, OrNoMemory, Sets, Marks, Sends, with_sasl}
+use Rattle.pgw_login.specs.declared.client_info.PgWireConnectionState.TheVariants.{ReadyForQuery}
+use Rattle.pgw_login.specs.declared.state.LoginState.{LoginState}
+use Rattle.pgw_login.specs.declared.state.SASLState.TheVariants.{Finished}
+
+-- ---- the process number and the key
+
+abbrev pub with_seat : Numbers → LoginState → LoginState
+with_seat seat s = record s { seat = seat }
+
+-- one more number was drawn, which no list of a seat has yet, and the key is made of the words
+abbrev pub IsDrawn : ProtocolVersion → List ℕ → Numbers → Numbers → ℤ → SecretKey → Type 0
+IsDrawn version words old new number key =
+    (new.of ≡ old.of) × (new.begins ≡ old.begins) × (new.owes ≡ old.owes) × (new.drawn ≡ old.drawn ++ new.seen ∷ []) × IsDistinct new.drawn
+    × (old.seen ≤ new.seen) × (old.begins ≤ new.seen) × (new.seen ≤ 2147483647) × (number ≡ pos new.seen) × (key ≡ key_of version words)
+
+abbrev pub pid_refusal : PidError → PgWireError
+pid_refusal pid.PidsExhausted = PidsExhausted
+pid_refusal pid.OutOfMemory = OutOfMemory
+
+-- they are drawn and set in the client
+abbrev pub Draws : Standing → Standing → List Message → Answer → Type 0
+Draws before after sent (Ok done) = (sent ≡ []) × ((number : ℤ) × (key : SecretKey) × IsDrawn before.client.protocol_version before.login.words before.login.seat after.login.seat number key
+    × (after ≡ record before { client = with_key number key before.client; login = with_seat after.login.seat before.login }))
+Draws before after sent (Err e) = (sent ≡ []) × (after ≡ record before { login = with_seat after.login.seat before.login })
+    × ((why : PidError) × (e ≡ pid_refusal why) × NoNumber why before.login.seat after.login.seat)
+
+-- ---- the registry
+
+abbrev pub with_pass : Option Known → LoginState → LoginState
+with_pass pass s = record s { pass = pass }
+
+abbrev pub with_pair : Option Known → Option Pair → LoginState → LoginState
+with_pair pass pair s = record s { pass = pass; registered = pair }
+
+-- what the registry's answer comes to
+abbrev pub Entered : Result (Option Pair) RegistryError → Option Known → Standing → Standing → Answer → Type 0
+Entered (Ok pair) pass before after answer = (after ≡ record before { login = with_pair pass pair before.login }) × (answer ≡ Ok tt)
+Entered (Err registry.Gone) pass before after answer = ⊥
+Entered (Err registry.Exhausted) pass before after answer = (after ≡ record before { login = with_pass pass before.login }) × (answer ≡ Err RegistryExhausted)
+Entered (Err registry.OutOfMemory) pass before after answer = (after ≡ record before { login = with_pass pass before.login }) × (answer ≡ Err OutOfMemory)
+
+abbrev pub EnrollsAt : Bool → (Option Known → ℤ → SecretKey → Option Known → Result (Option Pair) RegistryError → Type 0) → Standing → Standing → List Message → Answer → Type 0
+EnrollsAt true R before after sent answer = Passes before after sent answer
+EnrollsAt false R before after sent answer = (sent ≡ []) × ((pass : Option Known) × (got : Result (Option Pair) RegistryError) × R before.login.pass before.client.pid before.client.secret_key pass got × Entered got pass before after answer)
+
+-- the client's number and key are registered, unless they are already
+abbrev pub Enrolls : (Option Known → ℤ → SecretKey → Option Known → Result (Option Pair) RegistryError → Type 0) → Standing → Standing → List Message → Answer → Type 0
+Enrolls R before = EnrollsAt (is_some before.login.registered) R before
+
+-- the number and the key are drawn, and then registered
+abbrev pub Accepts : (Option Known → ℤ → SecretKey → Option Known → Result (Option Pair) RegistryError → Type 0) → Standing → Standing → List Message → Answer → Type 0
+Accepts R = Then Draws (Enrolls R)
+
+-- ---- what the client is told
+
+abbrev pub status_of : List ℕ × List ℕ → Message
+status_of p = backend.ParameterStatus (record { name = p.0; value = p.1 })
+
+-- in the order of the names
+abbrev pub statuses : Option Held → List Message
+statuses None = []
+statuses (Some held) = map status_of (finite.entries held)
+
+abbrev pub key_data : Client → Message
+key_data c = backend.BackendKeyData (record { pid = c.pid; secret_key = c.secret_key })
+
+abbrev pub introduction : Client → Option Held → List Message
+introduction c parameters = backend.Authentication auth.Ok ∷ (statuses parameters ++ key_data c ∷ [])
+
+-- the login is accepted, with what the provider gives for the client, its number and its key
+abbrev pub Introduces : (Client → Option Held → Type 0) → Standing → Standing → List Message → Answer → Type 0
+Introduces P = OrNoMemory (λ before after sent answer. (parameters : Option Held) × P before.client parameters × Sends (introduction before.client parameters) before after sent answer)
+
+abbrev pub ready : Message
+ready = backend.ReadyForQuery (record { status = Idle })
+
+abbrev pub Readies : Message → Standing → Standing → List Message → Answer → Type 0
+Readies m = Then (Sends (m ∷ [])) (Sets (with_state ReadyForQuery))
+
+abbrev pub FinishesAuthentication : (Client → Option Held → Type 0) → Standing → Standing → List Message → Answer → Type 0
+FinishesAuthentication P = Then (Introduces P) (Readies ready)
+
+-- the whole end of a login that is accepted
+abbrev pub Finishes : (Client → Option Held → Type 0) → (Option Known → ℤ → SecretKey → Option Known → Result (Option Pair) RegistryError → Type 0) → Standing → Standing → List Message → Answer → Type 0
+Finishes P R = Then (Accepts R) (Then (FinishesAuthentication P) (Marks (with_sasl Finished)))

@@ -1,0 +1,15 @@
+pub mod Client
+pub mod DefaultClients
+pub mod Login
+pub mod Logins
+pub mod Sending
+pub mod Acts
+pub mod Opening
+pub mod Parameters
+pub mod Provider
+pub mod Registered
+pub mod Finish
+pub mod Hearing
+pub mod Cleartext
+pub mod Md5
+pub mod Noop

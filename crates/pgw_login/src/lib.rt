@@ -1,0 +1,16 @@
+//! The server's side of a login: what handlers see, and the handlers without SASL.
+#![tactic(auto)]
+
+pub mod acts;
+pub mod cleartext;
+pub mod client_info;
+pub mod finish;
+pub mod handler;
+pub mod md5;
+pub mod negotiation;
+pub mod noop;
+pub mod outbox;
+pub mod provider;
+pub mod registers;
+pub mod source;
+pub mod state;
