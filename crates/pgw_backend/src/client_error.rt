@@ -54,7 +54,7 @@ pub enum PgWireClientError {
     RemoteError(ErrorResponse),
     #[error("a value cannot be read so: {0}")]
     FromSqlError(SqlFault),
-    #[error("no such column in the row")]
+    #[error("the row has no such value")]
     DataRowIndexOutOfBounds,
     #[error("SCRAM login failed: {0}")]
     ScramError(ScramFault),

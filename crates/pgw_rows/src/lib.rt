@@ -5,7 +5,7 @@ mod cut;
 pub mod decoder;
 pub mod from_sql;
 mod integers;
-mod laws;
+pub mod laws;
 mod octets;
 pub mod result;
 mod text;

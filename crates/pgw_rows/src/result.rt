@@ -46,6 +46,13 @@ impl DataRowsReader {
         DataRowsReader::new(Listed::new(alloc), Listed::new(alloc))
     }
 
+    /// The columns of the rows.
+    pub fn fields(&self) -> &[FieldInfo]
+        ensures { result.now ≡ self.now.fields }
+    {
+        self.fields.as_slice()
+    }
+
     /// Takes the first of the rows that wait. It takes no memory.
     pub fn take_row(&mut self) -> Option<DataRow>
         ensures { GivesFirst self.old result self.new }
@@ -53,8 +60,8 @@ impl DataRowsReader {
         self.rows.next()
     }
 
-    /// The first of the rows that wait, to be read, which then no longer waits (`take_row`). It
-    /// takes no memory.
+    /// The first of the rows that wait, to be read, which then no longer waits: `take_row`, and
+    /// `DataRowDecoder::new` over the row with `fields`. It takes no memory.
     pub fn next_row(&mut self) -> Option<DataRowDecoder<'_>>
         ensures { result ≡ option_map (row_start self.old.fields) (slice_get self.old.rows 0) }
     {

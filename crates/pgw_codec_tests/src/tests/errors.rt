@@ -275,7 +275,7 @@ const CLIENT_ERRORS: [&str; 22] = [
     "a value cannot be read so: it is of type 25",
     "a value cannot be read so: it has 3 bytes",
     "a value cannot be read so: its text is none of the type's",
-    "no such column in the row",
+    "the row has no such value",
     "SCRAM login failed: the password is not UTF-8",
     "SCRAM login failed: the server's nonce does not begin with the client's",
     "SCRAM login failed: the server's salt is not base64",
