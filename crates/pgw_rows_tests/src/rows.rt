@@ -56,6 +56,27 @@ fn select_one(rt: HostRuntime) -> Result<(), Fail> {
     Ok(())
 }
 
+// Bytes that are lent pass one value over, NULL too, and a refusal passes none.
+#[test]
+fn lent_values_are_passed(rt: HostRuntime) -> Result<(), Fail> {
+    let alloc = rt.alloc();
+    let columns_of_text = [
+        (PgType::Int4, FieldFormat::Text),
+        (PgType::Int4, FieldFormat::Text),
+        (PgType::Int4, FieldFormat::Text),
+        (PgType::Int4, FieldFormat::Text),
+    ];
+    let fields = columns(alloc, &columns_of_text)?;
+    let payload = b"\0\0\0\x011\xff\xff\xff\xff\0\0\0\x012";
+    let mut decoder = DataRowDecoder::new(fields.as_slice(), row(alloc, payload)?);
+    assert!(rt; lends(decoder.next_raw(), Some(b"1".as_slice())));
+    assert!(rt; lends(decoder.next_raw(), None));
+    assert_eq!(rt; decoder.next_value::<i32>(alloc)?, Some(2));
+    assert!(rt; is_out_of_bounds(&decoder.next_raw()));
+    assert!(rt; is_out_of_bounds(&decoder.next_value::<i32>(alloc)));
+    Ok(())
+}
+
 #[test]
 fn rows_in_order(rt: HostRuntime) -> Result<(), Fail> {
     let alloc = rt.alloc();
