@@ -13,3 +13,4 @@ pub mod Hearing
 pub mod Cleartext
 pub mod Md5
 pub mod Noop
+pub mod Canceling

@@ -2,6 +2,7 @@
 #![tactic(auto)]
 
 pub mod acts;
+pub mod cancel;
 pub mod cleartext;
 pub mod client_info;
 pub mod finish;
