@@ -3,6 +3,7 @@
 
 mod answers;
 mod demands;
+mod inbox;
 mod input;
 mod logins;
 mod machine;

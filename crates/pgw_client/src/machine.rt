@@ -10,9 +10,10 @@ ghost use Rattle.pgw_client.specs.Wire.{IsEnd, IsOwn, Unless, PutOut};
 ghost use Rattle.pgw_client.specs.Input.{input_of};
 ghost use Rattle.pgw_client.specs.Machine.{Advanced, IsAble, IsGood, Moved, Passed, Shortens, Started, StaysAble, notes_end, report_at};
 
+use crate::inbox::Inbox;
 use crate::input::Input;
 use crate::table::{after, is_ready};
-use crate::wire::{decode, put_all};
+use crate::wire::put_all;
 use crate::{answers, requests, standings};
 use bytes::BytesMut;
 use pgw_backend::backend::PgWireBackendMessage;
@@ -363,16 +364,16 @@ pub fn advance(
     alloc: Global,
     input: &Input<'_>,
     notes: &mut Notes,
-    buffer: &mut BytesMut,
+    buffer: &mut Inbox,
     out: &mut BytesMut,
 ) -> Result<Progress, PgWireClientError>
     requires { IsAble (input_of input.now) notes.old.stage }
     ensures own { IfErr result IsOwn }
     ensures able { IfOk result (StaysAble (input_of input.now) notes.new) }
-    ensures shorter { IfOk result (λ taken. Shortens taken (length buffer.old.items) (length buffer.new.items)) }
-    ensures step { Advanced (input_of input.now) notes.old notes.new buffer.old.items buffer.new.items out.old.items out.new.items result }
+    ensures shorter { IfOk result (λ taken. Shortens taken (length buffer.old) (length buffer.new)) }
+    ensures step { Advanced (input_of input.now) notes.old notes.new buffer.old buffer.new out.old.items out.new.items result }
 {
-    let message = match decode(alloc, notes.standing.version, buffer) {
+    let message = match buffer.next_message(alloc, notes.standing.version) {
         Ok(Some(message)) => message,
         Ok(None) => return Ok(Progress::More),
         Err(e) => return Err(e),

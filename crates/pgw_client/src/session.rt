@@ -12,6 +12,7 @@ ghost use Rattle.pgw_client.specs.Machine.{IsAble};
 ghost use Rattle.pgw_client.specs.SessionSteps.{Conversed, Filled, Session, TookAll, Wrote, WroteSome};
 
 use crate::demands::check_config;
+use crate::inbox::Inbox;
 use crate::input::Input;
 use crate::machine::{Progress, advance, end_error, into_report, start};
 use bytes::BytesMut;
@@ -47,7 +48,7 @@ fn take_all<L: Link>(
     link: &mut L,
     input: &Input<'_>,
     notes: &mut Notes,
-    buffer: &mut BytesMut,
+    buffer: &mut Inbox,
 ) -> PgWireClientResult<bool>
     requires { IsAble (input_of input.now) notes.old.stage }
     ensures able { IfOk result (λ done. done ≡ false → IsAble (input_of input.now) notes.new.stage) }
@@ -56,7 +57,7 @@ fn take_all<L: Link>(
     ensures clean { L.tells → (IsErrOf result PgWireClientError.IoError → ⊥) → L.faults link.new ≡ L.faults link.old }
     ensures kept { L.plan link.new ≡ L.plan link.old }
     ensures talks { L.tells → (L.tape link.old).flushed ≡ length (L.tape link.old).wrote →
-        TookAll (input_of input.now) notes.old notes.new (L.tape link.old) (L.tape link.new) buffer.old.items buffer.new.items result }
+        TookAll (input_of input.now) notes.old notes.new (L.tape link.old) (L.tape link.new) buffer.old buffer.new result }
 {
     let mut out = BytesMut::new(alloc);
     'messages: loop {
@@ -88,14 +89,14 @@ fn chunk_size(room: u64) -> usize
 }
 
 // Reads once, no more than there is room for.
-fn fill<L: Link>(link: &mut L, buffer: &mut BytesMut, room: u64) -> PgWireClientResult<usize>
+fn fill<L: Link>(link: &mut L, buffer: &mut Inbox, room: u64) -> PgWireClientResult<usize>
     requires { 0 < room }
     ensures bound { IfOk result (λ n. n ≤ room) }
     ensures cause { IoHasCause (L.faults link.old) (L.faults link.new) result }
     ensures talk { IfErr result IsNoDemand }
     ensures clean { L.tells → (IsErrOf result PgWireClientError.IoError → ⊥) → L.faults link.new ≡ L.faults link.old }
     ensures kept { L.plan link.new ≡ L.plan link.old }
-    ensures filled { L.tells → Filled (L.tape link.old) (L.tape link.new) buffer.old.items buffer.new.items room result }
+    ensures filled { L.tells → Filled (L.tape link.old) (L.tape link.new) buffer.old buffer.new room result }
 {
     let mut chunk = [0u8; CHUNK];
     let size = chunk_size(room);
@@ -103,7 +104,7 @@ fn fill<L: Link>(link: &mut L, buffer: &mut BytesMut, room: u64) -> PgWireClient
         Ok(n) => n,
         Err(_) => return Err(PgWireClientError::IoError),
     };
-    match buffer.extend_from_slice(&chunk[..n]) {
+    match buffer.append(&chunk[..n]) {
         Ok(()) => Ok(n),
         Err(_) => Err(PgWireClientError::OutOfMemory),
     }
@@ -125,7 +126,7 @@ fn converse<L: Link>(
     ensures talks { L.tells → (L.tape link.old).flushed ≡ length (L.tape link.old).wrote →
         Conversed (input_of input.now) notes.old notes.new limit (L.tape link.old) (L.tape link.new) result }
 {
-    let mut buffer = BytesMut::new(alloc);
+    let mut buffer = Inbox::new(alloc);
     let mut read: u64 = 0;
     'reads: loop {
         let done = match take_all(alloc, link, input, notes, &mut buffer) {

@@ -9,6 +9,7 @@ use pgw_backend::backend::PgWireBackendMessage;
 use pgw_backend::client_error::PgWireClientError;
 use pgw_frontend::frontend::PgWireFrontendMessage;
 use pgw_types::context::{DecodeContext, ProtocolVersion};
+use pgw_wire::buffer::Buffer;
 use std::alloc::Global;
 
 // Each message has a type byte now.
@@ -25,15 +26,15 @@ fn typed_phase(protocol_version: ProtocolVersion) -> DecodeContext
 }
 
 /// Takes the message at the front, if it is whole.
-pub fn decode(
+pub fn decode<B: Buffer>(
     alloc: Global,
     version: ProtocolVersion,
-    buffer: &mut BytesMut,
+    buffer: &mut B,
 ) -> Result<Option<PgWireBackendMessage>, PgWireClientError>
     ensures own { IfErr result IsOwn }
-    ensures decoded { Decoded version buffer.old.items buffer.new.items result }
+    ensures decoded { Decoded version (B.held buffer.old) (B.held buffer.new) result }
 {
-    match PgWireBackendMessage::decode(alloc, buffer, &typed_phase(version)) {
+    match PgWireBackendMessage::decode_from(alloc, buffer, &typed_phase(version)) {
         Ok(found) => Ok(found),
         Err(e) => Err(PgWireClientError::from(e)),
     }

@@ -12,7 +12,7 @@ pub returns-in-Err-clause-step : goal.returns-in-Err-clause-step
 returns-in-Err-clause-step c =
     let input = input_of c.args.input.now in
     let notes = c.args.notes.now in
-    let buffer = c.args.buffer.now.items in (
+    let buffer = c.args.buffer.now in (
       refl,
       λ ne.
           let d = c.in-Err.ensures.decoded.1 ne in (
@@ -28,14 +28,14 @@ returns-in-Ok-true-clause-step c =
     let t = rw c.in-Ok-true.field-0-test at c.in-Ok-true.ensures.moved in
     let input = input_of c.args.input.now in
     let notes = c.args.notes.now in
-    let buffer = c.args.buffer.now.items in
+    let buffer = c.args.buffer.now in
     let m = c.in-Ok-Some.message in
     (t.0, t.2, t.3, λ sent. run_ends (rules_by notes_book input) (steady_by notes_book input) notes sent buffer m w.0 t.0 (reads_whole notes.standing.version buffer m w.0 w.1) t.1)
 
 pub returns-in-Ok-false-clause-shorter : goal.returns-in-Ok-false-clause-shorter
 returns-in-Ok-false-clause-shorter c =
     let w = rw c.in-Ok-Some.field-0-is at c.in-Ok-Some.ensures.decoded in
-    let buffer = c.args.buffer.now.items in
+    let buffer = c.args.buffer.now in
     let f = front_whole c.args.notes.now.standing.version buffer c.in-Ok-Some.message w.0 w.1 in
     omega (arith, f.0, f.1, ap length w.2, length-drop w.0 buffer)
 
@@ -45,7 +45,7 @@ returns-in-Ok-false-clause-step c =
     let t = rw c.in-Ok-false.field-0-test at c.in-Ok-false.ensures.moved in
     let input = input_of c.args.input.now in
     let notes = c.args.notes.now in
-    let buffer = c.args.buffer.now.items in
+    let buffer = c.args.buffer.now in
     let m = c.in-Ok-Some.message in (
       t.0,
       t.2,
@@ -60,7 +60,7 @@ returns-in-Err-take-clause-step c =
     let t = c.in-Err-take.ensures.moved in
     let input = input_of c.args.input.now in
     let notes = c.args.notes.now in
-    let buffer = c.args.buffer.now.items in
+    let buffer = c.args.buffer.now in
     let m = c.in-Ok-Some.message in (
       t.0,
       λ ne.

@@ -12,7 +12,7 @@ invariant-reads g l = record {
   later : g.L.Link.faults l.fn.link ≤ g.L.Link.faults l.link;
   clean : g.L.Link.tells → g.L.Link.faults l.link ≡ g.L.Link.faults l.fn.link;
   reading : g.L.Link.tells → (g.L.Link.tape l.fn.link).flushed ≡ length (g.L.Link.tape l.fn.link).wrote →
-      Reading (input_of l.fn.input) l.fn.notes l.notes (g.L.Link.tape l.fn.link) (g.L.Link.tape l.link) l.buffer.items l.read;
+      Reading (input_of l.fn.input) l.fn.notes l.notes (g.L.Link.tape l.fn.link) (g.L.Link.tape l.link) l.buffer l.read;
 }
 
 abbrev pub decreases-reads : goal.decreases-reads

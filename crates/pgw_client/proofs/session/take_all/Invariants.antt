@@ -12,8 +12,8 @@ invariant-messages g l = record {
   clean : g.L.Link.tells → g.L.Link.faults l.link ≡ g.L.Link.faults l.fn.link;
   empty : l.out.items ≡ [];
   going : g.L.Link.tells → (g.L.Link.tape l.fn.link).flushed ≡ length (g.L.Link.tape l.fn.link).wrote →
-      Going (input_of l.fn.input) l.fn.notes l.notes (g.L.Link.tape l.fn.link) (g.L.Link.tape l.link) l.fn.buffer.items l.buffer.items;
+      Going (input_of l.fn.input) l.fn.notes l.notes (g.L.Link.tape l.fn.link) (g.L.Link.tape l.link) l.fn.buffer l.buffer;
 }
 
 abbrev pub decreases-messages : goal.decreases-messages
-decreases-messages g l = length l.buffer.items
+decreases-messages g l = length l.buffer
