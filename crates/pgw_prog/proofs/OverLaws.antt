@@ -10,9 +10,8 @@ use Rattle.pgw_session.specs.Demands.{refused_config}
 use Rattle.pgw_session.specs.Events.{Event}
 use Rattle.pgw_session.specs.Input.{Input}
 use Rattle.pgw_session.specs.Transcript.{Completed, Completes, report_of}
-use Rattle.pgw_client.specs.Errors.{IoHasCause}
+use Rattle.pgw_client.specs.Session.{IoHasCause, MovedBy, Causes, Reports, KeepsPace, Tells, InLockstep}
 use Rattle.pgw_client.specs.Demands.{Refuses}
-use Rattle.pgw_client.specs.Sessions.{MovedBy, Causes, Reports, KeepsPace, Tells, InLockstep}
 use Rattle.pgw_prog.specs.OverLink.{OverLink}
 
 -- a link that stayed as it was tells what it told

@@ -9,7 +9,7 @@ use Rattle.pgw_session.specs.Events.{Event}
 use Rattle.pgw_session.specs.Input.{Input}
 use Rattle.pgw_session.specs.Transcript.{Completed, Completes, report_of}
 use Rattle.pgw_client.specs.Demands.{Refuses}
-use Rattle.pgw_client.specs.Sessions.{MovedBy, Causes, Reports, KeepsPace, Tells, InLockstep}
+use Rattle.pgw_client.specs.Session.{MovedBy, Causes, Reports, KeepsPace, Tells, InLockstep}
 
 -- What a session over a link without faults gives: what the link tells before and after, how many of its calls failed,
 -- and the answer.
