@@ -1,11 +1,12 @@
 # try: runs the session script crates/hothummei_session/stdin before anything is proved, within a minute.
 # run: builds the program, which proves it, and runs the same script.
-# test: the gate. plant: wrong bodies that a crate's contracts let through (make plant CRATE=pgw_wire).
+# test: the gate. live: the program against a real PostgreSQL, in a scratch cluster (live/run).
+# plant: wrong bodies that a crate's contracts let through (make plant CRATE=pgw_wire).
 SHELL = /bin/bash
 PROGRAM = crates/hothummei/out/hothummei
 LOG = build.log
 
-.PHONY: try run install test fmt plant needs-rt
+.PHONY: try run install test program live fmt plant needs-rt
 
 needs-rt:
 	@command -v rt > /dev/null || { echo "rt is not in the PATH: install the Rattle kit that README.md names, and put its folder bin into the PATH" >&2; exit 1; }
@@ -27,6 +28,12 @@ install:
 
 test: needs-rt
 	rt ci
+
+program: needs-rt
+	@(cd crates/hothummei && rt run -- --version > ../../$(LOG) 2>&1) || { echo "make program: the build failed, see $(LOG)" >&2; exit 1; }
+
+live: program
+	@live/run $(PROGRAM)
 
 fmt:
 	@for crate in crates/*/; do (cd $$crate && rt fmt) || exit 1; done

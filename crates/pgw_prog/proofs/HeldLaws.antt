@@ -1,13 +1,11 @@
 -- What is printed of a session over a link in memory.
-use Rattle.std.proofs.Common.{◌≡◌, ◌≢◌, ◌≤◌, ◌<◌, ◌+◌, ◌*◌, ℕ, suc, List, [], ◌∷◌, ◌++◌, length, Bool, ◌||◌, ◌&&◌, nat_lt, nat_le, true, false, refl, ◌∙◌, sym, ap, subst, append_assoc, inl, inr, Option, Some, None, Result, Ok, Err, arith}
+use Rattle.std.proofs.Common.{◌≡◌, ◌≢◌, ◌≤◌, ◌+◌, ℕ, suc, List, [], ◌∷◌, ◌++◌, length, Bool, ◌||◌, ◌&&◌, nat_lt, nat_le, true, false, refl, ◌∙◌, sym, ap, subst, append_assoc, inl, inr, None, Result, Ok, Err, arith}
 use Rattle.std.proofs.lemmas.Bool.Decides.{nat_tests}
 use Rattle.std.proofs.lemmas.List.{length-append}
 use Rattle.std.specs.Result.{IfOk, OnOk, IsErrOf}
-use Rattle.std.specs.Prelude.{IfSome}
-use Rattle.pgw_link.specs.Tape.{Tape, Rose}
+use Rattle.pgw_link.specs.Tape.{Tape}
 use Rattle.pgw_link.specs.Calls.{is_reached}
-use Rattle.pgw_link.specs.Memory.{Making, tape_of}
-use Rattle.pgw_link.specs.declared.memory.MemoryLink.{MemoryLink}
+use Rattle.pgw_link.specs.Memory.{Making}
 use Rattle.pgw_types.specs.declared.memory.OutOfMemory.{OutOfMemory}
 use Rattle.pgw_backend.specs.declared.client_error.PgWireClientError.{PgWireClientError}
 use Rattle.pgw_backend.specs.declared.client_error.PgWireClientError.TheVariants as client
@@ -19,24 +17,19 @@ use Rattle.pgw_session.specs.Demands.{refused_config}
 use Rattle.pgw_session.specs.Events.{Event}
 use Rattle.pgw_session.specs.Input.{Input}
 use Rattle.pgw_session.specs.Transcript.{Completed, Completes, report_of}
-use Rattle.pgw_client.specs.Session.{IoHasCause, MovedBy, Causes, Reports, KeepsPace, Tells, InLockstep}
-use Rattle.pgw_client.specs.Demands.{Refuses}
+use Rattle.pgw_client.specs.Session.{MovedBy, Reports, KeepsPace}
 use Rattle.pgw_prog.specs.declared.printed.Printed.{Printed}
 use Rattle.pgw_course.specs.Course.{Over}
 use Rattle.pgw_session.specs.Talk.{conversation, whole_talk}
 use Rattle.pgw_session.proofs.Whole.{conversation_completes}
 use Rattle.pgw_prog.specs.declared.script.Script.{Script}
-use Rattle.pgw_prog.specs.Held.{Session, PrintsSession, Says, PrintsOutcome, Holds, NamesCall, IsNear, InCuts, Moves, first_tape, status_of}
+use Rattle.pgw_prog.specs.Held.{Session, PrintsSession, Says, PrintsOutcome, Holds, NamesCall, IsNear, Moves, first_tape, status_of}
+use Rattle.pgw_prog.specs.OverLink.{OverLink}
 use Rattle.pgw_prog.specs.Printing.{session_text}
 
 -- which calls failed, of those made by then
 abbrev pub FailsBy : Making → Tape → ℕ → Type 0
 FailsBy made after faults = nat_lt 0 faults ≡ (is_reached made.reads after.reads || is_reached made.writes after.writes)
-
--- a link that stayed as it was tells what it told
-pub same_tape : (o : Option (List ℕ)) (outcome : Result SessionReport PgWireClientError) (old new : MemoryLink) → IfSome o (λ key. Refuses key outcome × (new ≡ old)) → IfSome o (λ key. Refuses key outcome × (tape_of new ≡ tape_of old))
-same_tape None outcome old new h = tt
-same_tape (Some key) outcome old new h = (h.0, ap tape_of h.1)
 
 -- a listed call that was made is among as many calls, or more
 named_by : (n : ℕ) (ns : List ℕ) (made most : ℕ) (b : Bool) → (nat_lt 0 n && nat_le n made) ≡ b → made ≤ most → (is_reached ns made ≡ true → NamesCall ns most) → (b || is_reached ns made) ≡ true → NamesCall (n ∷ ns) most
@@ -56,41 +49,25 @@ near made limit after taken sent false true is_read is_written pace h = let most
 near made limit after taken sent false false is_read is_written pace h = cc
 
 module _ (input : Input) (limit : ℕ) (made : Making) (after : Tape) (outcome : Result SessionReport PgWireClientError) where
-  pub session_of : (first : Tape) (before now : ℕ) → first ≡ first_tape made → before ≡ 0 → IoHasCause before now outcome → (before < now → IsErrOf outcome client.IoError)
-      → IfOk outcome (λ report. MovedBy first after (λ taken sent. Completed input taken sent report))
-      → Causes input limit first after outcome
-      → (refused_config input.config ≡ None → MovedBy first after (Tells input outcome))
-      → MovedBy first after (KeepsPace limit first after)
-      → InLockstep input first after
-      → IfSome (refused_config input.config) (λ key. Refuses key outcome × (after ≡ first))
-      → (refused_config input.config ≡ None → (segments : List (List Event)) → Completes input limit first.left segments → (Rose before now → ⊥) → Reports (report_of input segments) outcome)
-      → FailsBy made after now → Moves made after
-      → Session input limit made after now outcome
-  session_of first before now same none io failing completed causes told in_pace lockstep refused reports fails moves =
-      let paced = subst (λ (t : Tape). MovedBy t after (KeepsPace limit t after)) same in_pace in
+  pub session_of : (first : Tape) (now : ℕ) → first ≡ first_tape made → OverLink input limit first after now outcome → FailsBy made after now → Moves made after → Session input limit made after now outcome
+  session_of first now same given fails moves =
+      let over = subst (λ (t : Tape). OverLink input limit t after now outcome) same given in
+      let paced = over.paced in
       let taken : List ℕ = paced.0 in
       let sent : List ℕ = paced.1 in
       let left : length made.server ≡ length taken + length after.left = ap length paced.2 ∙ length-append taken after.left in
       let wrote : length after.wrote ≡ length sent = ap length paced.3 in
       record {
-        completed = subst (λ (t : Tape). IfOk outcome (λ report. MovedBy t after (λ taken sent. Completed input taken sent report))) same completed;
-        causes = subst (λ (t : Tape). Causes input limit t after outcome) same causes;
-        told = λ clear. subst (λ (t : Tape). MovedBy t after (Tells input outcome)) same (told clear);
-        paced = paced;
-        lockstep = subst (λ (t : Tape). InLockstep input t after) same lockstep;
+        over = over;
         cut = (taken, sent, paced.2, paced.3, (omega (arith, left, moves.0), omega (arith, wrote, moves.1)));
-        refused = subst (λ (t : Tape). IfSome (refused_config input.config) (λ key. Refuses key outcome × (after ≡ t))) same refused;
-        reports = λ clear segments c clean. reports clear segments (subst (λ (left : List ℕ). Completes input limit left segments) (sym (ap (λ (t : Tape). t.left) same)) c) (λ rose. clean (omega (arith, rose, none)));
-        io = λ e. let rose = io.io e in omega (arith, rose, none);
-        failing = λ some. failing (omega (arith, some, none));
         fails = fails;
         io_near = λ e.
-            let rose = io.io e in
-            let some : nat_lt 0 now ≡ true = grind (arith, nat_tests, rose, none) in
+            let failed = over.io e in
+            let some : nat_lt 0 now ≡ true = grind (arith, nat_tests, failed) in
             (taken, sent, paced.2, paced.3, near made limit after taken sent (is_reached made.reads after.reads) (is_reached made.writes after.writes) refl refl paced.4 (sym fails ∙ some));
-        no_io = λ reads writes e. let rose = io.io e in
+        no_io = λ reads writes e. let failed = over.io e in
             let some : nat_lt 0 now ≡ false = fails ∙ rw (reads, writes) refl in
-            absurd (grind (arith, nat_tests, some, rose, none));
+            absurd (grind (arith, nat_tests, some, failed));
       }
 
   pub printed : (faults : ℕ) → (FailsBy made after faults → Moves made after → Session input limit made after faults outcome) → (r : Result Printed OutOfMemory)
@@ -123,7 +100,7 @@ pub completed_text_printed : (input : Input) (limit : ℕ) (made : Making) (p : 
 completed_text_printed input limit made p segments clear reads writes c prints =
     let s = prints.session in
     let none : nat_lt 0 prints.faults ≡ false = s.fails ∙ rw (reads, writes) refl in
-    completed_by input limit segments (first_tape made) prints.after p.text.items p.status prints.outcome refl c s.completed (s.reports clear segments c (λ rose. absurd (grind (arith, nat_tests, none, rose)))) prints.memory prints.text prints.status
+    completed_by input limit segments (first_tape made) prints.after p.text.items p.status prints.outcome refl c s.over.completed (s.over.reports clear segments c (λ rose. absurd (grind (arith, nat_tests, none, rose)))) prints.memory prints.text prints.status
 
 -- what is printed of a connection text that was read, and of one that was refused
 pub held : (s : Script) (config : Config) (r : Result Printed OutOfMemory) → HasOutcome s.config (Ok config) → ((other : Result Config PgWireClientError) → HasOutcome s.config other → Answers (Ok config) other)

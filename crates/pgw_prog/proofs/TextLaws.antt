@@ -86,7 +86,7 @@ begins version.PROTOCOL3_0 = (_, refl)
 begins version.PROTOCOL3_2 = (_, refl)
 begins version.PROTOCOL3_9999 = (_, refl)
 
-no_report : (r : SessionReport) (e : PgWireClientError) → report_lines r ≡ error_line e → ⊥
+pub no_report : (r : SessionReport) (e : PgWireClientError) → report_lines r ≡ error_line e → ⊥
 unfolding report_lines error_line
 no_report r e is =
     let first = begins r.version in
@@ -112,7 +112,7 @@ name_same client.ReadLimit is = cc
 name_same client.Broken is = cc
 name_same client.OutOfMemory is = cc
 
-error_same : (e : PgWireClientError) → error_line e ≡ error_line client.IoError → e ≡ client.IoError
+pub error_same : (e : PgWireClientError) → error_line e ≡ error_line client.IoError → e ≡ client.IoError
 unfolding error_line
 error_same e is = name_same e (cc)
 

@@ -1,8 +1,11 @@
 -- The commands, by the words of the command line.
-use Rattle.std.specs.Prelude.{ℕ, List, [], ◌∷◌, nat_eq, codes, if◌then◌else◌}
+use Rattle.std.specs.Prelude.{ℕ, List, [], ◌∷◌, map, nat_eq, codes, Option, Some, None, if◌then◌else◌}
 use Rattle.std.specs.Cmp.Lexicographic.{pointwise}
 use Rattle.pgw_prog.specs.declared.command.Command.{Command}
 use Rattle.pgw_prog.specs.declared.command.Command.TheVariants as command
+use Rattle.pgw_session.specs.declared.types.Request.{Request}
+use Rattle.pgw_session.specs.declared.types.Request.TheVariants as request
+use Rattle.pgw_prog.specs.Line.{number_in}
 
 abbrev pub command_named : List ℕ → Command
 command_named word =
@@ -11,8 +14,23 @@ command_named word =
     else if pointwise nat_eq word (codes "--version") then command.Version
     else command.Usage
 
+-- a simple query of each text
+abbrev pub queries_of : List (List ℕ) → List Request
+queries_of texts = map (λ text. request.Simple text) texts
+
+-- a session with this limit, where there is one
+abbrev pub connect_with : List ℕ → List (List ℕ) → Option ℕ → Command
+connect_with text queries None = command.Usage
+connect_with text queries (Some limit) = command.Connect (record { text = text; limit = limit; requests = queries_of queries })
+
+-- connect TEXT LIMIT QUERY, with one or more queries
+unfoldable pub connect_for : List ℕ → List ℕ → List ℕ → List (List ℕ) → Command
+connect_for word text limit queries = if pointwise nat_eq word (codes "connect") then connect_with text queries (number_in limit) else command.Usage
+
 -- no word at all asks for a script
 unfoldable pub command_for : List (List ℕ) → Command
 command_for [] = command.Script
 command_for (word ∷ []) = command_named word
-command_for (word ∷ other ∷ more) = command.Usage
+command_for (word ∷ text ∷ []) = command.Usage
+command_for (word ∷ text ∷ limit ∷ []) = command.Usage
+command_for (word ∷ text ∷ limit ∷ query ∷ more) = connect_for word text limit (query ∷ more)

@@ -1,5 +1,5 @@
 -- The session of a script.
-use Rattle.std.specs.Prelude.{◌≡◌, ◌≢◌, ◌⊎◌, ◌<◌, ◌≤◌, ◌+◌, ◌*◌, ◌++◌, ◌||◌, nat_lt, ℕ, List, [], length, None, Result, Ok, Err, IfOk, IfSome, IsErrOf}
+use Rattle.std.specs.Prelude.{◌≡◌, ◌≢◌, ◌⊎◌, ◌<◌, ◌≤◌, ◌+◌, ◌*◌, ◌++◌, ◌||◌, nat_lt, ℕ, List, [], length, None, Result, Ok, Err, IsErrOf}
 use Rattle.std.specs.List.{flat_map, Any}
 use Rattle.pgw_link.specs.Tape.{Tape}
 use Rattle.pgw_link.specs.Calls.{is_reached}
@@ -13,9 +13,9 @@ use Rattle.pgw_session.specs.declared.types.SessionReport.{SessionReport}
 use Rattle.pgw_session.specs.Demands.{refused_config}
 use Rattle.pgw_session.specs.Events.{Event}
 use Rattle.pgw_session.specs.Input.{Input}
-use Rattle.pgw_session.specs.Transcript.{Completed, Completes, report_of}
-use Rattle.pgw_client.specs.Demands.{Refuses}
-use Rattle.pgw_client.specs.Session.{MovedBy, Causes, Reports, KeepsPace, Tells, InLockstep}
+use Rattle.pgw_session.specs.Transcript.{Completes, report_of}
+use Rattle.pgw_client.specs.Session.{MovedBy}
+use Rattle.pgw_prog.specs.OverLink.{OverLink}
 use Rattle.pgw_prog.specs.declared.script.Script.{Script}
 use Rattle.pgw_prog.specs.declared.printed.Printed.{Printed}
 use Rattle.pgw_prog.specs.Printing.{session_text}
@@ -53,27 +53,13 @@ InCuts made after taken sent = (length taken ≤ made.cut * after.reads) × (len
 
 -- What a session over a new link in memory gives: what the link tells afterwards, how many calls failed, the answer.
 pub record Session (input : Input) (limit : ℕ) (made : Making) (after : Tape) (faults : ℕ) (outcome : Result SessionReport PgWireClientError) : Type 0 where
-  -- an answer is that of a completed transcript
-  pub completed : IfOk outcome (λ report. MovedBy (first_tape made) after (λ taken sent. Completed input taken sent report))
-  -- each error has its cause
-  pub causes : Causes input limit (first_tape made) after outcome
-  -- what was read is a legal prefix, and what was written is what is sent in it, or begins it
-  pub told : refused_config input.config ≡ None → MovedBy (first_tape made) after (Tells input outcome)
-  -- in few calls, and in step
-  pub paced : MovedBy (first_tape made) after (KeepsPace limit (first_tape made) after)
-  pub lockstep : InLockstep input (first_tape made) after
+  -- what a session over any link gives
+  pub over : OverLink input limit (first_tape made) after faults outcome
   -- the cut holds of each call
   pub cut : MovedBy (first_tape made) after (InCuts made after)
-  -- a configuration that demands what a client can't do is refused, and nothing was read or written
-  pub refused : IfSome (refused_config input.config) (λ key. Refuses key outcome × (after ≡ first_tape made))
-  -- bytes that complete a transcript give its report, where nothing is refused and no call failed
-  pub reports : refused_config input.config ≡ None → (segments : List (List Event)) → Completes input limit made.server segments → (0 < faults → ⊥) → Reports (report_of input segments) outcome
-  -- the error of the link comes just where a call failed,
-  pub io : IsErrOf outcome client.IoError → 0 < faults
-  pub failing : 0 < faults → IsErrOf outcome client.IoError
-  -- and a call failed just where one was made whose number is listed
+  -- a call failed just where one was made whose number is listed
   pub fails : nat_lt 0 faults ≡ (is_reached made.reads after.reads || is_reached made.writes after.writes)
-  -- so that error comes only where a listed call is near,
+  -- so the error of the link comes only where a listed call is near,
   pub io_near : IsErrOf outcome client.IoError → MovedBy (first_tape made) after (IsNear made)
   -- and never where none is listed
   pub no_io : made.reads ≡ [] → made.writes ≡ [] → IsErrOf outcome client.IoError → ⊥

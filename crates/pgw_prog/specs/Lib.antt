@@ -5,7 +5,9 @@ pub mod Printing
 pub mod Line
 pub mod Script
 pub mod Transfer
+pub mod OverLink
 pub mod Held
+pub mod Connected
 pub mod Command
 pub mod Program
 pub mod Grammar

@@ -54,7 +54,11 @@ report_lines r =
 unfoldable pub error_line : PgWireClientError → List ℕ
 error_line e = codes "error " ++ client_name e ++ line_end
 
+-- a session's report, or its error
+abbrev pub result_text : Result SessionReport PgWireClientError → List ℕ
+result_text (Ok r) = report_lines r
+result_text (Err e) = error_line e
+
 -- the text of a session: what was sent, and its report or its error
 unfoldable pub session_text : List ℕ → Result SessionReport PgWireClientError → List ℕ
-session_text sent (Ok r) = sent_line sent ++ report_lines r
-session_text sent (Err e) = sent_line sent ++ error_line e
+session_text sent outcome = sent_line sent ++ result_text outcome

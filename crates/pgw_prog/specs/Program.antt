@@ -7,6 +7,7 @@ use Rattle.pgw_prog.specs.declared.script.Script.{Script}
 use Rattle.pgw_prog.specs.declared.printed.Printed.{Printed}
 use Rattle.pgw_prog.specs.declared.command.Command.{Command}
 use Rattle.pgw_prog.specs.declared.command.Command.TheVariants as command
+use Rattle.pgw_prog.specs.declared.command.Connection.{Connection}
 use Rattle.pgw_prog.specs.declared.program.Stop.{Stop}
 use Rattle.pgw_prog.specs.declared.program.Stop.TheVariants as stop
 use Rattle.pgw_prog.specs.Grammar.{IsScript, IsFault}
@@ -25,25 +26,26 @@ AnswersScript bytes p =
     ((16777216 < length bytes) × Says p (codes "script too long\n") 2)
     ⊎ ((length bytes ≤ 16777216) × AnswersText bytes p)
 
--- what a command prints; a script is read from the source, which has these bytes where it tells them, and help and
--- version are fixed texts
-abbrev pub Answers : List ℕ → List ℕ → Command → Type 0 → List ℕ → Printed → Type 0
-Answers help version command.Help tells bytes p = Says p help 0
-Answers help version command.Version tells bytes p = Says p version 0
-Answers help version command.Script tells bytes p = tells → AnswersScript bytes p
-Answers help version command.Usage tells bytes p = Says p (codes "usage\n") 2
+-- what a command prints; a script is read from the source, which has these bytes where it tells them, help and
+-- version are fixed texts, and what is printed of a session with a server is told by `connects`
+abbrev pub Answers : List ℕ → List ℕ → Command → Type 0 → List ℕ → (Connection → Printed → Type 0) → Printed → Type 0
+Answers help version command.Help tells bytes connects p = Says p help 0
+Answers help version command.Version tells bytes connects p = Says p version 0
+Answers help version command.Script tells bytes connects p = tells → AnswersScript bytes p
+Answers help version (command.Connect asked) tells bytes connects p = connects asked p
+Answers help version command.Usage tells bytes connects p = Says p (codes "usage\n") 2
 
 -- the whole text of the answer behind what was written before, and its status
-pub record Prints (help version : List ℕ) (command : Command) (source_tells sink_tells : Type 0) (bytes before now : List ℕ) (status : ℕ) : Type 0 where
+pub record Prints (help version : List ℕ) (command : Command) (source_tells sink_tells : Type 0) (bytes : List ℕ) (connects : Connection → Printed → Type 0) (before now : List ℕ) (status : ℕ) : Type 0 where
   pub printed : Printed
-  pub answers : Answers help version command source_tells bytes printed
+  pub answers : Answers help version command source_tells bytes connects printed
   pub wrote : sink_tells → now ≡ before ++ printed.text.items
   pub ends : status ≡ printed.status
 
 -- a front of the text of the answer behind what was written before
-pub record PrintsFront (help version : List ℕ) (command : Command) (source_tells sink_tells : Type 0) (bytes before now : List ℕ) : Type 0 where
+pub record PrintsFront (help version : List ℕ) (command : Command) (source_tells sink_tells : Type 0) (bytes : List ℕ) (connects : Connection → Printed → Type 0) (before now : List ℕ) : Type 0 where
   pub printed : Printed
-  pub answers : Answers help version command source_tells bytes printed
+  pub answers : Answers help version command source_tells bytes connects printed
   pub wrote : sink_tells → (count : ℕ) × (count ≤ length printed.text.items) × (now ≡ before ++ take count printed.text.items)
 
 -- the text is a script that completes its session

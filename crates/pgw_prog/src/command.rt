@@ -1,16 +1,33 @@
 //! The commands, by the words of the command line.
-ghost use Rattle.std.specs.Prelude.{◌≡◌, map, string_bytes};
-ghost use Rattle.pgw_prog.specs.Command.{command_for, command_named as named};
+ghost use Rattle.std.specs.Prelude.{◌≡◌, map, string_bytes, IfOk};
+ghost use Rattle.pgw_prog.specs.Command.{command_for, command_named as named, connect_for, queries_of as requests_for};
+
+use crate::line::read_number;
+use pgw_client::Request;
+use pgw_types::listed::Listed;
+use pgw_types::memory::OutOfMemory;
+use pgw_types::text::Text;
+use std::alloc::Global;
 
 /// What the program is asked to do.
-#[derive(Clone, Copy, Debug, PartialEq, Eq)]
+#[derive(Debug, Drop)]
 pub enum Command {
     Help,
     Version,
     /// Holds the session of a script.
     Script,
+    /// Holds a session with a server.
+    Connect(Connection),
     /// The words are no command.
     Usage,
+}
+
+/// A session with the server that a connection text names: the most bytes to read, and simple queries.
+#[derive(Debug, Drop)]
+pub struct Connection {
+    pub text: Text,
+    pub limit: u64,
+    pub requests: Listed<Request>,
 }
 
 fn command_named(word: &str) -> Command
@@ -27,14 +44,58 @@ fn command_named(word: &str) -> Command
     }
 }
 
+/// A simple query of each text.
+fn queries_of(alloc: Global, texts: &[String]) -> Result<Listed<Request>, OutOfMemory>
+    ensures { IfOk result (λ list. list ≡ requests_for (map string_bytes texts.now)) }
+{
+    let mut requests = Listed::new(alloc);
+    for text in texts {
+        requests.push(Request::Simple(Text::from_str(alloc, text.as_str())?))?;
+    }
+    Ok(requests)
+}
+
+/// A session with a server, where the word asks for one and the limit is a number.
+#[tactic(auto, unfolding(crate::specs::Command::connect_for))]
+fn connect_of(
+    alloc: Global,
+    word: &str,
+    text: &str,
+    limit: &str,
+    queries: &[String],
+) -> Result<Command, OutOfMemory>
+    ensures { IfOk result (λ c. c ≡ connect_for word.now text.now limit.now (map string_bytes queries.now)) }
+{
+    if word != "connect" {
+        return Ok(Command::Usage);
+    }
+    match read_number(limit.as_bytes()) {
+        Some(limit) => Ok(Command::Connect(Connection {
+            text: Text::from_str(alloc, text)?,
+            limit,
+            requests: queries_of(alloc, queries)?,
+        })),
+        None => Ok(Command::Usage),
+    }
+}
+
 /// The command that the words behind the program's name ask for. No word at all asks for a script.
 #[tactic(auto, unfolding(crate::specs::Command::command_for))]
-pub fn command_of(words: &[String]) -> Command
-    ensures { result ≡ command_for (map string_bytes words.now) }
+pub fn command_of(alloc: Global, words: &[String]) -> Result<Command, OutOfMemory>
+    ensures { IfOk result (λ c. c ≡ command_for (map string_bytes words.now)) }
 {
     match words {
-        [] => Command::Script,
-        [word] => command_named(word.as_str()),
-        _ => Command::Usage,
+        [] => Ok(Command::Script),
+        [word] => Ok(command_named(word.as_str())),
+        [word, text, limit, _, ..] => {
+            connect_of(
+                alloc,
+                word.as_str(),
+                text.as_str(),
+                limit.as_str(),
+                &words[3..],
+            )
+        }
+        _ => Ok(Command::Usage),
     }
 }

@@ -6,11 +6,11 @@ ghost use Rattle.pgw_link.specs.Calls.{is_reached};
 ghost use Rattle.pgw_link.specs.Memory.{tape_of, faults_of, making_of};
 ghost use Rattle.pgw_prog.specs.Printing.{session_text};
 
+use crate::over_link::hold_over;
 use crate::printed::Printed;
 use crate::printing::put_session;
 use crate::script::Script;
 use pgw_backend::client_error::{PgWireClientError, PgWireClientResult};
-use pgw_client::session::run_session;
 use pgw_config::config::Config;
 use pgw_link::memory::MemoryLink;
 use pgw_session::types::{Request, SessionReport};
@@ -30,7 +30,7 @@ fn joined(alloc: Global, pieces: &[Octets]) -> Result<Octets, OutOfMemory>
 }
 
 /// The status to end with. Want of memory is no answer to be printed.
-fn status_of(outcome: &PgWireClientResult<SessionReport>) -> Result<u8, OutOfMemory>
+pub fn status_of(outcome: &PgWireClientResult<SessionReport>) -> Result<u8, OutOfMemory>
     ensures value { IfOk result (λ status. status ≡ status_for outcome.now) }
     ensures bound { IfOk result (λ status. status ≤ 1) }
     ensures memory { OnOk result (IsErrOf outcome.now client.OutOfMemory → ⊥) }
@@ -84,7 +84,7 @@ fn run(
     requires faultless { faults_of link.old ≡ 0 }
     ensures { IfOk result (PrintsSession (record { config = config.now; requests = requests.now; nonce = nonce.now }) limit (making_of link.old)) }
 {
-    let outcome = run_session(alloc, link, config, requests, nonce, limit);
+    let outcome = hold_over(alloc, link, config, requests, nonce, limit);
     print_outcome(alloc, link, &outcome)
 }
 

@@ -3,10 +3,12 @@
 
 mod answer_lines;
 mod command;
+mod connected;
 mod error_names;
 mod grammar;
 mod held;
 mod line;
+mod over_link;
 mod pieces;
 mod printed;
 mod printing;

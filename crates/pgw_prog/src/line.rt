@@ -29,7 +29,8 @@ pub enum Line {
     Server(Octets),
 }
 
-fn read_number(value: &[u8]) -> Option<u64>
+/// A number of 64 bits.
+pub fn read_number(value: &[u8]) -> Option<u64>
     ensures { result ≡ number_in value.now }
 {
     match str::from_utf8(value) {

@@ -3,7 +3,7 @@ ghost use Rattle.std.specs.Prelude.{◌≡◌, ◌++◌, ◌∷◌, [], OnOk, co
 ghost use Rattle.std.specs.List.{flat_map};
 ghost use Rattle.std.specs.FinMap as map;
 ghost use Rattle.pgw_prog.specs.Pieces.{quoted};
-ghost use Rattle.pgw_prog.specs.Printing.{sent_line, version_line, process_line, key_line, parameter_line, status_line, report_lines, error_line, session_text};
+ghost use Rattle.pgw_prog.specs.Printing.{sent_line, version_line, process_line, key_line, parameter_line, status_line, report_lines, error_line, result_text, session_text};
 ghost use Rattle.pgw_prog.specs.AnswerLines.{tag_text, type_number, format_number, field_line, row_line, response_lines, item_line, answer_lines, numbered};
 
 use crate::answer_lines::put_answers;
@@ -117,6 +117,19 @@ fn put_error(out: &mut Vec<u8>, error: &PgWireClientError) -> Result<(), OutOfMe
     put(out, b"\n")
 }
 
+/// Appends a session's report, or its error.
+pub fn put_result(
+    out: &mut Vec<u8>,
+    outcome: &Result<SessionReport, PgWireClientError>,
+) -> Result<(), OutOfMemory>
+    ensures { OnOk result (out.new.items ≡ out.old.items ++ result_text outcome.now) }
+{
+    match outcome {
+        Ok(report) => put_report(out, report),
+        Err(error) => put_error(out, error),
+    }
+}
+
 /// Appends what a session is printed as.
 #[tactic(auto, unfolding(crate::specs::Printing::session_text))]
 pub fn put_session(
@@ -127,8 +140,5 @@ pub fn put_session(
     ensures { OnOk result (out.new.items ≡ out.old.items ++ session_text sent.now outcome.now) }
 {
     put_sent(out, sent)?;
-    match outcome {
-        Ok(report) => put_report(out, report),
-        Err(error) => put_error(out, error),
-    }
+    put_result(out, outcome)
 }

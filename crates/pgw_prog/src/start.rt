@@ -1,6 +1,7 @@
-//! The program over standard input and output.
+//! The program over standard input and output and the system's sockets.
 
 use crate::program::run_program;
+use pgw_link::socket_dialer::{SocketDialer, Timeouts};
 use pgw_link::standard::{StdSink, StdSource};
 use rand::RngExt;
 use rand::rngs::StdRng;
@@ -35,5 +36,14 @@ fn run(rt: &HostRuntime, words: &[String]) -> u8 {
     let words32: [u8; 32] = rng.random();
     let mut input = StdSource::new(rt.reader());
     let mut output = StdSink::new(io::writer(rt));
-    run_program(rt.alloc(), words, &mut input, &mut output, &nonce, &words32)
+    let mut dialer = SocketDialer::new(rt, Timeouts::NONE);
+    run_program(
+        rt.alloc(),
+        words,
+        &mut input,
+        &mut output,
+        &mut dialer,
+        &nonce,
+        &words32,
+    )
 }

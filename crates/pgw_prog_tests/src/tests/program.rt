@@ -1,6 +1,7 @@
 //! Other commands, failing calls, and the longest script.
 
 use crate::tests::shared::{HEAD, REPORT, SELECT, SENT, joined, ran};
+use pgw_link::memory_dialer::MemoryDialer;
 use pgw_link::memory_stream::{MemorySink, MemorySource};
 use pgw_prog::program::run_program;
 use pgw_types::listed::Listed;
@@ -106,7 +107,16 @@ fn script_too_long(rt: HostRuntime) -> Result<(), Fail> {
         let bytes = Octets::from_slice(alloc, &script)?;
         let mut input = MemorySource::new(bytes, 65536, Listed::new(alloc));
         let mut output = MemorySink::new(alloc, 65536, Listed::new(alloc));
-        let status = run_program(alloc, &[], &mut input, &mut output, &[0; 18], &[0; 32]);
+        let mut dialer = MemoryDialer::new(Listed::new(alloc), Listed::new(alloc));
+        let status = run_program(
+            alloc,
+            &[],
+            &mut input,
+            &mut output,
+            &mut dialer,
+            &[0; 18],
+            &[0; 32],
+        );
         assert!(rt; output.written() == want.as_bytes());
         assert_eq!(rt; status, ended);
     }

@@ -1,5 +1,6 @@
 //! What the tests share.
 
+use pgw_link::memory_dialer::MemoryDialer;
 use pgw_link::memory_stream::{MemorySink, MemorySource};
 use pgw_prog::program::run_program;
 use pgw_types::listed::Listed;
@@ -15,15 +16,29 @@ pub fn ran(
     fail_reads: &[u64],
     fail_writes: &[u64],
 ) -> Result<(Vec<u8>, u8), Fail> {
+    let list = texts(alloc, words)?;
+    let bytes = Octets::from_slice(alloc, script)?;
+    let mut input = MemorySource::new(bytes, 100, numbers(alloc, fail_reads)?);
+    let mut output = MemorySink::new(alloc, 7, numbers(alloc, fail_writes)?);
+    let mut dialer = MemoryDialer::new(Listed::new(alloc), Listed::new(alloc));
+    let status = run_program(
+        alloc,
+        &list,
+        &mut input,
+        &mut output,
+        &mut dialer,
+        &[0; 18],
+        &[0; 32],
+    );
+    Ok((output.written().to_vec(alloc)?, status))
+}
+
+pub fn texts(alloc: Global, words: &[&str]) -> Result<Vec<String>, Fail> {
     let mut list = Vec::new(alloc);
     for word in words {
         list.push(String::from_str(alloc, word)?)?;
     }
-    let bytes = Octets::from_slice(alloc, script)?;
-    let mut input = MemorySource::new(bytes, 100, numbers(alloc, fail_reads)?);
-    let mut output = MemorySink::new(alloc, 7, numbers(alloc, fail_writes)?);
-    let status = run_program(alloc, &list, &mut input, &mut output, &[0; 18], &[0; 32]);
-    Ok((output.written().to_vec(alloc)?, status))
+    Ok(list)
 }
 
 pub fn numbers(alloc: Global, items: &[u64]) -> Result<Listed<u64>, Fail> {

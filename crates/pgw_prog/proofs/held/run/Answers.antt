@@ -1,23 +1,21 @@
-use Rattle.std.proofs.Common.{sym, subst}
+use Rattle.std.proofs.Common.{subst}
 use Rattle.std.specs.Result.{IfOk}
-use Rattle.pgw_session.specs.Demands.{refused_config}
 use Rattle.pgw_session.specs.Input.{Input}
 use Rattle.pgw_link.specs.Memory.{Making, tape_of, faults_of, making_of}
 use Rattle.pgw_prog.specs.Held.{Moves}
-use Rattle.pgw_prog.proofs.HeldLaws.{FailsBy, same_tape, session_of, printed}
+use Rattle.pgw_prog.proofs.HeldLaws.{FailsBy, session_of, printed}
 use Rattle.pgw_prog.proofs.held.run.Goals as goal
 
 pub returns : goal.returns
 returns c =
-    let e = c.run_session-outcome.ensures in
+    let e = c.hold_over-outcome.ensures in
     let p = c.print_outcome.ensures in
     let input : Input = record { config = c.args.config.now; requests = c.args.requests.now; nonce = c.args.nonce.now } in
     let old = c.args.link.now in
-    let link = c.run_session-outcome.new.link in
-    let outcome = c.run_session-outcome.result in
+    let link = c.hold_over-outcome.new.link in
+    let outcome = c.hold_over-outcome.result in
     let made = making_of old in
-    let session = session_of input c.args.limit made (tape_of link) outcome (tape_of old) (faults_of old) (faults_of link) c.requires.new c.requires.faultless e.cause (e.failing tt)
-    (e.completed tt) (e.causes tt) (e.told tt) (e.paced tt) (e.lockstep tt) (same_tape (refused_config input.config) outcome old link e.refused) (e.reports tt) in
+    let session = session_of input c.args.limit made (tape_of link) outcome (tape_of old) (faults_of link) c.requires.new (e.over tt) in
     printed input c.args.limit made (tape_of link) outcome (faults_of link) session c.print_outcome.result p.text p.status p.memory
     (subst (λ (m : Making). IfOk c.print_outcome.result (λ printed. FailsBy m (tape_of link) (faults_of link))) e.kept p.fails)
     (subst (λ (m : Making). IfOk c.print_outcome.result (λ printed. Moves m (tape_of link))) e.kept p.moves)

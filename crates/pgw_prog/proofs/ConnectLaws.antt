@@ -1,0 +1,153 @@
+-- What is printed of a session with the server that a connection text names.
+use Rattle.std.proofs.Common.{◌≡◌, ◌≢◌, ◌<◌, ℕ, List, [], ◌∷◌, ◌++◌, codes, None, Result, Ok, Err, refl, sym, ap, subst, ◌∙◌, inl, inr}
+use Rattle.std.specs.Result.{IfOk, OnOk, IsErrOf}
+use Rattle.std.proofs.lemmas.List.{append_cancel_left}
+use Rattle.pgw_types.specs.declared.memory.OutOfMemory.{OutOfMemory}
+use Rattle.pgw_conninfo.specs.declared.address.Address.{Address}
+use Rattle.pgw_conninfo.specs.declared.address.Host.{Host}
+use Rattle.pgw_conninfo.specs.declared.address.HostAddr.{HostAddr}
+use Rattle.pgw_link.specs.Tape.{Tape, Rose}
+use Rattle.pgw_link.specs.Dials.{DialTape, Dialled, Shut, CountsClose}
+use Rattle.pgw_backend.specs.declared.client_error.PgWireClientError.{PgWireClientError}
+use Rattle.pgw_backend.specs.declared.client_error.PgWireClientError.TheVariants as client
+use Rattle.pgw_config.specs.declared.config.Config.{Config}
+use Rattle.pgw_config.specs.Address.{first_port, first_host, first_address, address_of}
+use Rattle.pgw_config.specs.Parse.{HasOutcome, IsParsed}
+use Rattle.pgw_config.specs.Answers.{Answers, IsRefusal}
+use Rattle.pgw_session.specs.declared.types.SessionReport.{SessionReport}
+use Rattle.pgw_session.specs.Demands.{refused_config}
+use Rattle.pgw_session.specs.Events.{Event}
+use Rattle.pgw_session.specs.Input.{Input}
+use Rattle.pgw_session.specs.Transcript.{Completes, report_of}
+use Rattle.pgw_client.specs.Session.{Reports}
+use Rattle.pgw_prog.specs.declared.command.Connection.{Connection}
+use Rattle.pgw_prog.specs.declared.printed.Printed.{Printed}
+use Rattle.pgw_prog.specs.Held.{Says, status_of}
+use Rattle.pgw_prog.specs.OverLink.{OverLink}
+use Rattle.pgw_prog.specs.Connected.{input_for, DialledOnce, HeldSession, Talked, PrintsRefusal, PrintsTalk, PrintsAt, PrintsBy, Connects, CanConnect, PrintsReport}
+use Rattle.pgw_prog.specs.Printing.{report_lines, error_line, result_text}
+use Rattle.pgw_prog.proofs.TextLaws.{error_same, no_report}
+
+-- a link that was dialled and then closed
+pub once : (to : Address) (old between new : DialTape) (first after : Tape) → Dialled to old between first → Shut between new after → DialledOnce to old new first after
+once to old between new first after d s = record { dials = s.dials ∙ d.dials; address = s.address ∙ d.address; fresh = d.fresh; shut = s.shut }
+
+-- a session over a link that was dialled and then closed
+pub held_session : {tells : Type 0} {input : Input} {limit : ℕ} {to : Address} {old between new : DialTape} {before dialled now faults : ℕ} {first after : Tape} {outcome : Result SessionReport PgWireClientError}
+    → dialled ≡ before → CountsClose dialled now faults → (IsErrOf outcome client.IoError → 0 < faults) → (tells → Dialled to old between first) → (tells → Shut between new after) → (tells → OverLink input limit first after faults outcome)
+    → HeldSession tells input limit to old new before now outcome
+held_session {tells} {input} {limit} {to} {old} {between} {new} {before} {dialled} {now} {faults} {first} {after} {outcome} same counts io dials shuts over = record {
+  faults = faults;
+  counts = subst (λ (n : ℕ). CountsClose n now faults) same counts;
+  io = io;
+  over = λ t. (first, after, once to old between new first after (dials t) (shuts t), over t);
+}
+
+-- the answer of a session that completes is its report
+says_report : (report : SessionReport) (outcome : Result SessionReport PgWireClientError) → Reports report outcome → (IsErrOf outcome client.OutOfMemory → ⊥) → (result_text outcome ≡ report_lines report) × (status_of outcome ≡ 0)
+says_report report (Ok answer) same memory = (ap report_lines same, refl)
+says_report report (Err e) same memory = absurd (memory (ap Err same))
+
+module _ (nonce : List ℕ) (tells : Type 0) (old new : DialTape) (before now : ℕ) (asked : Connection) (p : Printed) where
+  talk_reported : (input : Input) (limit : ℕ) (to : Address) (segments : List (List Event)) → tells → (Rose before now → ⊥) → refused_config input.config ≡ None → Completes input limit old.offer segments
+      → (outcome : Result SessionReport PgWireClientError) → Talked tells input limit to old new before now outcome → (IsErrOf outcome client.OutOfMemory → ⊥) → (result_text outcome ≡ report_lines (report_of input segments)) × (status_of outcome ≡ 0)
+  talk_reported input limit to segments t still clear c outcome (inl none) memory = absurd (still none.rose)
+  talk_reported input limit to segments t still clear c outcome (inr held) memory =
+      let over = held.over t in
+      let made = over.2 in
+      let can = subst (λ (left : List ℕ). Completes input limit left segments) (sym made.fresh.left) c in
+      says_report (report_of input segments) outcome (over.3.reports clear segments can (λ some. still (held.counts.failed some))) memory
+
+  at_reported : (config : Config) (to : Address) (answer : Result Address PgWireClientError) (segments : List (List Event)) → tells → (Rose before now → ⊥) → answer ≡ Ok to → refused_config config ≡ None
+      → Completes (input_for asked nonce config) asked.limit old.offer segments → PrintsAt nonce tells old new before now asked config answer p
+      → (p.text.items ≡ report_lines (report_of (input_for asked nonce config) segments)) × (p.status ≡ 0)
+  at_reported config to (Ok address) segments t still is clear c prints =
+      let told = talk_reported (input_for asked nonce config) asked.limit address segments t still clear c prints.outcome prints.talked prints.memory in
+      (prints.says.0 ∙ told.0, prints.says.1 ∙ told.1)
+  at_reported config to (Err e) segments t still is clear c prints = cc
+
+  pub reported : (segments : List (List Event)) (can : CanConnect asked nonce old.offer segments) → tells → (Rose before now → ⊥) → Connects nonce tells old new before now asked p
+      → (p.text.items ≡ report_lines (report_of (input_for asked nonce can.config) segments)) × (p.status ≡ 0)
+  reported segments can t still connects =
+      let same : connects.outcome ≡ Ok can.config = sym (connects.only (Ok can.config) can.leads.0) in
+      let prints = subst (λ (o : Result Config PgWireClientError). PrintsBy nonce tells old new before now asked o p) same connects.prints in
+      at_reported can.config can.address (address_of can.config) segments t still can.leads.1 can.clear can.completes prints
+
+  refusal_io : (e : PgWireClientError) → PrintsRefusal e p → p.text.items ≡ error_line client.IoError → ⊥
+  refusal_io e prints is = subst IsRefusal (error_same e (sym prints.2.0 ∙ is)) prints.0
+
+  outcome_io : (outcome : Result SessionReport PgWireClientError) → result_text outcome ≡ error_line client.IoError → outcome ≡ Err client.IoError
+  outcome_io (Ok r) is = absurd (no_report r client.IoError is)
+  outcome_io (Err e) is = ap Err (error_same e is)
+
+  talk_io : (input : Input) (limit : ℕ) (to : Address) (outcome : Result SessionReport PgWireClientError) → Talked tells input limit to old new before now outcome → outcome ≡ Err client.IoError → Rose before now
+  talk_io input limit to outcome (inl none) is = none.rose
+  talk_io input limit to outcome (inr held) is = held.counts.failed (held.io is)
+
+  at_io : (config : Config) (answer : Result Address PgWireClientError) → PrintsAt nonce tells old new before now asked config answer p → p.text.items ≡ error_line client.IoError → Rose before now
+  at_io config (Ok address) prints is = talk_io (input_for asked nonce config) asked.limit address prints.outcome prints.talked (outcome_io prints.outcome (sym prints.says.0 ∙ is))
+  at_io config (Err e) prints is = absurd (refusal_io e prints is)
+
+  by_io : (outcome : Result Config PgWireClientError) → PrintsBy nonce tells old new before now asked outcome p → p.text.items ≡ error_line client.IoError → Rose before now
+  by_io (Ok config) prints is = at_io config (address_of config) prints is
+  by_io (Err e) prints is = absurd (refusal_io e prints is)
+
+  -- the error of a link is printed only where the dialer's count rose
+  pub prints_io : Connects nonce tells old new before now asked p → p.text.items ≡ error_line client.IoError → Rose before now
+  prints_io connects is = by_io connects.outcome connects.prints is
+
+  -- the same behind what was written before
+  pub report_written : (segments : List (List Event)) (can : CanConnect asked nonce old.offer segments) → tells → (Rose before now → ⊥) → Connects nonce tells old new before now asked p
+      → (was is : List ℕ) → is ≡ was ++ p.text.items → PrintsReport asked nonce old.offer segments can was is p.status
+  report_written segments can t still connects was is wrote =
+      let whole = reported segments can t still connects in
+      inr (whole.1, wrote ∙ ap (λ (text : List ℕ). was ++ text) whole.0)
+
+  pub io_written : Connects nonce tells old new before now asked p → (was is : List ℕ) → is ≡ was ++ p.text.items → is ≡ was ++ error_line client.IoError → Rose before now
+  io_written connects was is wrote says = prints_io connects (append_cancel_left was p.text.items (error_line client.IoError) (sym wrote ∙ says))
+
+-- a session that ends so
+abbrev failed : PgWireClientError → Result SessionReport PgWireClientError
+failed e = Err e
+
+-- a configuration without address is refused by its key
+host_refused : (port : ℕ) (hosts : List Host) (e : PgWireClientError) → first_host port hosts ≡ Err e → IsRefusal e
+host_refused port [] e is = let same : client.InvalidConfig (codes "host") ≡ e = cc in subst IsRefusal same tt
+host_refused port (host ∷ more) e is = cc
+
+address_refused : (port : ℕ) (addrs : List HostAddr) (hosts : List Host) (e : PgWireClientError) → first_address port addrs hosts ≡ Err e → IsRefusal e
+address_refused port [] hosts e is = host_refused port hosts e is
+address_refused port (addr ∷ more) hosts e is = cc
+
+module _ (nonce : List ℕ) (tells : Type 0) (old new : DialTape) (before now : ℕ) (asked : Connection) where
+  pub talk_printed : (config : Config) (address : Address) (outcome : Result SessionReport PgWireClientError) (r : Result Printed OutOfMemory) → address_of config ≡ Ok address
+      → ((IsErrOf outcome client.OutOfMemory → ⊥) → Talked tells (input_for asked nonce config) asked.limit address old new before now outcome)
+      → IfOk r (λ p. Says p (result_text outcome) (status_of outcome)) → OnOk r (IsErrOf outcome client.OutOfMemory → ⊥)
+      → IfOk r (PrintsAt nonce tells old new before now asked config (address_of config))
+  talk_printed config address outcome (Ok p) is talked says memory =
+      let prints : PrintsTalk tells (input_for asked nonce config) asked.limit address old new before now p = record { outcome = outcome; talked = talked memory; memory = memory; says = says } in
+      subst (λ (answer : Result Address PgWireClientError). PrintsAt nonce tells old new before now asked config answer p) (sym is) prints
+  talk_printed config address outcome (Err e) is talked says memory = tt
+
+  pub no_address_printed : (config : Config) (e : PgWireClientError) (r : Result Printed OutOfMemory) → (e ≢ client.OutOfMemory → address_of config ≡ Err e)
+      → IfOk r (λ p. Says p (error_line e) 1) → OnOk r (IsErrOf (failed e) client.OutOfMemory → ⊥)
+      → IfOk r (PrintsAt nonce tells old new before now asked config (address_of config))
+  no_address_printed config e (Ok p) given says memory =
+      let other : e ≢ client.OutOfMemory = λ same. memory (ap Err same) in
+      let is = given other in
+      let prints : PrintsRefusal e p = (address_refused (first_port config.port) config.hostaddr config.host e is, other, says) in
+      subst (λ (answer : Result Address PgWireClientError). PrintsAt nonce tells old new before now asked config answer p) (sym is) prints
+  no_address_printed config e (Err none) given says memory = tt
+
+  pub text_printed : (config : Config) (r : Result Printed OutOfMemory) → HasOutcome asked.text (Ok config) → ((other : Result Config PgWireClientError) → HasOutcome asked.text other → Answers (Ok config) other)
+      → IfOk r (PrintsAt nonce tells old new before now asked config (address_of config)) → IfOk r (Connects nonce tells old new before now asked)
+  text_printed config (Ok p) has only prints = record { outcome = Ok config; has = has; only = only; prints = prints }
+  text_printed config (Err e) has only prints = tt
+
+  pub refusal_printed : (e : PgWireClientError) (r : Result Printed OutOfMemory) → IsParsed asked.text (Err e) → ((other : Result Config PgWireClientError) → HasOutcome asked.text other → Answers (Err e) other) → IsRefusal e
+      → IfOk r (λ p. Says p (error_line e) 1) → OnOk r (IsErrOf (failed e) client.OutOfMemory → ⊥)
+      → IfOk r (Connects nonce tells old new before now asked)
+  refusal_printed e (Ok p) parsed only refusal says memory =
+      let unlike : e ≢ client.OutOfMemory = λ same. memory (ap Err same) in
+      record { outcome = Err e; has = parsed unlike; only = λ other has. only other has unlike; prints = (refusal, unlike, says) }
+  refusal_printed e (Err none) parsed only refusal says memory = tt

@@ -1,0 +1,98 @@
+//! The session with the server that a connection text names.
+ghost use Rattle.std.specs.Prelude.{◌≡◌, ◌≤◌, IfOk, OnOk, IsErrOf};
+ghost use Rattle.pgw_backend.specs.declared.client_error.PgWireClientError.TheVariants as client;
+ghost use Rattle.pgw_prog.specs.declared.command.Command.TheVariants as kind;
+ghost use Rattle.pgw_prog.specs.Connected.{input_for, Connects, LeavesDialer, LeavesFor, PrintsAt, Talked, UsedOnce};
+ghost use Rattle.pgw_prog.specs.Held.{Says, status_of as status_for};
+ghost use Rattle.pgw_prog.specs.Printing.{result_text};
+ghost use Rattle.pgw_config.specs.Address.{address_of};
+
+use crate::command::Connection;
+use crate::held::status_of;
+use crate::over_link::hold_over;
+use crate::printed::Printed;
+use crate::printing::put_result;
+use pgw_backend::client_error::{PgWireClientError, PgWireClientResult};
+use pgw_config::config::Config;
+use pgw_conninfo::address::Address;
+use pgw_link::dialer::{DialError, Dialer};
+use pgw_session::types::SessionReport;
+use pgw_types::memory::OutOfMemory;
+use std::alloc::Global;
+
+/// Holds the session over a link to the address, and closes the link.
+fn talk<D: Dialer>(
+    alloc: Global,
+    asked: &Connection,
+    config: &Config,
+    address: &Address,
+    dialer: &mut D,
+    nonce: &[u8; 18],
+) -> PgWireClientResult<SessionReport>
+    ensures later { D.faults dialer.old ≤ D.faults dialer.new }
+    ensures used { D.tells → UsedOnce address.now (D.tape dialer.old) (D.tape dialer.new) }
+    ensures talked { (IsErrOf result client.OutOfMemory → ⊥) →
+        Talked D.tells (input_for asked.now nonce.now config.now) asked.now.limit address.now (D.tape dialer.old) (D.tape dialer.new) (D.faults dialer.old) (D.faults dialer.new) result }
+{
+    let mut link = match dialer.dial(address) {
+        Ok(link) => link,
+        Err(DialError::Fault) => return Err(PgWireClientError::IoError),
+        Err(DialError::OutOfMemory) => return Err(PgWireClientError::OutOfMemory),
+    };
+    let requests = asked.requests.as_slice();
+    let outcome = hold_over(alloc, &mut link, config, requests, nonce, asked.limit);
+    dialer.close(link);
+    outcome
+}
+
+/// Prints a session's report or its error. Want of memory is no answer to be printed.
+fn print_result(
+    alloc: Global,
+    outcome: &PgWireClientResult<SessionReport>,
+) -> Result<Printed, OutOfMemory>
+    ensures says { IfOk result (λ p. Says p (result_text outcome.now) (status_for outcome.now)) }
+    ensures memory { OnOk result (IsErrOf outcome.now client.OutOfMemory → ⊥) }
+{
+    let status = status_of(outcome)?;
+    let mut text = Vec::new(alloc);
+    put_result(&mut text, outcome)?;
+    Ok(Printed { text, status })
+}
+
+/// Holds the session at the address of a configuration and prints it, or prints that there is no address.
+fn connect_with<D: Dialer>(
+    alloc: Global,
+    asked: &Connection,
+    config: &Config,
+    dialer: &mut D,
+    nonce: &[u8; 18],
+) -> Result<Printed, OutOfMemory>
+    ensures later { D.faults dialer.old ≤ D.faults dialer.new }
+    ensures leaves { LeavesFor config.now (dialer.new ≡ dialer.old) D.tells (D.tape dialer.old) (D.tape dialer.new) }
+    ensures prints { IfOk result (PrintsAt nonce.now D.tells (D.tape dialer.old) (D.tape dialer.new) (D.faults dialer.old) (D.faults dialer.new) asked.now config.now (address_of config.now)) }
+{
+    match config.address(alloc) {
+        Ok(address) => {
+            let outcome = talk(alloc, asked, config, &address, dialer, nonce);
+            print_result(alloc, &outcome)
+        }
+        Err(error) => print_result(alloc, &Err(error)),
+    }
+}
+
+/// Holds the session with the server that a connection text names and prints it, or prints why the text is refused.
+pub fn connect<D: Dialer>(
+    alloc: Global,
+    asked: &Connection,
+    dialer: &mut D,
+    nonce: &[u8; 18],
+) -> Result<Printed, OutOfMemory>
+    ensures later { D.faults dialer.old ≤ D.faults dialer.new }
+    ensures leaves { LeavesDialer (kind.Connect asked.now) (dialer.new ≡ dialer.old) D.tells (D.tape dialer.old) (D.tape dialer.new) }
+    ensures prints { IfOk result (Connects nonce.now D.tells (D.tape dialer.old) (D.tape dialer.new) (D.faults dialer.old) (D.faults dialer.new) asked.now) }
+{
+    match Config::parse(alloc, asked.text.as_str()) {
+        Ok(config) => connect_with(alloc, asked, &config, dialer, nonce),
+        Err(error) => print_result(alloc, &Err(error)),
+    }
+}
