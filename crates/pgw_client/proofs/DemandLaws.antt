@@ -8,8 +8,8 @@ use Rattle.pgw_link.specs.Tape.{Tape}
 use Rattle.pgw_session.specs.Input.{Input}
 use Rattle.pgw_session.specs.Demands.{refused_config}
 use Rattle.pgw_client.specs.Demands.{Checked, IsInvalidConfig}
-use Rattle.pgw_client.specs.Errors.{IsNoDemand}
-use Rattle.pgw_client.specs.Sessions.{Causes, ErrorCause, InLockstep, KeepsPace, MovedBy}
+use Rattle.pgw_client.specs.Wire.{IsNoDemand}
+use Rattle.pgw_client.specs.Session.{Causes, ErrorCause, InLockstep, KeepsPace, MovedBy}
 
 -- which key a refusal names
 pub refused_key : (o : Option (List ℕ)) (e : ClientError) → Checked o (Err e) → (key : List ℕ) × (o ≡ Some key) × IsInvalidConfig key e

@@ -14,8 +14,7 @@ use Rattle.pgw_backend.specs.declared.backend.PgWireBackendMessage.{PgWireBacken
 use Rattle.pgw_frontend.specs.declared.frontend.PgWireFrontendMessage.{PgWireFrontendMessage as Frontend}
 use Rattle.pgw_backend.specs.declared.client_error.PgWireClientError.TheVariants as client
 use Rattle.pgw_backend.proofs.FrontLaws.{front_taken, front_none, front_refused}
-use Rattle.pgw_client.specs.Errors.{IsOwn, Unless}
-use Rattle.pgw_client.specs.Wire.{Decoded, PutOut}
+use Rattle.pgw_client.specs.Wire.{IsOwn, Unless, Decoded, PutOut}
 
 pub own_of : (e : PgWireError) → IsOwn (of_wire e)
 unfolding of_wire

@@ -1,7 +1,6 @@
 pub mod Input
-pub mod Errors
 pub mod Demands
-pub mod Sessions
+pub mod Session
 pub mod Wire
 pub mod Machine
-pub mod Outcome
+pub mod SessionSteps

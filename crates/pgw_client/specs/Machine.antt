@@ -19,9 +19,9 @@ use Rattle.pgw_session.specs.Standings.{standing_by}
 use Rattle.pgw_session.specs.Transcript.{report_with}
 use Rattle.pgw_session.specs.Machine.{End, Complete, error_of, end_with, beginning_by, rules_by}
 use Rattle.pgw_session.specs.Notes.{notes_book, first_notes}
-use Rattle.pgw_client.specs.declared.machine.Taken.{Taken}
-use Rattle.pgw_client.specs.declared.machine.Taken.TheVariants as taken
-use Rattle.pgw_client.specs.Errors.{IsOwn, Unless}
+use Rattle.pgw_client.specs.declared.machine.Progress.{Progress}
+use Rattle.pgw_client.specs.declared.machine.Progress.TheVariants as progress
+use Rattle.pgw_client.specs.Wire.{IsOwn, Unless}
 
 abbrev pub NotesMove : Type 0
 NotesMove = Move Notes (End Notes)
@@ -82,24 +82,24 @@ Started input out (Ok notes) = beginning_by notes_book input (first_notes input)
 Started input out (Err e) = (out ≡ []) × Unless e ((end : End Notes) × (beginning_by notes_book input (first_notes input) ≡ Over end []) × (error_of end.outcome ≡ Some e))
 
 -- what taking the message at the front of the buffer does to the whole run
-abbrev pub Advanced : Input → Notes → Notes → List ℕ → List ℕ → List ℕ → List ℕ → Result Taken ClientError → Type 0
-Advanced input old new old_buffer new_buffer old_out new_out (Ok taken.More) =
+abbrev pub Advanced : Input → Notes → Notes → List ℕ → List ℕ → List ℕ → List ℕ → Result Progress ClientError → Type 0
+Advanced input old new old_buffer new_buffer old_out new_out (Ok progress.More) =
     (new ≡ old) × (new_out ≡ old_out) × (new_buffer ≡ old_buffer) × (front old.standing.version old_buffer ≡ More)
-Advanced input old new old_buffer new_buffer old_out new_out (Ok taken.Went) =
+Advanced input old new old_buffer new_buffer old_out new_out (Ok progress.Went) =
     (out : List ℕ) × (new_out ≡ old_out ++ out) × ((sent : List ℕ) → runs input old sent old_buffer ≡ runs input new (sent ++ out) new_buffer)
-Advanced input old new old_buffer new_buffer old_out new_out (Ok taken.Done) =
+Advanced input old new old_buffer new_buffer old_out new_out (Ok progress.Done) =
     (end : End Notes) × IsWhole end (report_at new) × (new_out ≡ old_out) × ((sent : List ℕ) → runs input old sent old_buffer ≡ Over end sent)
 Advanced input old new old_buffer new_buffer old_out new_out (Err e) =
     (new_out ≡ old_out) × Unless e ((end : End Notes) × (error_of end.outcome ≡ Some e) × ((sent : List ℕ) → runs input old sent old_buffer ≡ Over end sent))
 
 -- where the session goes on it stays able to log in
-abbrev pub StaysAble : Input → Notes → Taken → Type 0
-StaysAble input new taken.More = IsAble input new.stage
-StaysAble input new taken.Went = IsAble input new.stage
-StaysAble input new taken.Done = Unit {0}
+abbrev pub StaysAble : Input → Notes → Progress → Type 0
+StaysAble input new progress.More = IsAble input new.stage
+StaysAble input new progress.Went = IsAble input new.stage
+StaysAble input new progress.Done = Unit {0}
 
 -- a message that was taken is gone from the buffer
-abbrev pub Shortens : Taken → ℕ → ℕ → Type 0
-Shortens taken.More old new = Unit {0}
-Shortens taken.Went old new = new < old
-Shortens taken.Done old new = Unit {0}
+abbrev pub Shortens : Progress → ℕ → ℕ → Type 0
+Shortens progress.More old new = Unit {0}
+Shortens progress.Went old new = new < old
+Shortens progress.Done old new = Unit {0}

@@ -1,12 +1,40 @@
 -- What reading and writing messages answers. The proofs carry it, and no public clause cites it.
-use Rattle.std.specs.Prelude.{◌≡◌, ℕ, List, ◌++◌, drop, Option, Some, None, Result, Ok, Err}
+use Rattle.std.specs.Prelude.{◌≡◌, ℕ, codes, List, ◌++◌, drop, Option, Some, None, Result, Ok, Err}
 use Rattle.pgw_types.specs.declared.error.PgWireError.{PgWireError}
 use Rattle.pgw_types.specs.declared.context.ProtocolVersion.{ProtocolVersion}
 use Rattle.pgw_backend.specs.Front.{front, More, Bad, Whole}
 use Rattle.pgw_backend.specs.declared.backend.PgWireBackendMessage.{PgWireBackendMessage as Backend}
 use Rattle.pgw_backend.specs.declared.client_error.PgWireClientError.{PgWireClientError as ClientError}
 use Rattle.pgw_backend.specs.declared.client_error.PgWireClientError.TheVariants as client
-use Rattle.pgw_client.specs.Errors.{Unless}
+
+-- ---- errors by where they come from
+
+-- a fact of every error but want of memory, which is free
+abbrev pub Unless : ClientError → Type 0 → Type 0
+Unless e fact = (e ≡ client.OutOfMemory → ⊥) → fact
+
+-- no demand of the configuration is named: of its keys the user name alone, which may have no prepared form
+abbrev pub IsNoDemand : ClientError → Type 0
+IsNoDemand (client.InvalidConfig key) = key ≡ codes "user"
+IsNoDemand e = Unit {0}
+
+-- an error of the messages, and not of a demand, the link or the limit
+abbrev pub IsOwn : ClientError → Type 0
+IsOwn (client.InvalidConfig key) = key ≡ codes "user"
+IsOwn client.UnexpectedEOF = ⊥
+IsOwn client.IoError = ⊥
+IsOwn client.ReadLimit = ⊥
+IsOwn e = Unit {0}
+
+-- what the link's end can mean
+abbrev pub IsEnd : ClientError → Type 0
+IsEnd client.OutOfMemory = Unit {0}
+IsEnd client.UnexpectedEOF = Unit {0}
+IsEnd (client.RemoteError m) = Unit {0}
+IsEnd (client.UnexpectedMessage m) = Unit {0}
+IsEnd e = ⊥
+
+-- ---- messages
 
 -- what stood at the front, and what is left behind it
 abbrev pub Decoded : ProtocolVersion → List ℕ → List ℕ → Result (Option Backend) ClientError → Type 0

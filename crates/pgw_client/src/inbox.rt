@@ -1,7 +1,6 @@
 //! The bytes that were read and not taken yet.
 ghost use Rattle.std.specs.Prelude.{◌≡◌, [], ◌++◌, ◌≤◌, length, IfErr, OnOk, OnErr};
-ghost use Rattle.pgw_client.specs.Errors.{IsOwn};
-ghost use Rattle.pgw_client.specs.Wire.{Decoded};
+ghost use Rattle.pgw_client.specs.Wire.{IsOwn, Decoded};
 
 use crate::wire::decode;
 use bytes::{Bytes, BytesMut};

@@ -6,10 +6,9 @@ ghost use Rattle.pgw_session.specs.Segments.{is_ready, sends, startup_message, s
 ghost use Rattle.pgw_session.specs.Table.{after};
 ghost use Rattle.pgw_session.specs.Machine.{answered, moves_by, opens_next, sending, turn_by};
 ghost use Rattle.pgw_session.specs.Notes.{answer_for, notes_book};
-ghost use Rattle.pgw_client.specs.Errors.{IsEnd, IsOwn, Unless};
+ghost use Rattle.pgw_client.specs.Wire.{IsEnd, IsOwn, Unless, PutOut};
 ghost use Rattle.pgw_client.specs.Input.{input_of};
 ghost use Rattle.pgw_client.specs.Machine.{Advanced, IsAble, IsGood, Moved, Passed, Shortens, Started, StaysAble, notes_end, report_at};
-ghost use Rattle.pgw_client.specs.Wire.{PutOut};
 
 use crate::inbox::Inbox;
 use crate::input::Input;
@@ -34,7 +33,7 @@ use std::mem::replace;
 
 /// What stood at the front of the buffer.
 #[derive(Clone, Copy, Drop)]
-pub enum Taken {
+pub enum Progress {
     /// No message is whole yet.
     More,
     /// A message was taken, and the session goes on.
@@ -367,7 +366,7 @@ pub fn advance(
     notes: &mut Notes,
     buffer: &mut Inbox,
     out: &mut BytesMut,
-) -> Result<Taken, PgWireClientError>
+) -> Result<Progress, PgWireClientError>
     requires { IsAble (input_of input.now) notes.old.stage }
     ensures own { IfErr result IsOwn }
     ensures able { IfOk result (StaysAble (input_of input.now) notes.new) }
@@ -376,12 +375,12 @@ pub fn advance(
 {
     let message = match buffer.next_message(alloc, notes.standing.version) {
         Ok(Some(message)) => message,
-        Ok(None) => return Ok(Taken::More),
+        Ok(None) => return Ok(Progress::More),
         Err(e) => return Err(e),
     };
     match take(alloc, input, notes, message, out) {
-        Ok(true) => Ok(Taken::Done),
-        Ok(false) => Ok(Taken::Went),
+        Ok(true) => Ok(Progress::Done),
+        Ok(false) => Ok(Progress::Went),
         Err(e) => Err(e),
     }
 }

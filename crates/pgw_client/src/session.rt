@@ -5,16 +5,16 @@ ghost use Rattle.pgw_session.specs.Demands.{refused_config};
 ghost use Rattle.pgw_session.specs.Events.{Event};
 ghost use Rattle.pgw_session.specs.Transcript.{Completed, Completes, report_of};
 ghost use Rattle.pgw_client.specs.Demands.{Refuses};
-ghost use Rattle.pgw_client.specs.Errors.{IoHasCause, IsNoDemand};
+ghost use Rattle.pgw_client.specs.Session.{IoHasCause, Causes, InLockstep, KeepsPace, MovedBy, Reports, Tells};
+ghost use Rattle.pgw_client.specs.Wire.{IsNoDemand};
 ghost use Rattle.pgw_client.specs.Input.{input_of, input_with};
 ghost use Rattle.pgw_client.specs.Machine.{IsAble};
-ghost use Rattle.pgw_client.specs.Outcome.{Conversed, Filled, Session, TookAll, Wrote, WroteSome};
-ghost use Rattle.pgw_client.specs.Sessions.{Causes, InLockstep, KeepsPace, MovedBy, Reports, Tells};
+ghost use Rattle.pgw_client.specs.SessionSteps.{Conversed, Filled, Session, TookAll, Wrote, WroteSome};
 
 use crate::demands::check_config;
 use crate::inbox::Inbox;
 use crate::input::Input;
-use crate::machine::{Taken, advance, end_error, into_report, start};
+use crate::machine::{Progress, advance, end_error, into_report, start};
 use bytes::BytesMut;
 use pgw_backend::client_error::{PgWireClientError, PgWireClientResult};
 use pgw_config::config::Config;
@@ -62,8 +62,8 @@ fn take_all<L: Link>(
     let mut out = BytesMut::new(alloc);
     'messages: loop {
         match advance(alloc, input, notes, buffer, &mut out) {
-            Ok(Taken::More) => return Ok(false),
-            Ok(Taken::Went) => {
+            Ok(Progress::More) => return Ok(false),
+            Ok(Progress::Went) => {
                 if out.len() > 0 {
                     match send(link, out.as_slice()) {
                         Ok(()) => {}
@@ -72,7 +72,7 @@ fn take_all<L: Link>(
                     out.clear();
                 }
             }
-            Ok(Taken::Done) => return Ok(true),
+            Ok(Progress::Done) => return Ok(true),
             Err(e) => return Err(e),
         }
     }

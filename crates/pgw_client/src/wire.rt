@@ -2,8 +2,7 @@
 ghost use Rattle.std.specs.Prelude.{◌≡◌, IfErr};
 ghost use Rattle.pgw_backend.specs.Front.{typed_phase};
 ghost use Rattle.pgw_frontend.specs.Frontend.{encodings};
-ghost use Rattle.pgw_client.specs.Wire.{Decoded, PutOut};
-ghost use Rattle.pgw_client.specs.Errors.{IsOwn};
+ghost use Rattle.pgw_client.specs.Wire.{Decoded, PutOut, IsOwn};
 
 use bytes::BytesMut;
 use pgw_backend::backend::PgWireBackendMessage;

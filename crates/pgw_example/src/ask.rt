@@ -1,7 +1,6 @@
 //! One query over a link.
 ghost use Rattle.std.specs.Prelude.{IfOk};
-ghost use Rattle.pgw_client.specs.Errors.{IoHasCause};
-ghost use Rattle.pgw_client.specs.Sessions.{MovedBy};
+ghost use Rattle.pgw_client.specs.Session.{IoHasCause, MovedBy};
 ghost use Rattle.pgw_example.specs.Ask.{Asked};
 
 use pgw_client::{Config, Link, PgWireClientResult, Request, SessionReport, Text, run_session};

@@ -19,15 +19,14 @@ use Rattle.pgw_session.specs.Demands.{refused_config}
 use Rattle.pgw_session.specs.Events.{Event}
 use Rattle.pgw_session.specs.Input.{Input}
 use Rattle.pgw_session.specs.Transcript.{Completed, Completes, report_of}
-use Rattle.pgw_client.specs.Errors.{IoHasCause}
+use Rattle.pgw_client.specs.Session.{IoHasCause, MovedBy, Causes, Reports, KeepsPace, Tells, InLockstep}
 use Rattle.pgw_client.specs.Demands.{Refuses}
-use Rattle.pgw_client.specs.Sessions.{MovedBy, Causes, Reports, KeepsPace, Tells, InLockstep}
 use Rattle.pgw_prog.specs.declared.printed.Printed.{Printed}
 use Rattle.pgw_course.specs.Course.{Over}
 use Rattle.pgw_session.specs.Talk.{conversation, whole_talk}
 use Rattle.pgw_session.proofs.Whole.{conversation_completes}
 use Rattle.pgw_prog.specs.declared.script.Script.{Script}
-use Rattle.pgw_prog.specs.Held.{Session, Prints, Says, PrintsOutcome, Holds, NamesCall, IsNear, InCuts, Moves, first_tape, status_of}
+use Rattle.pgw_prog.specs.Held.{Session, PrintsSession, Says, PrintsOutcome, Holds, NamesCall, IsNear, InCuts, Moves, first_tape, status_of}
 use Rattle.pgw_prog.specs.Printing.{session_text}
 
 -- which calls failed, of those made by then
@@ -96,7 +95,7 @@ module _ (input : Input) (limit : ℕ) (made : Making) (after : Tape) (outcome :
 
   pub printed : (faults : ℕ) → (FailsBy made after faults → Moves made after → Session input limit made after faults outcome) → (r : Result Printed OutOfMemory)
       → IfOk r (λ p. p.text.items ≡ session_text after.wrote outcome) → IfOk r (λ p. p.status ≡ status_of outcome) → IfOk r (λ p. IsErrOf outcome client.OutOfMemory → ⊥) → IfOk r (λ p. FailsBy made after faults) → IfOk r (λ p. Moves made after)
-      → IfOk r (Prints input limit made)
+      → IfOk r (PrintsSession input limit made)
   printed faults session (Ok p) text status memory fails moves = record { after = after; faults = faults; outcome = outcome; session = session fails moves; memory = memory; text = text; status = status }
   printed faults session (Err e) text status memory fails moves = tt
 
@@ -120,7 +119,7 @@ completed_by input limit segments first after text status (Err e) fresh c comple
 
 -- where no call is listed, the whole text of a transcript that the bytes to come complete is printed
 pub completed_text_printed : (input : Input) (limit : ℕ) (made : Making) (p : Printed) (segments : List (List Event)) → refused_config input.config ≡ None → made.reads ≡ [] → made.writes ≡ []
-    → (c : Completes input limit made.server segments) → Prints input limit made p → (p.text.items ≡ session_text c.sent (Ok (report_of input segments))) × (p.status ≡ 0)
+    → (c : Completes input limit made.server segments) → PrintsSession input limit made p → (p.text.items ≡ session_text c.sent (Ok (report_of input segments))) × (p.status ≡ 0)
 completed_text_printed input limit made p segments clear reads writes c prints =
     let s = prints.session in
     let none : nat_lt 0 prints.faults ≡ false = s.fails ∙ rw (reads, writes) refl in

@@ -16,7 +16,7 @@ use Rattle.pgw_config.specs.Answers.{IsRefusal}
 use Rattle.pgw_config.specs.declared.config.Config.{Config}
 use Rattle.pgw_prog.specs.Printing.{session_text}
 use Rattle.pgw_prog.specs.Pieces.{line_end}
-use Rattle.pgw_prog.specs.Held.{Says, Prints, PrintsOutcome, Holds, CanComplete, NamesCall, IsNear, FailsNear, input_of, making_of, completed_text}
+use Rattle.pgw_prog.specs.Held.{Says, PrintsSession, PrintsOutcome, Holds, CanComplete, NamesCall, IsNear, FailsNear, input_of, making_of, completed_text}
 use Rattle.pgw_prog.specs.Program.{AnswersText, AnswersScript, Completing, PrintsWhole, ListsFailure}
 use Rattle.pgw_prog.proofs.TextLaws.{io_text, not_sent, no_line}
 use Rattle.pgw_prog.proofs.GrammarLaws.{scripts, faults}
@@ -39,7 +39,7 @@ no_fault text s n one two =
 outcome_completes : (s : Script) (segments : List (List Event)) (can : CanComplete s segments) (p : Printed) (outcome : Result Config PgWireClientError) → Ok can.config ≡ outcome → PrintsOutcome s outcome p → (p.text.items ≡ completed_text s segments can) × (p.status ≡ 0)
 outcome_completes s segments can p (Ok config) same prints =
     let is : config ≡ can.config = cc in
-    let prints_it = subst (λ (c : Config). Prints (input_of s c) s.limit (making_of s) p) is prints in
+    let prints_it = subst (λ (c : Config). PrintsSession (input_of s c) s.limit (making_of s) p) is prints in
     completed_text_printed (input_of s can.config) s.limit (making_of s) p segments can.clear can.no_reads can.no_writes can.completes prints_it
 outcome_completes s segments can p (Err e) same prints = cc
 

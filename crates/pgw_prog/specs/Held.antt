@@ -15,7 +15,7 @@ use Rattle.pgw_session.specs.Events.{Event}
 use Rattle.pgw_session.specs.Input.{Input}
 use Rattle.pgw_session.specs.Transcript.{Completed, Completes, report_of}
 use Rattle.pgw_client.specs.Demands.{Refuses}
-use Rattle.pgw_client.specs.Sessions.{MovedBy, Causes, Reports, KeepsPace, Tells, InLockstep}
+use Rattle.pgw_client.specs.Session.{MovedBy, Causes, Reports, KeepsPace, Tells, InLockstep}
 use Rattle.pgw_prog.specs.declared.script.Script.{Script}
 use Rattle.pgw_prog.specs.declared.printed.Printed.{Printed}
 use Rattle.pgw_prog.specs.Printing.{session_text}
@@ -83,7 +83,7 @@ status_of (Ok report) = 0
 status_of (Err e) = 1
 
 -- what is printed is the text of such a session, for which memory sufficed
-pub record Prints (input : Input) (limit : ℕ) (made : Making) (p : Printed) : Type 0 where
+pub record PrintsSession (input : Input) (limit : ℕ) (made : Making) (p : Printed) : Type 0 where
   pub after : Tape
   pub faults : ℕ
   pub outcome : Result SessionReport PgWireClientError
@@ -99,7 +99,7 @@ Says p text status = (p.text.items ≡ text) × (p.status ≡ status)
 -- what is printed where the connection text has this outcome: the text of the session with its configuration, or the
 -- refusal, which is not want of memory, and that nothing was sent
 abbrev pub PrintsOutcome : Script → Result Config PgWireClientError → Printed → Type 0
-PrintsOutcome s (Ok config) p = Prints (input_of s config) s.limit (making_of s) p
+PrintsOutcome s (Ok config) p = PrintsSession (input_of s config) s.limit (making_of s) p
 PrintsOutcome s (Err e) p = IsRefusal e × (e ≢ client.OutOfMemory) × Says p (session_text [] (Err e)) 1
 
 -- what is printed is what the one outcome of the script's connection text gives

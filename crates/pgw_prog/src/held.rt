@@ -1,7 +1,7 @@
 //! The session of a script.
 ghost use Rattle.std.specs.Prelude.{◌≡◌, ◌≢◌, ◌<◌, ◌≤◌, ◌+◌, ◌*◌, ◌||◌, nat_lt, [], length, None, Ok, Err, IfOk, OnOk, IsErrOf};
 ghost use Rattle.pgw_backend.specs.declared.client_error.PgWireClientError.TheVariants as client;
-ghost use Rattle.pgw_prog.specs.Held.{input_of, joined as join, first_tape, Moves, status_of as status_for, Says, Prints, PrintsOutcome, Holds};
+ghost use Rattle.pgw_prog.specs.Held.{input_of, joined as join, first_tape, Moves, status_of as status_for, Says, PrintsSession, PrintsOutcome, Holds};
 ghost use Rattle.pgw_link.specs.Calls.{is_reached};
 ghost use Rattle.pgw_link.specs.Memory.{tape_of, faults_of, making_of};
 ghost use Rattle.pgw_prog.specs.Printing.{session_text};
@@ -82,7 +82,7 @@ fn run(
 ) -> Result<Printed, OutOfMemory>
     requires new { tape_of link.old ≡ first_tape (making_of link.old) }
     requires faultless { faults_of link.old ≡ 0 }
-    ensures { IfOk result (Prints (record { config = config.now; requests = requests.now; nonce = nonce.now }) limit (making_of link.old)) }
+    ensures { IfOk result (PrintsSession (record { config = config.now; requests = requests.now; nonce = nonce.now }) limit (making_of link.old)) }
 {
     let outcome = run_session(alloc, link, config, requests, nonce, limit);
     print_outcome(alloc, link, &outcome)

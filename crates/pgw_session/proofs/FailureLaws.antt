@@ -11,7 +11,7 @@ use Rattle.pgw_session.specs.Events.{Event, Got, joined}
 use Rattle.pgw_session.specs.Standings.{first_standing, standing_of}
 use Rattle.pgw_session.specs.Answers.{tally_of}
 use Rattle.pgw_session.specs.Transcript.{IsLegalPrefix, SpellsGot, EncodesSent, Completed, report_of}
-use Rattle.pgw_session.specs.Failures.{Awaits, RefusedAt, at_once, at_ready, at_the_end, Misplaced, NextAtStartup, WaitsAt, LeftWith, Unreadable, Unsendable, IsHopeless, IsUnfinished, FailsAtStartup, EndsAs, WaitsStill, Told, complete, misplaced, unreadable, unsendable, refused, waiting}
+use Rattle.pgw_session.specs.Failures.{IsServersTurn, RefusedAt, at_once, at_ready, at_the_end, HasNoPlace, NextAtStartup, WaitsAt, LeftWith, Unreadable, Unsendable, IsHopeless, IsUnfinished, FailsAtStartup, EndsAs, WaitsStill, Told, complete, misplaced, unreadable, unsendable, refused, waiting}
 use Rattle.pgw_course.specs.Course.{Course, Waits, Over, run, sent_of}
 use Rattle.pgw_session.specs.Machine.{Outcome, Complete, Unencoded, Unexpected, Unread, Refused, end_with}
 use Rattle.pgw_session.specs.Talk.{Talk, Ending, said, heard_of, first_passed, talk_rules, beginning, conversation, whole_talk}
@@ -100,7 +100,7 @@ refused_how input over t done rest m (x ∷ ms) are got c =
     (at_ready ms c.2 c.3 (subst (λ (l : List Event). SpellsGot (first_standing input.config) l done) all got) c.4 c.5 (ap (λ (l : List Event). front (standing_of input.config l).version rest) (sym all) ∙ c.6), c.1)
 
 misplaced_end : (input : Input) (over : Type 0) (taken sent : List ℕ) (ending : Ending) (final : Final input ending taken sent) (m : Backend) → Open input ending.notes → Misplaces input ending.notes final.rest m (ending.notes).passed
-    → Misplaced input over taken sent m
+    → HasNoPlace input over taken sent m
 misplaced_end input over taken sent ending final m is_open cause =
     let how = refused_how input over ending.notes final.done final.rest m (ending.notes).passed refl final.got cause in
     record {
@@ -121,7 +121,7 @@ next_at_startup input taken sent ending final m is_open cause =
     let t = ending.notes in
     let all : said t ≡ t.open_events = ap (λ (c : List (List Event)). joined c ++ t.open_events) cause.2 in
     record {
-      awaits = subst (λ (c : List (List Event)). Awaits input c t.open_events) cause.2 (open_awaits input t is_open);
+      awaits = subst (λ (c : List (List Event)). IsServersTurn input c t.open_events) cause.2 (open_awaits input t is_open);
       spelled = final.done;
       rest = final.rest;
       len = cause.0;
@@ -148,7 +148,7 @@ unread_at input taken sent ending final why at cause = record {
 }
 
 -- what was got ended it
-pub ended_misplaced : (input : Input) (over : Type 0) (taken sent : List ℕ) (ending : Ending) (m : Backend) → conversation input taken ≡ Over ending sent → ending.outcome ≡ Unexpected m → Misplaced input over taken sent m × IsHopeless input taken
+pub ended_misplaced : (input : Input) (over : Type 0) (taken sent : List ℕ) (ending : Ending) (m : Backend) → conversation input taken ≡ Over ending sent → ending.outcome ≡ Unexpected m → HasNoPlace input over taken sent m × IsHopeless input taken
 ended_misplaced input over taken sent ending m is why =
     let final = ended input taken sent ending is in
     (misplaced_end input over taken sent ending final m (open_at input taken sent ending (Unexpected m) final why).0 (cause_at input taken sent ending (Unexpected m) final why), hopeless input taken sent ending is (subst IsShort (sym why) tt))
@@ -212,7 +212,7 @@ lost_hopeless input taken sent pending t m ms is are limit more segments c =
 
 -- no more bytes come behind messages passed over
 pub misplaced_left : (input : Input) (over : Type 0) (taken sent pending : List ℕ) (t : Talk) (m : Backend) → conversation input taken ≡ Waits t sent pending → first_passed t.passed ≡ Some m → over
-    → Misplaced input over taken sent m × IsHopeless input taken
+    → HasNoPlace input over taken sent m × IsHopeless input taken
 misplaced_left input over taken sent pending t m is first none =
     let at = subst (SoundAt input taken) is (conversation_sound input taken) in
     let f = passed_first t.passed m first in

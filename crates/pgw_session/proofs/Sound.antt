@@ -21,7 +21,7 @@ use Rattle.pgw_session.specs.Standings.{first_standing, standing_of}
 use Rattle.pgw_session.specs.Requests.{sends_of}
 use Rattle.pgw_session.specs.Segments.{IsQuiet, IsSimple, startup_message, is_ready, is_other, sends}
 use Rattle.pgw_session.specs.Transcript.{AreSegments, IsTranscript, IsLegalPrefix, SpellsGot, EncodesSent, opening_at, opened_by}
-use Rattle.pgw_session.specs.Failures.{Awaits, ArePassedOver, place_of, refusal_at}
+use Rattle.pgw_session.specs.Failures.{IsServersTurn, ArePassedOver, place_of, refusal_at}
 use Rattle.pgw_course.specs.Course.{Move, On, Ends, Course, Waits, Over, onto, eat, feed, run}
 use Rattle.pgw_session.specs.Reading.{met}
 use Rattle.pgw_session.specs.Table.{after, stage_for}
@@ -68,7 +68,7 @@ reply_expects input t m stage reply is is_open =
     stands_expects input t.closed (t.open_events ++ Got m ∷ map Sent (sends reply)) stage (subst (StandsBy input t.closed t.open_events m) is (stands_by input t.closed t.open_events t.stage m is_open.stands))
 
 -- what comes next in it is a message of the server
-pub open_awaits : (input : Input) (t : Talk) → Open input t → Awaits input t.closed t.open_events
+pub open_awaits : (input : Input) (t : Talk) → Open input t → IsServersTurn input t.closed t.open_events
 open_awaits input t is_open =
     let got = some_got input t.stage (stands_expects input t.closed t.open_events t.stage is_open.stands) in
     let later = some_segments input (drop (length t.closed) input.requests) in

@@ -22,7 +22,7 @@ use Rattle.pgw_session.specs.Input.{Input}
 
 -- some segments have closed, and of the next its opening and maybe more has come; what is next in it is a message of
 -- the server, so that nothing is due
-pub record Awaits (input : Input) (closed : List (List Event)) (part : List Event) : Type 0 where
+pub record IsServersTurn (input : Input) (closed : List (List Event)) (part : List Event) : Type 0 where
   pub next : Backend
   pub rest : List Event
   pub later : List (List Event)
@@ -74,10 +74,10 @@ pub data RefusedAt (input : Input) (ended : Type 0) (closed : List (List Event))
       → front (standing_of input.config ((joined closed ++ part) ++ map Got (m ∷ passed))).version rest ≡ More → ended → RefusedAt input ended closed part m spelled rest
 
 -- m was got behind a legal prefix, and makes none; ended says that no more bytes come
-pub record Misplaced (input : Input) (ended : Type 0) (taken sent : List ℕ) (m : Backend) : Type 0 where
+pub record HasNoPlace (input : Input) (ended : Type 0) (taken sent : List ℕ) (m : Backend) : Type 0 where
   pub closed : List (List Event)
   pub part : List Event
-  pub awaits : Awaits input closed part
+  pub awaits : IsServersTurn input closed part
   pub spelled : List ℕ
   pub rest : List ℕ
   pub begins : taken ≡ spelled ++ rest
@@ -87,7 +87,7 @@ pub record Misplaced (input : Input) (ended : Type 0) (taken sent : List ℕ) (m
 
 -- m is the next message behind these events of the startup segment, which is open
 pub record NextAtStartup (input : Input) (taken sent : List ℕ) (part : List Event) (m : Backend) : Type 0 where
-  pub awaits : Awaits input [] part
+  pub awaits : IsServersTurn input [] part
   pub spelled : List ℕ
   pub rest : List ℕ
   pub len : ℕ
@@ -102,7 +102,7 @@ FailsAtStartup input taken sent e = (part : List Event) × (m : Backend) × (ref
 
 -- the bytes taken end in an open segment, behind its events and maybe messages passed over, within a message
 pub record WaitsAt (input : Input) (taken sent : List ℕ) (closed : List (List Event)) (part : List Event) (passed : List Backend) : Type 0 where
-  pub awaits : Awaits input closed part
+  pub awaits : IsServersTurn input closed part
   pub passes : ArePassedOver input closed part passed
   pub spelled : List ℕ
   pub rest : List ℕ
@@ -120,7 +120,7 @@ pub record Unreadable (input : Input) (taken sent : List ℕ) (why : PgWireError
   pub closed : List (List Event)
   pub part : List Event
   pub passed : List Backend
-  pub awaits : Awaits input closed part
+  pub awaits : IsServersTurn input closed part
   pub passes : ArePassedOver input closed part passed
   pub spelled : List ℕ
   pub rest : List ℕ
@@ -152,7 +152,7 @@ IsUnfinished input taken = (segments : List (List Event)) → Completes input (l
 -- What it means that no more bytes come: a message was passed over, that first; or the open segment has an error; or it
 -- has none.
 abbrev pub EndsAs : Input → List ℕ → List ℕ → ClientError → Type 0
-EndsAs input taken sent (client.UnexpectedMessage m) = Misplaced input (Unit {0}) taken sent m × IsHopeless input taken
+EndsAs input taken sent (client.UnexpectedMessage m) = HasNoPlace input (Unit {0}) taken sent m × IsHopeless input taken
 EndsAs input taken sent (client.RemoteError e) = LeftWith input taken sent (Some e) × IsUnfinished input taken
 EndsAs input taken sent client.UnexpectedEOF = LeftWith input taken sent None × IsUnfinished input taken
 EndsAs input taken sent e = ⊥
@@ -168,7 +168,7 @@ WaitsStill input taken sent = ((closed : List (List Event)) × (part : List Even
 -- startup segment; or they end within a message.
 pub data Told (input : Input) (taken due : List ℕ) : Type 0 where
   complete : (report : SessionReport) → Completed input taken due report → Told input taken due
-  misplaced : (m : Backend) → Misplaced input ⊥ taken due m → Told input taken due
+  misplaced : (m : Backend) → HasNoPlace input ⊥ taken due m → Told input taken due
   unreadable : (why : PgWireError) → Unreadable input taken due why → Told input taken due
   unsendable : (why : PgWireError) → Unsendable input taken due why → Told input taken due
   refused : (e : ClientError) → FailsAtStartup input taken due e → Told input taken due

@@ -23,7 +23,7 @@ ghost use Rattle.pgw_session.specs.Standings.{first_standing, standing_of};
 ghost use Rattle.pgw_session.specs.Stays.{IsSameConnection, IsUnready, SetsNone};
 ghost use Rattle.pgw_session.specs.Answers.{tally_of, first_error};
 ghost use Rattle.pgw_session.specs.Transcript.{AreSegments, IsTranscript, IsLegalPrefix, SpellsGot, EncodesSent, Completed, Completes, report_of};
-ghost use Rattle.pgw_session.specs.Failures.{Misplaced, Unreadable, FailsAtStartup, Unsendable, WaitsAt, IsHopeless, IsUnfinished, EndsAs, Told};
+ghost use Rattle.pgw_session.specs.Failures.{HasNoPlace, Unreadable, FailsAtStartup, Unsendable, WaitsAt, IsHopeless, IsUnfinished, EndsAs, Told};
 ghost use Rattle.pgw_session.specs.Faults.{IsByteFault, IsDueFault, IsStartupError};
 ghost use Rattle.pgw_session.specs.Logins.{md5_message};
 ghost use Rattle.pgw_session.specs.Demands.{refused_config};
@@ -68,7 +68,7 @@ pub fn messages_without_a_place_are_refused()
 /// within a message, and no front of its bytes completes a session.
 pub fn other_conversations_have_causes()
     ensures unexpected { (input : TheInput) (taken sent : List ℕ) (ending : Ending) (m : Backend) → conversation input taken ≡ Over ending sent → ending.outcome ≡ Unexpected m →
-        Misplaced input ⊥ taken sent m × IsHopeless input taken }
+        HasNoPlace input ⊥ taken sent m × IsHopeless input taken }
     ensures unread { (input : TheInput) (taken sent : List ℕ) (ending : Ending) (why : TheRefusal) → conversation input taken ≡ Over ending sent → ending.outcome ≡ Unread why →
         Unreadable input taken sent why × IsHopeless input taken }
     ensures refused { (input : TheInput) (taken sent : List ℕ) (ending : Ending) (e : ClientError) → conversation input taken ≡ Over ending sent → ending.outcome ≡ Refused e →

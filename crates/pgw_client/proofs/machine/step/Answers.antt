@@ -3,7 +3,7 @@ use Rattle.pgw_session.specs.Machine.{moves_by}
 use Rattle.pgw_session.specs.Notes.{notes_book}
 use Rattle.pgw_client.specs.Input.{input_of}
 use Rattle.pgw_client.specs.Machine.{Moved}
-use Rattle.pgw_client.proofs.RefusalLaws.{next_good}
+use Rattle.pgw_client.proofs.TableLaws.{next_good}
 use Rattle.pgw_client.proofs.machine.step.Goals as goal
 
 pub follow-requires-clause-good : goal.follow-requires-clause-good

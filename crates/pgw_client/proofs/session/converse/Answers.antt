@@ -1,6 +1,6 @@
 use Rattle.std.proofs.Common.{◌-◌, arith, ◌∙◌}
 use Rattle.pgw_client.proofs.DemandLaws.{not_io}
-use Rattle.pgw_client.proofs.TurnLaws.{settled, broke, finished, waited, read_on, ended, unread}
+use Rattle.pgw_client.proofs.SessionTurnLaws.{settled, broke, finished, waited, read_on, ended, unread}
 use Rattle.pgw_client.proofs.session.converse.Goals as goal
 
 pub returns-in-Err-clause-talks : goal.returns-in-Err-clause-talks

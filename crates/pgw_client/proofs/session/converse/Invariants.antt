@@ -1,7 +1,7 @@
 use Rattle.std.proofs.Common.{◌≡◌, ◌≤◌, ◌-◌, length}
 use Rattle.pgw_client.specs.Input.{input_of}
 use Rattle.pgw_client.specs.Machine.{IsAble}
-use Rattle.pgw_client.specs.Outcome.{Reading}
+use Rattle.pgw_client.specs.SessionSteps.{Reading}
 use Rattle.pgw_client.proofs.session.converse.Given as goal
 
 abbrev pub invariant-reads : goal.invariant-reads

@@ -1,5 +1,5 @@
 use Rattle.pgw_client.specs.Input.{input_of}
-use Rattle.pgw_client.proofs.TalkLaws.{lift_err, lift_ok, unstarted, unsent_start}
+use Rattle.pgw_client.proofs.MachineTalkLaws.{lift_err, lift_ok, unstarted, unsent_start}
 use Rattle.pgw_client.proofs.session.hold_session.Goals as goal
 
 pub returns-in-Err-clause-session : goal.returns-in-Err-clause-session

@@ -1,5 +1,5 @@
 use Rattle.std.proofs.Common.{◌≡◌, ◌≤◌, ◌+◌, ◌-◌, ◌++◌, length, take}
-use Rattle.pgw_client.specs.Outcome.{ReadsNothing}
+use Rattle.pgw_client.specs.SessionSteps.{ReadsNothing}
 use Rattle.pgw_client.proofs.session.send.Given as goal
 
 abbrev pub invariant-loop-at : goal.invariant-loop-at

@@ -1,6 +1,6 @@
 use Rattle.std.proofs.Common.{◌<◌, ◌++◌, ℕ, List, length, arith, subst, ap, ◌∙◌}
-use Rattle.pgw_client.specs.Outcome.{WroteSome}
-use Rattle.pgw_client.proofs.TakingLaws.{refused, unsent, whole}
+use Rattle.pgw_client.specs.SessionSteps.{WroteSome}
+use Rattle.pgw_client.proofs.SessionTakingLaws.{refused, unsent, whole}
 use Rattle.pgw_client.proofs.session.take_all.Goals as goal
 
 pub returns-in-Err-send-clause-talks : goal.returns-in-Err-send-clause-talks

@@ -1,7 +1,7 @@
 use Rattle.std.proofs.Common.{◌≡◌, ◌≤◌, [], length}
 use Rattle.pgw_client.specs.Input.{input_of}
 use Rattle.pgw_client.specs.Machine.{IsAble}
-use Rattle.pgw_client.specs.Outcome.{Going}
+use Rattle.pgw_client.specs.SessionSteps.{Going}
 use Rattle.pgw_client.proofs.session.take_all.Given as goal
 
 abbrev pub invariant-messages : goal.invariant-messages

@@ -1,6 +1,5 @@
 use Rattle.std.proofs.Common.{sym, subst, Err}
-use Rattle.pgw_client.specs.Errors.{IsOwn}
-use Rattle.pgw_client.specs.Wire.{Decoded}
+use Rattle.pgw_client.specs.Wire.{IsOwn, Decoded}
 use Rattle.pgw_client.proofs.WireLaws.{own_of, found, refused}
 use Rattle.pgw_client.proofs.wire.decode.Goals as goal
 

@@ -1,7 +1,6 @@
 use Rattle.std.proofs.Common.{◌++◌, take, length, List, ℕ, append_assoc, ap, arith, sym, subst, ◌∙◌, Err}
 use Rattle.pgw_frontend.specs.Frontend.{encoding, encodings}
-use Rattle.pgw_client.specs.Errors.{IsOwn}
-use Rattle.pgw_client.specs.Wire.{PutOut}
+use Rattle.pgw_client.specs.Wire.{IsOwn, PutOut}
 use Rattle.pgw_client.proofs.WireLaws.{own_of, appended, all_put, put_refused}
 use Rattle.pgw_client.proofs.wire.put_all.Goals as goal
 

@@ -13,7 +13,7 @@ use Rattle.pgw_session.specs.Transcript.{report_of}
 use Rattle.pgw_session.specs.Machine.{End, Complete, error_of, end_with}
 use Rattle.pgw_session.specs.Talk.{Talk, Ending, conversation, first_passed}
 use Rattle.pgw_client.specs.Machine.{NotesCourse, IsWhole, notes_end, report_at, runs}
-use Rattle.pgw_client.specs.Sessions.{HasEnded}
+use Rattle.pgw_client.specs.Session.{HasEnded}
 
 -- ---- single calls
 

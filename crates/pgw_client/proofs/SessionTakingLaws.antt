@@ -10,10 +10,10 @@ use Rattle.pgw_session.specs.declared.notes.Notes.{Notes}
 use Rattle.pgw_session.specs.Input.{Input}
 use Rattle.pgw_session.specs.Machine.{End, error_of, rules_by}
 use Rattle.pgw_session.specs.Notes.{notes_book}
-use Rattle.pgw_client.specs.Errors.{Unless, IsOwn}
+use Rattle.pgw_client.specs.Wire.{Unless, IsOwn}
 use Rattle.pgw_client.specs.Machine.{IsWhole, NotesCourse, report_at, runs}
-use Rattle.pgw_client.specs.Outcome.{Wrote, WroteSome, Begins, Broke, Going, Settled, memory, stopped}
-use Rattle.pgw_client.specs.Outcome as outcomes
+use Rattle.pgw_client.specs.SessionSteps.{Wrote, WroteSome, Begins, Broke, Going, Settled, memory, stopped}
+use Rattle.pgw_client.specs.SessionSteps as outcomes
 
 pub memory_or : (e : ClientError) → (e ≡ client.OutOfMemory) ⊎ (e ≡ client.OutOfMemory → ⊥)
 memory_or client.OutOfMemory = inl refl

@@ -31,7 +31,7 @@ use Rattle.pgw_session.specs.Requests.{passes_over, role}
 use Rattle.pgw_session.specs.Segments.{is_news, is_ready}
 use Rattle.pgw_session.specs.Logins.{user_of, password_of, first_refusal, final_refusal, expected_of, first_message, final_message}
 use Rattle.pgw_session.specs.Table.{news_or, by_welcome, unless, by_login, by_first, by_final, misplaced, by_role, by_ready, after}
-use Rattle.pgw_client.specs.Errors.{IsOwn}
+use Rattle.pgw_client.specs.Wire.{IsOwn}
 use Rattle.pgw_client.specs.Machine.{IsAble, IsGood}
 
 -- ---- logins

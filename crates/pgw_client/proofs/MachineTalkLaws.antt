@@ -23,8 +23,8 @@ use Rattle.pgw_session.proofs.Complete.{prefix_split}
 use Rattle.pgw_session.proofs.Sound.{SoundAt, Cause, conversation_sound}
 use Rattle.pgw_session.proofs.NotesLaws.{notes_tell}
 use Rattle.pgw_client.specs.Machine.{NotesCourse, Started, behind, notes_end, report_at, runs}
-use Rattle.pgw_client.specs.Outcome.{Wrote, WroteSome, Waiting, Paused, Because, Conversed, Session, Stopping, Reason, memory, unsent, stopped, failed, unread, at_limit, at_end, talk_end}
-use Rattle.pgw_client.proofs.TakingLaws.{memory_or}
+use Rattle.pgw_client.specs.SessionSteps.{Wrote, WroteSome, Waiting, Paused, Because, Conversed, Session, Stopping, Reason, memory, unsent, stopped, failed, unread, at_limit, at_end, talk_end}
+use Rattle.pgw_client.proofs.SessionTakingLaws.{memory_or}
 
 cancel : (xs a b : List ℕ) → xs ++ a ≡ xs ++ b → a ≡ b
 cancel [] a b e = e

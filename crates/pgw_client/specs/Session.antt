@@ -1,12 +1,17 @@
 -- What a session over a link answers, and why.
-use Rattle.std.specs.Prelude.{◌≡◌, ◌⊎◌, ◌<◌, ◌≤◌, ℕ, ◌+◌, List, [], ◌++◌, length, Some, None, Result, Ok, Err}
-use Rattle.pgw_link.specs.Tape.{Tape}
+use Rattle.std.specs.Prelude.{◌≡◌, ◌⊎◌, ◌<◌, ◌≤◌, ℕ, ◌+◌, List, [], ◌++◌, length, Some, None, Result, Ok, Err, IsErrOf}
+use Rattle.pgw_link.specs.Tape.{Tape, Rose}
 use Rattle.pgw_backend.specs.declared.client_error.PgWireClientError.{PgWireClientError as ClientError}
 use Rattle.pgw_backend.specs.declared.client_error.PgWireClientError.TheVariants as client
 use Rattle.pgw_session.specs.declared.types.SessionReport.{SessionReport}
 use Rattle.pgw_session.specs.Demands.{refused_config}
 use Rattle.pgw_session.specs.Input.{Input}
-use Rattle.pgw_session.specs.Failures.{Told, Misplaced, FailsAtStartup, LeftWith, Unreadable, Unsendable, IsHopeless, IsUnfinished, WaitsStill}
+use Rattle.pgw_session.specs.Failures.{Told, HasNoPlace, FailsAtStartup, LeftWith, Unreadable, Unsendable, IsHopeless, IsUnfinished, WaitsStill}
+
+-- the count of faults never falls, and IoError is answered only where it rose
+pub record IoHasCause {T : Type 0} (before now : ℕ) (result : Result T ClientError) : Type 0 where
+  pub later : before ≤ now
+  pub io : IsErrOf result client.IoError → Rose before now
 
 -- a fact of the bytes that a call took from its link and of those that it wrote
 abbrev pub MovedBy : Tape → Tape → (List ℕ → List ℕ → Type 0) → Type 0
@@ -65,7 +70,7 @@ ErrorCause input limit before new taken sent client.IoError = Unflushed input ta
 ErrorCause input limit before new taken sent client.ReadLimit = WaitsStill input taken sent × (length taken ≡ limit)
 ErrorCause input limit before new taken sent (client.PgWireError why) =
     ((Unreadable input taken sent why ⊎ Unsendable input taken sent why) × IsHopeless input taken) ⊎ IsRefused input taken sent (client.PgWireError why)
-ErrorCause input limit before new taken sent (client.UnexpectedMessage m) = Misplaced input (HasEnded limit taken new) taken sent m × IsHopeless input taken
+ErrorCause input limit before new taken sent (client.UnexpectedMessage m) = HasNoPlace input (HasEnded limit taken new) taken sent m × IsHopeless input taken
 ErrorCause input limit before new taken sent (client.RemoteError e) =
     IsRefused input taken sent (client.RemoteError e) ⊎ (LeftWith input taken sent (Some e) × IsUnfinished input taken × HasEnded limit taken new)
 ErrorCause input limit before new taken sent (client.ScramError fault) = IsRefused input taken sent (client.ScramError fault)

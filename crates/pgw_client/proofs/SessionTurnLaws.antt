@@ -12,11 +12,11 @@ use Rattle.pgw_session.specs.Input.{Input}
 use Rattle.pgw_session.specs.Machine.{rules_by}
 use Rattle.pgw_session.specs.Notes.{notes_book}
 use Rattle.pgw_session.proofs.ReadingLaws.{reads_more, steady_by}
-use Rattle.pgw_client.specs.Errors.{Unless}
+use Rattle.pgw_client.specs.Wire.{Unless}
 use Rattle.pgw_client.specs.Machine.{NotesCourse, notes_end, runs}
-use Rattle.pgw_client.specs.Outcome.{ReadsNothing, Broke, Settled, Came, Reading, Conversed, Paused, Waiting, FillFails, failed, memory, at_limit, at_end}
-use Rattle.pgw_client.specs.Outcome as outcomes
-use Rattle.pgw_client.proofs.TakingLaws.{begins_at, memory_or}
+use Rattle.pgw_client.specs.SessionSteps.{ReadsNothing, Broke, Settled, Came, Reading, Conversed, Paused, Waiting, FillFails, failed, memory, at_limit, at_end}
+use Rattle.pgw_client.specs.SessionSteps as outcomes
+use Rattle.pgw_client.proofs.SessionTakingLaws.{begins_at, memory_or}
 
 -- ---- the link's end
 
