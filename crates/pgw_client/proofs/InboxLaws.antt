@@ -1,12 +1,10 @@
 -- What is taken from a front of some bytes is taken from all of them.
-use Rattle.std.proofs.Common.{◌≡◌, ◌++◌, ℕ, List, [], length, take, drop, eqb, true, Option, Some, None, Result, Ok, Err, refl, ap, sym, subst, ◌∙◌, append_assoc}
-use Rattle.std.proofs.lemmas.Bool.{eqb-true}
-use Rattle.std.proofs.lemmas.List.{append-nil, drop-append-le, nil_from_length, take-append-drop}
+use Rattle.std.proofs.Common.{◌≡◌, ◌++◌, ℕ, List, drop, Option, Some, Result, Ok, Err, ap, sym, subst, ◌∙◌}
+use Rattle.std.proofs.lemmas.List.{drop-append-le}
 use Rattle.pgw_types.specs.declared.context.ProtocolVersion.{ProtocolVersion}
 use Rattle.pgw_backend.specs.declared.backend.PgWireBackendMessage.{PgWireBackendMessage as Backend}
 use Rattle.pgw_backend.specs.declared.client_error.PgWireClientError.{PgWireClientError as ClientError}
 use Rattle.pgw_backend.proofs.FrontLaws.{front_whole, front_whole_more, front_bad_more}
-use Rattle.pgw_backend.specs.declared.client_error.PgWireClientError.TheVariants as client
 use Rattle.pgw_client.specs.Wire.{Decoded}
 
 pub found_more : (v : ProtocolVersion) (front rest more : List ℕ) (m : Backend) → Decoded v front rest (Ok (Some m)) → Decoded v (front ++ more) (rest ++ more) (Ok (Some m))
@@ -20,21 +18,5 @@ refused_more v front rest more e d = (
   λ ne. let why = d.1 ne in (why.0, front_bad_more v front more why.0 why.1, why.2),
 )
 
--- nothing is left of the front
-pub empty_front : (front tail : List ℕ) → eqb (length front) 0 ≡ true → (front ≡ []) × (tail ≡ front ++ tail)
-empty_front front tail none =
-    let is : front ≡ [] = nil_from_length front (eqb-true (length front) 0 none) in
-    (is, sym (ap (λ (f : List ℕ). f ++ tail) is))
-
--- nothing stands behind it
-pub empty_tail : (front tail : List ℕ) → eqb (length tail) 0 ≡ true → tail ++ front ≡ front ++ tail
-empty_tail front tail none =
-    let is : tail ≡ [] = nil_from_length tail (eqb-true (length tail) 0 none) in
-    ap (λ (t : List ℕ). t ++ front) is ∙ sym (append-nil front) ∙ sym (ap (λ (t : List ℕ). front ++ t) is)
-
 pub decoded_of : (v : ProtocolVersion) (old new other_old other_new : List ℕ) (r : Result (Option Backend) ClientError) → old ≡ other_old → new ≡ other_new → Decoded v old new r → Decoded v other_old other_new r
 decoded_of v old new other_old other_new r was is d = subst (λ (o : List ℕ). Decoded v o other_new r) was (subst (λ (n : List ℕ). Decoded v old n r) is d)
-
--- want of memory, where all is as it was
-pub wanting : (v : ProtocolVersion) (old new : List ℕ) → new ≡ old → Decoded v old new (Err client.OutOfMemory)
-wanting v old new is = (is, λ ne. absurd (ne refl))
