@@ -39,11 +39,7 @@ fn take_target(alloc: Global, reader: &mut FieldReader<'_>) -> PgWireResult<(u8,
     Ok((target_type, name))
 }
 
-fn put_target(
-    out: &mut Writer,
-    target_type: u8,
-    name: &Option<Text>,
-) -> Result<(), OutOfMemory>
+fn put_target(out: &mut Writer, target_type: u8, name: &Option<Text>) -> Result<(), OutOfMemory>
     ensures ok { OnOk result (out.new.body ≡ out.old.body ++ target_type ∷ name_bytes name.now) }
     ensures kept { out.new.before ≡ out.old.before }
 {

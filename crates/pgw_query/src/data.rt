@@ -16,7 +16,9 @@ use pgw_wire::field::{Field, list_len, put_list, take_list, unsigned_count};
 use pgw_wire::framing::Framing;
 use pgw_wire::message::Message;
 use pgw_wire::reader::FieldReader;
-use pgw_wire::writer::{Writer, has_zero, put_i16, put_i32, put_text, put_u16, put_u32, refused_if};
+use pgw_wire::writer::{
+    Writer, has_zero, put_i16, put_i32, put_text, put_u16, put_u32, refused_if,
+};
 use std::alloc::Global;
 
 pub const MESSAGE_TYPE_BYTE_ROW_DESCRITION: u8 = b'T';

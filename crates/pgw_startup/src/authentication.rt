@@ -17,7 +17,7 @@ use pgw_wire::framing::Framing;
 use pgw_wire::item::take_up_to_mark;
 use pgw_wire::message::Message;
 use pgw_wire::reader::FieldReader;
-use pgw_wire::writer::{Writer, has_zero, put_u32, put_u8, refused_if};
+use pgw_wire::writer::{Writer, has_zero, put_u8, put_u32, refused_if};
 use std::alloc::Global;
 
 pub const MESSAGE_TYPE_BYTE_AUTHENTICATION: u8 = b'R';

@@ -18,7 +18,7 @@ use pgw_wire::item::take_up_to_mark;
 use pgw_wire::message::Message;
 use pgw_wire::params::Params;
 use pgw_wire::reader::FieldReader;
-use pgw_wire::writer::{Writer, put_u16, put_u8, refused_if};
+use pgw_wire::writer::{Writer, put_u8, put_u16, refused_if};
 use std::alloc::Global;
 
 /// The version that a client asks for, and its parameters (StartupMessage).
