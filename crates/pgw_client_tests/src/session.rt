@@ -1,6 +1,6 @@
 use pgw_client::{
-    Answer, Config, ExecuteResult, Listed, MemoryLink, Octets, PgWireClientError, PgWireError,
-    Request, Response, SessionReport, Target, Text, run_session,
+    Answer, Config, DataRow, ExecuteResult, Listed, MemoryLink, Octets, PgWireClientError,
+    PgWireError, Request, Response, SessionReport, Target, Text, run_session,
 };
 use std::alloc::Global;
 use std::test::Fail;
@@ -185,26 +185,30 @@ fn requests_are_answered(rt: HostRuntime) -> Result<(), Fail> {
     Ok(())
 }
 
-// The payloads of the rows that a simple query gives, where the link moves so many bytes at a time.
-fn payloads(alloc: Global, server: &[u8], cut: usize) -> Result<Vec<Octets>, Fail> {
+// The report of one simple query, where the link moves so many bytes at a time.
+fn report_of(alloc: Global, server: &[u8], cut: usize) -> Result<SessionReport, Fail> {
     let config = Config::parse(alloc, "user=bob")?;
     let server = Octets::from_slice(alloc, server)?;
-    let mut link = MemoryLink::new(alloc, server, cut, Listed::new(alloc), Listed::new(alloc));
+    let mut link = MemoryLink::new(
+        alloc,
+        server,
+        cut.max(1),
+        Listed::new(alloc),
+        Listed::new(alloc),
+    );
     let requests = [Request::Simple(Text::from_str(alloc, "SELECT a")?)];
     let report = run_session(alloc, &mut link, &config, &requests, &[0; 18], 100_000)?;
-    let mut payloads = Vec::new(alloc);
-    for answer in report.answers.as_slice() {
-        if let Answer::Responses(responses) = answer {
-            for response in responses.as_slice() {
-                if let Response::Query(_, _, rows) = response {
-                    for row in rows.as_slice() {
-                        payloads.push(Octets::from_slice(alloc, row.payload.as_slice())?)?;
-                    }
-                }
-            }
+    Ok(report)
+}
+
+// The rows of one simple query.
+fn rows_of(report: &SessionReport) -> &[DataRow] {
+    if let [Answer::Responses(responses)] = report.answers.as_slice() {
+        if let [Response::Query(_, _, rows)] = responses.as_slice() {
+            return rows.as_slice();
         }
     }
-    Ok(payloads)
+    &[]
 }
 
 // A row of 40,000 bytes between two of one, in pieces and whole.
@@ -220,13 +224,15 @@ fn a_large_row_comes_in_pieces(rt: HostRuntime) -> Result<(), Fail> {
     server.extend_from_slice(b"D\0\0\x9c\x4a\0\x01\0\0\x9c\x40")?;
     server.extend_from_slice(vec![in alloc; b'x'; 40_000]?.as_slice())?;
     server.extend_from_slice(b"D\0\0\0\x0b\0\x01\0\0\0\x012C\0\0\0\x0dSELECT 3\0Z\0\0\0\x05I")?;
+    let want = [(5, b'1'), (40_004, b'x'), (5, b'2')];
     for cut in [999, 8192, 65536] {
-        let payloads = payloads(alloc, server.as_slice(), cut)?;
-        assert_eq!(rt; payloads.len(), 3);
-        assert_eq!(rt; payloads[0].as_slice(), b"\0\0\0\x011".as_slice());
-        assert_eq!(rt; payloads[1].len(), 40_004);
-        assert_eq!(rt; payloads[1].as_slice()[40_003], b'x');
-        assert_eq!(rt; payloads[2].as_slice(), b"\0\0\0\x012".as_slice());
+        let report = report_of(alloc, server.as_slice(), cut)?;
+        let rows = rows_of(&report);
+        assert_eq!(rt; rows.len(), 3);
+        for (row, (len, last)) in rows.iter().zip(want) {
+            assert_eq!(rt; row.payload.len(), len);
+            assert_eq!(rt; row.payload.as_slice().last(), Some(&last));
+        }
     }
     Ok(())
 }
