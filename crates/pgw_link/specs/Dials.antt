@@ -19,6 +19,8 @@ pub record IsFresh (offer : List ℕ) (link : Tape) : Type 0 where
   pub wrote : link.wrote ≡ []
   pub flushed : link.flushed ≡ 0
   pub ended : link.ended ≡ None
+  pub reads : link.reads ≡ 0
+  pub writes : link.writes ≡ 0
 
 -- a dial made a new link to this address
 pub record Dialled (to : Address) (old new : DialTape) (link : Tape) : Type 0 where

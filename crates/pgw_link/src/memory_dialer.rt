@@ -35,6 +35,7 @@ impl MemoryDialer {
         ensures tape { dial_tape result ≡ record { dials = 0; address = None; offer = offer_of links; shut = None } }
         ensures faults { dial_faults result ≡ 0 }
         ensures links { links_of result ≡ links }
+        ensures listing { result.dials.numbers ≡ fail_dials }
     {
         MemoryDialer {
             links: links.into_vec(),
@@ -59,6 +60,7 @@ impl MemoryDialer {
         ensures refused { result ≡ is_refused self.old }
         ensures left { result ≡ false → 0 < length (links_of self.new) }
         ensures links { links_of self.new ≡ links_of self.old }
+        ensures listing { self.new.dials.numbers ≡ self.old.dials.numbers }
         ensures tape { NotDialled (dial_tape self.old) (dial_tape self.new) }
         ensures kept { result ≡ false → dial_faults self.new ≡ dial_faults self.old }
         ensures rose { result ≡ true → (dial_faults self.old ≤ dial_faults self.new) × Rose (dial_faults self.old) (dial_faults self.new) }
@@ -76,7 +78,7 @@ impl MemoryDialer {
 
 impl Dialer for MemoryDialer {
     ghost use Rattle.std.specs.Prelude.{◌∷◌, true, false, IfOk, IsErrOf, OnErr};
-    ghost use Rattle.pgw_link.specs.Dials.{Dialled, NotDialled, CountsDial};
+    ghost use Rattle.pgw_link.specs.Dials.{Dialled, NotDialled, CountsDial, CountsClose, Shut};
     ghost use Rattle.pgw_link.specs.MemoryDials.{dial_tape, dial_faults, links_of, is_refused};
 
     type Link = MemoryLink;
@@ -94,6 +96,7 @@ impl Dialer for MemoryDialer {
         ensures serves { is_refused self.old ≡ false → IsErrOf result DialError.Fault → ⊥ }
         ensures hands_out { IfOk result (λ made. links_of self.old ≡ made ∷ links_of self.new) }
         ensures keeps { OnErr result (links_of self.new ≡ links_of self.old) }
+        ensures listing { self.new.dials.numbers ≡ self.old.dials.numbers }
         ensures counts { CountsDial (dial_faults self.old) (dial_faults self.new) result }
         ensures faultless { IfOk result (λ made. faults_of made ≡ 0) }
         ensures dialled { IfOk result (λ made. Dialled address.now (dial_tape self.old) (dial_tape self.new) (tape_of made)) }
@@ -111,7 +114,12 @@ impl Dialer for MemoryDialer {
         }
     }
 
-    fn close(&mut self, used: MemoryLink) {
+    fn close(&mut self, used: MemoryLink)
+        ensures counts { CountsClose (dial_faults self.old) (dial_faults self.new) (faults_of used) }
+        ensures shut { Shut (dial_tape self.old) (dial_tape self.new) (tape_of used) }
+        ensures links { links_of self.new ≡ links_of self.old }
+        ensures listing { self.new.dials.numbers ≡ self.old.dials.numbers }
+    {
         if used.has_failed() {
             self.faulty = self.faulty.saturating_add(1);
         }
