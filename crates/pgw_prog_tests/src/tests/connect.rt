@@ -188,18 +188,12 @@ fn connect(rt: HostRuntime) -> Result<(), Fail> {
 }
 
 // Answers one client, and says whether it sent what it should.
-fn serve(listener: &TcpListener) -> io::Result<bool> {
+fn serve(alloc: Global, listener: &TcpListener) -> io::Result<bool> {
     let (mut client, _) = listener.accept()?;
     client.write_all(SERVER)?;
-    let mut sent = [0u8; 64];
-    let mut count = 0;
-    while count < sent.len() {
-        match client.read(&mut sent[count..])? {
-            0 => break,
-            more => count += more,
-        }
-    }
-    Ok(&sent[..count] == CLIENT)
+    let mut sent = Vec::new(alloc);
+    client.read_to_end(&mut sent)?;
+    Ok(sent.as_slice() == CLIENT)
 }
 
 #[test]
@@ -207,7 +201,7 @@ fn connect_over_a_socket(rt: HostRuntime) -> Result<(), Fail> {
     let alloc = rt.alloc();
     let listener = TcpListener::bind(&rt, "127.0.0.1:0")?;
     let port = listener.local_addr()?.port();
-    let server = thread::spawn(&rt, move || serve(&listener))?;
+    let server = thread::spawn(&rt, move || serve(alloc, &listener))?;
     let text = format!(in alloc; "user=bob host=127.0.0.1 port={port}")?;
     let timeouts = Timeouts {
         connect: Some(Duration::from_secs(10)),
