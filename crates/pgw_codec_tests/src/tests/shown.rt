@@ -22,24 +22,52 @@ fn secret(alloc: Global, kind: usize) -> Result<PasswordMessageFamily, Fail> {
     })
 }
 
+fn shown(alloc: Global, kind: usize) -> Result<String, Fail> {
+    let message = secret(alloc, kind)?;
+    Ok(format!(in alloc; "{message:?}")?)
+}
+
+// The same among all messages of a client.
+fn shown_among_all(alloc: Global, kind: usize) -> Result<String, Fail> {
+    let message = PgWireFrontendMessage::PasswordMessageFamily(secret(alloc, kind)?);
+    Ok(format!(in alloc; "{message:?}")?)
+}
+
 #[test]
 fn no_secret_is_shown(rt: HostRuntime) -> Result<(), Fail> {
     let alloc = rt.alloc();
     let cases = [
-        (0, "Raw(_)"),
-        (1, "Password(_)"),
-        (2, "SASLInitialResponse(_)"),
-        (3, "SASLResponse(_)"),
+        (0, "Raw(_)", "PasswordMessageFamily(Raw(_))"),
+        (1, "Password(_)", "PasswordMessageFamily(Password(_))"),
+        (
+            2,
+            "SASLInitialResponse(_)",
+            "PasswordMessageFamily(SASLInitialResponse(_))",
+        ),
+        (
+            3,
+            "SASLResponse(_)",
+            "PasswordMessageFamily(SASLResponse(_))",
+        ),
     ];
-    for (kind, want) in cases {
-        let shown = format!(in alloc; "{:?}", secret(alloc, kind)?)?;
-        assert_eq!(rt; shown.as_str(), want);
-        let message = PgWireFrontendMessage::PasswordMessageFamily(secret(alloc, kind)?);
-        let whole = format!(in alloc; "{:?}", message)?;
-        let all = format!(in alloc; "PasswordMessageFamily({})", want)?;
-        assert_eq!(rt; whole.as_str(), all.as_str());
+    for (kind, want, whole) in cases {
+        assert_eq!(rt; shown(alloc, kind)?.as_str(), want);
+        assert_eq!(rt; shown_among_all(alloc, kind)?.as_str(), whole);
     }
     Ok(())
+}
+
+// What is taken at the front.
+fn taken(alloc: Global, octets: &mut Octets) -> Result<&'static str, Fail> {
+    let ctx = DecodeContext::default();
+    Ok(
+        match PgWireBackendMessage::decode_from(alloc, octets, &ctx)? {
+            None => "nothing yet",
+            Some(PgWireBackendMessage::DataRow(_row)) => "a row",
+            Some(PgWireBackendMessage::ReadyForQuery(_ready)) => "ready",
+            Some(_other) => "another",
+        },
+    )
 }
 
 // What stands behind a message is left.
@@ -47,18 +75,9 @@ fn no_secret_is_shown(rt: HostRuntime) -> Result<(), Fail> {
 fn messages_are_cut_from_octets(rt: HostRuntime) -> Result<(), Fail> {
     let alloc = rt.alloc();
     let mut octets = Octets::from_slice(alloc, b"D\0\0\0\x0d\0\x01\0\0\0\x037\07Z\0\0\0\x05ID\0")?;
-    let ctx = DecodeContext::default();
-    let row = PgWireBackendMessage::decode_from(alloc, &mut octets, &ctx)?;
-    assert!(rt;
-        matches!(
-            &row,
-            Some(PgWireBackendMessage::DataRow(row))
-                if row.field_count == 1 && row.payload.as_slice() == b"\0\0\0\x037\07".as_slice()
-        )
-    );
-    let ready = PgWireBackendMessage::decode_from(alloc, &mut octets, &ctx)?;
-    assert!(rt; matches!(&ready, Some(PgWireBackendMessage::ReadyForQuery(_))));
-    assert!(rt; PgWireBackendMessage::decode_from(alloc, &mut octets, &ctx)?.is_none());
+    assert_eq!(rt; taken(alloc, &mut octets)?, "a row");
+    assert_eq!(rt; taken(alloc, &mut octets)?, "ready");
+    assert_eq!(rt; taken(alloc, &mut octets)?, "nothing yet");
     assert_eq!(rt; octets.as_slice(), b"D\0".as_slice());
     Ok(())
 }
