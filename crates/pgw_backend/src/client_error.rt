@@ -13,6 +13,7 @@ use pgw_types::memory::OutOfMemory;
 use pgw_types::octets::Octets;
 use pgw_types::text::Text;
 use std::alloc::{AllocError, AllocFailed, Global};
+use std::io;
 use thiserror::Error;
 
 /// Why a value cannot be read as a type.
@@ -97,6 +98,21 @@ impl<T: Drop> From<AllocFailed<T>> for PgWireClientError {
 
     fn from(_e: AllocFailed<T>) -> PgWireClientError {
         PgWireClientError::OutOfMemory
+    }
+}
+
+/// Want of memory, or a call of the system that failed. Which call is not told.
+impl From<io::Error> for PgWireClientError {
+    ghost use Rattle.std.specs.Prelude.{◌⊎◌};
+    ghost use Rattle.pgw_backend.specs.declared.client_error.PgWireClientError.TheVariants as client;
+
+    ghost from_gives = { λ e r. (r ≡ client.IoError) ⊎ (r ≡ client.OutOfMemory) };
+
+    fn from(e: io::Error) -> PgWireClientError {
+        match e.kind() {
+            io::ErrorKind::OutOfMemory => PgWireClientError::OutOfMemory,
+            _ => PgWireClientError::IoError,
+        }
     }
 }
 

@@ -1,4 +1,7 @@
 //! All messages of a server, and what they tell: tags, types, columns, and why a client gives up.
+//!
+//! To whoever reads what a server sends it promises what stands at the front of a buffer, a message with its length, a
+//! refusal, or nothing whole yet, whatever follows it; and the bytes that each message is written as.
 #![tactic(auto)]
 
 pub mod backend;

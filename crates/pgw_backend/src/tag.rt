@@ -58,6 +58,7 @@ fn oid_in(text: &Text) -> Option<u32>
 }
 
 impl Tag {
+    /// A command without numbers, as `CREATE TABLE`.
     pub fn new(command: Text) -> Tag
         ensures command { result.command ≡ command }
         ensures oid { result.oid ≡ None }
@@ -70,6 +71,7 @@ impl Tag {
         }
     }
 
+    /// With the OID of an inserted row, which INSERT tells (0 today).
     pub fn with_oid(self, oid: u32) -> Tag
         ensures command { result.command ≡ self.command }
         ensures oid { result.oid ≡ Some oid }
@@ -82,6 +84,7 @@ impl Tag {
         }
     }
 
+    /// With the number of rows that the command gave or changed.
     pub fn with_rows(self, rows: usize) -> Tag
         ensures command { result.command ≡ self.command }
         ensures oid { result.oid ≡ self.oid }

@@ -168,12 +168,14 @@ impl Config {
         self.ssl_negotiation
     }
 
+    /// Seconds.
     pub fn get_connect_timeout(&self) -> Option<u64>
         ensures { result ≡ self.now.connect_timeout }
     {
         self.connect_timeout
     }
 
+    /// Seconds.
     pub fn get_tcp_user_timeout(&self) -> Option<u64>
         ensures { result ≡ self.now.tcp_user_timeout }
     {
@@ -186,12 +188,14 @@ impl Config {
         self.keepalives
     }
 
+    /// Seconds.
     pub fn get_keepalives_idle(&self) -> u64
         ensures { result ≡ self.now.keepalives_idle }
     {
         self.keepalives_idle
     }
 
+    /// Seconds.
     pub fn get_keepalives_interval(&self) -> Option<u64>
         ensures { result ≡ self.now.keepalives_interval }
     {

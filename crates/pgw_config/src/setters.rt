@@ -41,6 +41,7 @@ impl Config {
         Ok(())
     }
 
+    /// They are kept, and have no effect.
     pub fn set_options(&mut self, alloc: Global, options: &str) -> Result<(), OutOfMemory>
         ensures set { OnOk result (self.new ≡ record self.old { options = Some options.now }) }
         ensures refused { OnErr result (self.new ≡ self.old) }
@@ -195,6 +196,7 @@ impl Config {
         Ok(self)
     }
 
+    /// `Require` is refused by a session, since no connection is encrypted; the others have no effect.
     pub fn ssl_mode(&mut self, mode: SslMode) -> &mut Config
         ensures same { result.ghost_name ≡ self.entry.ghost_name }
         ensures set { result.now ≡ record self.old { ssl_mode = mode } }
@@ -203,6 +205,7 @@ impl Config {
         self
     }
 
+    /// It is kept, and has no effect.
     pub fn ssl_negotiation(&mut self, negotiation: SslNegotiation) -> &mut Config
         ensures same { result.ghost_name ≡ self.entry.ghost_name }
         ensures set { result.now ≡ record self.old { ssl_negotiation = negotiation } }
@@ -211,7 +214,7 @@ impl Config {
         self
     }
 
-    /// Seconds.
+    /// Seconds. It is kept, and has no effect: a `SocketDialer` has timeouts of its own.
     pub fn connect_timeout(&mut self, seconds: u64) -> &mut Config
         ensures same { result.ghost_name ≡ self.entry.ghost_name }
         ensures set { result.now ≡ record self.old { connect_timeout = Some seconds } }
@@ -220,7 +223,7 @@ impl Config {
         self
     }
 
-    /// Seconds.
+    /// Seconds. It is kept, and has no effect.
     pub fn tcp_user_timeout(&mut self, seconds: u64) -> &mut Config
         ensures same { result.ghost_name ≡ self.entry.ghost_name }
         ensures set { result.now ≡ record self.old { tcp_user_timeout = Some seconds } }
@@ -229,6 +232,7 @@ impl Config {
         self
     }
 
+    /// It is kept, and has no effect.
     pub fn keepalives(&mut self, on: bool) -> &mut Config
         ensures same { result.ghost_name ≡ self.entry.ghost_name }
         ensures set { result.now ≡ record self.old { keepalives = on } }
@@ -237,7 +241,7 @@ impl Config {
         self
     }
 
-    /// Seconds.
+    /// Seconds. It is kept, and has no effect.
     pub fn keepalives_idle(&mut self, seconds: u64) -> &mut Config
         ensures same { result.ghost_name ≡ self.entry.ghost_name }
         ensures set { result.now ≡ record self.old { keepalives_idle = seconds } }
@@ -246,7 +250,7 @@ impl Config {
         self
     }
 
-    /// Seconds.
+    /// Seconds. It is kept, and has no effect.
     pub fn keepalives_interval(&mut self, seconds: u64) -> &mut Config
         ensures same { result.ghost_name ≡ self.entry.ghost_name }
         ensures set { result.now ≡ record self.old { keepalives_interval = Some seconds } }
@@ -255,6 +259,7 @@ impl Config {
         self
     }
 
+    /// It is kept, and has no effect.
     pub fn keepalives_retries(&mut self, retries: u32) -> &mut Config
         ensures same { result.ghost_name ≡ self.entry.ghost_name }
         ensures set { result.now ≡ record self.old { keepalives_retries = Some retries } }
@@ -263,6 +268,7 @@ impl Config {
         self
     }
 
+    /// It is kept, and has no effect.
     pub fn target_session_attrs(&mut self, attrs: TargetSessionAttrs) -> &mut Config
         ensures same { result.ghost_name ≡ self.entry.ghost_name }
         ensures set { result.now ≡ record self.old { target_session_attrs = attrs } }
@@ -271,6 +277,7 @@ impl Config {
         self
     }
 
+    /// `Require` is refused by a session, since no login is bound to a connection; the others have no effect.
     pub fn channel_binding(&mut self, binding: ChannelBinding) -> &mut Config
         ensures same { result.ghost_name ≡ self.entry.ghost_name }
         ensures set { result.now ≡ record self.old { channel_binding = binding } }
@@ -279,6 +286,7 @@ impl Config {
         self
     }
 
+    /// It is kept, and has no effect.
     pub fn load_balance_hosts(&mut self, balance: LoadBalanceHosts) -> &mut Config
         ensures same { result.ghost_name ≡ self.entry.ghost_name }
         ensures set { result.now ≡ record self.old { load_balance_hosts = balance } }

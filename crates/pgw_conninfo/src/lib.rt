@@ -1,4 +1,7 @@
 //! Connection texts, cut into their parts.
+//!
+//! To the configuration above it promises the parts of a text by the grammar of its form, up to the first fault, and
+//! that a text is cut in one way.
 #![tactic(auto)]
 
 pub mod address;

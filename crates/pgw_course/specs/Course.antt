@@ -1,6 +1,7 @@
 -- A machine that takes messages from a list of bytes, one byte after the other, and puts bytes out. Which messages it
 -- takes, and how it reads them, is a parameter: so a client, a server and what stands between them are all of this form.
--- Not part of the claim of a session: it only carries proofs.
+-- Not part of the claims of `run_session` on transcripts, whose proofs it carries; those on dialogues, and those on a
+-- server's core, rest on it.
 use Rattle.std.specs.Prelude.{◌≡◌, ◌≤◌, ℕ, List, [], ◌∷◌, ◌++◌, length, take, fold}
 
 -- what stands at the front of some bytes: nothing yet, and more bytes are needed; a refusal; or a message with its length

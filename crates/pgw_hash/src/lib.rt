@@ -1,4 +1,7 @@
 //! The hashes of a login: HMAC, the salted password, the preparation of texts and the MD5 password.
+//!
+//! To the logins above it promises the formulas of RFC 2104, RFC 8018 and PostgreSQL's documentation, over the digests
+//! of the kit.
 #![tactic(auto)]
 
 pub mod hmac;

@@ -1,4 +1,8 @@
 //! What a client reads from and writes to.
+//!
+//! To a session above it promises what each call of a link moves, what a dialer dialled and closed, and that a fault is
+//! answered only where its count rose. The forms in memory tell their bytes; a socket and standard input and output
+//! tell nothing of theirs.
 #![tactic(auto)]
 
 pub mod calls;
@@ -15,3 +19,4 @@ pub mod stream;
 pub mod stream_link;
 #[cfg(test)]
 mod tests;
+mod told;

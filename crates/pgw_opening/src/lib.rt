@@ -1,4 +1,7 @@
 //! What a client may send in place of a Startup, and its last message.
+//!
+//! To the enum of a client's messages, and to a server's login, it promises that each message here is its row of the
+//! message table, and which code stands at the front of a packet without a type byte.
 #![tactic(auto)]
 
 pub mod cancel;

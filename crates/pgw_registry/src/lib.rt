@@ -1,4 +1,7 @@
 //! Which query of which connection is to be canceled, and the process numbers of connections.
+//!
+//! To a server it promises that each answer and each change is the sequential registry's, of the registry that threads
+//! share at its place in one legal history, and that the process numbers drawn differ.
 #![tactic(auto)]
 
 pub mod call;

@@ -1,4 +1,7 @@
 //! The rows of a result, and what their values are read as.
+//!
+//! To a caller with a row it promises that the next value is the one that stands next in the row, read by its column's
+//! format and type, or the stated refusal.
 #![tactic(auto)]
 
 mod cut;

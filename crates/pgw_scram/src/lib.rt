@@ -1,4 +1,7 @@
 //! SCRAM-SHA-256 (RFC 5802, RFC 7677): its messages, what it computes, and both ends of an exchange.
+//!
+//! To both ends of a login it promises the parts of each message by RFC 5802's forms, proof and signature over the
+//! texts as they were exchanged, each step's refusals in order, and that honest ends accept one another.
 #![tactic(auto)]
 
 mod attributes;

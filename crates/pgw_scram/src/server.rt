@@ -100,6 +100,13 @@ impl ScramServerAuth {
         Ok(())
     }
 
+    /// The hash of the server's certificate, if it is set.
+    pub fn certificate_hash(&self) -> Option<&[u8]>
+        ensures { option_copied result ≡ self.now.certificate_hash }
+    {
+        self.certificate_hash.as_ref().map(|hash| hash.as_slice())
+    }
+
     /// Sets the number of rounds that a client is asked for.
     pub fn set_iterations(&mut self, iterations: u32)
         requires { 1 ≤ iterations }

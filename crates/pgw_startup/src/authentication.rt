@@ -28,9 +28,13 @@ pub enum Authentication {
     Ok,
     CleartextPassword,
     KerberosV5,
+    /// The salt, four bytes.
     MD5Password(Octets),
+    /// The names of the methods that the server offers, in its order.
     SASL(Listed<Text>),
+    /// The method's own data, as SCRAM's server-first-message.
     SASLContinue(Octets),
+    /// The method's last data, as SCRAM's server-final-message.
     SASLFinal(Octets),
 }
 

@@ -52,18 +52,23 @@ pub struct ApiFault {
 /// Why a message is refused, or a login.
 #[derive(Debug, Drop, PartialEq, Eq, Error)]
 pub enum PgWireError {
+    /// Major and minor number.
     #[error("protocol version {0}.{1} is not supported")]
     UnsupportedProtocolVersion(u16, u16),
     #[error("invalid cancel request")]
     InvalidCancelRequest,
     #[error("a secret key has 4 to 256 bytes")]
     InvalidSecretKey,
+    /// The type byte.
     #[error("invalid message type {0}")]
     InvalidMessageType(u8),
+    /// The limit, and the length that the message tells, both in bytes.
     #[error("message of {1} bytes, above the limit {0}")]
     MessageTooLarge(usize, usize),
+    /// The count, the fewest bytes that so many elements take, and the bytes that are left.
     #[error("{0} elements take {1} bytes, and {2} are left")]
     InvalidElementCount(usize, usize, usize),
+    /// The byte, which is neither `S` nor `P`.
     #[error("invalid target type {0}")]
     InvalidTargetType(u8),
     #[error("invalid transaction status {0}")]

@@ -1,5 +1,5 @@
 //! A list.
-ghost use Rattle.std.specs.Prelude.{◌≡◌, [], ◌∷◌, ◌++◌, ◌<◌, ◌^◌, length, OnOk, OnErr, IfOk};
+ghost use Rattle.std.specs.Prelude.{◌≡◌, [], ◌∷◌, ◌++◌, ◌<◌, ◌^◌, ◌==◌, length, OnOk, OnErr, IfOk};
 ghost use Rattle.std.specs.Cmp.Lexicographic.{pointwise};
 ghost use Rattle.std.specs.Cmp.Rules.{comparing};
 ghost use Rattle.std.specs.Iterator.Runs.{EveryRun, ItemsMapTo};
@@ -12,8 +12,8 @@ use std::marker::Model;
 use std::ops::DerefSlice;
 use std::slice;
 
-/// A list, which a contract sees as such. Like a `Vec` it has a slice's methods, as `len` and `iter`, and `for` goes over
-/// `&list`.
+/// A list, which a contract sees as such. Like a `Vec` it has a slice's methods, as `iter` and `first`, an index, and `for`
+/// goes over `&list`.
 #[derive(Debug, Drop)]
 pub struct Listed<T> {
     items: Vec<T>,
@@ -40,6 +40,25 @@ impl<T> Listed<T> {
         ensures { result.now ≡ self.now }
     {
         self.items.as_slice()
+    }
+
+    pub fn len(&self) -> usize
+        ensures { result ≡ length self.now }
+    {
+        self.items.len()
+    }
+
+    pub fn is_empty(&self) -> bool
+        ensures { result ≡ (length self.now == 0) }
+    {
+        self.items.is_empty()
+    }
+
+    /// The list that a vector holds.
+    pub fn from_vec(items: Vec<T>) -> Listed<T>
+        ensures { result ≡ items.items }
+    {
+        Listed { items }
     }
 
     pub fn into_vec(self) -> Vec<T>

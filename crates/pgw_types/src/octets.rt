@@ -25,6 +25,7 @@ impl Model for Octets {
 }
 
 impl Octets {
+    /// A copy of the bytes.
     pub fn from_slice(alloc: Global, bytes: &[u8]) -> Result<Octets, OutOfMemory>
         ensures { IfOk result (λ o. o ≡ bytes.now) }
     {
@@ -37,6 +38,14 @@ impl Octets {
         ensures { result ≡ bytes }
     {
         Octets { bytes }
+    }
+
+    /// The bytes that a vector holds. It copies none.
+    pub fn from_vec(bytes: Vec<u8>) -> Result<Octets, OutOfMemory>
+        ensures { IfOk result (λ o. o ≡ bytes.items) }
+    {
+        let bytes = Bytes::from_vec(bytes)?;
+        Ok(Octets { bytes })
     }
 
     pub fn as_slice(&self) -> &[u8]

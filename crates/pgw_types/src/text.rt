@@ -39,6 +39,7 @@ impl Text {
         }
     }
 
+    /// A copy of the text.
     pub fn from_str(alloc: Global, text: &str) -> Result<Text, OutOfMemory>
         ensures { IfOk result (λ t. t ≡ text.now) }
     {
@@ -53,6 +54,13 @@ impl Text {
         // Tells the proof that the bytes are UTF-8.
         let _ = text.as_str();
         Text { text }
+    }
+
+    pub fn into_string(self) -> String
+        ensures { string_bytes result ≡ self }
+    {
+        let Text { text } = self;
+        text
     }
 
     pub fn as_str(&self) -> &str

@@ -1,4 +1,8 @@
 //! The base of the codec.
+//!
+//! To the crates of messages it promises that a reader takes just what its kind of field is spelled as, that a writer
+//! appends just that, and that a message which says its row of the message table has `decode` and `encode` by that row:
+//! the reading, the limit, the order of refusals. A refusal leaves the buffer as it was.
 #![tactic(auto)]
 
 pub mod buffer;
