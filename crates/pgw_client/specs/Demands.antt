@@ -11,7 +11,7 @@ abbrev pub Refuses : {T : Type 0} → List ℕ → Result T ClientError → Type
 Refuses key (Ok value) = ⊥
 Refuses key (Err e) = IsInvalidConfig key e
 
--- a configuration is refused by the key of its demand, if it has one; the proofs carry it, and no public clause cites it
+-- a configuration is refused by the key of its demand, if it has one; no clause of a session cites it
 abbrev pub Checked : Option (List ℕ) → Result Unit ClientError → Type 0
 Checked None (Ok done) = Unit {0}
 Checked None (Err e) = ⊥

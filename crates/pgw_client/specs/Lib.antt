@@ -4,3 +4,4 @@ pub mod Session
 pub mod Wire
 pub mod Machine
 pub mod SessionSteps
+pub mod Rows

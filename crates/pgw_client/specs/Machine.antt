@@ -1,4 +1,5 @@
--- What the code's steps answer, by the machine of a session. The proofs carry it, and no public clause cites it.
+-- What the code's steps answer, by the machine of a session. No clause of `run_session` on transcripts cites it; the
+-- claims on dialogues rest on it.
 use Rattle.std.specs.Prelude.{◌≡◌, ◌<◌, ℕ, List, [], ◌++◌, true, false, Bool, Some, Result, Ok, Err}
 use Rattle.std.specs.Str.{is_utf8}
 use Rattle.pgw_backend.specs.Front.{front, More}

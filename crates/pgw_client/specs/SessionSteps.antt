@@ -1,4 +1,5 @@
--- What the calls over a link leave. The proofs carry it, and no public clause cites it.
+-- What the calls over a link leave. Of the clauses of `run_session` only `session` cites it, and none on transcripts; the
+-- claims on dialogues rest on it.
 use Rattle.std.specs.Prelude.{◌≡◌, ◌⊎◌, ◌<◌, ◌≤◌, ℕ, ◌+◌, List, ◌++◌, length, take, Some, None, Result, Ok, Err, true, false, Bool}
 use Rattle.pgw_backend.specs.Front.{front, More}
 use Rattle.pgw_link.specs.Tape.{Tape, Took, Failed, counted}

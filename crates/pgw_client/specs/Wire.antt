@@ -1,4 +1,5 @@
--- What reading and writing messages answers. The proofs carry it, and no public clause cites it.
+-- What reading and writing messages answers. No clause of `run_session` on transcripts cites it; the claims on dialogues
+-- rest on it.
 use Rattle.std.specs.Prelude.{◌≡◌, ℕ, codes, List, ◌++◌, drop, Option, Some, None, Result, Ok, Err}
 use Rattle.pgw_types.specs.declared.error.PgWireError.{PgWireError}
 use Rattle.pgw_types.specs.declared.context.ProtocolVersion.{ProtocolVersion}

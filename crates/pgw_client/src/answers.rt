@@ -56,7 +56,8 @@ fn types(alloc: Global, oids: &[u32]) -> Result<Listed<PgType>, OutOfMemory>
     Ok(types)
 }
 
-fn note_row(tally: &mut Tally, row: DataRow) -> Result<(), OutOfMemory>
+/// Notes a row behind no error.
+pub fn note_row(tally: &mut Tally, row: DataRow) -> Result<(), OutOfMemory>
     ensures { OnOk result (tally.new ≡ with_row tally.old.opened tally.old row) }
 {
     match &mut tally.opened {

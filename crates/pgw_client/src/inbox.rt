@@ -1,11 +1,12 @@
 //! The bytes that were read and not taken yet.
-ghost use Rattle.std.specs.Prelude.{◌≡◌, [], ◌++◌, ◌≤◌, length, IfErr, OnOk, OnErr};
+ghost use Rattle.std.specs.Prelude.{◌≡◌, [], ◌++◌, ◌≤◌, length, None, Some, Ok, IfErr, IfSome, OnOk, OnErr};
 ghost use Rattle.pgw_client.specs.Wire.{IsOwn, Decoded};
 
-use crate::wire::decode;
+use crate::wire::{decode, decode_row};
 use bytes::{Bytes, BytesMut};
 use pgw_backend::backend::PgWireBackendMessage;
 use pgw_backend::client_error::PgWireClientError;
+use pgw_query::data::DataRow;
 use pgw_types::context::ProtocolVersion;
 use pgw_types::memory::OutOfMemory;
 use pgw_types::octets::Octets;
@@ -69,6 +70,15 @@ impl Inbox {
             Ok(None) => take_behind(alloc, version, &mut self.front, &mut self.tail),
             Err(e) => Err(e),
         }
+    }
+
+    /// Takes the row at the front, where it came whole with what stood before it. Where there is none to take, that
+    /// tells nothing of what stands there: `next_message` does.
+    pub fn next_row(&mut self, alloc: Global, version: ProtocolVersion) -> Option<DataRow>
+        ensures found { IfSome result (λ row. Decoded version self.old self.new (Ok (Some (PgWireBackendMessage.DataRow row)))) }
+        ensures left { result ≡ None → self.new ≡ self.old }
+    {
+        decode_row(alloc, version, &mut self.front)
     }
 }
 

@@ -1,17 +1,22 @@
 //! A client of a PostgreSQL server.
+//!
+//! To a caller, `run_session` promises that its report is that of a completed transcript and each answer that of its
+//! own request; the cause of each error and what an error leaves; that bytes which complete a session give its report;
+//! and that nothing is sent before it is due. The types that a caller names are handed on from here.
 #![tactic(auto)]
 
-mod answers;
-mod demands;
-mod inbox;
-mod input;
-mod logins;
-mod machine;
-mod requests;
+pub mod answers;
+pub mod demands;
+pub mod inbox;
+pub mod input;
+pub mod logins;
+pub mod machine;
+pub mod requests;
+pub mod rows;
 pub mod session;
-mod standings;
-mod table;
-mod wire;
+pub mod standings;
+pub mod table;
+pub mod wire;
 
 pub use crate::session::run_session;
 pub use pgw_backend::backend::PgWireBackendMessage;

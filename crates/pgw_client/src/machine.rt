@@ -12,6 +12,7 @@ ghost use Rattle.pgw_client.specs.Machine.{Advanced, IsAble, IsGood, Moved, Pass
 
 use crate::inbox::Inbox;
 use crate::input::Input;
+use crate::rows::{take_rows, takes_rows};
 use crate::table::{after, is_ready};
 use crate::wire::put_all;
 use crate::{answers, requests, standings};
@@ -359,8 +360,8 @@ fn take(
     }
 }
 
-/// Takes the message at the buffer's front, and puts out what falls due then.
-pub fn advance(
+// Takes the message at the buffer's front, and puts out what falls due then.
+fn take_next(
     alloc: Global,
     input: &Input<'_>,
     notes: &mut Notes,
@@ -383,6 +384,30 @@ pub fn advance(
         Ok(false) => Ok(Progress::Went),
         Err(e) => Err(e),
     }
+}
+
+/// Takes the message at the buffer's front, or the rows that stand there, and puts out what falls due then.
+pub fn advance(
+    alloc: Global,
+    input: &Input<'_>,
+    notes: &mut Notes,
+    buffer: &mut Inbox,
+    out: &mut BytesMut,
+) -> Result<Progress, PgWireClientError>
+    requires { IsAble (input_of input.now) notes.old.stage }
+    ensures own { IfErr result IsOwn }
+    ensures able { IfOk result (StaysAble (input_of input.now) notes.new) }
+    ensures shorter { IfOk result (λ taken. Shortens taken (length buffer.old) (length buffer.new)) }
+    ensures step { Advanced (input_of input.now) notes.old notes.new buffer.old buffer.new out.old.items out.new.items result }
+{
+    if takes_rows(notes) {
+        match take_rows(alloc, notes, buffer) {
+            Ok(true) => return Ok(Progress::Went),
+            Ok(false) => {}
+            Err(_) => return Err(PgWireClientError::OutOfMemory),
+        }
+    }
+    take_next(alloc, input, notes, buffer, out)
 }
 
 // ---- the end

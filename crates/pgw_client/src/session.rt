@@ -217,6 +217,9 @@ pub fn run_session<L: Link>(
     // which of its reads the end will answer. So this refuses every read that waits for nothing wanted: one before a
     // message that is due was written and flushed, and one behind the last ReadyForQuery.
     ensures lockstep { L.tells → InLockstep (input_with config.now requests.now nonce.now) (L.tape link.old) (L.tape link.new) }
+    // Where nothing is demanded that is refused, it is a session by the record that laws cite: as that a dialogue which is
+    // given the same bytes puts out the same and answers the same.
+    ensures session { L.tells → refused_config config.now ≡ None → Session (input_with config.now requests.now nonce.now) limit (L.tape link.old) (L.tape link.new) result }
     // Where nothing is demanded that is refused, the bytes to come complete a transcript within the limit and no call of
     // the link failed, its report is the answer.
     ensures reports { L.tells → refused_config config.now ≡ None → (segments : List (List Event)) →

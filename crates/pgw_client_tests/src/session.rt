@@ -48,6 +48,34 @@ fn logins_are_sent(rt: HostRuntime) -> Result<(), Fail> {
     Ok(())
 }
 
+// Each request that is made of texts, one after the other.
+fn of_texts(alloc: Global) -> Result<Listed<Request>, Fail> {
+    let mut requests = Listed::new(alloc);
+    requests.push(Request::prepare(alloc, "s1", "SELECT $1")?)?;
+    requests.push(Request::bind(alloc, "", "s1", &[Some("1"), None])?)?;
+    requests.push(Request::execute(alloc, "", 2)?)?;
+    requests.push(Request::query(alloc, "SELECT $1", &[Some("x")])?)?;
+    requests.push(Request::simple(alloc, "SELECT 1")?)?;
+    Ok(requests)
+}
+
+const ANSWERED: &[u8] =
+    b"R\0\0\0\x08\0\0\0\0Z\0\0\0\x05I1\0\0\0\x04t\0\0\0\x0a\0\x01\0\0\0\x17n\0\0\0\x04Z\0\0\0\x05I2\0\0\0\x04C\0\0\0\x0dSELECT 0\0Z\0\0\0\x05I1\0\0\0\x042\0\0\0\x04C\0\0\0\x0dSELECT 0\0Z\0\0\0\x05II\0\0\0\x04Z\0\0\0\x05I";
+
+// By the documentation's Message Formats.
+const OF_TEXTS: &[u8] =
+    b"\0\0\0\x12\0\x03\0\0user\0bob\0\0P\0\0\0\x13s1\0SELECT $1\0\0\0D\0\0\0\x08Ss1\0S\0\0\0\x04B\0\0\0\x17\0s1\0\0\0\0\x02\0\0\0\x011\xff\xff\xff\xff\0\0H\0\0\0\x04E\0\0\0\x09\0\0\0\0\x02H\0\0\0\x04S\0\0\0\x04P\0\0\0\x11\0SELECT $1\0\0\0B\0\0\0\x11\0\0\0\0\0\x01\0\0\0\x01x\0\0E\0\0\0\x09\0\0\0\0\0S\0\0\0\x04Q\0\0\0\x0dSELECT 1\0";
+
+#[test]
+fn requests_of_texts(rt: HostRuntime) -> Result<(), Fail> {
+    let alloc = rt.alloc();
+    let requests = of_texts(alloc)?;
+    let (written, report) = held(alloc, "user=bob", requests.as_slice(), ANSWERED)?;
+    assert_eq!(rt; written.as_slice(), OF_TEXTS);
+    assert_eq!(rt; report.answers.len(), 5);
+    Ok(())
+}
+
 // What a client has sent before its answer to a server's first SCRAM message.
 const ASKED: &[u8] =
     b"\0\0\0\x12\0\x03\0\0user\0bob\0\0p\0\0\0\x39SCRAM-SHA-256\0\0\0\0\x23n,,n=bob,r=AAAAAAAAAAAAAAAAAAAAAAAA";
@@ -178,7 +206,7 @@ fn requests_are_answered(rt: HostRuntime) -> Result<(), Fail> {
         ("rows", 1),
         ("responses", 1),
     ];
-    assert_eq!(rt; report.answers.as_slice().len(), 9);
+    assert_eq!(rt; report.answers.len(), 9);
     for (answer, want) in report.answers.as_slice().iter().zip(want) {
         assert_eq!(rt; answered(answer), want);
     }

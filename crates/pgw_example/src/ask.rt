@@ -3,11 +3,11 @@ ghost use Rattle.std.specs.Prelude.{IfOk};
 ghost use Rattle.pgw_client.specs.Session.{IoHasCause, MovedBy};
 ghost use Rattle.pgw_example.specs.Ask.{Asked};
 
-use pgw_client::{Config, Link, PgWireClientResult, Request, SessionReport, Text, run_session};
+use pgw_client::{Config, Link, PgWireClientResult, Request, SessionReport, run_session};
 use std::alloc::Global;
 
-/// Logs in by a connection text, asks for what the query gives, and reports. An error of the server is the report's
-/// one answer, and no error of this call.
+/// Logs in by a connection text, asks for what the query gives, and reports. An error that the server answers the
+/// query with is the report's one answer; one that refuses the login or ends the session is an error of this call.
 pub fn ask<L: Link>(
     alloc: Global,
     link: &mut L,
@@ -22,6 +22,6 @@ pub fn ask<L: Link>(
     ensures asked { L.tells → IfOk result (λ report. MovedBy (L.tape link.old) (L.tape link.new) (λ taken sent. Asked text.now sql.now nonce.now taken sent report)) }
 {
     let config = Config::parse(alloc, text)?;
-    let requests = [Request::Simple(Text::from_str(alloc, sql)?)];
+    let requests = [Request::simple(alloc, sql)?];
     run_session(alloc, link, &config, &requests, nonce, limit)
 }

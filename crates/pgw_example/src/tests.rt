@@ -14,7 +14,7 @@ fn one_row(rt: HostRuntime) -> Result<(), Fail> {
     let report = ask(alloc, &mut link, "user=bob", "SELECT 1", &[0; 18], 1000)?;
     let rows = match report.answers.as_slice() {
         [Answer::Responses(responses)] => match responses.as_slice() {
-            [Response::Query(_, _, rows)] => rows.as_slice().len(),
+            [Response::Query(_, _, rows)] => rows.len(),
             _ => 0,
         },
         _ => 0,

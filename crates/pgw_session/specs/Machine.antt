@@ -1,4 +1,5 @@
--- The machine of a session: what a message does, over what is noted. Not part of the claim: it only carries proofs.
+-- The machine of a session: what a message does, over what is noted. Not part of the claims of `run_session` on
+-- transcripts, whose proofs it carries; those on dialogues rest on it.
 use Rattle.std.specs.Prelude.{ℕ, zero, suc, Bool, true, false, List, [], ◌∷◌, slice_get, Option, Some, None, Result, Ok, Err}
 use Rattle.pgw_types.specs.declared.error.PgWireError.{PgWireError}
 use Rattle.pgw_frontend.specs.Frontend.{encodings}

@@ -1,5 +1,5 @@
--- What a client notes of a session, and of which conversation it is a view. Not part of the claim: it only carries
--- proofs.
+-- What a client notes of a session, and of which conversation it is a view. Not part of the claims of `run_session` on
+-- transcripts, whose proofs it carries; those on dialogues rest on it.
 use Rattle.std.specs.Prelude.{ℕ, suc, List, [], ◌∷◌, ◌++◌, drop, length, Option, Some, None}
 use Rattle.pgw_backend.specs.declared.backend.PgWireBackendMessage.{PgWireBackendMessage as Backend}
 use Rattle.pgw_session.specs.declared.types.Request.{Request}

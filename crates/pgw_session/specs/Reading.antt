@@ -1,5 +1,5 @@
--- How a client reads: what stands at the front of a server's bytes under a version. Not part of the claim: it only
--- carries proofs.
+-- How a client reads: what stands at the front of a server's bytes under a version. Not part of the claims of
+-- `run_session` on transcripts, whose proofs it carries; those on dialogues rest on it.
 use Rattle.std.specs.Prelude.{ℕ, List}
 use Rattle.pgw_types.specs.declared.context.ProtocolVersion.{ProtocolVersion}
 use Rattle.pgw_types.specs.declared.error.PgWireError.{PgWireError}

@@ -1,4 +1,5 @@
--- The table: what a message does at a stage of the open segment. Not part of the claim: it only carries proofs.
+-- The table: what a message does at a stage of the open segment. Not part of the claims of `run_session` on transcripts,
+-- whose proofs it carries; those on dialogues rest on it.
 use Rattle.std.specs.Prelude.{ℕ, Bool, true, false, List, Option, Some, None}
 use Rattle.pgw_startup.specs.declared.authentication.Authentication.TheVariants as authentication
 use Rattle.pgw_backend.specs.declared.backend.PgWireBackendMessage.{PgWireBackendMessage as Backend}

@@ -1,4 +1,5 @@
--- The conversation: the machine that notes the events, cut into segments. Not part of the claim: it only carries proofs.
+-- The conversation: the machine that notes the events, cut into segments. Not part of the claims of `run_session` on
+-- transcripts, whose proofs it carries; those on dialogues rest on it.
 use Rattle.std.specs.Prelude.{◌≡◌, ℕ, List, [], ◌∷◌, ◌++◌, length, map, Option, Some, None}
 use Rattle.pgw_types.specs.declared.error.PgWireError.{PgWireError}
 use Rattle.pgw_backend.specs.declared.backend.PgWireBackendMessage.{PgWireBackendMessage as Backend}

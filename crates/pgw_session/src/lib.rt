@@ -1,4 +1,8 @@
 //! What a session is: definitions and laws.
+//!
+//! To the client above it promises what transcripts, legal prefixes, answers, reports and causes are, and that the
+//! machine which goes over a server's messages leads just to them. But for the types of requests and answers it has law
+//! functions and nothing that runs.
 #![tactic(auto)]
 
 pub mod laws;

@@ -1,4 +1,7 @@
 //! What goes into a session and what comes out of it.
+ghost use Rattle.std.specs.Prelude.{◌≡◌, [], map, IfOk};
+ghost use Rattle.std.specs.Option.{option_copied};
+ghost use Rattle.pgw_wire.specs.Reading.{name_of};
 
 use pgw_backend::field_info::FieldInfo;
 use pgw_backend::pg_type::PgType;
@@ -8,6 +11,7 @@ use pgw_query::response::{ErrorResponse, TransactionStatus};
 use pgw_rows::result::DataRowsReader;
 use pgw_types::context::ProtocolVersion;
 use pgw_types::listed::Listed;
+use pgw_types::memory::OutOfMemory;
 use pgw_types::octets::Octets;
 use pgw_types::text::Text;
 use pgw_wire::params::Params;
@@ -38,6 +42,90 @@ pub enum Request {
     Query(Text, Listed<u32>, Listed<Option<Octets>>),
 }
 
+/// A name, or none where the text is empty.
+fn named(alloc: Global, name: &str) -> Result<Option<Text>, OutOfMemory>
+    ensures { IfOk result (λ o. o ≡ name_of name.now) }
+{
+    if name.is_empty() {
+        return Ok(None);
+    }
+    Ok(Some(Text::from_str(alloc, name)?))
+}
+
+/// A parameter's text as its bytes.
+fn parameter_of(alloc: Global, value: Option<&str>) -> Result<Option<Octets>, OutOfMemory>
+    ensures { IfOk result (λ o. o ≡ option_copied value.entry) }
+{
+    match value {
+        Some(text) => Ok(Some(Octets::from_slice(alloc, text.as_bytes())?)),
+        None => Ok(None),
+    }
+}
+
+fn parameters_of(
+    alloc: Global,
+    values: &[Option<&str>],
+) -> Result<Listed<Option<Octets>>, OutOfMemory>
+    ensures { IfOk result (λ list. list ≡ map option_copied values.now) }
+{
+    let mut parameters = Listed::new(alloc);
+    for value in values {
+        parameters.push(parameter_of(alloc, *value)?)?;
+    }
+    Ok(parameters)
+}
+
+/// Requests made of texts. An empty name is none, parameters are texts with None for NULL, their types are left to the
+/// server, and every result is asked for as text.
+impl Request {
+    ghost use Rattle.pgw_session.specs.declared.types.Request.TheVariants as request;
+
+    pub fn simple(alloc: Global, sql: &str) -> Result<Request, OutOfMemory>
+        ensures { IfOk result (λ r. r ≡ request.Simple sql.now) }
+    {
+        Ok(Request::Simple(Text::from_str(alloc, sql)?))
+    }
+
+    pub fn prepare(alloc: Global, name: &str, sql: &str) -> Result<Request, OutOfMemory>
+        ensures { IfOk result (λ r. r ≡ request.Prepare (name_of name.now) sql.now []) }
+    {
+        let name = named(alloc, name)?;
+        Ok(Request::Prepare(name, Text::from_str(alloc, sql)?, Listed::new(alloc)))
+    }
+
+    pub fn bind(
+        alloc: Global,
+        portal: &str,
+        statement: &str,
+        parameters: &[Option<&str>],
+    ) -> Result<Request, OutOfMemory>
+        ensures { IfOk result (λ r. r ≡ request.Bind (name_of portal.now) (name_of statement.now) (map option_copied parameters.now) []) }
+    {
+        let portal = named(alloc, portal)?;
+        let statement = named(alloc, statement)?;
+        let parameters = parameters_of(alloc, parameters)?;
+        Ok(Request::Bind(portal, statement, parameters, Listed::new(alloc)))
+    }
+
+    /// So many rows of a portal at most; 0 is all.
+    pub fn execute(alloc: Global, portal: &str, rows: i32) -> Result<Request, OutOfMemory>
+        ensures { IfOk result (λ r. r ≡ request.Execute (name_of portal.now) rows) }
+    {
+        Ok(Request::Execute(named(alloc, portal)?, rows))
+    }
+
+    pub fn query(
+        alloc: Global,
+        sql: &str,
+        parameters: &[Option<&str>],
+    ) -> Result<Request, OutOfMemory>
+        ensures { IfOk result (λ r. r ≡ request.Query sql.now [] (map option_copied parameters.now)) }
+    {
+        let parameters = parameters_of(alloc, parameters)?;
+        Ok(Request::Query(Text::from_str(alloc, sql)?, Listed::new(alloc), parameters))
+    }
+}
+
 /// What one command of a simple query gave.
 #[derive(Debug, Drop)]
 pub enum Response {
@@ -49,7 +137,6 @@ pub enum Response {
 }
 
 impl Response {
-    ghost use Rattle.std.specs.Prelude.{◌≡◌};
     ghost use Rattle.pgw_session.specs.Responses.{rows_in};
 
     /// The rows of a result, to be read; of any other response, none.

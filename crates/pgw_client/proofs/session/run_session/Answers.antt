@@ -26,6 +26,7 @@ returns-in-Err g c =
       told = λ t none. absurd (cc);
       paced = λ t. refused_paced limit old;
       lockstep = λ t. refused_lockstep input old;
+      session = λ t none. absurd (cc);
       reports = λ t none segments completes no_rise. absurd (cc);
     }
 
@@ -47,5 +48,6 @@ returns g c =
       told = λ t clear. told input _ _ _ r (held.session t);
       paced = λ t. paced input _ _ _ r (held.session t);
       lockstep = λ t. lockstep input _ _ _ r (held.session t);
+      session = λ t clear. held.session t;
       reports = λ t clear segments completes no_rise. reports input _ _ _ r segments (held.session t) completes (λ io. no_rise (held.cause.io io));
     }

@@ -6,7 +6,7 @@ use Rattle.pgw_session.specs.Notes.{notes_book}
 use Rattle.pgw_session.proofs.ReadingLaws.{reads_bad, reads_whole, steady_by}
 use Rattle.pgw_client.specs.Input.{input_of}
 use Rattle.pgw_client.specs.Machine.{runs}
-use Rattle.pgw_client.proofs.machine.advance.Goals as goal
+use Rattle.pgw_client.proofs.machine.take_next.Goals as goal
 
 pub returns-in-Err-clause-step : goal.returns-in-Err-clause-step
 returns-in-Err-clause-step c =
