@@ -1,0 +1,4 @@
+pub mod Able
+pub mod Answers
+pub mod Steps
+pub mod Dialogue

@@ -1,0 +1,14 @@
+//! A session whose bytes the caller moves.
+//!
+//! To a caller that has its own input and output it promises, of all bytes given and put out that a dialogue stands for,
+//! what `run_session` promises of bytes read and written: what is put out, what each call answers with its cause, and
+//! the report.
+#![tactic(auto)]
+
+pub mod dialogue;
+pub mod laws;
+mod phase;
+mod steps;
+
+pub use crate::dialogue::Dialogue;
+pub use crate::phase::DialoguePhase;

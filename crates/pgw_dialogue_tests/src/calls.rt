@@ -1,0 +1,188 @@
+//! What the calls of a dialogue answer.
+
+use bytes::BytesMut;
+use pgw_client::{
+    ChannelBinding, Config, PgWireClientError, PgWireClientResult, Request, SslMode, Text,
+};
+use pgw_dialogue::{Dialogue, DialoguePhase};
+use std::alloc::Global;
+use std::test::Fail;
+
+// AuthenticationOk, ReadyForQuery; then a row of one field, its result and ReadyForQuery.
+const SERVER: &[u8] =
+    b"R\0\0\0\x08\0\0\0\0Z\0\0\0\x05IT\0\0\0\x1a\0\x01a\0\0\0\0\0\0\0\0\0\0\x17\0\x04\xff\xff\xff\xff\0\0D\0\0\0\x0b\0\x01\0\0\0\x011C\0\0\0\rSELECT 1\0Z\0\0\0\x05I";
+
+// The bytes of the startup message, and with them those of the query.
+const STARTUP: usize = 18;
+
+const WITH_QUERY: usize = 32;
+
+fn name_of(error: &PgWireClientError) -> &'static str {
+    match error {
+        PgWireClientError::UnexpectedEOF => "UnexpectedEOF",
+        PgWireClientError::UnexpectedMessage(_) => "UnexpectedMessage",
+        PgWireClientError::RemoteError(_) => "RemoteError",
+        PgWireClientError::PgWireError(_) => "PgWireError",
+        PgWireClientError::InvalidConfig(_) => "InvalidConfig",
+        PgWireClientError::ReadLimit => "ReadLimit",
+        PgWireClientError::Broken => "Broken",
+        _ => "another",
+    }
+}
+
+fn answer_of(answer: &PgWireClientResult<DialoguePhase>) -> &'static str {
+    match answer {
+        Ok(DialoguePhase::Waiting) => "Waiting",
+        Ok(DialoguePhase::Ready) => "Ready",
+        Ok(DialoguePhase::Done) => "Done",
+        Err(error) => name_of(error),
+    }
+}
+
+fn select_one(alloc: Global) -> Result<Vec<Request>, Fail> {
+    let mut requests = Vec::new(alloc);
+    requests.push(Request::Simple(Text::from_str(alloc, "SELECT 1")?))?;
+    Ok(requests)
+}
+
+// What two pieces are answered, and how many bytes were put out behind each.
+fn answers(
+    alloc: Global,
+    limit: u64,
+    pieces: [&[u8]; 2],
+) -> Result<([&'static str; 2], [usize; 2]), Fail> {
+    let config = Config::parse(alloc, "user=bob")?;
+    let requests = select_one(alloc)?;
+    let mut out = BytesMut::new(alloc);
+    let mut dialogue = Dialogue::start(alloc, &config, &requests, &[0; 18], limit, &mut out)?;
+    let first = answer_of(&dialogue.take(pieces[0], &mut out));
+    let count = out.len();
+    let second = answer_of(&dialogue.take(pieces[1], &mut out));
+    Ok(([first, second], [count, out.len()]))
+}
+
+// Phases within and behind the startup segment; the transcript whole, with bytes behind it in the same piece, and behind
+// that in another; a type byte that no message has, and the pieces behind it; a message cut within its length field.
+#[test]
+fn pieces_are_answered(rt: HostRuntime) -> Result<(), Fail> {
+    let alloc = rt.alloc();
+    let server = SERVER;
+    let cases: [([&[u8]; 2], [&str; 2], [usize; 2]); 7] = [
+        (
+            [&server[..14], &server[14..15]],
+            ["Waiting", "Ready"],
+            [STARTUP, WITH_QUERY],
+        ),
+        ([&[], &[]], ["Waiting", "Waiting"], [STARTUP, STARTUP]),
+        (
+            [&server[..73], &server[73..]],
+            ["Ready", "Done"],
+            [WITH_QUERY, WITH_QUERY],
+        ),
+        (
+            [SERVER, b"?\0\0\0\x04"],
+            ["Done", "Done"],
+            [WITH_QUERY, WITH_QUERY],
+        ),
+        (
+            [b"?\0\0\0\x04", SERVER],
+            ["PgWireError", "Broken"],
+            [STARTUP, STARTUP],
+        ),
+        (
+            [b"R\0\0\0\x08\0\0\0\0Z\0\0\0\x05I?\0\0\0\x04", b""],
+            ["PgWireError", "Broken"],
+            [WITH_QUERY, WITH_QUERY],
+        ),
+        (
+            [&server[..3], &server[3..15]],
+            ["Waiting", "Ready"],
+            [STARTUP, WITH_QUERY],
+        ),
+    ];
+    for (pieces, names, counts) in cases {
+        let (answers, lengths) = answers(alloc, 1000, pieces)?;
+        assert_eq!(rt; answers, names);
+        assert_eq!(rt; lengths, counts);
+    }
+    Ok(())
+}
+
+// What a dialogue with this limit answers to all the bytes of the server, and then to none.
+#[test]
+fn limits_are_kept(rt: HostRuntime) -> Result<(), Fail> {
+    let alloc = rt.alloc();
+    for limit in 0..76 {
+        let (names, lengths) = answers(alloc, limit, [SERVER, b""])?;
+        let want = if limit < 74 {
+            ["ReadLimit", "Broken"]
+        } else {
+            ["Done", "Done"]
+        };
+        let count = if limit < 15 { STARTUP } else { WITH_QUERY };
+        assert_eq!(rt; names, want, "{limit}");
+        assert_eq!(rt; lengths, [count, count], "{limit}");
+    }
+    Ok(())
+}
+
+// What the link's end means behind these bytes.
+fn end_behind(alloc: Global, bytes: &[u8]) -> Result<&'static str, Fail> {
+    let config = Config::parse(alloc, "user=bob")?;
+    let requests = select_one(alloc)?;
+    let mut out = BytesMut::new(alloc);
+    let mut dialogue = Dialogue::start(alloc, &config, &requests, &[0; 18], 1000, &mut out)?;
+    match dialogue.take(bytes, &mut out)? {
+        DialoguePhase::Waiting | DialoguePhase::Ready => Ok(name_of(&dialogue.at_end())),
+        DialoguePhase::Done => Ok("Done"),
+    }
+}
+
+// No byte; a message begun; an error of the server; a message that has no place in a simple query, before its
+// ReadyForQuery.
+#[test]
+fn ends_have_meanings(rt: HostRuntime) -> Result<(), Fail> {
+    let alloc = rt.alloc();
+    let server = SERVER;
+    let cases: [(&[u8], &str); 4] = [
+        (b"", "UnexpectedEOF"),
+        (&server[..20], "UnexpectedEOF"),
+        (
+            b"R\0\0\0\x08\0\0\0\0Z\0\0\0\x05IE\0\0\0\x0cC42601\0\0",
+            "RemoteError",
+        ),
+        (
+            b"R\0\0\0\x08\0\0\0\0Z\0\0\0\x05I2\0\0\0\x04",
+            "UnexpectedMessage",
+        ),
+    ];
+    for (bytes, want) in cases {
+        assert_eq!(rt; end_behind(alloc, bytes)?, want);
+    }
+    Ok(())
+}
+
+// How a beginning is refused, and how many bytes are put out.
+fn refused(alloc: Global, config: &Config) -> (&'static str, usize) {
+    let mut out = BytesMut::new(alloc);
+    match Dialogue::start(alloc, config, &[], &[0; 18], 1000, &mut out) {
+        Ok(_dialogue) => ("begun", out.len()),
+        Err(error) => (name_of(&error), out.len()),
+    }
+}
+
+// Encryption is demanded, or a login bound to it; a user name that has a zero byte; and nothing of these.
+#[test]
+fn beginnings_are_refused(rt: HostRuntime) -> Result<(), Fail> {
+    let alloc = rt.alloc();
+    let mut config = Config::new(alloc);
+    assert_eq!(rt; refused(alloc, &config), ("begun", 9));
+    config.set_user(alloc, "a\0b")?;
+    assert_eq!(rt; refused(alloc, &config), ("PgWireError", 0));
+    config.channel_binding = ChannelBinding::Require;
+    assert_eq!(rt; refused(alloc, &config), ("InvalidConfig", 0));
+    config.channel_binding = ChannelBinding::Prefer;
+    config.ssl_mode = SslMode::Require;
+    assert_eq!(rt; refused(alloc, &config), ("InvalidConfig", 0));
+    Ok(())
+}

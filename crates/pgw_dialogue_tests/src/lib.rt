@@ -1,0 +1,7 @@
+//! Tests of dialogues.
+#![tactic(auto)]
+
+#[cfg(test)]
+mod calls;
+#[cfg(test)]
+mod pieces;

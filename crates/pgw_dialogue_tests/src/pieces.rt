@@ -1,0 +1,68 @@
+//! A session in pieces, and a session over a link.
+ghost use Rattle.std.specs.Prelude.{◌<◌};
+
+use bytes::BytesMut;
+use pgw_client::{Config, Listed, MemoryLink, Octets, Request, Text, run_session};
+use pgw_dialogue::{Dialogue, DialoguePhase};
+use std::alloc::Global;
+use std::test::Fail;
+
+// AuthenticationOk, ReadyForQuery; then a row of one field, its result and ReadyForQuery.
+const SERVER: &[u8; 74] =
+    b"R\0\0\0\x08\0\0\0\0Z\0\0\0\x05IT\0\0\0\x1a\0\x01a\0\0\0\0\0\0\0\0\0\0\x17\0\x04\xff\xff\xff\xff\0\0D\0\0\0\x0b\0\x01\0\0\0\x011C\0\0\0\rSELECT 1\0Z\0\0\0\x05I";
+
+// The startup message, and the query.
+const CLIENT: &[u8] = b"\0\0\0\x12\0\x03\0\0user\0bob\0\0Q\0\0\0\rSELECT 1\0";
+
+fn select_one(alloc: Global) -> Result<Vec<Request>, Fail> {
+    let mut requests = Vec::new(alloc);
+    requests.push(Request::Simple(Text::from_str(alloc, "SELECT 1")?))?;
+    Ok(requests)
+}
+
+// What a session over a link writes, and its report as text.
+fn over_link(alloc: Global) -> Result<(Vec<u8>, String), Fail> {
+    let config = Config::parse(alloc, "user=bob")?;
+    let requests = select_one(alloc)?;
+    let server = Octets::from_slice(alloc, SERVER)?;
+    let mut link = MemoryLink::new(alloc, server, 50, Listed::new(alloc), Listed::new(alloc));
+    let report = run_session(alloc, &mut link, &config, &requests, &[0; 18], 1000)?;
+    Ok((
+        link.written().to_vec(alloc)?,
+        format!(in alloc; "{report:?}")?,
+    ))
+}
+
+// The same of a dialogue, which is given pieces of this size.
+fn in_pieces(alloc: Global, size: usize) -> Result<(Vec<u8>, String), Fail>
+    requires { 0 < size }
+{
+    let config = Config::parse(alloc, "user=bob")?;
+    let requests = select_one(alloc)?;
+    let mut out = BytesMut::new(alloc);
+    let mut dialogue = Dialogue::start(alloc, &config, &requests, &[0; 18], 1000, &mut out)?;
+    for piece in SERVER.chunks(size) {
+        match dialogue.take(piece, &mut out)? {
+            DialoguePhase::Waiting | DialoguePhase::Ready => {}
+            DialoguePhase::Done => {
+                let report = dialogue.report();
+                let sent = out.as_slice().to_vec(alloc)?;
+                return Ok((sent, format!(in alloc; "{report:?}")?));
+            }
+        }
+    }
+    Ok((Vec::new(alloc), String::new(alloc)))
+}
+
+#[test]
+fn dialogue_pieces(rt: HostRuntime) -> Result<(), Fail> {
+    let alloc = rt.alloc();
+    let (written, reported) = over_link(alloc)?;
+    assert_eq!(rt; written.as_slice(), CLIENT);
+    for size in [1, 7, 74] {
+        let (sent, report) = in_pieces(alloc, size)?;
+        assert_eq!(rt; sent.as_slice(), CLIENT, "{size}");
+        assert_eq!(rt; report.as_str(), reported.as_str(), "{size}");
+    }
+    Ok(())
+}
