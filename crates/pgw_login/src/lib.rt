@@ -1,4 +1,7 @@
 //! The server's side of a login: what handlers see, and the handlers without SASL.
+//!
+//! To a server it promises that each call of a handler is the act that its table names, on client, login and outbox,
+//! and that after a refusal the login has failed.
 #![tactic(auto)]
 
 pub mod acts;

@@ -224,7 +224,7 @@ impl<A, P, G: Drop, M> Md5PasswordAuthStartupHandler<A, P, G, M> {
 }
 
 impl<A, P, G, M: Drop> Md5PasswordAuthStartupHandler<A, P, G, M> {
-    /// The same, which registers its connections.
+    /// The same, which registers its connections. A login then may wait for the registry's turn.
     pub fn with_connection_manager<R: Wait>(
         self,
         manager: Arc<ConnectionManager>,

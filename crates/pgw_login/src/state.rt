@@ -59,10 +59,18 @@ impl LoginState {
         &self.sasl
     }
 
+    /// For handlers in other crates. It can open a login again that has ended.
     pub fn set_sasl(&mut self, sasl: SASLState)
         ensures { self.new ≡ with_sasl sasl self.old }
     {
         self.sasl = sasl;
+    }
+
+    /// Whether a startup message has come.
+    pub fn is_started(&self) -> bool
+        ensures { result ≡ self.now.started }
+    {
+        self.started
     }
 
     /// The bytes of the server's nonce.

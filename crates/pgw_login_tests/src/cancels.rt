@@ -1,0 +1,146 @@
+//! Requests to cancel.
+ghost use Rattle.std.specs.Prelude.{◌≡◌};
+ghost use Rattle.std.specs.Arc.{arc_value};
+
+use pgw_login::cancel::{CancelHandler, DefaultCancelHandler};
+use pgw_login::noop::NoopHandler;
+use pgw_login::registers::{Managed, Registers};
+use pgw_opening::cancel::CancelRequest;
+use pgw_registry::manager::{
+    CancelToken, ConnectionGuard, ConnectionHandle, ConnectionManager, Pass,
+};
+use pgw_wire::secret_key::SecretKey;
+use std::alloc::Global;
+use std::sync::{Arc, Wait};
+use std::test::Fail;
+
+fn finish<R: Wait>(rt: &R, manager: &ConnectionManager, pass: &mut Pass, token: CancelToken)
+    requires { pass.old.of ≡ manager.now }
+    ensures { pass.new.of ≡ pass.old.of }
+{
+    match token.finish(rt, manager, pass) {
+        Ok(()) => {}
+        Err(token) => token.abandon(pass),
+    }
+}
+
+fn close<R: Wait>(rt: &R, manager: &ConnectionManager, pass: &mut Pass, handle: ConnectionHandle)
+    requires { pass.old.of ≡ manager.now }
+    ensures { pass.new.of ≡ pass.old.of }
+{
+    match handle.close(rt, manager, pass) {
+        Ok(()) => {}
+        Err(handle) => handle.abandon(pass),
+    }
+}
+
+fn release<R: Wait>(rt: &R, pass: &mut Pass, guard: ConnectionGuard)
+    requires { pass.old.of ≡ arc_value guard.manager }
+    ensures { pass.new.of ≡ pass.old.of }
+{
+    match guard.release(rt, pass) {
+        Ok(()) => {}
+        Err(guard) => guard.abandon(pass),
+    }
+}
+
+// Whether a query of the connection is canceled by a request.
+fn is_canceled<R: Wait>(
+    rt: &R,
+    manager: &Arc<ConnectionManager>,
+    pass: &mut Pass,
+    handle: &ConnectionHandle,
+    request: CancelRequest,
+) -> Option<bool>
+    requires { pass.old.of ≡ arc_value manager.now }
+    ensures { pass.new.of ≡ pass.old.of }
+{
+    let handler = DefaultCancelHandler::new(manager.clone().ok()?, rt);
+    let token = handle.start_query(rt, manager, pass).ok()?;
+    let answer = handler.on_cancel_request(pass, request);
+    let looked = token.try_recv(rt, manager, pass);
+    finish(rt, manager, pass, token);
+    answer.ok()?;
+    Some(looked.ok()?.is_some())
+}
+
+// Whether a query of the connection with the number 7 and the key 5 is canceled: by the key of another, by the number of
+// another, and by its own.
+fn outcomes<R: Wait>(
+    rt: &R,
+    alloc: Global,
+    manager: &Arc<ConnectionManager>,
+    pass: &mut Pass,
+) -> Option<[Option<bool>; 3]>
+    requires { pass.old.of ≡ arc_value manager.now }
+    ensures { pass.new.of ≡ pass.old.of }
+{
+    let key = SecretKey::I32(5);
+    let (handle, guard) = ConnectionManager::register(rt, alloc, manager, pass, 7, key).ok()?;
+    let request = CancelRequest::new(7, SecretKey::I32(6));
+    let by_another_key = is_canceled(rt, manager, pass, &handle, request);
+    let request = CancelRequest::new(8, SecretKey::I32(5));
+    let by_another_number = is_canceled(rt, manager, pass, &handle, request);
+    let request = CancelRequest::new(7, SecretKey::I32(5));
+    let by_its_own = is_canceled(rt, manager, pass, &handle, request);
+    close(rt, manager, pass, handle);
+    release(rt, pass, guard);
+    Some([by_another_key, by_another_number, by_its_own])
+}
+
+#[test]
+fn cancel_handler(rt: HostRuntime) -> Result<(), Fail> {
+    let alloc = rt.alloc();
+    let (manager, mut pass) = ConnectionManager::new(alloc)?;
+    let manager = Arc::new(alloc, manager)?;
+    let told = outcomes(&rt, alloc, &manager, &mut pass);
+    assert_eq!(rt; told, Some([Some(false), Some(false), Some(true)]));
+    Ok(())
+}
+
+// Registers a connection as a login does; answers how many events there were then, and behind its end.
+fn events_of<R: Wait>(
+    rt: &R,
+    alloc: Global,
+    manager: &Arc<ConnectionManager>,
+    pass: Pass,
+) -> Option<(u64, u64)>
+    requires { pass.of ≡ arc_value manager.now }
+{
+    let managed = Managed::new(manager.clone().ok()?, rt);
+    let mut pass = Some(pass);
+    match managed.register(alloc, &mut pass, 7, &SecretKey::I32(5)) {
+        Ok(Some((handle, guard))) => {
+            let Some(pass) = &mut pass else {
+                unreachable!()
+            };
+            let registered = manager.events(pass);
+            close(rt, manager, pass, handle);
+            release(rt, pass, guard);
+            Some((registered, manager.events(pass)))
+        }
+        Ok(None) => None,
+        Err(_) => None,
+    }
+}
+
+#[test]
+fn managed_registers(rt: HostRuntime) -> Result<(), Fail> {
+    let alloc = rt.alloc();
+    let (manager, pass) = ConnectionManager::new(alloc)?;
+    let manager = Arc::new(alloc, manager)?;
+    let events = events_of(&rt, alloc, &manager, pass);
+    assert_eq!(rt; events, Some((1, 3)));
+    Ok(())
+}
+
+// A server that asks for nothing takes a request to cancel, and cancels nothing.
+#[test]
+fn noop_cancels_nothing(rt: HostRuntime) -> Result<(), Fail> {
+    let (manager, mut pass) = ConnectionManager::new(rt.alloc())?;
+    let request = CancelRequest::new(7, SecretKey::I32(5));
+    let handler = NoopHandler::new(());
+    assert_eq!(rt; handler.on_cancel_request(&mut pass, request), Ok(()));
+    assert_eq!(rt; manager.events(&mut pass), 0);
+    Ok(())
+}

@@ -1,0 +1,199 @@
+//! Logins message by message.
+
+use crate::support::{OnePassword, Silent, Step, let_go, take_all, words_of};
+use pgw_login::cleartext::CleartextPasswordAuthStartupHandler;
+use pgw_login::client_info::{DefaultClient, PgWireConnectionState};
+use pgw_login::md5::Md5PasswordAuthStartupHandler;
+use pgw_login::noop::NoopHandler;
+use pgw_login::outbox::ByteOutbox;
+use pgw_login::state::LoginState;
+use pgw_registry::generator::RandomPidSecretKeyGenerator;
+use pgw_types::context::ProtocolVersion;
+use pgw_types::error::PgWireResult;
+use pgw_types::text::Text;
+use std::alloc::Global;
+use std::process::Abort;
+use std::test::Fail;
+
+const ASKED: &[u8] = b"R\0\0\0\x08\0\0\0\x03";
+
+// Behind the offer of version 3.2.
+const OFFERED: &[u8] = b"v\0\0\0\x0c\0\x03\0\x02\0\0\0\0R\0\0\0\x08\0\0\0\x03";
+
+const LET_IN: &[u8] =
+    b"R\0\0\0\x08\0\0\0\x03R\0\0\0\x08\0\0\0\0K\0\0\0\x0c\0\x01\x86\xa0\x01\x01\x01\x01Z\0\0\0\x05I";
+
+const CHALLENGED: &[u8] = b"R\0\0\0\x0c\0\0\0\x05\x14\xf7\x6b\xf9";
+
+const LET_IN_BY_MD5: &[u8] =
+    b"R\0\0\0\x0c\0\0\0\x05\x14\xf7\x6b\xf9R\0\0\0\x08\0\0\0\0K\0\0\0\x0c\0\x01\x86\xa0\x01\x01\x01\x01Z\0\0\0\x05I";
+
+// The worked exchange of the documentation's formula.
+const HASHED: &str = "md521fe459d77d3e3ea9c9fcd5c11030d30";
+
+// AuthenticationOk, the parameters in the order of their names, BackendKeyData, ReadyForQuery.
+const WELCOMED: &[u8] =
+    b"R\0\0\0\x08\0\0\0\0S\0\0\0\x17DateStyle\0ISO, YMD\0S\0\0\0\x1bIntervalStyle\0postgres\0S\0\0\0\x15TimeZone\0Etc/UTC\0S\0\0\0\x19client_encoding\0UTF8\0S\0\0\0\x26default_transaction_read_only\0off\0S\0\0\0\x17in_hot_standby\0off\0S\0\0\0\x19integer_datetimes\0on\0S\0\0\0\x14is_superuser\0on\0S\0\0\0\x1ascram_iterations\04096\0S\0\0\0\x17search_path\0public\0S\0\0\0\x19server_encoding\0UTF8\0S\0\0\0\x26server_version\016.6-pgwire-0.41.0\0S\0\0\0\x1esession_authorization\0bob\0S\0\0\0\x23standard_conforming_strings\0on\0K\0\0\0\x0c\0\x01\x86\xa0\x01\x01\x01\x01Z\0\0\0\x05I";
+
+// What comes of some messages.
+#[derive(Drop)]
+struct Outcome {
+    answer: PgWireResult<()>,
+    out: ByteOutbox,
+    client: DefaultClient<()>,
+}
+
+// A server that asks for the password `secret` in clear text.
+fn by_cleartext<R: Abort>(rt: &R, alloc: Global, steps: &[Step<'_>]) -> PgWireResult<Outcome> {
+    let (generator, seat) = RandomPidSecretKeyGenerator::new(alloc)?;
+    let source = OnePassword {
+        password: b"secret",
+    };
+    let handler = CleartextPasswordAuthStartupHandler::new(source, Silent, generator);
+    let mut client = DefaultClient::new(alloc, Text::new(alloc), false, ());
+    let mut out = ByteOutbox::new(alloc);
+    let mut state = LoginState::new([7; 18], [1; 32], seat, None);
+    let answer = take_all(alloc, &handler, &mut client, &mut out, &mut state, steps);
+    let_go(rt, state);
+    Ok(Outcome {
+        answer,
+        out,
+        client,
+    })
+}
+
+// A server that asks for the password `themanwhochangedchina` of `zmjiang` under MD5.
+fn by_md5<R: Abort>(rt: &R, alloc: Global, steps: &[Step<'_>]) -> PgWireResult<Outcome> {
+    let (generator, seat) = RandomPidSecretKeyGenerator::new(alloc)?;
+    let source = OnePassword {
+        password: HASHED.as_bytes(),
+    };
+    let handler = Md5PasswordAuthStartupHandler::new(source, Silent, generator);
+    let mut client = DefaultClient::new(alloc, Text::new(alloc), false, ());
+    let mut out = ByteOutbox::new(alloc);
+    let mut state = LoginState::new([7; 18], [1; 32], seat, None);
+    let answer = take_all(alloc, &handler, &mut client, &mut out, &mut state, steps);
+    let_go(rt, state);
+    Ok(Outcome {
+        answer,
+        out,
+        client,
+    })
+}
+
+// A server that asks for nothing.
+fn by_noop<R: Abort>(rt: &R, alloc: Global, steps: &[Step<'_>]) -> PgWireResult<Outcome> {
+    let (generator, seat) = RandomPidSecretKeyGenerator::new(alloc)?;
+    let handler = NoopHandler::new(generator);
+    let mut client = DefaultClient::new(alloc, Text::new(alloc), false, ());
+    let mut out = ByteOutbox::new(alloc);
+    let mut state = LoginState::new([7; 18], [1; 32], seat, None);
+    let answer = take_all(alloc, &handler, &mut client, &mut out, &mut state, steps);
+    let_go(rt, state);
+    Ok(Outcome {
+        answer,
+        out,
+        client,
+    })
+}
+
+#[test]
+fn cleartext_table(rt: HostRuntime) -> Result<(), Fail> {
+    let opened = Step::Startup("bob");
+    let right = Step::Password("secret");
+    let wrong = Step::Password("secreT");
+    let unnamed = Step::Startup("");
+    let eve = Step::Startup("eve");
+    let other = Step::Terminate;
+    let (later, between) = (Step::Version(3, 2), Step::Version(3, 1));
+    let unknown = Step::Version(4, 0);
+    let cases: [(&[Step<'_>], &str, &[u8]); 14] = [
+        (&[opened], "ok", ASKED),
+        (&[opened, right], "ok", LET_IN),
+        (&[opened, wrong], "bob", ASKED),
+        (&[unnamed, wrong], "", ASKED),
+        (&[opened, wrong, right], "InvalidSASLState", ASKED),
+        (&[opened, right, right], "InvalidSASLState", LET_IN),
+        (&[right], "InvalidSASLState", b""),
+        (&[opened, opened], "InvalidSASLState", ASKED),
+        (&[eve], "ok", ASKED),
+        (&[eve, right], "UserNameRequired", ASKED),
+        (&[other, opened], "ok", ASKED),
+        (&[later], "ok", ASKED),
+        (&[between], "ok", OFFERED),
+        (&[unknown], "UnsupportedProtocolVersion", b""),
+    ];
+    for (steps, words, sent) in cases {
+        let outcome = by_cleartext(&rt, rt.alloc(), steps)?;
+        assert_eq!(rt; words_of(&outcome.answer), words);
+        assert_eq!(rt; outcome.out.buffer.as_slice(), sent);
+    }
+    Ok(())
+}
+
+#[test]
+fn md5_table(rt: HostRuntime) -> Result<(), Fail> {
+    let opened = Step::Startup("zmjiang");
+    let right = Step::Password(HASHED);
+    let wrong = Step::Password("themanwhochangedchina");
+    let (tom, eve) = (Step::Startup("tom"), Step::Startup("eve"));
+    let other = Step::Terminate;
+    let cases: [(&[Step<'_>], &str, &[u8]); 10] = [
+        (&[opened], "ok", CHALLENGED),
+        (&[opened, right], "ok", LET_IN_BY_MD5),
+        (&[opened, wrong], "zmjiang", CHALLENGED),
+        (&[opened, wrong, right], "InvalidSASLState", CHALLENGED),
+        (&[opened, right, right], "InvalidSASLState", LET_IN_BY_MD5),
+        (&[right], "InvalidSASLState", b""),
+        (&[opened, opened], "InvalidSASLState", CHALLENGED),
+        (&[tom], "SaltRequired", b""),
+        (&[eve], "UserNameRequired", b""),
+        (&[other], "ok", b""),
+    ];
+    for (steps, words, sent) in cases {
+        let outcome = by_md5(&rt, rt.alloc(), steps)?;
+        assert_eq!(rt; words_of(&outcome.answer), words);
+        assert_eq!(rt; outcome.out.buffer.as_slice(), sent);
+    }
+    Ok(())
+}
+
+#[test]
+fn noop_table(rt: HostRuntime) -> Result<(), Fail> {
+    let opened = Step::Startup("bob");
+    let password = Step::Password("secret");
+    let other = Step::Terminate;
+    let unknown = Step::Version(2, 0);
+    let cases: [(&[Step<'_>], &str, &[u8]); 6] = [
+        (&[opened], "ok", WELCOMED),
+        (&[opened, password], "ok", WELCOMED),
+        (&[password], "ok", b""),
+        (&[other], "ok", b""),
+        (&[opened, opened], "InvalidSASLState", WELCOMED),
+        (&[unknown], "UnsupportedProtocolVersion", b""),
+    ];
+    for (steps, words, sent) in cases {
+        let outcome = by_noop(&rt, rt.alloc(), steps)?;
+        assert_eq!(rt; words_of(&outcome.answer), words);
+        assert_eq!(rt; outcome.out.buffer.as_slice(), sent);
+    }
+    Ok(())
+}
+
+// What a handler sets in the client.
+#[test]
+fn clients_are_set(rt: HostRuntime) -> Result<(), Fail> {
+    let alloc = rt.alloc();
+    let asked = by_cleartext(&rt, alloc, &[Step::Version(3, 1)])?.client;
+    assert_eq!(rt;
+        asked.state,
+        PgWireConnectionState::AuthenticationInProgress
+    );
+    assert_eq!(rt; asked.protocol_version, ProtocolVersion::PROTOCOL3_2);
+    let let_in = by_noop(&rt, alloc, &[Step::Startup("bob")])?.client;
+    assert_eq!(rt; let_in.state, PgWireConnectionState::ReadyForQuery);
+    assert_eq!(rt; let_in.protocol_version, ProtocolVersion::PROTOCOL3_0);
+    assert_eq!(rt; let_in.pid_secret_key.0, 100_000);
+    assert!(rt; let_in.metadata.get("user").is_some());
+    Ok(())
+}

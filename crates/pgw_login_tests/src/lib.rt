@@ -1,0 +1,11 @@
+//! Tests of a server's side of a login, message by message, that need its public calls alone.
+#![tactic(auto)]
+
+#[cfg(test)]
+mod cancels;
+#[cfg(test)]
+mod handlers;
+#[cfg(test)]
+mod support;
+#[cfg(test)]
+mod values;

@@ -1,0 +1,4 @@
+pub mod ConfigurationLaws
+pub mod TokenLaws
+pub mod OfferLaws
+pub mod LastingLaws

@@ -1,0 +1,7 @@
+pub mod Methods
+pub mod Turns
+pub mod Replies
+pub mod Scram
+pub mod ErrorText
+pub mod Oauth
+pub mod Sasl

@@ -1,0 +1,22 @@
+//! What holds of logins by SASL.
+ghost use Rattle.pgw_sasl.specs.Methods.{offered_methods};
+ghost use Rattle.pgw_sasl.specs.Sasl.{ByOauth, SaslMeans};
+ghost use Rattle.pgw_sasl.specs.Scram.{ByScram};
+ghost use Rattle.pgw_server.specs.Lasting.{KeepsReady};
+
+use crate::handler::SASLAuthStartupHandler;
+use crate::validator::OauthValidator;
+use pgw_login::provider::ServerParameterProvider;
+use pgw_login::registers::Registers;
+use pgw_login::source::AuthSource;
+
+/// A client that may ask may ask until a message is refused, whatever methods the handler has.
+pub fn sasl_keeps_a_finished_login<A, P, G, M>(handler: &SASLAuthStartupHandler<A, P, G, M>)
+where
+    A: AuthSource,
+    P: ServerParameterProvider,
+    M: Registers,
+    ensures { KeepsReady (SaslMeans (offered_methods handler.now.scram handler.now.oauth) (ByScram A.answers handler.now.scram) (ByOauth handler.now.oauth (λ o. validates o.validator)) (P.provides handler.now.parameter_provider) (M.registers handler.now.registry)) }
+{
+    let _handler = handler;
+}

@@ -1,0 +1,14 @@
+//! The server's side of a login by SASL: the handler, and its methods SCRAM-SHA-256 and OAUTHBEARER.
+//!
+//! To a server it promises what each method replies in each state, with its refusals in order, and that each call of the
+//! handler is the act that its table names; after a refusal the login has failed.
+#![tactic(auto)]
+
+pub mod error_text;
+pub mod handler;
+pub mod laws;
+pub mod methods;
+pub mod oauth;
+pub mod scram;
+pub mod turn;
+pub mod validator;

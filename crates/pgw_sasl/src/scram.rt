@@ -1,0 +1,148 @@
+//! The server's end of a login by SCRAM, message by message.
+ghost use Rattle.std.specs.Prelude.{◌≡◌, ◌⊎◌, ◌≤◌, Some, None, Err, OnOk, OnErr, is_some};
+ghost use Rattle.pgw_types.specs.declared.error.PgWireError.TheVariants.{OutOfMemory as NoMemory};
+ghost use Rattle.pgw_login.specs.Logins.{login_of};
+ghost use Rattle.pgw_scram.specs.Server.{offered};
+ghost use Rattle.pgw_sasl.specs.Scram.{first_reply, FirstReplies, FinalReplies, ScramReplies};
+
+use pgw_login::source::{AuthSource, LoginInfo};
+use pgw_login::state::SASLState;
+use pgw_scram::password::Password;
+use pgw_scram::server::{ScramServerAuth, ScramServerAuthWaitingForClientFinal};
+use pgw_startup::authentication::Authentication;
+use pgw_startup::password::PasswordMessageFamily;
+use pgw_startup::sasl::SASLInitialResponse;
+use pgw_types::boxed::Boxed;
+use pgw_types::error::{PgWireError, PgWireResult, ScramMessageFault};
+use pgw_types::memory::OutOfMemory;
+use pgw_types::octets::Octets;
+use std::alloc::Global;
+
+/// Where salted passwords come from, and the server's end of SCRAM.
+#[derive(Drop)]
+pub struct ScramAuth<A> {
+    auth_db: A,
+    authenticator: ScramServerAuth,
+}
+
+impl<A> ScramAuth<A> {
+    /// 4096 rounds, and no certificate.
+    pub fn new(auth_db: A) -> ScramAuth<A>
+        ensures { result ≡ record { auth_db = auth_db; authenticator = record { iterations = 4096; certificate_hash = None } } }
+    {
+        ScramAuth {
+            auth_db,
+            authenticator: ScramServerAuth::new(),
+        }
+    }
+
+    /// Sets the hash of the server's certificate, as the channel binding `tls-server-end-point` has it
+    /// (RFC 5929, section 4). From then on `SCRAM-SHA-256-PLUS` is offered.
+    pub fn configure_certificate_hash(
+        &mut self,
+        alloc: Global,
+        hash: &[u8],
+    ) -> Result<(), OutOfMemory>
+        ensures set { OnOk result (self.new ≡ record self.old { authenticator = record self.old.authenticator { certificate_hash = Some hash.now } }) }
+        ensures refused { OnErr result (self.new ≡ self.old) }
+    {
+        self.authenticator.configure_certificate_hash(alloc, hash)
+    }
+
+    /// Sets the number of rounds that a client is asked for. The passwords of the source are to be
+    /// salted with as many.
+    pub fn set_iterations(&mut self, iterations: u32)
+        requires { 1 ≤ iterations }
+        ensures { self.new ≡ record self.old { authenticator = record self.old.authenticator { iterations = iterations } } }
+    {
+        self.authenticator.set_iterations(iterations);
+    }
+
+    /// Whether a certificate's hash is set.
+    pub fn supports_channel_binding(&self) -> bool
+        ensures { result ≡ is_some self.now.authenticator.certificate_hash }
+    {
+        self.authenticator.certificate_hash().is_some()
+    }
+}
+
+// The server's first message.
+fn first_reply(
+    alloc: Global,
+    server: &ScramServerAuth,
+    kept: &Password,
+    message: &[u8],
+    nonce: &[u8; 18],
+) -> PgWireResult<(Authentication, SASLState)>
+    ensures { (result ≡ Err NoMemory) ⊎ (result ≡ first_reply (offered server.now message.now kept.now nonce.now)) }
+{
+    let (text, waiting) = server.on_client_first_message(alloc, message, kept, nonce)?;
+    let payload = Octets::from_slice(alloc, text.as_str().as_bytes())?;
+    let waiting = Boxed::new(alloc, waiting)?;
+    Ok((
+        Authentication::SASLContinue(payload),
+        SASLState::ScramServerFirstSent(waiting),
+    ))
+}
+
+// The server's last message.
+fn final_reply(
+    alloc: Global,
+    server: &ScramServerAuthWaitingForClientFinal,
+    message: PasswordMessageFamily,
+) -> PgWireResult<(Authentication, SASLState)>
+    ensures { FinalReplies server.now message result }
+{
+    let message = message.into_sasl_response()?;
+    let text = server.on_client_final_message(alloc, message.payload.as_slice())?;
+    let payload = Octets::from_slice(alloc, text.as_str().as_bytes())?;
+    Ok((Authentication::SASLFinal(payload), SASLState::Finished))
+}
+
+impl<A: AuthSource> ScramAuth<A> {
+    // What is answered to a client-first.
+    fn reply_to_first(
+        &self,
+        alloc: Global,
+        login: &LoginInfo<'_>,
+        message: PasswordMessageFamily,
+        nonce: &[u8; 18],
+    ) -> PgWireResult<(Authentication, SASLState)>
+        ensures { FirstReplies (A.answers self.now.auth_db) self.now.authenticator (login_of login.now) message nonce.now result }
+    {
+        let SASLInitialResponse {
+            auth_method: _,
+            payload,
+        } = message.into_sasl_initial_response(alloc)?;
+        let Some(payload) = payload else {
+            return Err(PgWireError::InvalidScramMessage(ScramMessageFault::Empty));
+        };
+        let kept = self.auth_db.get_password(alloc, login)?;
+        first_reply(alloc, &self.authenticator, &kept, payload.as_slice(), nonce)
+    }
+
+    /// What is answered to a client's message, and how far the exchange is then. In the state
+    /// `ScramClientFirstReceived` the message is a client-first: its data, then the source is asked,
+    /// then the step. In the state `ScramServerFirstSent` it is a client-final. In any other state it is
+    /// refused with `InvalidSASLState`.
+    pub fn process_scram_message(
+        &self,
+        alloc: Global,
+        login: &LoginInfo<'_>,
+        message: PasswordMessageFamily,
+        state: &SASLState,
+        nonce: &[u8; 18],
+    ) -> PgWireResult<(Authentication, SASLState)>
+        ensures { ScramReplies (A.answers self.now.auth_db) self.now.authenticator (login_of login.now) message nonce.now state.now result }
+    {
+        match state {
+            SASLState::ScramClientFirstReceived => self.reply_to_first(
+                alloc, login, message, nonce,
+            ),
+            SASLState::ScramServerFirstSent(server) => {
+                final_reply(alloc, server.as_ref(), message)
+            }
+            _ => Err(PgWireError::InvalidSASLState),
+        }
+    }
+}

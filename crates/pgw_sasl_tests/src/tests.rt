@@ -1,0 +1,4 @@
+//! Logins message by message.
+mod oauth;
+mod scram;
+mod shared;

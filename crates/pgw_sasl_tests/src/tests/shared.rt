@@ -1,0 +1,206 @@
+//! What the tests log in with.
+use pgw_frontend::frontend::PgWireFrontendMessage;
+use pgw_hash::pbkdf2::gen_salted_password;
+use pgw_login::client_info::{ClientInfo, DefaultClient, METADATA_USER};
+use pgw_login::handler::StartupHandler;
+use pgw_login::outbox::ByteOutbox;
+use pgw_login::provider::ServerParameterProvider;
+use pgw_login::source::{AuthSource, LoginInfo};
+use pgw_login::state::LoginState;
+use pgw_sasl::scram::ScramAuth;
+use pgw_scram::password::Password as Kept;
+use pgw_startup::password::{Password, PasswordMessageFamily};
+use pgw_startup::sasl::{SASLInitialResponse, SASLResponse};
+use pgw_startup::startup::Startup;
+use pgw_types::error::{OauthFault, OauthRefusal, PgWireError, PgWireResult, ScramMessageFault};
+use pgw_types::memory::OutOfMemory;
+use pgw_types::octets::Octets;
+use pgw_types::text::Text;
+use pgw_wire::params::Params;
+use std::alloc::Global;
+use std::process::Abort;
+
+/// Keeps the password `pencil` of `bob`, one without salt of `tom`, and none of others.
+#[derive(Drop)]
+pub struct TwoPasswords;
+
+impl AuthSource for TwoPasswords {
+    ghost answers = { λ source login answer. Unit {0} };
+
+    fn get_password(&self, alloc: Global, login: &LoginInfo<'_>) -> PgWireResult<Kept> {
+        match login.user() {
+            Some(name) if name == "bob" => {
+                let salted = gen_salted_password(alloc, "pencil", b"bar", 12)?;
+                let salt = Octets::from_slice(alloc, b"bar")?;
+                Ok(Kept::new(Some(salt), Octets::from_slice(alloc, &salted)?))
+            }
+            Some(name) if name == "tom" => {
+                Ok(Kept::new(None, Octets::from_slice(alloc, b"pencil")?))
+            }
+            _ => Err(PgWireError::UserNameRequired),
+        }
+    }
+}
+
+/// Tells a client no parameter.
+#[derive(Drop)]
+pub struct Silent;
+
+impl ServerParameterProvider for Silent {
+    ghost provides = { λ provider client parameters. Unit {0} };
+
+    fn server_parameters<C: ClientInfo>(
+        &self,
+        _alloc: Global,
+        _client: &C,
+    ) -> Result<Option<Params>, OutOfMemory> {
+        Ok(None)
+    }
+}
+
+/// SCRAM with twelve rounds.
+pub fn scram() -> ScramAuth<TwoPasswords> {
+    let mut scram = ScramAuth::new(TwoPasswords);
+    scram.set_iterations(12);
+    scram
+}
+
+/// A message of a client.
+#[derive(Clone, Copy, Drop)]
+pub enum Step<'a> {
+    /// With this user name, if it is not empty.
+    Startup(&'a str),
+    First(&'a str, Option<&'a [u8]>),
+    Further(&'a [u8]),
+    Password,
+}
+
+fn startup(alloc: Global, user: &str) -> PgWireResult<PgWireFrontendMessage> {
+    let mut startup = Startup::new(alloc);
+    if !user.is_empty() {
+        let name = Text::from_str(alloc, METADATA_USER)?;
+        let user = Text::from_str(alloc, user)?;
+        startup.parameters.insert(name, user)?;
+    }
+    Ok(PgWireFrontendMessage::Startup(startup))
+}
+
+fn first(
+    alloc: Global,
+    method: &str,
+    payload: Option<&[u8]>,
+) -> PgWireResult<PasswordMessageFamily> {
+    let method = Text::from_str(alloc, method)?;
+    let payload = match payload {
+        Some(bytes) => Some(Octets::from_slice(alloc, bytes)?),
+        None => None,
+    };
+    let message = SASLInitialResponse::new(method, payload);
+    Ok(PasswordMessageFamily::SASLInitialResponse(message))
+}
+
+fn password_of(alloc: Global, step: Step<'_>) -> PgWireResult<PasswordMessageFamily> {
+    match step {
+        Step::First(method, payload) => first(alloc, method, payload),
+        Step::Further(payload) => {
+            let payload = Octets::from_slice(alloc, payload)?;
+            let message = SASLResponse::new(payload);
+            Ok(PasswordMessageFamily::SASLResponse(message))
+        }
+        Step::Startup(_) | Step::Password => {
+            let message = Password::new(Text::new(alloc));
+            Ok(PasswordMessageFamily::Password(message))
+        }
+    }
+}
+
+pub fn message_of(alloc: Global, step: Step<'_>) -> PgWireResult<PgWireFrontendMessage> {
+    match step {
+        Step::Startup(user) => startup(alloc, user),
+        _ => Ok(PgWireFrontendMessage::PasswordMessageFamily(password_of(alloc, step)?)),
+    }
+}
+
+/// Takes messages, up to one that is refused.
+pub fn take_all<H: StartupHandler>(
+    alloc: Global,
+    handler: &H,
+    client: &mut DefaultClient<()>,
+    out: &mut ByteOutbox,
+    state: &mut LoginState,
+    steps: &[Step<'_>],
+) -> PgWireResult<()>
+    requires { H.fits handler.now state.old }
+    ensures { H.fits handler.now state.new }
+{
+    for step in steps {
+        let message = message_of(alloc, *step)?;
+        handler.on_startup(alloc, client, out, state, message)?;
+    }
+    Ok(())
+}
+
+/// Lets a login go that was registered nowhere.
+pub fn let_go<R: Abort>(rt: &R, state: LoginState) {
+    let (_seat, _pass, handle, guard) = state.finish();
+    match handle {
+        None => {}
+        Some(_handle) => panic!(rt; "registered"),
+    }
+    match guard {
+        None => {}
+        Some(_guard) => panic!(rt; "registered"),
+    }
+}
+
+fn oauth_words(fault: &OauthFault) -> &'static str {
+    match fault {
+        OauthFault::Flag => "Flag",
+        OauthFault::ChannelBinding => "ChannelBinding",
+        OauthFault::AuthzId => "AuthzId",
+        OauthFault::Separator => "Separator",
+        OauthFault::Pair => "Pair",
+        OauthFault::Key => "Key",
+        OauthFault::Value => "Value",
+        OauthFault::TwiceAuth => "TwiceAuth",
+        OauthFault::NotOneByte => "NotOneByte",
+    }
+}
+
+fn refusal_words(why: &OauthRefusal) -> &'static str {
+    match why {
+        OauthRefusal::Malformed => "Malformed",
+        OauthRefusal::Refused => "Refused",
+        OauthRefusal::Ended => "Ended",
+    }
+}
+
+fn scram_words(fault: &ScramMessageFault) -> &'static str {
+    match fault {
+        ScramMessageFault::NotUtf8 => "NotUtf8",
+        ScramMessageFault::Grammar => "Grammar",
+        ScramMessageFault::Count => "Count",
+        ScramMessageFault::ChannelBinding => "ChannelBinding",
+        ScramMessageFault::Nonce => "Nonce",
+        ScramMessageFault::Empty => "Empty",
+        ScramMessageFault::Mechanism => "Mechanism",
+    }
+}
+
+/// What was refused.
+pub fn words_of(answer: &PgWireResult<()>) -> &str {
+    match answer {
+        Ok(()) => "ok",
+        Err(PgWireError::InvalidSASLState) => "InvalidSASLState",
+        Err(PgWireError::FailedToCoercePasswordMessage) => "FailedToCoercePasswordMessage",
+        Err(PgWireError::SaltRequired) => "SaltRequired",
+        Err(PgWireError::UserNameRequired) => "UserNameRequired",
+        Err(PgWireError::InvalidScramMessage(fault)) => scram_words(fault),
+        Err(PgWireError::InvalidOauthMessage(fault)) => oauth_words(fault),
+        Err(PgWireError::OAuthAuthenticationFailed(why)) => refusal_words(why),
+        Err(PgWireError::OAuthValidationError(text)) => text.as_str(),
+        Err(PgWireError::UnsupportedSASLAuthMethod(method)) => method.as_str(),
+        Err(PgWireError::InvalidPassword(user)) => user.as_str(),
+        Err(_) => "another error",
+    }
+}

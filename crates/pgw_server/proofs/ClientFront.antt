@@ -1,0 +1,322 @@
+-- What follows a message of a client, or a refusal, changes nothing.
+use Rattle.std.proofs.Common.{◌≡◌, ◌⊎◌, inl, inr, ℕ, ◌+◌, ◌-◌, ◌<◌, ◌≤◌, Bool, true, false, cond, ltb, eqb, List, [], ◌++◌, length, get_or, take, drop, slice_range, Option, Some, None, Result, Ok, Err, refl, sym, ap, subst, ◌∙◌, arith, length-append, length-drop}
+use Rattle.std.specs.Int.{w32, from_be_bytes}
+use Rattle.std.proofs.lemmas.Bool.{ltb-false, le-ltb}
+use Rattle.std.proofs.lemmas.List.{take-take, take-append-le, drop-take, get_or-take, length-take, take_at}
+use Rattle.pgw_types.specs.declared.error.PgWireError.{PgWireError}
+use Rattle.pgw_types.specs.declared.error.PgWireError.TheVariants.{InvalidMessageType}
+use Rattle.pgw_types.specs.declared.context.ProtocolVersion.{ProtocolVersion}
+use Rattle.pgw_types.specs.declared.context.DecodeContext.{DecodeContext}
+use Rattle.pgw_wire.specs.declared.framing.Framing.TheVariants.{Typed, Untyped, Opening, Code}
+use Rattle.pgw_wire.specs.Framing.{code_in, stated_length, length_frame, frame, framed, front, as_one_of, Decodes}
+use Rattle.pgw_wire.proofs.Laws.{bind_ok, chosen}
+use Rattle.pgw_wire.proofs.MessageLaws.{some_is, framed_found}
+use Rattle.pgw_wire.proofs.Stable.{Stable, front_stable, stable_choice, stable_refusal}
+use Rattle.pgw_backend.proofs.BackendStable.{stable_as}
+use Rattle.pgw_startup.specs.declared.startup.Startup.{Startup}
+use Rattle.pgw_startup.specs.Startup.{startup_of}
+use Rattle.pgw_startup.specs.Password.{family_of}
+use Rattle.pgw_opening.specs.declared.cancel.CancelRequest.{CancelRequest}
+use Rattle.pgw_opening.specs.Openings.{ssl_request_of, gss_enc_request_of, cancel_request_of}
+use Rattle.pgw_opening.specs.Terminate.{terminate_of}
+use Rattle.pgw_query.specs.Rows.{query_of}
+use Rattle.pgw_ext.specs.Rows.{parse_of, bind_of, close_of, describe_of, execute_of, flush_of, sync_of}
+use Rattle.pgw_copy.specs.Rows.{copy_data_of, copy_done_of, copy_fail_of}
+use Rattle.pgw_frontend.specs.declared.frontend.SslNegotiationMetaMessage.TheVariants as negotiation
+use Rattle.pgw_frontend.specs.declared.frontend.PgWireFrontendMessage.{PgWireFrontendMessage as Message}
+use Rattle.pgw_frontend.specs.declared.frontend.PgWireFrontendMessage.TheVariants as frontend
+use Rattle.pgw_frontend.specs.Frontend.{negotiation_front, first_front, frontend_by, typed_front, frontend_front}
+use Rattle.pgw_frontend.specs.FrontendSpells.{SpellsFrontend}
+use Rattle.pgw_course.specs.Course.{Bad, Whole, IsReading}
+use Rattle.pgw_server.specs.Front.{phase, asks_for_none, or_first, client_front, met}
+
+-- which way a test goes
+either : (b : Bool) → (b ≡ true) ⊎ (b ≡ false)
+either true = inl refl
+either false = inr refl
+
+-- ---- what stands at the same place
+
+cut_same : (i j n : ℕ) (a b : List ℕ) → i + j ≤ n → take n b ≡ take n a → take j (drop i b) ≡ take j (drop i a)
+cut_same i j n a b le same =
+    let shorter : take (i + j) b ≡ take (i + j) a = sym (take-take (i + j) n b le) ∙ ap (λ (x : List ℕ). take (i + j) x) same ∙ take-take (i + j) n a le in
+    sym (drop-take i j b) ∙ ap (λ (x : List ℕ). drop i x) shorter ∙ drop-take i j a
+
+code_same : (n : ℕ) (a b : List ℕ) → 8 ≤ n → take n b ≡ take n a → code_in b ≡ code_in a
+code_same n a b le same = ap (λ (f : List ℕ). from_be_bytes w32 f) (cut_same 4 4 n a b (omega (arith, le)) same)
+
+first_same : (n : ℕ) (a b : List ℕ) → 1 ≤ n → take n b ≡ take n a → get_or b 0 0 ≡ get_or a 0 0
+first_same n a b some same = sym (get_or-take n b 0 0 (omega (arith, some))) ∙ ap (λ (x : List ℕ). get_or x 0 0) same ∙ get_or-take n a 0 0 (omega (arith, some))
+
+-- ---- messages without a type byte
+
+-- a message that takes so many bytes
+stable_longer : {M : Type 0} (k least : ℕ) (p : List ℕ → Result (Option (M × List ℕ)) PgWireError) → Stable k p → ((a : List ℕ) (m : M) (rest : List ℕ) → p a ≡ Ok (Some (m, rest)) → length rest + least ≤ length a) → Stable least p
+stable_longer k least p h long = record {
+  whole = λ a m rest e.
+      let ends = h.whole a m rest e in
+      record {
+        len = ends.len;
+        some = omega (arith, long a m rest e, ap length ends.left, length-drop ends.len a, ends.within);
+        within = ends.within;
+        left = ends.left;
+        again = ends.again;
+      };
+  bad = h.bad;
+}
+
+untyped_at : (limit : ℕ) (a : List ℕ) (f : ℕ × ℕ) → length_frame 0 limit a ≡ Ok (Some f) → (f.0 ≡ 4) × (4 ≤ f.1) × (f.1 ≤ length a)
+unfolding length_frame
+untyped_at limit a f e =
+    let len = stated_length 0 a in
+    elim (chosen (ltb (length a) 4) _ _ _ e) [
+      | inl h ↦ absurd cc
+      | inr g ↦ elim (chosen (ltb limit len) _ _ _ g.1) [
+        | inl h ↦ absurd cc
+        | inr k ↦ elim (chosen (ltb len 4) _ _ _ k.1) [
+          | inl h ↦ absurd cc
+          | inr m ↦ elim (chosen (ltb (length a) (0 + len)) _ _ _ m.1) [
+            | inl h ↦ absurd cc
+            | inr n ↦
+                let is : f ≡ (4, 0 + len) = sym (some_is (4, 0 + len) f n.1) in
+                let least : 4 ≤ len = ltb-false _ _ m.0 in
+                let whole : 0 + len ≤ length a = ltb-false _ _ n.0 in
+                let ends : f.1 ≡ 0 + len = ap (λ (p : ℕ × ℕ). p.1) is in
+                (ap (λ (p : ℕ × ℕ). p.0) is, omega (arith, ends, least), omega (arith, ends, whole))
+          ]
+        ]
+      ]
+    ]
+
+at_most : (n : ℕ) (a : List ℕ) → length (take n a) ≤ n
+at_most n a = omega (arith, length-take n a)
+
+-- so many bytes where its body has so many
+untyped_long : {M : Type 0} (k limit : ℕ) (read : List ℕ → Result M PgWireError) → ((body : List ℕ) (m : M) → read body ≡ Ok m → k ≤ length body)
+    → (a : List ℕ) (m : M) (rest : List ℕ) → front Untyped limit read a ≡ Ok (Some (m, rest)) → length rest + (k + 4) ≤ length a
+unfolding front frame
+untyped_long k limit read law a m rest e =
+    let h = bind_ok (length_frame 0 limit a) (framed read a) (Some (m, rest)) e in
+    let f = framed_found read a m rest h.0 h.2 in
+    let at = untyped_at limit a f.0 (h.1 ∙ ap (λ (o : Option (ℕ × ℕ)). Ok o) f.1) in
+    let body : k ≤ length (slice_range a f.0.0 f.0.1) = law (slice_range a f.0.0 f.0.1) m f.2 in
+    let short : length (slice_range a f.0.0 f.0.1) ≤ f.0.1 - f.0.0 = at_most (f.0.1 - f.0.0) (drop f.0.0 a) in
+    omega (arith, body, short, at.0, at.1, at.2, ap length f.3, length-drop f.0.1 a)
+
+startup_body_long : (ctx : DecodeContext) (body : List ℕ) (m : Startup) → startup_of ctx body ≡ Ok m → 4 ≤ length body
+unfolding startup_of
+startup_body_long ctx body m e = elim (chosen (ltb (length body) 5) _ _ _ e) [
+  | inl h ↦ absurd cc
+  | inr h ↦ omega (arith, ltb-false _ _ h.0)
+]
+
+cancel_body_long : (ctx : DecodeContext) (body : List ℕ) (m : CancelRequest) → cancel_request_of ctx body ≡ Ok m → 4 ≤ length body
+unfolding cancel_request_of
+cancel_body_long ctx body m e = elim (chosen (ltb (length body) 12) _ _ _ e) [
+  | inl h ↦ absurd cc
+  | inr h ↦ omega (arith, ltb-false _ _ h.0)
+]
+
+untyped_stable : {M : Type 0} (read : List ℕ → Result M PgWireError) → ((body : List ℕ) (m : M) → read body ≡ Ok m → 4 ≤ length body) → Stable 8 (front Untyped 10000 read)
+untyped_stable read law = stable_longer 4 8 (front Untyped 10000 read) (front_stable Untyped 10000 read tt) (untyped_long 4 10000 read law)
+
+-- with its code, a CancelRequest stands as a message without a type byte does
+opening_is : {M : Type 0} (code limit : ℕ) (read : List ℕ → Result M PgWireError) (b : List ℕ) → ltb (length b) 8 ≡ false → eqb (code_in b) code ≡ true → front (Opening code) limit read b ≡ front Untyped limit read b
+unfolding front frame
+opening_is code limit read b long is = rw (long, is) refl
+
+-- ---- what may stand first, by its code
+
+ssl : ProtocolVersion → List ℕ → Result (Option (Message × List ℕ)) PgWireError
+ssl v b = as_one_of (λ m. frontend.SslNegotiation (negotiation.PostgresSsl m)) (front Code 10000 (ssl_request_of (phase true true v)) b)
+
+gss : ProtocolVersion → List ℕ → Result (Option (Message × List ℕ)) PgWireError
+gss v b = as_one_of (λ m. frontend.SslNegotiation (negotiation.PostgresGss m)) (front Code 10000 (gss_enc_request_of (phase true true v)) b)
+
+cancel : ProtocolVersion → List ℕ → Result (Option (Message × List ℕ)) PgWireError
+cancel v b = as_one_of frontend.CancelRequest (front Untyped 10000 (cancel_request_of (phase false true v)) b)
+
+startup : ProtocolVersion → List ℕ → Result (Option (Message × List ℕ)) PgWireError
+startup v b = as_one_of frontend.Startup (front Untyped 10000 (startup_of (phase false true v)) b)
+
+by_code : ProtocolVersion → ℕ → List ℕ → Result (Option (Message × List ℕ)) PgWireError
+by_code v code b = cond (eqb code 80877103) (ssl v b) (cond (eqb code 80877104) (gss v b) (cond (eqb code 80877102) (cancel v b) (startup v b)))
+
+by_code_stable : (v : ProtocolVersion) (code : ℕ) → Stable 8 (by_code v code)
+unfolding by_code ssl gss cancel startup
+by_code_stable v code =
+    stable_choice 8 (eqb code 80877103) _ _ (stable_as (λ m. frontend.SslNegotiation (negotiation.PostgresSsl m)) 8 (front Code 10000 (ssl_request_of (phase true true v))) (front_stable Code 10000 (ssl_request_of (phase true true v)) tt))
+    (stable_choice 8 (eqb code 80877104) _ _ (stable_as (λ m. frontend.SslNegotiation (negotiation.PostgresGss m)) 8 (front Code 10000 (gss_enc_request_of (phase true true v))) (front_stable Code 10000 (gss_enc_request_of (phase true true v)) tt))
+    (stable_choice 8 (eqb code 80877102) _ _ (stable_as frontend.CancelRequest 8 (front Untyped 10000 (cancel_request_of (phase false true v))) (untyped_stable (cancel_request_of (phase false true v)) (cancel_body_long (phase false true v))))
+    (stable_as frontend.Startup 8 (front Untyped 10000 (startup_of (phase false true v))) (untyped_stable (startup_of (phase false true v)) (startup_body_long (phase false true v))))))
+
+-- what asks for something is what was found
+asked : {A : Type 0} (v : ProtocolVersion) (make : A → Message) (r : Result (Option (A × List ℕ)) PgWireError) → ((x : A) → asks_for_none (make x) ≡ false) → or_first v (as_one_of make r) ≡ as_one_of make r
+asked v make (Err e) law = refl
+asked v make (Ok None) law = refl
+asked v make (Ok (Some x)) law = rw (law x.0) refl
+
+opening_none : (v : ProtocolVersion) (b : List ℕ) → ltb (length b) 8 ≡ true → client_front false v b ≡ Ok None
+unfolding frontend_front negotiation_front
+opening_none v b short = rw short refl
+
+opening_by_code : (v : ProtocolVersion) (b : List ℕ) → ltb (length b) 8 ≡ false → client_front false v b ≡ by_code v (code_in b) b
+unfolding frontend_front negotiation_front first_front by_code ssl gss cancel startup
+opening_by_code v b long = elim (either (eqb (code_in b) 80877103)) [
+  | inl s ↦ rw (long, s) (asked v (λ m. frontend.SslNegotiation (negotiation.PostgresSsl m)) (front Code 10000 (ssl_request_of (phase true true v)) b) (λ x. refl))
+  | inr s ↦ elim (either (eqb (code_in b) 80877104)) [
+    | inl g ↦ rw (long, s, g) (asked v (λ m. frontend.SslNegotiation (negotiation.PostgresGss m)) (front Code 10000 (gss_enc_request_of (phase true true v)) b) (λ x. refl))
+    | inr g ↦ elim (either (eqb (code_in b) 80877102)) [
+      | inl c ↦ rw (long, s, g, long, c) (ap (as_one_of frontend.CancelRequest) (opening_is 80877102 10000 (cancel_request_of (phase false true v)) b long c))
+      | inr c ↦ rw (long, s, g, long, c) refl
+    ]
+  ]
+]
+
+opening_stable : (v : ProtocolVersion) → Stable 8 (client_front false v)
+opening_stable v = record {
+  whole = λ a m rest e. elim (either (ltb (length a) 8)) [
+    | inl short ↦ let n = opening_none v a short in absurd cc
+    | inr long ↦
+        let ends = (by_code_stable v (code_in a)).whole a m rest (sym (opening_by_code v a long) ∙ e) in
+        record {
+          len = ends.len;
+          some = ends.some;
+          within = ends.within;
+          left = ends.left;
+          again = λ b same le.
+              opening_by_code v b (le-ltb _ _ (omega (arith, ends.some, le)))
+              ∙ ap (λ (code : ℕ). by_code v code b) (code_same ends.len a b ends.some same)
+              ∙ ends.again b same le;
+        }
+  ];
+  bad = λ a more e is. elim (either (ltb (length a) 8)) [
+    | inl short ↦ let n = opening_none v a short in absurd cc
+    | inr long ↦
+        let some : 8 ≤ length a = ltb-false _ _ long in
+        opening_by_code v (a ++ more) (le-ltb _ _ (omega (arith, some, length-append a more)))
+        ∙ ap (λ (code : ℕ). by_code v code (a ++ more)) (code_same 8 a (a ++ more) (omega arith) (take-append-le 8 a more some))
+        ∙ (by_code_stable v (code_in a)).bad a more e (sym (opening_by_code v a long) ∙ is)
+  ];
+}
+
+-- ---- messages with a type byte
+
+one : {A : Type 0} (make : A → Message) (byte limit : ℕ) (read : List ℕ → Result A PgWireError) → Stable 5 (λ bytes. as_one_of make (front (Typed byte) limit read bytes))
+one make byte limit read = stable_as make 5 (front (Typed byte) limit read) (front_stable (Typed byte) limit read tt)
+
+by_stable : (byte : ℕ) (ctx : DecodeContext) → Stable 5 (frontend_by byte ctx)
+by_stable byte ctx =
+    stable_choice 5 (eqb byte 112) _ _ (one frontend.PasswordMessageFamily 112 10000 (family_of ctx))
+    (stable_choice 5 (eqb byte 81) _ _ (one frontend.Query 81 1073741822 (query_of ctx))
+    (stable_choice 5 (eqb byte 80) _ _ (one frontend.Parse 80 1073741822 (parse_of ctx))
+    (stable_choice 5 (eqb byte 66) _ _ (one frontend.Bind 66 1073741822 (bind_of ctx))
+    (stable_choice 5 (eqb byte 67) _ _ (one frontend.Close 67 10000 (close_of ctx))
+    (stable_choice 5 (eqb byte 68) _ _ (one frontend.Describe 68 10000 (describe_of ctx))
+    (stable_choice 5 (eqb byte 69) _ _ (one frontend.Execute 69 10000 (execute_of ctx))
+    (stable_choice 5 (eqb byte 72) _ _ (one frontend.Flush 72 10000 (flush_of ctx))
+    (stable_choice 5 (eqb byte 83) _ _ (one frontend.Sync 83 10000 (sync_of ctx))
+    (stable_choice 5 (eqb byte 88) _ _ (one frontend.Terminate 88 10000 (terminate_of ctx))
+    (stable_choice 5 (eqb byte 100) _ _ (one frontend.CopyData 100 1073741822 (copy_data_of ctx))
+    (stable_choice 5 (eqb byte 99) _ _ (one frontend.CopyDone 99 10000 (copy_done_of ctx))
+    (stable_choice 5 (eqb byte 102) _ _ (one frontend.CopyFail 102 10000 (copy_fail_of ctx))
+    (stable_refusal 5 (InvalidMessageType byte))))))))))))))
+
+typed_none : (v : ProtocolVersion) (b : List ℕ) → ltb (length b) 2 ≡ true → client_front true v b ≡ Ok None
+unfolding frontend_front typed_front
+typed_none v b short = rw short refl
+
+typed_by : (v : ProtocolVersion) (b : List ℕ) → ltb (length b) 2 ≡ false → client_front true v b ≡ frontend_by (get_or b 0 0) (phase false false v) b
+unfolding frontend_front typed_front
+typed_by v b long = rw long refl
+
+typed_stable : (v : ProtocolVersion) → Stable 5 (client_front true v)
+typed_stable v = record {
+  whole = λ a m rest e. elim (either (ltb (length a) 2)) [
+    | inl short ↦ let n = typed_none v a short in absurd cc
+    | inr long ↦
+        let ends = (by_stable (get_or a 0 0) (phase false false v)).whole a m rest (sym (typed_by v a long) ∙ e) in
+        record {
+          len = ends.len;
+          some = ends.some;
+          within = ends.within;
+          left = ends.left;
+          again = λ b same le.
+              typed_by v b (le-ltb _ _ (omega (arith, ends.some, le)))
+              ∙ ap (λ (byte : ℕ). frontend_by byte (phase false false v) b) (first_same ends.len a b (omega (arith, ends.some)) same)
+              ∙ ends.again b same le;
+        }
+  ];
+  bad = λ a more e is. elim (either (ltb (length a) 2)) [
+    | inl short ↦ let n = typed_none v a short in absurd cc
+    | inr long ↦
+        let some : 2 ≤ length a = ltb-false _ _ long in
+        typed_by v (a ++ more) (le-ltb _ _ (omega (arith, some, length-append a more)))
+        ∙ ap (λ (byte : ℕ). frontend_by byte (phase false false v) (a ++ more)) (first_same 1 a (a ++ more) (omega arith) (take-append-le 1 a more (omega (arith, some))))
+        ∙ (by_stable (get_or a 0 0) (phase false false v)).bad a more e (sym (typed_by v a long) ∙ is)
+  ];
+}
+
+-- ---- a reading
+
+met_whole : {M : Type 0} (bytes : List ℕ) (r : Result (Option (M × List ℕ)) PgWireError) (m : M) (n : ℕ) → met bytes r ≡ Whole m n → (rest : List ℕ) × (r ≡ Ok (Some (m, rest))) × (length bytes - length rest ≡ n)
+met_whole bytes (Err e) m n is = absurd cc
+met_whole bytes (Ok None) m n is = absurd cc
+met_whole {M} bytes (Ok (Some x)) m n is =
+    let one : x.0 ≡ m = cc in
+    let two : length bytes - length x.1 ≡ n = cc in
+    (x.1, ap (λ (k : M). Ok (Some (k, x.1))) one, two)
+
+met_bad : {M : Type 0} (bytes : List ℕ) (r : Result (Option (M × List ℕ)) PgWireError) (why : PgWireError) → met bytes r ≡ Bad why → r ≡ Err why
+met_bad bytes (Err e) why is = cc
+met_bad bytes (Ok None) why is = absurd cc
+met_bad bytes (Ok (Some x)) why is = absurd cc
+
+-- a message that takes so many bytes
+whole_of : {M : Type 0} (bytes : List ℕ) (r : Result (Option (M × List ℕ)) PgWireError) (m : M) (n : ℕ) → n ≤ length bytes → r ≡ Ok (Some (m, drop n bytes)) → met bytes r ≡ Whole m n
+whole_of {M} bytes r m n le is =
+    let size : length bytes - length (drop n bytes) ≡ n = omega (arith, length-drop n bytes, le) in
+    ap (met bytes) is ∙ ap (λ (k : ℕ). Whole m k) size
+
+steady_of : {M : Type 0} (least : ℕ) (at : List ℕ → Result (Option (M × List ℕ)) PgWireError) → Stable least at → at [] ≡ Ok None → IsReading (λ bytes. met bytes (at bytes))
+steady_of least at stable none = record {
+  none = ap (met []) none;
+  within = λ bytes m len e.
+      let p = met_whole bytes (at bytes) m len e in
+      omega (arith, p.2);
+  whole = λ bytes more m len e.
+      let p = met_whole bytes (at bytes) m len e in
+      let ends = stable.whole bytes m p.0 p.1 in
+      let size : ends.len ≡ len = omega (arith, p.2, ap length ends.left, length-drop ends.len bytes, ends.within) in
+      let cut : length (take len bytes) ≡ len = omega (arith, length-take len bytes, size, ends.within) in
+      let same : take ends.len (take len bytes ++ more) ≡ take ends.len bytes = ap (λ (k : ℕ). take k (take len bytes ++ more)) size ∙ take_at (take len bytes) more len cut ∙ ap (λ (k : ℕ). take k bytes) (sym size) in
+      let long : len ≤ length (take len bytes ++ more) = omega (arith, cut, length-append (take len bytes) more) in
+      whole_of (take len bytes ++ more) (at (take len bytes ++ more)) m len long
+      (ends.again (take len bytes ++ more) same (omega (arith, size, long)) ∙ ap (λ (k : ℕ). Ok (Some (m, drop k (take len bytes ++ more)))) size);
+  bad = λ bytes more why e. ap (met (bytes ++ more)) (stable.bad bytes more why (met_bad bytes (at bytes) why e));
+}
+
+pub steady : (started : Bool) (v : ProtocolVersion) → IsReading (λ bytes. met bytes (client_front started v bytes))
+steady false v = steady_of 8 (client_front false v) (opening_stable v) (opening_none v [] refl)
+steady true v = steady_of 5 (client_front true v) (typed_stable v) (typed_none v [] refl)
+
+-- what a decoder took
+pub taken_of : {M : Type 0} (least : ℕ) (at : List ℕ → Result (Option (M × List ℕ)) PgWireError) → Stable least at → 1 ≤ least → (bytes : List ℕ) (m : M) (rest : List ℕ) → at bytes ≡ Ok (Some (m, rest))
+    → (n : ℕ) × (met bytes (at bytes) ≡ Whole m n) × (rest ≡ drop n bytes) × (length rest < length bytes)
+taken_of {M} least at stable some bytes m rest e =
+    let ends = stable.whole bytes m rest e in
+    (ends.len, whole_of bytes (at bytes) m ends.len ends.within (e ∙ ap (λ (l : List ℕ). Ok (Some (m, l))) ends.left), ends.left, omega (arith, ap length ends.left, length-drop ends.len bytes, ends.within, ends.some, some))
+
+pub taken : (started : Bool) (v : ProtocolVersion) (bytes : List ℕ) (m : Message) (rest : List ℕ) → client_front started v bytes ≡ Ok (Some (m, rest))
+    → (n : ℕ) × (met bytes (client_front started v bytes) ≡ Whole m n) × (rest ≡ drop n bytes) × (length rest < length bytes)
+taken false v bytes m rest e = taken_of 8 (client_front false v) (opening_stable v) (omega arith) bytes m rest e
+taken true v bytes m rest e = taken_of 5 (client_front true v) (typed_stable v) (omega arith) bytes m rest e
+
+-- no encryption is asked for, and the first message stands there
+pub first_instead : (v : ProtocolVersion) (old mid new : List ℕ) (r : Result (Option Message) PgWireError) → frontend_front (phase true true v) old ≡ Ok (Some (frontend.SslNegotiation negotiation.None, mid))
+    → (g : List ℕ) × (old ≡ g ++ mid) × SpellsFrontend v (frontend.SslNegotiation negotiation.None) g → Decodes r mid new (frontend_front (phase false true v) mid) → Decodes r old new (client_front false v old)
+unfolding SpellsFrontend
+first_instead v old mid new r found spelled h =
+    let same : old ≡ mid = spelled.1 ∙ ap (λ (g : List ℕ). g ++ mid) spelled.2 in
+    let is : client_front false v old ≡ frontend_front (phase false true v) mid = ap (or_first v) found in
+    subst (λ (f : Result (Option (Message × List ℕ)) PgWireError). Decodes r old new f) (sym is) (subst (λ (l : List ℕ). Decodes r l new (frontend_front (phase false true v) mid)) (sym same) h)

@@ -1,0 +1,3 @@
+pub mod ClientFront
+pub mod ServerLaws
+pub mod LastingLaws

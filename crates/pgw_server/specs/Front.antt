@@ -1,0 +1,42 @@
+-- What stands at the front of the bytes of a client that logs in (Message Flow, "Start-up", "Canceling Requests in Progress", "SSL Session Encryption", "GSSAPI Session Encryption").
+use Rattle.std.specs.Prelude.{ℕ, ◌-◌, Bool, true, false, List, length, Option, Some, None, Result, Ok, Err, if◌then◌else◌}
+use Rattle.pgw_types.specs.declared.error.PgWireError.{PgWireError}
+use Rattle.pgw_types.specs.declared.context.ProtocolVersion.{ProtocolVersion}
+use Rattle.pgw_types.specs.declared.context.DecodeContext.{DecodeContext}
+use Rattle.pgw_frontend.specs.declared.frontend.SslNegotiationMetaMessage.TheVariants as negotiation
+use Rattle.pgw_frontend.specs.declared.frontend.PgWireFrontendMessage.{PgWireFrontendMessage as Message}
+use Rattle.pgw_frontend.specs.declared.frontend.PgWireFrontendMessage.TheVariants as frontend
+use Rattle.pgw_frontend.specs.Frontend.{frontend_front}
+use Rattle.pgw_course.specs.Course.{Front, More, Bad, Whole}
+
+-- which message comes next where its first byte does not tell: a request for encryption, or the first one
+abbrev pub phase : Bool → Bool → ProtocolVersion → DecodeContext
+phase encryption first version = record {
+  protocol_version = version;
+  awaiting_frontend_ssl = encryption;
+  awaiting_frontend_startup = first;
+  awaiting_backend_ssl_response = false;
+  awaiting_backend_gss_response = false;
+}
+
+-- whether the bytes ask for no encryption, and begin a first message
+abbrev pub asks_for_none : Message → Bool
+asks_for_none (frontend.SslNegotiation negotiation.None) = true
+asks_for_none m = false
+
+-- what was found, or the first message where no encryption is asked for
+abbrev pub or_first : ProtocolVersion → Result (Option (Message × List ℕ)) PgWireError → Result (Option (Message × List ℕ)) PgWireError
+or_first version (Err e) = Err e
+or_first version (Ok None) = Ok None
+or_first version (Ok (Some x)) = if asks_for_none x.0 then frontend_front (phase false true version) x.1 else Ok (Some x)
+
+-- Before the startup message, requests for encryption may stand, and a request to cancel in its place. Each message after it has a type byte.
+abbrev pub client_front : Bool → ProtocolVersion → List ℕ → Result (Option (Message × List ℕ)) PgWireError
+client_front false version bytes = or_first version (frontend_front (phase true true version) bytes)
+client_front true version bytes = frontend_front (phase false false version) bytes
+
+-- the same as a machine reads it: a message with its length
+abbrev pub met : {M : Type 0} → List ℕ → Result (Option (M × List ℕ)) PgWireError → Front M PgWireError
+met bytes (Err e) = Bad e
+met bytes (Ok None) = More
+met bytes (Ok (Some x)) = Whole x.0 (length bytes - length x.1)

@@ -1,0 +1,5 @@
+pub mod Front
+pub mod Server
+pub mod Stands
+pub mod Steps
+pub mod Lasting

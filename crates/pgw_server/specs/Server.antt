@@ -1,0 +1,77 @@
+-- A server's side of a login, as a machine over bytes.
+use Rattle.std.specs.Prelude.{◌≡◌, ℕ, Bool, true, false, List, [], ◌∷◌, fold, Result, Ok, Err}
+use Rattle.pgw_types.specs.declared.error.PgWireError.{PgWireError}
+use Rattle.pgw_types.specs.declared.error.PgWireError.TheVariants.{OutOfMemory}
+use Rattle.pgw_opening.specs.declared.cancel.CancelRequest.{CancelRequest}
+use Rattle.pgw_frontend.specs.declared.frontend.PgWireFrontendMessage.{PgWireFrontendMessage as Message}
+use Rattle.pgw_frontend.specs.declared.frontend.PgWireFrontendMessage.TheVariants as frontend
+use Rattle.pgw_backend.specs.declared.backend.PgWireBackendMessage.{PgWireBackendMessage as Backend}
+use Rattle.pgw_course.specs.Course.{Front, Move, On, Ends}
+use Rattle.pgw_course.specs.Play.{Play}
+use Rattle.pgw_login.specs.Client.{Client}
+use Rattle.pgw_login.specs.Sending.{and_encoding}
+use Rattle.pgw_login.specs.Acts.{Standing, standing, Answer}
+use Rattle.pgw_login.specs.declared.state.LoginState.{LoginState}
+use Rattle.pgw_server.specs.Front.{client_front, met}
+
+-- ---- where a connection is, and how it ends
+
+-- what is seen of the client, its login, and whether its startup message was taken
+pub record Stage : Type 0 where
+  pub client : Client
+  pub login : LoginState
+  pub started : Bool
+
+abbrev pub begins : Client → LoginState → Stage
+begins client login = record { client = client; login = login; started = false }
+
+-- a message was refused, or the client asks for a query to be canceled
+pub data Cause : Type 0 where
+  Refused : (why : PgWireError) → Cause
+  Asked : (request : CancelRequest) → Cause
+
+pub record Ending : Type 0 where
+  pub cause : Cause
+  pub stage : Stage
+
+abbrev pub ended : Cause → Stage → Ending
+ended cause stage = record { cause = cause; stage = stage }
+
+-- ---- what a message does
+
+-- the encodings of the messages, one after the other, where each has one
+abbrev pub encodings : List Backend → Result (List ℕ) PgWireError
+encodings ms = fold and_encoding (Ok []) ms
+
+abbrev pub after : Standing → Bool → Stage
+after s started = record { client = s.client; login = s.login; started = started }
+
+-- a handler's answer: it goes on, and the startup message was taken; or it is refused
+abbrev pub moved : Answer → Standing → Stage → List ℕ → Move Stage Ending
+moved (Ok done) s stage out = On (after s true) out
+moved (Err e) s stage out = Ends (ended (Refused e) (after s stage.started)) out
+
+-- the handler's act, with the encodings of what it sends put out
+abbrev pub Handles : (Message → Standing → Standing → List Backend → Answer → Type 0) → Stage → Message → Move Stage Ending → Type 0
+Handles means stage m move = (to : Standing) × (sent : List Backend) × (answer : Answer) × (out : List ℕ)
+    × means m (standing stage.client stage.login 0) to sent answer × (encodings sent ≡ Ok out) × (move ≡ moved answer to stage out)
+
+-- A request for encryption is refused by the byte `N`, and a request to cancel ends the connection. All else is the handler's.
+abbrev pub Steps : (Message → Standing → Standing → List Backend → Answer → Type 0) → Stage → Message → Move Stage Ending → Type 0
+Steps means stage (frontend.SslNegotiation m) move = move ≡ On stage (78 ∷ [])
+Steps means stage (frontend.CancelRequest r) move = move ≡ Ends (ended (Asked r) stage) []
+Steps means stage m move = Handles means stage m move
+
+-- ---- the machine
+
+abbrev pub reading : Stage → List ℕ → Front Message PgWireError
+reading stage bytes = met bytes (client_front stage.started stage.client.protocol_version bytes)
+
+-- what is refused at the front ends it, and so may want of memory at any time
+abbrev pub serving : (Message → Standing → Standing → List Backend → Answer → Type 0) → Play Stage Ending Message PgWireError
+serving means = record {
+  read = reading;
+  Steps = Steps means;
+  Refuses = λ stage why ending. ending ≡ ended (Refused why) stage;
+  Breaks = λ stage ending. ending ≡ ended (Refused OutOfMemory) stage;
+}

@@ -1,0 +1,269 @@
+//! A server's side of a login: bytes go in as they come, and those to be sent come out.
+ghost use Rattle.std.specs.Prelude.{◌≡◌, ◌++◌, ℕ, List, [], true, false, None, Ok, OnOk, IfErr, ◌∷◌};
+ghost use Rattle.pgw_course.specs.Course.{More};
+ghost use Rattle.pgw_login.specs.DefaultClients.{seen};
+ghost use Rattle.pgw_server.specs.Server.{Stage, begins, reading};
+ghost use Rattle.pgw_server.specs.Stands.{stage_of, phase_at, Stands, Arrives};
+ghost use Rattle.pgw_server.specs.Steps.{is_end, DidHear, DidStep, Advanced, Comes};
+
+use crate::front::next_message;
+use bytes::BytesMut;
+use pgw_frontend::frontend::PgWireFrontendMessage;
+use pgw_login::client_info::{DefaultClient, PgWireConnectionState};
+use pgw_login::handler::StartupHandler;
+use pgw_login::outbox::ByteOutbox;
+use pgw_login::state::LoginState;
+use pgw_opening::cancel::CancelRequest;
+use pgw_startup::response::SslResponse;
+use pgw_types::error::{PgWireError, PgWireResult};
+use std::alloc::Global;
+use std::mem::replace;
+
+/// What came of the bytes given so far.
+#[derive(Drop)]
+pub enum ServerPhase {
+    /// More bytes are needed.
+    Waiting,
+    /// The client has logged in, and may ask.
+    Finished,
+    /// The client does not log in: it asks for the query of another connection to be canceled.
+    CancelAsked(CancelRequest),
+}
+
+/// The server's side of one connection up to its login. It reads and writes nothing itself.
+///
+/// Requests for encryption are refused, and the client goes on without. Until an end, what waits in it is no more than
+/// one message that is not whole yet, which may have up to 1073741823 bytes, of a client that has not logged in too.
+/// Behind an end the bytes not looked at stay until `finish`.
+pub struct ServerCore<H> {
+    handler: H,
+    client: DefaultClient<()>,
+    login: LoginState,
+    inbox: BytesMut,
+    // the startup message was taken
+    started: bool,
+    // a message was refused, or a request to cancel was taken
+    over: bool,
+}
+
+impl<H: StartupHandler> ServerCore<H> {
+    /// A connection of which nothing came yet.
+    pub fn start(
+        alloc: Global,
+        handler: H,
+        client: DefaultClient<()>,
+        state: LoginState,
+    ) -> ServerCore<H>
+        requires { H.fits handler state }
+        ensures fits { H.fits result.handler result.login }
+        // It goes on.
+        ensures going { result.over ≡ false }
+        ensures kept { (result.handler ≡ handler) × (result.client ≡ client) × (result.login ≡ state) }
+        // It stands for no bytes given and none put out.
+        ensures stands { Stands (H.means handler) (begins (seen client) state) result [] [] }
+    {
+        ServerCore {
+            handler,
+            client,
+            login: state,
+            inbox: BytesMut::new(alloc),
+            started: false,
+            over: false,
+        }
+    }
+
+    /// Takes bytes that came, and appends those to be sent.
+    ///
+    /// After a refusal, want of memory among them, and after a request to cancel, it takes nothing more.
+    pub fn take(
+        &mut self,
+        alloc: Global,
+        piece: &[u8],
+        out: &mut BytesMut,
+    ) -> PgWireResult<ServerPhase>
+        requires { H.fits self.old.handler self.old.login }
+        ensures fits { H.fits self.new.handler self.new.login }
+        ensures handler { self.new.handler ≡ self.old.handler }
+        // For all bytes given and put out that it stood for, it stands for them with the piece and what is appended.
+        ensures stands { (begin : Stage) (given put : List ℕ) → Stands (H.means self.old.handler) begin self.old given put →
+            (more : List ℕ) × (out.new.items ≡ out.old.items ++ more) × Stands (H.means self.old.handler) begin self.new (given ++ piece.now) (put ++ more) }
+        // What it answers is what that place tells,
+        ensures answers { self.old.over ≡ false → (begin : Stage) (given put : List ℕ) → Stands (H.means self.old.handler) begin self.old given put →
+            (more : List ℕ) × (out.new.items ≡ out.old.items ++ more) × Arrives (H.means self.old.handler) begin self.new (given ++ piece.now) (put ++ more) result }
+        // but behind an end it looks at nothing.
+        ensures over { self.old.over ≡ true → (self.new ≡ self.old) × (out.new.items ≡ out.old.items) × (result ≡ Err PgWireError.InvalidSASLState) }
+        // Where it waits, nothing whole stands at the front of what waits in it.
+        ensures more { self.new.over ≡ false → reading (stage_of self.new) self.new.inbox.items ≡ More }
+    {
+        if self.over {
+            return Err(PgWireError::InvalidSASLState);
+        }
+        let answer = self.receive(alloc, piece, out);
+        self.over = is_end(&answer);
+        answer
+    }
+
+    /// What it was made of. Bytes that came and are no whole message are let go.
+    pub fn finish(self) -> (H, DefaultClient<()>, LoginState)
+        ensures { (result.0 ≡ self.handler) × (result.1 ≡ self.client) × (result.2 ≡ self.login) }
+    {
+        let ServerCore {
+            handler,
+            client,
+            login,
+            inbox: _,
+            started: _,
+            over: _,
+        } = self;
+        (handler, client, login)
+    }
+
+    // Takes bytes that came, of a connection that goes on.
+    fn receive(
+        &mut self,
+        alloc: Global,
+        piece: &[u8],
+        out: &mut BytesMut,
+    ) -> PgWireResult<ServerPhase>
+        requires { H.fits self.old.handler self.old.login }
+        ensures fits { H.fits self.new.handler self.new.login }
+        ensures kept { (self.new.handler ≡ self.old.handler) × (self.new.over ≡ self.old.over) }
+        ensures comes { Comes (H.means self.old.handler) (stage_of self.old) (self.old.inbox.items ++ piece.now) (stage_of self.new) self.new.inbox.items out.old.items out.new.items result }
+    {
+        match self.inbox.extend_from_slice(piece) {
+            Ok(()) => self.serve(alloc, out),
+            Err(_) => Err(PgWireError::OutOfMemory),
+        }
+    }
+
+    // Takes the messages that are whole, and appends what is sent.
+    fn serve(&mut self, alloc: Global, out: &mut BytesMut) -> PgWireResult<ServerPhase>
+        requires { H.fits self.old.handler self.old.login }
+        ensures fits { H.fits self.new.handler self.new.login }
+        ensures kept { (self.new.handler ≡ self.old.handler) × (self.new.over ≡ self.old.over) }
+        ensures comes { Comes (H.means self.old.handler) (stage_of self.old) self.old.inbox.items (stage_of self.new) self.new.inbox.items out.old.items out.new.items result }
+    {
+        let buffer = replace(out, BytesMut::new(alloc));
+        let mut outbox = ByteOutbox { buffer };
+        let answer = self.take_all(alloc, &mut outbox);
+        let ByteOutbox { buffer } = outbox;
+        *out = buffer;
+        answer
+    }
+
+    // Takes the messages that are whole, and hands what is sent to the outbox.
+    fn take_all(&mut self, alloc: Global, out: &mut ByteOutbox) -> PgWireResult<ServerPhase>
+        requires { H.fits self.old.handler self.old.login }
+        ensures fits { H.fits self.new.handler self.new.login }
+        ensures kept { (self.new.handler ≡ self.old.handler) × (self.new.over ≡ self.old.over) }
+        ensures comes { Comes (H.means self.old.handler) (stage_of self.old) self.old.inbox.items (stage_of self.new) self.new.inbox.items out.old.buffer.items out.new.buffer.items result }
+    {
+        'messages: loop {
+            match self.advance(alloc, out) {
+                Ok(Some(phase)) => return Ok(phase),
+                Ok(None) => {}
+                Err(e) => return Err(e),
+            }
+        }
+    }
+
+    // Takes the message at the front. Where none is whole, or it is the last, it answers how far the connection is.
+    fn advance(&mut self, alloc: Global, out: &mut ByteOutbox) -> PgWireResult<Option<ServerPhase>>
+        requires { H.fits self.old.handler self.old.login }
+        ensures fits { H.fits self.new.handler self.new.login }
+        ensures kept { (self.new.handler ≡ self.old.handler) × (self.new.over ≡ self.old.over) }
+        ensures advanced { Advanced (H.means self.old.handler) (stage_of self.old) self.old.inbox.items (stage_of self.new) self.new.inbox.items out.old.buffer.items out.new.buffer.items result }
+    {
+        let version = self.client.protocol_version;
+        match next_message(alloc, &mut self.inbox, self.started, version) {
+            Ok(None) => Ok(Some(self.phase())),
+            Ok(Some(message)) => match self.step(alloc, out, message) {
+                Ok(None) => Ok(None),
+                Ok(Some(request)) => Ok(Some(ServerPhase::CancelAsked(request))),
+                Err(e) => Err(e),
+            },
+            Err(e) => Err(e),
+        }
+    }
+
+    // How far the connection is that goes on.
+    fn phase(&self) -> ServerPhase
+        ensures { result ≡ phase_at self.now.client.state }
+    {
+        match self.client.state {
+            PgWireConnectionState::ReadyForQuery => ServerPhase::Finished,
+            _ => ServerPhase::Waiting,
+        }
+    }
+
+    // Does what a message asks for; hands on a request to cancel.
+    fn step(
+        &mut self,
+        alloc: Global,
+        out: &mut ByteOutbox,
+        message: PgWireFrontendMessage,
+    ) -> PgWireResult<Option<CancelRequest>>
+        requires { H.fits self.old.handler self.old.login }
+        ensures fits { H.fits self.new.handler self.new.login }
+        ensures kept { (self.new.handler ≡ self.old.handler) × (self.new.over ≡ self.old.over) × (self.new.inbox ≡ self.old.inbox) }
+        ensures stepped { DidStep (H.means self.old.handler) message (stage_of self.old) (stage_of self.new) out.old.buffer.items out.new.buffer.items result }
+    {
+        match message {
+            PgWireFrontendMessage::SslNegotiation(_) => match refuse_encryption(&mut out.buffer) {
+                Ok(()) => Ok(None),
+                Err(e) => Err(e),
+            },
+            PgWireFrontendMessage::CancelRequest(request) => Ok(Some(request)),
+            message => match self.hear(alloc, out, message) {
+                Ok(()) => Ok(None),
+                Err(e) => Err(e),
+            },
+        }
+    }
+
+    // Hands a message to the handler.
+    fn hear(
+        &mut self,
+        alloc: Global,
+        out: &mut ByteOutbox,
+        message: PgWireFrontendMessage,
+    ) -> PgWireResult<()>
+        requires { H.fits self.old.handler self.old.login }
+        ensures fits { H.fits self.new.handler self.new.login }
+        ensures kept { (self.new.handler ≡ self.old.handler) × (self.new.over ≡ self.old.over) × (self.new.inbox ≡ self.old.inbox) }
+        ensures heard { DidHear (H.means self.old.handler) message (stage_of self.old) (stage_of self.new) out.old.buffer.items out.new.buffer.items result }
+    {
+        let client = &mut self.client;
+        let login = &mut self.login;
+        match self.handler.on_startup(alloc, client, out, login, message) {
+            Ok(()) => {
+                self.started = true;
+                Ok(())
+            }
+            Err(e) => Err(e),
+        }
+    }
+}
+
+// Whether nothing is taken behind it.
+fn is_end(answer: &PgWireResult<ServerPhase>) -> bool
+    ensures { result ≡ is_end answer.now }
+{
+    match answer {
+        Ok(ServerPhase::Waiting) => false,
+        Ok(ServerPhase::Finished) => false,
+        Ok(ServerPhase::CancelAsked(_)) => true,
+        Err(_) => true,
+    }
+}
+
+// Answers a request for encryption.
+fn refuse_encryption(out: &mut BytesMut) -> PgWireResult<()>
+    ensures ok { OnOk result (out.new.items ≡ out.old.items ++ 78 ∷ []) }
+    ensures err { IfErr result (λ e. (e ≡ PgWireError.OutOfMemory) × (out.new.items ≡ out.old.items)) }
+{
+    match out.extend_from_slice(&[SslResponse::BYTE_REFUSE]) {
+        Ok(()) => Ok(()),
+        Err(_) => Err(PgWireError::OutOfMemory),
+    }
+}

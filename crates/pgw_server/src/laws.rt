@@ -1,0 +1,41 @@
+//! What holds of a server's core.
+ghost use Rattle.std.specs.Prelude.{◌++◌, ℕ, List};
+ghost use Rattle.pgw_course.specs.Course.{Course, IsReading};
+ghost use Rattle.pgw_course.specs.Play.{Leads, Continues};
+ghost use Rattle.pgw_login.specs.Acts.{Passes};
+ghost use Rattle.pgw_login.specs.Cleartext.{CleartextMeans};
+ghost use Rattle.pgw_login.specs.Md5.{Md5Means};
+ghost use Rattle.pgw_login.specs.Noop.{NoopMeans};
+ghost use Rattle.pgw_server.specs.Lasting.{IsReady, KeepsReady, StaysReady};
+ghost use Rattle.pgw_server.specs.Server.{Stage, Ending, reading, serving};
+
+use pgw_login::handler::StartupHandler;
+use pgw_login::provider::ServerParameterProvider;
+use pgw_login::registers::Registers;
+use pgw_login::source::AuthSource;
+
+/// What stands whole at the front of a client's bytes, or is refused there, stays so whatever bytes follow. So it does
+/// not matter how they are cut.
+pub fn a_server_reads_steadily()
+    ensures { (stage : Stage) → IsReading (reading stage) }
+{}
+
+/// Where some bytes lead to a place, and a piece leads on from there, they lead on together. Behind an end a piece
+/// changes nothing.
+pub fn pieces_join<H: StartupHandler>()
+    ensures { (handler : H) (begin : Stage) (given piece : List ℕ) (course there : Course Stage Ending) → Leads (serving (H.means handler)) begin given course →
+        Continues (serving (H.means handler)) course piece there → Leads (serving (H.means handler)) begin (given ++ piece) there }
+{}
+
+/// Once the client may ask, it may ask until a message is refused, where its handler keeps it so.
+pub fn a_finished_login_stays<H: StartupHandler>()
+    ensures { (handler : H) (begin : Stage) (bytes : List ℕ) (course : Course Stage Ending) → KeepsReady (H.means handler) → IsReady begin.client begin.login →
+        Leads (serving (H.means handler)) begin bytes course → StaysReady course }
+{}
+
+/// The handlers for a password, and the one for none, keep it so.
+pub fn handlers_keep_a_finished_login<A: AuthSource, P: ServerParameterProvider, M: Registers>()
+    ensures cleartext { (source : A) (provider : P) (registry : M) → KeepsReady (CleartextMeans (A.answers source) (P.provides provider) (M.registers registry)) }
+    ensures md5 { (source : A) (provider : P) (registry : M) → KeepsReady (Md5Means (A.answers source) (P.provides provider) (M.registers registry)) }
+    ensures noop { (registry : M) → KeepsReady (NoopMeans (λ m. Passes) (M.registers registry)) }
+{}
