@@ -1,0 +1,3 @@
+pub mod SummaryLaws
+pub mod StreamLaws
+pub mod CompletionLaws

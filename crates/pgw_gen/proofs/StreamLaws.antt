@@ -1,0 +1,194 @@
+-- The stream as encodings, and the spellings that it is cut into.
+use Rattle.std.proofs.Common.{◌≡◌, ◌≤◌, ◌<◌, ◌^◌, ◌%◌, ℕ, zero, suc, ◌+◌, List, [], ◌∷◌, ◌++◌, length, map, codes, decimal, Some, None, Result, Ok, Err, refl, ap, sym, ◌∙◌, arith, append_assoc}
+use Rattle.std.proofs.lemmas.Int.{ints}
+use Rattle.std.specs.Prelude.{pos, IsUtf8}
+use Rattle.std.specs.Int.{w32, to_be_bytes}
+use Rattle.std.proofs.lemmas.List.{append-nil, map-append}
+use Rattle.std.specs.Str.{IsAscii}
+use Rattle.std.proofs.lemmas.Str.{IsUtf8-append, IsUtf8-from_ascii}
+use Rattle.std.proofs.lemmas.Str.Ascii.{IsAscii-nil}
+use Rattle.std.proofs.lemmas.Fmt.{IsAscii-decimal, length-decimal-le}
+use Rattle.std.proofs.lemmas.Bool.{le-ltb}
+use Rattle.pgw_types.specs.declared.error.PgWireError.{PgWireError}
+use Rattle.pgw_types.specs.declared.context.ProtocolVersion.{ProtocolVersion}
+use Rattle.pgw_wire.specs.declared.framing.Framing.TheVariants.{Typed}
+use Rattle.pgw_wire.specs.Framing.{encoded, header, length_field, saturated}
+use Rattle.pgw_wire.specs.Reading.{◌>>=◌}
+use Rattle.pgw_wire.specs.Writing.{i16, u32}
+use Rattle.pgw_startup.specs.declared.authentication.Authentication.TheVariants as authentication
+use Rattle.pgw_query.specs.Sound.{IsField}
+use Rattle.pgw_frontend.specs.Frontend.{both}
+use Rattle.pgw_backend.specs.Backend.{backend_encoding}
+use Rattle.pgw_backend.specs.Front.{Awaits, Spells, SpellsIn, typed_phase}
+use Rattle.pgw_backend.specs.Texts.{IsSound, Suits}
+use Rattle.pgw_backend.specs.declared.backend.PgWireBackendMessage.{PgWireBackendMessage as Backend}
+use Rattle.pgw_backend.specs.declared.backend.PgWireBackendMessage.TheVariants as backend
+use Rattle.pgw_backend.proofs.BackendWritten.{backend_written}
+use Rattle.pgw_session.specs.declared.standing.Standing.{Standing}
+use Rattle.pgw_session.specs.Events.{Got}
+use Rattle.pgw_session.specs.Standings.{standing_by}
+use Rattle.pgw_session.specs.Transcript.{SpellsGot}
+use Rattle.pgw_gen.specs.Stream.{IsStream, Puts, beginning, column, complete, description, encodings, end_of, messages, next_number, numbers, numbers_behind, ready, row_of, rows_of}
+
+-- ---- encodings
+
+-- two encodings make one, where both are there
+both_parts : (a b : Result (List ℕ) PgWireError) (bytes : List ℕ) → both a b ≡ Ok bytes → (x y : List ℕ) × (a ≡ Ok x) × (b ≡ Ok y) × (bytes ≡ x ++ y)
+both_parts (Ok x) (Ok y) bytes is = (x, y, refl, refl, cc)
+both_parts (Ok x) (Err e) bytes is = absurd cc
+both_parts (Err e) b bytes is = absurd cc
+
+-- messages behind others
+encodings_behind : (ms ns : List Backend) (x y : List ℕ) → encodings ms ≡ Ok x → encodings ns ≡ Ok y → encodings (ms ++ ns) ≡ Ok (x ++ y)
+encodings_behind [] ns x y one two = let none : [] ≡ x = cc in two ∙ ap (λ (l : List ℕ). Ok (l ++ y)) none
+encodings_behind (m ∷ ms) ns x y one two =
+    let p = both_parts (backend_encoding m) (encodings ms) x one in
+    rw (p.2, encodings_behind ms ns p.1 y p.3 two) (ap Ok (sym (append_assoc p.0 p.1 y) ∙ ap (λ (l : List ℕ). l ++ y) (sym p.4)))
+
+pub puts_none : (old : List ℕ) → Puts [] old old
+puts_none old = ([], refl, sym (append-nil old))
+
+pub puts_on : (ms ns : List Backend) (old mid new : List ℕ) → Puts ms old mid → Puts ns mid new → Puts (ms ++ ns) old new
+puts_on ms ns old mid new one two = (one.0 ++ two.0, encodings_behind ms ns one.0 two.0 one.1 two.1, two.2 ∙ ap (λ (l : List ℕ). l ++ two.0) one.2 ∙ append_assoc old one.0 two.0)
+
+put_by : (r : Result (List ℕ) PgWireError) (old new : List ℕ) → (r >>= (λ b. Ok (old ++ b))) ≡ Ok new → (bytes : List ℕ) × (both r (Ok []) ≡ Ok bytes) × (new ≡ old ++ bytes)
+put_by (Ok b) old new is = (b, ap Ok (append-nil b), cc)
+put_by (Err e) old new is = absurd cc
+
+-- one message was encoded
+pub puts_one : (m : Backend) (old new : List ℕ) → (backend_encoding m >>= (λ b. Ok (old ++ b))) ≡ Ok new → Puts (m ∷ []) old new
+puts_one m old new is = put_by (backend_encoding m) old new is
+
+-- ---- a row
+
+abbrev pub row_bytes : List ℕ → List ℕ
+row_bytes digits = 68 ∷ (to_be_bytes w32 (length digits + 10) ++ (0 ∷ 1 ∷ (to_be_bytes w32 (length digits) ++ digits)))
+
+encoded_within : (body : List ℕ) → length body + 4 ≤ 2147483647 → encoded (Typed 68) 2147483647 None body ≡ Ok (68 ∷ (to_be_bytes w32 (length body + 4) ++ body))
+unfolding encoded
+encoded_within body fits =
+    let within : saturated (length body + 4) ≤ 2147483647 = omega (arith, fits) in
+    rw (le-ltb 2147483647 (saturated (length body + 4)) within) refl
+
+pub row_encoded : (digits : List ℕ) → length digits ≤ 20 → backend_encoding (backend.DataRow (record { field_count = pos 1; payload = u32 (length digits) ++ digits })) ≡ Ok (row_bytes digits)
+unfolding backend_encoding i16 u32
+row_encoded digits small =
+    let e = encoded_within (i16 (pos 1) ++ (u32 (length digits) ++ digits)) (omega (arith, small)) in
+    let size : length (i16 (pos 1) ++ (u32 (length digits) ++ digits)) + 4 ≡ length digits + 10 = omega arith in
+    e ∙ ap (λ n. Ok (68 ∷ (to_be_bytes w32 n ++ (i16 (pos 1) ++ (u32 (length digits) ++ digits))))) size
+
+-- a row was put behind some bytes
+pub puts_row : (x : ℕ) (old new : List ℕ) → x < 2 ^ 32 → new ≡ old ++ row_bytes (decimal x) → Puts (backend.DataRow (row_of x) ∷ []) old new
+puts_row x old new small are =
+    let len : length (decimal x) ≤ 10 = length-decimal-le 10 x (omega arith) (omega (arith, small)) (omega (arith, small)) in
+    let e = row_encoded (decimal x) (omega (arith, len)) in
+    (row_bytes (decimal x), ap (λ r. both r (Ok [])) e ∙ ap Ok (append-nil (row_bytes (decimal x))), are)
+
+row_joined : (old a b d : List ℕ) → (((old ++ 68 ∷ []) ++ a) ++ 0 ∷ 1 ∷ []) ++ (b ++ d) ≡ old ++ 68 ∷ (a ++ 0 ∷ 1 ∷ (b ++ d))
+row_joined old a b d =
+    append_assoc ((old ++ 68 ∷ []) ++ a) (0 ∷ 1 ∷ []) (b ++ d) ∙ append_assoc (old ++ 68 ∷ []) a (0 ∷ 1 ∷ (b ++ d)) ∙ append_assoc old (68 ∷ []) (a ++ 0 ∷ 1 ∷ (b ++ d))
+
+-- the parts of a row, one behind the other
+pub row_parts : (old a b d new : List ℕ) → new ≡ ((((old ++ 68 ∷ []) ++ a) ++ 0 ∷ 1 ∷ []) ++ b) ++ d → a ≡ to_be_bytes w32 (length d + 10) → b ≡ to_be_bytes w32 (length d) → new ≡ old ++ row_bytes d
+row_parts old a b d new are head size = are ∙ append_assoc (((old ++ 68 ∷ []) ++ a) ++ 0 ∷ 1 ∷ []) b d ∙ row_joined old a b d ∙ rw (head, size) refl
+
+-- one row more of those that are to be put
+pub record PutSome (count before left number : ℕ) (old new : List ℕ) : Type 0 where
+  done : List ℕ
+  are : numbers_behind count before ≡ done ++ numbers_behind left number
+  put : Puts (map backend.DataRow (map row_of done)) old new
+
+pub put_none : (count before : ℕ) (old : List ℕ) → PutSome count before count before old old
+put_none count before old = record { done = []; are = refl; put = puts_none old }
+
+pub put_one : (count before left rest number next : ℕ) (old mid new : List ℕ) → PutSome count before left number old mid → left ≡ suc rest → next ≡ next_number number → Puts (backend.DataRow (row_of next) ∷ []) mid new → PutSome count before rest next old new
+put_one count before left rest number next old mid new p more is one =
+    let cut : numbers_behind left number ≡ next ∷ numbers_behind rest next = rw (more, is) refl in
+    record {
+      done = p.done ++ next ∷ [];
+      are = p.are ∙ ap (λ (l : List ℕ). p.done ++ l) cut ∙ sym (append_assoc p.done (next ∷ []) (numbers_behind rest next));
+      put = rw (map-append row_of p.done (next ∷ []), map-append backend.DataRow (map row_of p.done) (row_of next ∷ [])) (puts_on (map backend.DataRow (map row_of p.done)) (backend.DataRow (row_of next) ∷ []) old mid new p.put one);
+    }
+
+pub put_all : (count before number : ℕ) (old new : List ℕ) → PutSome count before 0 number old new → Puts (map backend.DataRow (map row_of (numbers_behind count before))) old new
+put_all count before number old new p = rw (p.are ∙ append-nil p.done) p.put
+
+-- ---- spellings
+
+-- a message whose bytes hang on no version, and that comes where each has a type byte
+pub record IsPlain (m : Backend) : Type 0 where
+  sound : IsSound m
+  suits : (v : ProtocolVersion) → Suits v m
+  awaits : (v : ProtocolVersion) → Awaits (typed_phase v) m
+
+abbrev pub ArePlain : List Backend → Type 0
+ArePlain [] = Unit {0}
+ArePlain (m ∷ ms) = IsPlain m × ArePlain ms
+
+plain_spells : (v : ProtocolVersion) (m : Backend) (bytes : List ℕ) → IsPlain m → backend_encoding m ≡ Ok bytes → Spells v m bytes
+unfolding SpellsIn
+plain_spells v m bytes p is = (p.awaits v, backend_written v m bytes p.sound (p.suits v) is)
+
+pub all_spelled : (s : Standing) (ms : List Backend) (bytes : List ℕ) → ArePlain ms → encodings ms ≡ Ok bytes → SpellsGot s (map Got ms) bytes
+all_spelled s [] bytes p is = cc
+all_spelled s (m ∷ ms) bytes p is =
+    let parts = both_parts (backend_encoding m) (encodings ms) bytes is in
+    (parts.0, parts.1, parts.4, plain_spells s.version m parts.0 p.0 parts.2, all_spelled (standing_by s m) ms parts.1 p.1 parts.3)
+
+plain_on : (ms ns : List Backend) → ArePlain ms → ArePlain ns → ArePlain (ms ++ ns)
+plain_on [] ns p q = q
+plain_on (m ∷ ms) ns p q = (p.0, plain_on ms ns p.1 q)
+
+rows_plain : (count x : ℕ) → ArePlain (map backend.DataRow (map row_of (numbers_behind count x)))
+rows_plain zero x = tt
+rows_plain (suc n) x = (record { sound = omega (arith, ints); suits = λ v. tt; awaits = λ v. (refl, refl) }, rows_plain n _)
+
+ascii_cons : (b : ℕ) (bs : List ℕ) → b < 128 → IsAscii bs → IsAscii (b ∷ bs)
+ascii_cons b bs small rest zero = small
+ascii_cons b bs small rest (suc i) = rest i
+
+select_ascii : IsAscii (83 ∷ 69 ∷ 76 ∷ 69 ∷ 67 ∷ 84 ∷ 32 ∷ [])
+select_ascii =
+    ascii_cons 83 (69 ∷ 76 ∷ 69 ∷ 67 ∷ 84 ∷ 32 ∷ []) (omega arith)
+    (ascii_cons 69 (76 ∷ 69 ∷ 67 ∷ 84 ∷ 32 ∷ []) (omega arith)
+    (ascii_cons 76 (69 ∷ 67 ∷ 84 ∷ 32 ∷ []) (omega arith)
+    (ascii_cons 69 (67 ∷ 84 ∷ 32 ∷ []) (omega arith) (ascii_cons 67 (84 ∷ 32 ∷ []) (omega arith) (ascii_cons 84 (32 ∷ []) (omega arith) (ascii_cons 32 [] (omega arith) IsAscii-nil))))))
+
+tag_text : (count : ℕ) → count < 2 ^ 64 → IsUtf8 (codes "SELECT " ++ decimal count)
+tag_text count small = IsUtf8-append (codes "SELECT ") (decimal count) (IsUtf8-from_ascii (codes "SELECT ") select_ascii) (IsUtf8-from_ascii (decimal count) (IsAscii-decimal count small))
+
+plain_greeting : IsPlain (backend.Authentication authentication.Ok)
+plain_greeting = record { sound = tt; suits = λ v. tt; awaits = λ v. (refl, refl) }
+
+plain_ready : IsPlain ready
+plain_ready = record { sound = tt; suits = λ v. tt; awaits = λ v. (refl, refl) }
+
+column_sound : IsField column
+column_sound = record { name = IsUtf8-from_ascii (110 ∷ []) (ascii_cons 110 [] (omega arith) IsAscii-nil); table_id = omega (arith, ints); column_id = omega (arith, ints); type_id = omega arith; type_size = omega (arith, ints); type_modifier = omega (arith, ints); format_code = omega (arith, ints) }
+
+plain_description : IsPlain description
+plain_description = record { sound = (column_sound, tt); suits = λ v. tt; awaits = λ v. (refl, refl) }
+
+plain_complete : (count : ℕ) → count < 2 ^ 64 → IsPlain (complete count)
+plain_complete count small = record { sound = tag_text count small; suits = λ v. tt; awaits = λ v. (refl, refl) }
+
+beginning_plain : ArePlain beginning
+beginning_plain = (plain_greeting, (plain_ready, (plain_description, tt)))
+
+end_plain : (count : ℕ) → count < 2 ^ 64 → ArePlain (end_of count)
+end_plain count small = (plain_complete count small, (plain_ready, tt))
+
+pub stream_plain : (count start : ℕ) → count < 2 ^ 64 → ArePlain (messages count start)
+unfolding numbers
+stream_plain count start small =
+    plain_on beginning (map backend.DataRow (rows_of count start) ++ end_of count) beginning_plain
+    (plain_on (map backend.DataRow (rows_of count start)) (end_of count) (rows_plain count (start % 2147483648)) (end_plain count small))
+
+-- ---- the whole
+
+pub stream_put : (count start : ℕ) (one two bytes : List ℕ) → Puts beginning [] one → Puts (map backend.DataRow (map row_of (numbers_behind count (start % 2147483648)))) one two → Puts (end_of count) two bytes → IsStream count start bytes
+unfolding numbers
+stream_put count start one two bytes a b c =
+    let rows = map backend.DataRow (rows_of count start) in
+    let all = puts_on beginning (rows ++ end_of count) [] one bytes a (puts_on rows (end_of count) one two bytes b c) in
+    all.1 ∙ ap Ok (sym all.2)

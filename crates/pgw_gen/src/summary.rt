@@ -1,0 +1,78 @@
+//! The rows of a session, told shortly.
+ghost use Rattle.std.specs.Prelude.{◌≡◌, IfOk, OnOk};
+ghost use Rattle.std.specs.List.{flat_map};
+ghost use Rattle.pgw_gen.specs.Summary.{Adds, answer_rows, response_rows, summary_of as summary_for};
+
+use pgw_query::data::DataRow;
+use pgw_session::types::{Answer, Response, SessionReport};
+use pgw_types::memory::OutOfMemory;
+use sha2::{Digest, Sha256};
+
+/// The rows of a session, told shortly.
+#[derive(Clone, Copy, Debug, PartialEq, Eq)]
+pub struct GenSummary {
+    /// How many rows its answers gave.
+    pub rows: u64,
+    /// SHA-256 of their payloads, one behind the other.
+    pub digest: [u8; 32],
+}
+
+/// The rows that were added so far.
+#[derive(Drop)]
+struct Sum {
+    rows: u64,
+    hasher: Sha256,
+}
+
+impl Sum {
+    // Adds the rows of a result.
+    fn add_rows(&mut self, rows: &[DataRow]) -> Result<(), OutOfMemory>
+        ensures { OnOk result (Adds rows.now self.old self.new) }
+    {
+        let Some(count) = self.rows.checked_add(rows.len() as u64) else {
+            return Err(OutOfMemory);
+        };
+        self.rows = count;
+        for row in rows {
+            self.hasher.update(row.payload.as_slice());
+        }
+        Ok(())
+    }
+
+    fn add_responses(&mut self, responses: &[Response]) -> Result<(), OutOfMemory>
+        ensures { OnOk result (Adds (flat_map response_rows responses.now) self.old self.new) }
+    {
+        for response in responses {
+            if let Response::Query(_tag, _fields, rows) = response {
+                self.add_rows(rows.as_slice())?;
+            }
+        }
+        Ok(())
+    }
+
+    fn add_answers(&mut self, answers: &[Answer]) -> Result<(), OutOfMemory>
+        ensures { OnOk result (Adds (flat_map answer_rows answers.now) self.old self.new) }
+    {
+        for answer in answers {
+            if let Answer::Responses(responses) = answer {
+                self.add_responses(responses.as_slice())?;
+            }
+        }
+        Ok(())
+    }
+}
+
+/// The rows of a report, told shortly. A server's error instead of rows has none.
+pub fn summary_of(report: &SessionReport) -> Result<GenSummary, OutOfMemory>
+    ensures { IfOk result (λ summary. summary ≡ summary_for report.now) }
+{
+    let mut sum = Sum {
+        rows: 0,
+        hasher: Sha256::new(),
+    };
+    sum.add_answers(report.answers.as_slice())?;
+    Ok(GenSummary {
+        rows: sum.rows,
+        digest: sum.hasher.finalize(),
+    })
+}
