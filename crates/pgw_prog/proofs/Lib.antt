@@ -8,3 +8,5 @@ pub mod TextLaws
 pub mod ConnectLaws
 pub mod ProgramLaws
 pub mod SignedLaws
+pub mod HexLaws
+pub mod ServerLaws

@@ -1,6 +1,6 @@
 -- The session of a script.
 use Rattle.std.specs.Prelude.{◌≡◌, ◌≢◌, ◌⊎◌, ◌<◌, ◌≤◌, ◌+◌, ◌*◌, ◌++◌, ◌||◌, nat_lt, ℕ, List, [], length, None, Result, Ok, Err, IsErrOf}
-use Rattle.std.specs.List.{flat_map, Any}
+use Rattle.std.specs.List.{Any}
 use Rattle.pgw_link.specs.Tape.{Tape}
 use Rattle.pgw_link.specs.Calls.{is_reached}
 use Rattle.pgw_link.specs.Memory.{Making}
@@ -24,12 +24,9 @@ use Rattle.pgw_prog.specs.Printing.{session_text}
 abbrev pub input_of : Script → Config → Input
 input_of s config = record { config = record config { protocol_version = s.protocol_version }; requests = s.requests; nonce = s.nonce }
 
-abbrev pub joined : List (List ℕ) → List ℕ
-joined pieces = flat_map (λ piece. piece) pieces
-
 -- the link that the script describes
 abbrev pub making_of : Script → Making
-making_of s = record { server = joined s.server; cut = s.cut; reads = s.fail_reads; writes = s.fail_writes }
+making_of s = record { server = s.server; cut = s.cut; reads = s.fail_reads; writes = s.fail_writes }
 
 -- the server's bytes are to come, and nothing was done
 abbrev pub first_tape : Making → Tape
@@ -103,7 +100,7 @@ pub record CanComplete (s : Script) (segments : List (List Event)) : Type 0 wher
   pub clear : refused_config (input_of s config).config ≡ None
   pub no_reads : s.fail_reads ≡ []
   pub no_writes : s.fail_writes ≡ []
-  pub completes : Completes (input_of s config) s.limit (joined s.server) segments
+  pub completes : Completes (input_of s config) s.limit s.server segments
 
 -- what is printed of it: the bytes sent in the transcript, and its report
 abbrev pub completed_text : (s : Script) (segments : List (List Event)) → CanComplete s segments → List ℕ
@@ -112,4 +109,4 @@ completed_text s segments can = session_text can.completes.sent (Ok (report_of (
 -- of the script's link a listed read is at most one more than some first bytes of the server's, or a listed write at
 -- most one more than these bytes sent
 abbrev pub FailsNear : Script → List ℕ → Type 0
-FailsNear s sent = (taken rest : List ℕ) × (joined s.server ≡ taken ++ rest) × IsNear (making_of s) taken sent
+FailsNear s sent = (taken rest : List ℕ) × (s.server ≡ taken ++ rest) × IsNear (making_of s) taken sent

@@ -12,3 +12,4 @@ pub mod Command
 pub mod Program
 pub mod Grammar
 pub mod RequestLine
+pub mod ServerBytes

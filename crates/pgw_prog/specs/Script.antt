@@ -82,7 +82,7 @@ with_line s (line.Cut n) = record s { cut = n }
 with_line s (line.FailRead n) = record s { fail_reads = s.fail_reads ++ n ∷ [] }
 with_line s (line.FailWrite n) = record s { fail_writes = s.fail_writes ++ n ∷ [] }
 with_line s (line.Request q) = record s { requests = s.requests ++ q ∷ [] }
-with_line s (line.Server bs) = record s { server = s.server ++ bs ∷ [] }
+with_line s (line.Server bs) = record s { server = s.server ++ bs }
 
 -- the place and the script behind a line that may stand there
 abbrev pub step : Place → Script → Option Line → Option (Place × Script)

@@ -12,6 +12,7 @@ use crate::held::status_of;
 use crate::over_link::hold_over;
 use crate::printed::Printed;
 use crate::printing::put_result;
+use crate::told::told_of_outcome;
 use pgw_backend::client_error::{PgWireClientError, PgWireClientResult};
 use pgw_config::config::Config;
 use pgw_conninfo::address::Address;
@@ -56,7 +57,8 @@ fn print_result(
     let status = status_of(outcome)?;
     let mut text = Vec::new(alloc);
     put_result(&mut text, outcome)?;
-    Ok(Printed { text, status })
+    let told = told_of_outcome(alloc, outcome);
+    Ok(Printed { text, status, told })
 }
 
 /// Holds the session at the address of a configuration and prints it, or prints that there is no address.

@@ -1,7 +1,7 @@
 //! The session of a script.
 ghost use Rattle.std.specs.Prelude.{◌≡◌, ◌≢◌, ◌<◌, ◌≤◌, ◌+◌, ◌*◌, ◌||◌, nat_lt, [], length, None, Ok, Err, IfOk, OnOk, IsErrOf};
 ghost use Rattle.pgw_backend.specs.declared.client_error.PgWireClientError.TheVariants as client;
-ghost use Rattle.pgw_prog.specs.Held.{input_of, joined as join, first_tape, Moves, status_of as status_for, Says, PrintsSession, PrintsOutcome, Holds};
+ghost use Rattle.pgw_prog.specs.Held.{input_of, first_tape, Moves, status_of as status_for, Says, PrintsSession, PrintsOutcome, Holds};
 ghost use Rattle.pgw_link.specs.Calls.{is_reached};
 ghost use Rattle.pgw_link.specs.Memory.{tape_of, faults_of, making_of};
 ghost use Rattle.pgw_prog.specs.Printing.{session_text};
@@ -10,24 +10,14 @@ use crate::over_link::hold_over;
 use crate::printed::Printed;
 use crate::printing::put_session;
 use crate::script::Script;
+use crate::told::told_of_outcome;
 use pgw_backend::client_error::{PgWireClientError, PgWireClientResult};
 use pgw_config::config::Config;
 use pgw_link::memory::MemoryLink;
 use pgw_session::types::{Request, SessionReport};
 use pgw_types::memory::OutOfMemory;
-use pgw_types::octets::Octets;
 use pgw_types::text::Text;
 use std::alloc::Global;
-
-fn joined(alloc: Global, pieces: &[Octets]) -> Result<Octets, OutOfMemory>
-    ensures { IfOk result (λ o. o ≡ join pieces.now) }
-{
-    let mut bytes = Vec::new(alloc);
-    for piece in pieces {
-        bytes.extend_from_slice(piece.as_slice())?;
-    }
-    Octets::from_slice(alloc, &bytes)
-}
 
 /// The status to end with. Want of memory is no answer to be printed.
 pub fn status_of(outcome: &PgWireClientResult<SessionReport>) -> Result<u8, OutOfMemory>
@@ -68,7 +58,8 @@ fn print_outcome(
     let status = status_of(outcome)?;
     let mut text = Vec::new(alloc);
     put_session(&mut text, link.written(), outcome)?;
-    Ok(Printed { text, status })
+    let told = told_of_outcome(alloc, outcome);
+    Ok(Printed { text, status, told })
 }
 
 /// Holds a session over a link in memory, and prints it.
@@ -104,8 +95,7 @@ fn hold_with(alloc: Global, script: Script, config: Config) -> Result<Printed, O
         server,
         ..
     } = script;
-    let server = joined(alloc, server.as_slice())?;
-    let mut link = MemoryLink::new(alloc, server, cut, fail_reads, fail_writes);
+    let mut link = MemoryLink::new(alloc, server.into_octets()?, cut, fail_reads, fail_writes);
     run(
         alloc,
         &mut link,
@@ -125,7 +115,8 @@ fn print_refusal(alloc: Global, error: PgWireClientError) -> Result<Printed, Out
     let status = status_of(&outcome)?;
     let mut text = Vec::new(alloc);
     put_session(&mut text, b"", &outcome)?;
-    Ok(Printed { text, status })
+    let told = told_of_outcome(alloc, &outcome);
+    Ok(Printed { text, status, told })
 }
 
 /// Holds a script's session and prints it, or prints why its connection text is refused.

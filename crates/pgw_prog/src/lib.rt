@@ -1,10 +1,16 @@
-//! Client sessions from scripts: what the program does.
+//! What the program does: sessions with a server, and sessions from scripts.
+//!
+//! To whoever runs it, `program::run_program` promises the whole text that each command prints and the status it ends
+//! with, as `specs/Program` says them in the words of the script's grammar and of `run_session`'s contract; that a fault
+//! of the source or the sink, and nothing else, is status 3; and how the dialer is left. `program::run_program_with`
+//! promises the same whatever becomes of what people are told.
 #![tactic(auto)]
 
 mod answer_lines;
 mod command;
 mod connected;
 mod error_names;
+mod expected;
 mod grammar;
 mod held;
 mod line;
@@ -15,5 +21,8 @@ mod printing;
 pub mod program;
 mod request_line;
 mod script;
+mod server_bytes;
+mod silence;
 pub mod start;
+mod told;
 mod transfer;

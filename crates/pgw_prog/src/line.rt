@@ -1,10 +1,10 @@
 //! The lines of a session script.
-ghost use Rattle.std.specs.Prelude.{◌≡◌, ◌<◌, ◌==◌, ◌&&◌, IfOk, IfSome, not, nat_le};
-ghost use Rattle.std.specs.List.{filter};
+ghost use Rattle.std.specs.Prelude.{◌≡◌, ◌<◌, ◌&&◌, IfOk, IfSome, nat_le};
 ghost use Rattle.pgw_prog.specs.Line.{number_in, version_in, nonce_in, cut_in, bytes_in, later_line_of, setting_of, line_of, Moves};
 
 use crate::request_line::{read_request, read_text};
-use hex::{FromHex, FromHexError};
+use crate::server_bytes::ServerBytes;
+use hex::FromHex;
 use pgw_client::Request;
 use pgw_conninfo::marks::behind_word;
 use pgw_types::context::ProtocolVersion;
@@ -78,27 +78,15 @@ fn is_cut(number: u64) -> bool
     1 <= number && number <= 65536
 }
 
-#[tactic(auto, unfolding(crate::specs::Line::bytes_in))]
 fn read_bytes(alloc: Global, value: &[u8]) -> Result<Option<Octets>, OutOfMemory>
     ensures { IfOk result (λ o. o ≡ bytes_in value.now) }
 {
-    let digits = without_spaces(alloc, value)?;
-    match hex::decode(alloc, digits.as_slice()) {
-        Ok(bytes) => Ok(Some(Octets::from_slice(alloc, &bytes)?)),
-        Err(FromHexError::OutOfMemory) => Err(OutOfMemory),
-        Err(_) => Ok(None),
+    let mut bytes = ServerBytes::new(alloc);
+    if bytes.add_hex(value)? {
+        Ok(Some(bytes.into_octets()?))
+    } else {
+        Ok(None)
     }
-}
-
-fn without_spaces(alloc: Global, value: &[u8]) -> Result<Vec<u8>, OutOfMemory>
-    ensures { IfOk result (λ v. v.items ≡ filter (λ b. not (b == 32)) value.now) }
-{
-    let digits = value
-        .iter()
-        .copied()
-        .filter(|byte| *byte != b' ')
-        .collect(alloc)?;
-    Ok(digits)
 }
 
 /// What a line says, where it is one of the later kinds.

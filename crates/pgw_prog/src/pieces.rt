@@ -1,7 +1,8 @@
 //! The pieces of printed text.
-ghost use Rattle.std.specs.Prelude.{◌≡◌, ◌++◌, ◌∷◌, [], OnOk, codes, decimal};
+ghost use Rattle.std.specs.Prelude.{◌≡◌, ◌+◌, ◌*◌, ◌++◌, ◌∷◌, [], IfSome, OnOk, codes, decimal};
 ghost use Rattle.std.specs.Fmt.{signed_decimal};
 ghost use Rattle.std.specs.List.{flat_map};
+ghost use Rattle.hex.specs.Hex.{encode_lower};
 ghost use Rattle.pgw_prog.specs.Pieces.{in_hex, quoted, quoted_byte};
 
 use itoa::Buffer;
@@ -19,10 +20,32 @@ pub fn put_hex(out: &mut Vec<u8>, bytes: &[u8]) -> Result<(), OutOfMemory>
     ensures { OnOk result (out.new.items ≡ out.old.items ++ in_hex bytes.now) }
 {
     if bytes.is_empty() {
-        return put(out, b"-");
+        put(out, b"-")
+    } else {
+        put_digits(out, bytes)
     }
-    let text = hex::encode(*out.allocator(), bytes)?;
-    put(out, text.as_bytes())
+}
+
+// Two digits for each byte, written where they are to stand.
+fn put_digits(out: &mut Vec<u8>, bytes: &[u8]) -> Result<(), OutOfMemory>
+    ensures { OnOk result (out.new.items ≡ out.old.items ++ encode_lower bytes.now) }
+{
+    let start = out.len();
+    let Some(end) = end_of(start, bytes.len()) else {
+        return Err(OutOfMemory);
+    };
+    out.resize(end, 0)?;
+    match hex::encode_to_slice(bytes, &mut out[start..]) {
+        Ok(()) => Ok(()),
+        Err(_) => Err(OutOfMemory),
+    }
+}
+
+// Where two digits for each byte end.
+fn end_of(start: usize, len: usize) -> Option<usize>
+    ensures { IfSome result (λ end. end ≡ start + 2 * len) }
+{
+    start.checked_add(len.checked_mul(2)?)
 }
 
 pub fn put_decimal(out: &mut Vec<u8>, number: u64) -> Result<(), OutOfMemory>

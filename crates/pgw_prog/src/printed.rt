@@ -6,5 +6,7 @@ ghost use Rattle.std.specs.Prelude.{◌≤◌};
 pub struct Printed {
     pub text: Vec<u8>,
     pub status: u8,
+    /// What people are told of it on standard error.
+    pub told: String,
     ghost bound: { status ≤ 2 },
 }

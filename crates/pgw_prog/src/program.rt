@@ -20,15 +20,18 @@ use crate::held::hold;
 use crate::pieces::{put, put_decimal};
 use crate::printed::Printed;
 use crate::script::{ScriptFault, parse};
+use crate::silence::Silence;
+use crate::told::{NO_MEMORY, NO_OUTPUT, NO_SCRIPT, TOO_LONG, told, told_of_line, told_of_words};
 use crate::transfer::{ReadFault, read_whole, write_whole};
 use pgw_link::dialer::Dialer;
 use pgw_link::stream::{Sink, Source};
 use pgw_types::memory::OutOfMemory;
 use std::alloc::Global;
 
-const VERSION: &str = "hothummei 0.1.0\n";
+const VERSION: &str = "hothummei 0.2.0\n";
 
-const HELP: &str = "Holds the client's side of a PostgreSQL session and prints what it gave.
+const HELP: &str =
+    "hothummei holds the client's side of a PostgreSQL session and prints what it gave.
 
 hothummei connect TEXT LIMIT QUERY..
                      connects to the server that the connection text names,
@@ -63,7 +66,7 @@ cut N                            the most bytes that one call moves, 1 to 65536
 fail read N                      the read with this number fails; any number
 fail write N                     the write with this number fails; any number
 REQUEST                          one of the lines below; any number
-server HEX                       bytes that the server sends; any number; here
+server HEX                       bytes that the server sends; any number; here alone
                                  spaces may stand between the digits
 
 Requests. NAME, PORTAL and STATEMENT are a word, or - for none. OIDS, PARAMS and
@@ -79,10 +82,22 @@ describe s NAME, describe p NAME a statement, or a portal
 close s NAME, close p NAME       the same, to be forgotten
 query OIDS PARAMS SQL            a query with its parameters, at once
 
+An example: bob logs in without a password and asks for one row.
+
+config user=bob
+nonce 000000000000000000000000000000000000
+limit 1000
+cut 1000
+simple SELECT 1
+server 52 00000008 00000000 5a 00000005 49
+server 54 0000001a 0001 6100 00000000 0000 00000017 0004 ffffffff 0000
+server 44 0000000b 0001 00000001 31
+server 43 0000000d 53454c454354203100 5a 00000005 49
+
 Status: 0 the session ended well, 1 it ended with an error, or the connection
 text is refused, or no connection was made, 2 the words or the script are wrong
 (usage, line N, script too long), 3 reading or writing failed or the system gave
-no random bytes, 4 memory ran out.
+no random bytes, 4 memory ran out. Of each but 0 standard error says what failed.
 ";
 
 /// Why nothing is printed.
@@ -102,33 +117,46 @@ impl From<OutOfMemory> for Stop {
     }
 }
 
-fn says(alloc: Global, text: &[u8], status: u8) -> Result<Printed, OutOfMemory>
+fn says(alloc: Global, text: &[u8], status: u8, told: String) -> Result<Printed, OutOfMemory>
     requires { status ≤ 2 }
     ensures { IfOk result (λ p. Says p text.now status) }
 {
     let mut out = Vec::new(alloc);
     put(&mut out, text)?;
-    Ok(Printed { text: out, status })
+    Ok(Printed {
+        text: out,
+        status,
+        told,
+    })
 }
 
 /// What is printed of a script whose line with this number is outside the grammar.
-fn says_line(alloc: Global, number: u64) -> Result<Printed, OutOfMemory>
+fn says_line(alloc: Global, number: u64, told: String) -> Result<Printed, OutOfMemory>
     ensures { IfOk result (λ p. Says p (codes "line " ++ decimal number ++ line_end) 2) }
 {
     let mut text = Vec::new(alloc);
     put(&mut text, b"line ")?;
     put_decimal(&mut text, number)?;
     put(&mut text, b"\n")?;
-    Ok(Printed { text, status: 2 })
+    Ok(Printed {
+        text,
+        status: 2,
+        told,
+    })
 }
 
-/// Reads a script, and holds its session.
-fn answer_text(alloc: Global, text: &[u8]) -> Result<Printed, OutOfMemory>
-    ensures { IfOk result (AnswersText text.now) }
+/// Reads a script, lets its text go, and holds its session.
+fn answer_text(alloc: Global, text: Vec<u8>) -> Result<Printed, OutOfMemory>
+    ensures { IfOk result (AnswersText text.items) }
 {
-    match parse(alloc, text) {
-        Ok(script) => hold(alloc, script),
-        Err(ScriptFault::Line(number)) => says_line(alloc, number),
+    match parse(alloc, &text) {
+        Ok(script) => {
+            drop(text);
+            hold(alloc, script)
+        }
+        Err(ScriptFault::Line(number)) => {
+            says_line(alloc, number, told_of_line(alloc, &text, number))
+        }
         Err(ScriptFault::OutOfMemory) => Err(OutOfMemory),
     }
 }
@@ -140,8 +168,10 @@ fn answer_script<I: Source>(alloc: Global, input: &mut I) -> Result<Printed, Sto
     ensures answers { I.tells → IfOk result (AnswersScript (I.tape input.old).left) }
 {
     match read_whole(alloc, input) {
-        Ok(text) => Ok(answer_text(alloc, &text)?),
-        Err(ReadFault::TooLong) => Ok(says(alloc, b"script too long\n", 2)?),
+        Ok(text) => Ok(answer_text(alloc, text)?),
+        Err(ReadFault::TooLong) => {
+            Ok(says(alloc, b"script too long\n", 2, told(alloc, TOO_LONG))?)
+        }
         Err(ReadFault::Source) => Err(Stop::Source),
         Err(ReadFault::OutOfMemory) => Err(Stop::OutOfMemory),
     }
@@ -149,6 +179,7 @@ fn answer_script<I: Source>(alloc: Global, input: &mut I) -> Result<Printed, Sto
 
 fn answer<I: Source, D: Dialer>(
     alloc: Global,
+    words: &[String],
     command: Command,
     input: &mut I,
     dialer: &mut D,
@@ -166,9 +197,9 @@ fn answer<I: Source, D: Dialer>(
     match command {
         Command::Script => answer_script(alloc, input),
         Command::Connect(asked) => Ok(connect(alloc, &asked, dialer, nonce)?),
-        Command::Help => Ok(says(alloc, HELP.as_bytes(), 0)?),
-        Command::Version => Ok(says(alloc, VERSION.as_bytes(), 0)?),
-        Command::Usage => Ok(says(alloc, b"usage\n", 2)?),
+        Command::Help => Ok(says(alloc, HELP.as_bytes(), 0, String::new(alloc))?),
+        Command::Version => Ok(says(alloc, VERSION.as_bytes(), 0, String::new(alloc))?),
+        Command::Usage => Ok(says(alloc, b"usage\n", 2, told_of_words(alloc, words))?),
     }
 }
 
@@ -189,19 +220,25 @@ fn answer_words<I: Source, D: Dialer>(
     ensures source { IfErr result (λ e. e ≡ stop.Source → command_for (map string_bytes words.now) ≡ kind.Script) }
 {
     let command = command_of(alloc, words)?;
-    answer(alloc, command, input, dialer, nonce)
+    answer(alloc, words, command, input, dialer, nonce)
 }
 
-/// Runs the command that the words ask for, and says with which status to end: 0 all went well, 1 the session ended with
-/// an error, or the connection text is refused, or no link was made, 2 the words or the script are outside their grammar,
-/// 3 the source or the sink failed, 4 memory ran out.
-///
-/// The nonce is that of a SCRAM login of `connect`; a script has its own. The 32 bytes are for commands to come.
-pub fn run_program<I: Source, O: Sink, D: Dialer>(
+/// Tells people a text. That a write of it fails changes nothing.
+fn tell<E: Sink>(errors: &mut E, text: &str)
+    ensures later { E.faults errors.old ≤ E.faults errors.new }
+    ensures writes { E.tells → Appended (E.tape errors.old) (E.tape errors.new) }
+{
+    let _ = write_whole(errors, text.as_bytes());
+}
+
+/// Runs the command that the words ask for, and says with which status to end, as `run_program` does. Why the status is
+/// not 0 is written to `errors`, in words for people; a fault of that sink changes nothing.
+pub fn run_program_with<I: Source, O: Sink, E: Sink, D: Dialer>(
     alloc: Global,
     words: &[String],
     input: &mut I,
     output: &mut O,
+    errors: &mut E,
     dialer: &mut D,
     nonce: &[u8; 18],
     _words32: &[u8; 32],
@@ -241,13 +278,90 @@ pub fn run_program<I: Source, O: Sink, D: Dialer>(
     // Of a session with a server IoError is printed only where the dialer's count rose.
     ensures connect_io { O.tells → (asked : TheConnection) → command_for (map string_bytes words.now) ≡ kind.Connect asked → result ≡ 1 →
         (O.tape output.new).wrote ≡ (O.tape output.old).wrote ++ error_line client.IoError → Rose (D.faults dialer.old) (D.faults dialer.new) }
+    // What people are told is appended to what was written before.
+    ensures told { E.tells → Appended (E.tape errors.old) (E.tape errors.new) }
+    ensures told_faults { E.faults errors.old ≤ E.faults errors.new }
 {
     match answer_words(alloc, words, input, dialer, nonce) {
         Ok(printed) => match write_whole(output, &printed.text) {
-            Ok(()) => printed.status,
-            Err(_) => 3,
+            Ok(()) => {
+                tell(errors, printed.told.as_str());
+                printed.status
+            }
+            Err(_) => {
+                tell(errors, NO_OUTPUT);
+                3
+            }
         },
-        Err(Stop::Source) => 3,
-        Err(Stop::OutOfMemory) => 4,
+        Err(Stop::Source) => {
+            tell(errors, NO_SCRIPT);
+            3
+        }
+        Err(Stop::OutOfMemory) => {
+            tell(errors, NO_MEMORY);
+            4
+        }
     }
+}
+
+/// Runs the command that the words ask for, and says with which status to end: 0 all went well, 1 the session ended with
+/// an error, or the connection text is refused, or no link was made, 2 the words or the script are outside their grammar,
+/// 3 the source or the sink failed, 4 memory ran out.
+///
+/// The nonce is that of a SCRAM login of `connect`; a script has its own. The 32 bytes are for commands to come.
+pub fn run_program<I: Source, O: Sink, D: Dialer>(
+    alloc: Global,
+    words: &[String],
+    input: &mut I,
+    output: &mut O,
+    dialer: &mut D,
+    nonce: &[u8; 18],
+    words32: &[u8; 32],
+) -> u8
+    ensures status { result ≤ 4 }
+    // At 0, 1 and 2 the whole text of the answer is written, and the status is the answer's.
+    ensures prints { result ≤ 2 → Prints HELP.now VERSION.now (command_for (map string_bytes words.now)) I.tells O.tells (I.tape input.old).left (Connects nonce.now D.tells (D.tape dialer.old) (D.tape dialer.new) (D.faults dialer.old) (D.faults dialer.new)) (O.tape output.old).wrote (O.tape output.new).wrote result }
+    // 3 comes only where a read for a script failed, and then nothing is written, or where a write failed: what is
+    // written then is a front of the text.
+    ensures fault { result ≡ 3 →
+        ((command_for (map string_bytes words.now) ≡ kind.Script) × Rose (I.faults input.old) (I.faults input.new) × (output.new ≡ output.old))
+        ⊎ (Rose (O.faults output.old) (O.faults output.new) × PrintsFront HELP.now VERSION.now (command_for (map string_bytes words.now)) I.tells O.tells (I.tape input.old).left (Connects nonce.now D.tells (D.tape dialer.old) (D.tape dialer.new) (D.faults dialer.old) (D.faults dialer.new)) (O.tape output.old).wrote (O.tape output.new).wrote) }
+    // It comes wherever one failed.
+    ensures source_fault { I.faults input.old < I.faults input.new → (result ≡ 3) × (output.new ≡ output.old) }
+    ensures sink_fault { O.faults output.old < O.faults output.new → result ≡ 3 }
+    // At 4 memory ran out, and nothing is written.
+    ensures silent { result ≡ 4 → output.new ≡ output.old }
+    // A script that lists no call to fail, and whose server's bytes complete its session, is printed whole.
+    ensures completes { I.tells → O.tells → ¬ (Rose (I.faults input.old) (I.faults input.new)) → ¬ (Rose (O.faults output.old) (O.faults output.new)) → command_for (map string_bytes words.now) ≡ kind.Script →
+        (script : TheScript) (segments : List (List Event)) (c : Completing (I.tape input.old).left script segments) → PrintsWhole (I.tape input.old).left script segments c (O.tape output.old).wrote (O.tape output.new).wrote result }
+    // IoError is printed only of a script that lists a read at most one more than the bytes read, or a write at most one
+    // more than the bytes sent.
+    ensures io { I.tells → O.tells → command_for (map string_bytes words.now) ≡ kind.Script → result ≡ 1 → (sent : List ℕ) →
+        (O.tape output.new).wrote ≡ (O.tape output.old).wrote ++ session_text sent (Err client.IoError) → ListsFailure (I.tape input.old).left sent }
+    // At most one read more than bytes read, and one write more than bytes written. Only a script is read.
+    ensures reads { I.tells → TookFront (I.tape input.old) (I.tape input.new) }
+    ensures writes { O.tells → Appended (O.tape output.old) (O.tape output.new) }
+    ensures unread { command_for (map string_bytes words.now) ≢ kind.Script → input.new ≡ input.old }
+    // Whatever the status: at most one dial is made, to the address of the connection text, and its link is closed; no
+    // other command and no refused text touches the dialer.
+    ensures dials { D.faults dialer.old ≤ D.faults dialer.new }
+    ensures leaves { LeavesDialer (command_for (map string_bytes words.now)) (dialer.new ≡ dialer.old) D.tells (D.tape dialer.old) (D.tape dialer.new) }
+    // A session with a server, whose bytes complete it, is reported whole.
+    ensures connects { D.tells → O.tells → ¬ (Rose (D.faults dialer.old) (D.faults dialer.new)) → ¬ (Rose (O.faults output.old) (O.faults output.new)) →
+        (asked : TheConnection) → command_for (map string_bytes words.now) ≡ kind.Connect asked → (segments : List (List Event)) (can : CanConnect asked nonce.now (D.tape dialer.old).offer segments) →
+        PrintsReport asked nonce.now (D.tape dialer.old).offer segments can (O.tape output.old).wrote (O.tape output.new).wrote result }
+    // Of a session with a server IoError is printed only where the dialer's count rose.
+    ensures connect_io { O.tells → (asked : TheConnection) → command_for (map string_bytes words.now) ≡ kind.Connect asked → result ≡ 1 →
+        (O.tape output.new).wrote ≡ (O.tape output.old).wrote ++ error_line client.IoError → Rose (D.faults dialer.old) (D.faults dialer.new) }
+{
+    run_program_with(
+        alloc,
+        words,
+        input,
+        output,
+        &mut Silence,
+        dialer,
+        nonce,
+        words32,
+    )
 }

@@ -1,14 +1,15 @@
 //! Session scripts.
 ghost use Rattle.std.specs.Prelude.{◌≡◌, ◌<◌, ◌∷◌, ◌==◌, Some, None, length, OnOk, IfOk, IfSome, position, if◌then◌else◌};
-ghost use Rattle.pgw_prog.specs.Line.{Moves};
+ghost use Rattle.pgw_prog.specs.Line.{Moves, bytes_in, known, line_of};
 ghost use Rattle.pgw_prog.specs.Script.{first_script, with_line, place_of as place_for, may_follow as follows, may_end as ends, lines_of, step, read_script, Reads};
 
 use crate::line::{Line, read_line};
+use crate::server_bytes::ServerBytes;
+use pgw_conninfo::marks::behind_word;
 use pgw_session::types::Request;
 use pgw_types::context::ProtocolVersion;
 use pgw_types::listed::Listed;
 use pgw_types::memory::OutOfMemory;
-use pgw_types::octets::Octets;
 use pgw_types::text::Text;
 use std::alloc::Global;
 
@@ -24,8 +25,8 @@ pub struct Script {
     pub fail_reads: Listed<u64>,
     pub fail_writes: Listed<u64>,
     pub requests: Listed<Request>,
-    /// What the server sends, in pieces.
-    pub server: Listed<Octets>,
+    /// What the server sends.
+    pub server: ServerBytes,
 }
 
 /// Why a text is no script.
@@ -73,7 +74,7 @@ impl Script {
             fail_reads: Listed::new(alloc),
             fail_writes: Listed::new(alloc),
             requests: Listed::new(alloc),
-            server: Listed::new(alloc),
+            server: ServerBytes::new(alloc),
         }
     }
 
@@ -89,7 +90,7 @@ impl Script {
             Line::FailRead(number) => self.fail_reads.push(number)?,
             Line::FailWrite(number) => self.fail_writes.push(number)?,
             Line::Request(request) => self.requests.push(request)?,
-            Line::Server(bytes) => self.server.push(bytes)?,
+            Line::Server(bytes) => self.server.add(bytes.as_slice())?,
         }
         Ok(())
     }
@@ -111,7 +112,8 @@ fn place_of(line: &Line) -> Place
     }
 }
 
-fn may_follow(before: Place, next: Place) -> bool
+/// Whether a line of the second kind may stand behind one of the first.
+pub fn may_follow(before: Place, next: Place) -> bool
     ensures { result ≡ follows before next }
 {
     match before {
@@ -156,6 +158,35 @@ impl Draft {
         self.place = next;
         Ok(true)
     }
+
+    // Takes a line of the server's bytes, where it may stand here and is in the grammar.
+    fn take_server(&mut self, digits: &[u8]) -> Result<bool, OutOfMemory>
+        ensures step { IfOk result (λ went. step self.old.place self.old.script (known Line.Server (bytes_in digits.now)) ≡ (if went then Some (self.new.place, self.new.script) else None)) }
+        ensures moves { OnOk result (0 < self.old.script.cut → 0 < self.new.script.cut) }
+    {
+        if !may_follow(self.place, Place::Server) {
+            return Ok(false);
+        }
+        if !self.script.server.add_hex(digits)? {
+            return Ok(false);
+        }
+        self.place = Place::Server;
+        Ok(true)
+    }
+
+    /// Reads a line and takes it, where it is in the grammar and may stand here.
+    fn read(&mut self, alloc: Global, line: &[u8]) -> Result<bool, OutOfMemory>
+        ensures step { IfOk result (λ went. step self.old.place self.old.script (line_of line.now) ≡ (if went then Some (self.new.place, self.new.script) else None)) }
+        ensures moves { OnOk result (0 < self.old.script.cut → 0 < self.new.script.cut) }
+    {
+        if let Some(digits) = behind_word(b"server ", line) {
+            return self.take_server(digits);
+        }
+        match read_line(alloc, line)? {
+            Some(line) => self.take(line),
+            None => Ok(false),
+        }
+    }
 }
 
 /// The place of the first line feed.
@@ -196,10 +227,7 @@ pub fn parse(alloc: Global, text: &[u8]) -> Result<Script, ScriptFault>
     while rest.len() > 0 {
         let (line, behind) = first_line(rest);
         number += 1;
-        let Some(line) = read_line(alloc, line)? else {
-            return Err(ScriptFault::Line(number));
-        };
-        if !draft.take(line)? {
+        if !draft.read(alloc, line)? {
             return Err(ScriptFault::Line(number));
         }
         rest = behind;

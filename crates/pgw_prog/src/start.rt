@@ -1,6 +1,7 @@
 //! The program over standard input and output and the system's sockets.
 
-use crate::program::run_program;
+use crate::program::run_program_with;
+use crate::told::{NO_MEMORY, NO_RANDOM_BYTES};
 use pgw_link::socket_dialer::{SocketDialer, Timeouts};
 use pgw_link::standard::{StdSink, StdSource};
 use rand::RngExt;
@@ -11,10 +12,16 @@ use std::{env, io};
 pub fn start(rt: &HostRuntime) -> u8 {
     match words_of(rt) {
         Ok(words) => run(rt, &words),
-        Err(error) if error.kind() == io::ErrorKind::OutOfMemory => 4,
+        Err(error) if error.kind() == io::ErrorKind::OutOfMemory => told(rt, NO_MEMORY, 4),
         // A word that is no text is no command.
         Err(_) => run(rt, &[String::new(rt.alloc())]),
     }
+}
+
+/// Tells people this on standard error, and ends with the status.
+fn told(rt: &HostRuntime, text: &str, status: u8) -> u8 {
+    let _ = rt.eprint(text);
+    status
 }
 
 /// The words behind the program's name.
@@ -30,18 +37,20 @@ fn words_of(rt: &HostRuntime) -> io::Result<Vec<String>> {
 fn run(rt: &HostRuntime, words: &[String]) -> u8 {
     let rng: io::Result<StdRng> = rand::make_rng(rt);
     let Ok(mut rng) = rng else {
-        return 3;
+        return told(rt, NO_RANDOM_BYTES, 3);
     };
     let nonce: [u8; 18] = rng.random();
     let words32: [u8; 32] = rng.random();
     let mut input = StdSource::new(rt.reader());
     let mut output = StdSink::new(io::writer(rt));
+    let mut errors = StdSink::new(rt.stderr());
     let mut dialer = SocketDialer::new(rt, Timeouts::NONE);
-    run_program(
+    run_program_with(
         rt.alloc(),
         words,
         &mut input,
         &mut output,
+        &mut errors,
         &mut dialer,
         &nonce,
         &words32,

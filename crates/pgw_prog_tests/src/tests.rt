@@ -7,3 +7,4 @@ mod program;
 mod script;
 mod session;
 mod shared;
+mod told;

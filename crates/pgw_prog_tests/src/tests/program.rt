@@ -19,10 +19,10 @@ fn other_commands(rt: HostRuntime) -> Result<(), Fail> {
         (&["--version", "--version"], "usage\n", 2),
         (&["Script"], "usage\n", 2),
         (&[""], "usage\n", 2),
-        (&["--version"], "hothummei 0.1.0\n", 0),
+        (&["--version"], "hothummei 0.2.0\n", 0),
         (
             &["--help"],
-            "Holds the client's side of a PostgreSQL session",
+            "hothummei holds the client's side of a PostgreSQL session",
             0,
         ),
     ];

@@ -1,7 +1,7 @@
 use Rattle.std.proofs.Common.{arith, refl, inr}
 use Rattle.pgw_prog.proofs.ConnectLaws.{report_written, io_written}
 use Rattle.pgw_prog.proofs.ProgramLaws.{whole_written, listed_written}
-use Rattle.pgw_prog.proofs.program.run_program.Goals as goal
+use Rattle.pgw_prog.proofs.program.run_program_with.Goals as goal
 
 pub returns-in-Ok-write_whole-clause-prints : goal.returns-in-Ok-write_whole-clause-prints
 returns-in-Ok-write_whole-clause-prints g c = λ some. record {

@@ -1,0 +1,126 @@
+//! What people are told on standard error. No clause speaks of these texts; where memory runs out, nothing is told.
+
+use crate::expected::expected_at;
+use pgw_backend::client_error::{PgWireClientError, PgWireClientResult};
+use pgw_session::types::SessionReport;
+use std::alloc::{AllocError, Global};
+use std::fmt::Write;
+
+pub const NO_SCRIPT: &str = "standard input could not be read\n";
+
+pub const NO_OUTPUT: &str = "standard output could not be written\n";
+
+pub const NO_MEMORY: &str = "memory ran out\n";
+
+pub const NO_RANDOM_BYTES: &str = "the system gave no random bytes\n";
+
+pub const TOO_LONG: &str = "a script has at most 16777216 bytes\n";
+
+/// The text, or an empty one where memory ran out.
+fn or_empty(alloc: Global, text: Result<String, AllocError>) -> String {
+    match text {
+        Ok(text) => text,
+        Err(_) => String::new(alloc),
+    }
+}
+
+/// A fixed text.
+pub fn told(alloc: Global, text: &str) -> String {
+    or_empty(alloc, String::from_str(alloc, text))
+}
+
+/// Whether a word may be a connection text: it may hold a password, and is not shown.
+fn may_hold_password(word: &str) -> bool {
+    word.as_bytes()
+        .iter()
+        .any(|byte| *byte == b'=' || *byte == b':')
+}
+
+/// That a word is no command.
+fn no_command(alloc: Global, word: &str) -> Result<String, AllocError> {
+    if may_hold_password(word) {
+        format!(in alloc; "the first word is no command, as connect is")
+    } else {
+        format!(in alloc; "{word:?} is no command")
+    }
+}
+
+/// That a command takes no word behind it.
+fn more_fault(alloc: Global, word: &str, next: &str) -> Result<String, AllocError> {
+    if may_hold_password(next) {
+        format!(in alloc; "{word:?} takes no word behind it")
+    } else {
+        format!(in alloc; "{word:?} takes no word behind it, as {next:?}")
+    }
+}
+
+/// Why the words behind the program's name are no command.
+fn words_fault(alloc: Global, words: &[String]) -> Result<String, AllocError> {
+    match words {
+        [word, rest @ ..] if word.as_str() == "connect" => connect_fault(alloc, rest),
+        [word] if word.is_empty() => format!(in alloc;
+            "an empty word, or one that is not UTF-8, is no command"
+        ),
+        [word, next, ..] => match word.as_str() {
+            "script" | "--help" | "--version" => more_fault(alloc, word, next),
+            _ => no_command(alloc, word),
+        },
+        [word] => no_command(alloc, word),
+        [] => format!(in alloc; "no word was given"),
+    }
+}
+
+/// Why the words behind `connect` name no session.
+fn connect_fault(alloc: Global, rest: &[String]) -> Result<String, AllocError> {
+    match rest {
+        // The words are not shown: a connection text in the wrong place may hold a password.
+        [_, _, _, ..] => {
+            format!(in alloc; "the second word behind connect, its LIMIT, is no number of 64 bits")
+        }
+        _ => format!(in alloc; "connect takes TEXT LIMIT QUERY, and may take more queries"),
+    }
+}
+
+/// Why the words are no command, and where to read of commands.
+pub fn told_of_words(alloc: Global, words: &[String]) -> String {
+    let sentence = or_empty(alloc, words_fault(alloc, words));
+    or_empty(
+        alloc,
+        format!(in alloc; "{sentence}; try hothummei --help\n"),
+    )
+}
+
+/// What was expected where a script's line with this number is the first outside the grammar.
+pub fn told_of_line(alloc: Global, text: &[u8], number: u64) -> String {
+    let (expected, found) = expected_at(text, number);
+    or_empty(
+        alloc,
+        format!(in alloc; "line {number}: expected {expected}{found}\n"),
+    )
+}
+
+/// A text without control characters but for line feeds: a server's message must not steer a terminal.
+fn without_controls(alloc: Global, text: &str) -> Result<String, AllocError> {
+    let mut plain = String::new(alloc);
+    for c in text.chars() {
+        if c.is_control() && c != '\n' {
+            write!(plain, "{}", c.escape_default())?;
+        } else {
+            plain.push(c)?;
+        }
+    }
+    Ok(plain)
+}
+
+fn sentence(alloc: Global, error: &PgWireClientError) -> Result<String, AllocError> {
+    let text = format!(in alloc; "{error}\n")?;
+    without_controls(alloc, text.as_str())
+}
+
+/// Why a session ended, where it ended with an error.
+pub fn told_of_outcome(alloc: Global, outcome: &PgWireClientResult<SessionReport>) -> String {
+    match outcome {
+        Ok(_) => String::new(alloc),
+        Err(error) => or_empty(alloc, sentence(alloc, error)),
+    }
+}
