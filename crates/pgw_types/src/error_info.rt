@@ -266,25 +266,26 @@ impl fmt::Display for ErrorInfo {
 
 impl Duplicate for ErrorInfo {
     fn duplicate(&self) -> Result<ErrorInfo, OutOfMemory> {
-        Ok(ErrorInfo {
-            severity: self.severity.duplicate()?,
-            code: self.code.duplicate()?,
-            message: self.message.duplicate()?,
-            detail: self.detail.duplicate()?,
-            hint: self.hint.duplicate()?,
-            position: self.position.duplicate()?,
-            internal_position: self.internal_position.duplicate()?,
-            internal_query: self.internal_query.duplicate()?,
-            where_context: self.where_context.duplicate()?,
-            file_name: self.file_name.duplicate()?,
-            line: self.line,
-            routine: self.routine.duplicate()?,
-            severity_nonlocalized: self.severity_nonlocalized.duplicate()?,
-            schema: self.schema.duplicate()?,
-            table: self.table.duplicate()?,
-            column: self.column.duplicate()?,
-            datatype: self.datatype.duplicate()?,
-            constraint: self.constraint.duplicate()?,
-        })
+        let mut copy = ErrorInfo::new(
+            self.severity.duplicate()?,
+            self.code.duplicate()?,
+            self.message.duplicate()?,
+        );
+        copy.line = self.line;
+        copy.detail = self.detail.duplicate()?;
+        copy.hint = self.hint.duplicate()?;
+        copy.position = self.position.duplicate()?;
+        copy.internal_position = self.internal_position.duplicate()?;
+        copy.internal_query = self.internal_query.duplicate()?;
+        copy.where_context = self.where_context.duplicate()?;
+        copy.file_name = self.file_name.duplicate()?;
+        copy.routine = self.routine.duplicate()?;
+        copy.severity_nonlocalized = self.severity_nonlocalized.duplicate()?;
+        copy.schema = self.schema.duplicate()?;
+        copy.table = self.table.duplicate()?;
+        copy.column = self.column.duplicate()?;
+        copy.datatype = self.datatype.duplicate()?;
+        copy.constraint = self.constraint.duplicate()?;
+        Ok(copy)
     }
 }
