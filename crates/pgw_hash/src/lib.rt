@@ -9,6 +9,4 @@ pub mod laws;
 pub mod md5_password;
 pub mod pbkdf2;
 pub mod saslprep;
-#[cfg(test)]
-mod tests;
 mod xor;

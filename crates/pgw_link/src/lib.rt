@@ -17,6 +17,4 @@ pub mod socket_dialer;
 pub mod standard;
 pub mod stream;
 pub mod stream_link;
-#[cfg(test)]
-mod tests;
 mod told;

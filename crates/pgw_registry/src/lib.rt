@@ -14,9 +14,5 @@ mod numbered;
 mod numbers;
 mod pairs;
 pub mod registry;
-#[cfg(test)]
-mod shared_tests;
 mod sight;
-#[cfg(test)]
-mod tests;
 mod turn;

@@ -1,5 +1,8 @@
-//! Tests of SCRAM: the vectors of RFC 7677, worked exchanges, and what each end refuses.
+//! Tests of the hashes of a login and of SCRAM: the vectors of the public documents, worked exchanges, and what each
+//! end refuses.
 #![tactic(auto)]
 
+#[cfg(test)]
+mod hashes;
 #[cfg(test)]
 mod tests;

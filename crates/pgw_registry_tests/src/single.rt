@@ -1,9 +1,9 @@
 //! One thread on the registry, and threads that draw numbers.
 ghost use Rattle.std.specs.Prelude.{◌≡◌, IfSome};
 
-use crate::error::{LookError, PidError};
-use crate::generator::{PidSeat, PidSecretKeyGenerator, RandomPidSecretKeyGenerator};
-use crate::registry::Registry;
+use pgw_registry::error::{LookError, PidError};
+use pgw_registry::generator::{PidSeat, PidSecretKeyGenerator, RandomPidSecretKeyGenerator};
+use pgw_registry::registry::Registry;
 use pgw_types::context::ProtocolVersion;
 use pgw_types::octets::Octets;
 use pgw_wire::secret_key::SecretKey;

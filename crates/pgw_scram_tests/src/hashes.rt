@@ -1,8 +1,8 @@
 //! Vectors of the public documents.
-use crate::hmac::hmac_sha256;
-use crate::md5_password::hash_md5_password;
-use crate::pbkdf2::{gen_salted_password, hi};
-use crate::saslprep::saslprep;
+use pgw_hash::hmac::hmac_sha256;
+use pgw_hash::md5_password::hash_md5_password;
+use pgw_hash::pbkdf2::{gen_salted_password, hi};
+use pgw_hash::saslprep::saslprep;
 use std::test::Fail;
 
 // The test cases of RFC 4231 but the one that cuts its answer short.

@@ -1,5 +1,5 @@
 use Rattle.std.proofs.Common.{◌≡◌}
-use Rattle.pgw_registry.proofs.shared_tests.watch.Given as goal
+use Rattle.pgw_registry_tests.proofs.shared.strike.Given as goal
 
 abbrev pub invariant-loop : goal.invariant-loop
 invariant-loop g l = l.pass.of ≡ l.initial.pass.of

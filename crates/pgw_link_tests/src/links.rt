@@ -1,14 +1,14 @@
 ghost use Rattle.std.specs.Prelude.{◌≤◌, IfOk};
 
-use crate::dialer::{DialError, Dialer};
-use crate::link::{Link, LinkFault};
-use crate::memory::MemoryLink;
-use crate::memory_dialer::MemoryDialer;
-use crate::memory_stream::{MemorySink, MemorySource};
-use crate::standard::{StdSink, StdSource};
-use crate::stream::{Sink, Source};
-use crate::stream_link::StreamLink;
 use pgw_conninfo::address::Address;
+use pgw_link::dialer::{DialError, Dialer};
+use pgw_link::link::{Link, LinkFault};
+use pgw_link::memory::MemoryLink;
+use pgw_link::memory_dialer::MemoryDialer;
+use pgw_link::memory_stream::{MemorySink, MemorySource};
+use pgw_link::standard::{StdSink, StdSource};
+use pgw_link::stream::{Sink, Source};
+use pgw_link::stream_link::StreamLink;
 use pgw_types::listed::Listed;
 use pgw_types::octets::Octets;
 use pgw_types::text::Text;

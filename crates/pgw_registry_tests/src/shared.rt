@@ -2,8 +2,10 @@
 ghost use Rattle.std.specs.Prelude.{◌≡◌, IfSome};
 ghost use Rattle.std.specs.Arc.{arc_value};
 
-use crate::error::{LookError, RegistryError};
-use crate::manager::{CancelToken, ConnectionGuard, ConnectionHandle, ConnectionManager, Pass};
+use pgw_registry::error::{LookError, RegistryError};
+use pgw_registry::manager::{
+    CancelToken, ConnectionGuard, ConnectionHandle, ConnectionManager, Pass,
+};
 use pgw_wire::secret_key::SecretKey;
 use std::alloc::Global;
 use std::sync::atomic::{AtomicBool, Ordering};
