@@ -22,7 +22,7 @@ use Rattle.pgw_prog.specs.declared.printed.Printed.{Printed}
 use Rattle.pgw_course.specs.Course.{Over}
 use Rattle.pgw_session.specs.Talk.{conversation, whole_talk}
 use Rattle.pgw_session.proofs.Whole.{conversation_completes}
-use Rattle.pgw_prog.specs.declared.script.Script.{Script}
+use Rattle.pgw_script.specs.declared.script.Script.{Script}
 use Rattle.pgw_prog.specs.Held.{Session, PrintsSession, Says, PrintsOutcome, Holds, NamesCall, IsNear, Moves, first_tape, status_of}
 use Rattle.pgw_prog.specs.OverLink.{OverLink}
 use Rattle.pgw_prog.specs.Printing.{session_text}

@@ -1,12 +1,6 @@
-pub mod LineLaws
-pub mod ScriptLaws
 pub mod TransferLaws
 pub mod OverLaws
 pub mod HeldLaws
-pub mod GrammarLaws
 pub mod TextLaws
 pub mod ConnectLaws
 pub mod ProgramLaws
-pub mod SignedLaws
-pub mod HexLaws
-pub mod ServerLaws

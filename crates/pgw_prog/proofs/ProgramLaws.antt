@@ -5,10 +5,10 @@ use Rattle.std.specs.Result.{IfOk}
 use Rattle.std.proofs.lemmas.List.{append_cancel_left}
 use Rattle.pgw_types.specs.declared.memory.OutOfMemory.{OutOfMemory}
 use Rattle.pgw_session.specs.Events.{Event}
-use Rattle.pgw_prog.specs.declared.script.Script.{Script}
+use Rattle.pgw_script.specs.declared.script.Script.{Script}
 use Rattle.pgw_prog.specs.declared.printed.Printed.{Printed}
-use Rattle.pgw_prog.specs.Script.{read_script}
-use Rattle.pgw_prog.specs.Grammar.{IsScript, IsFault}
+use Rattle.pgw_script.specs.Script.{read_script}
+use Rattle.pgw_script.specs.Grammar.{IsScript, IsFault}
 use Rattle.pgw_link.specs.Memory.{Making}
 use Rattle.pgw_backend.specs.declared.client_error.PgWireClientError.{PgWireClientError}
 use Rattle.pgw_backend.specs.declared.client_error.PgWireClientError.TheVariants as client
@@ -19,7 +19,7 @@ use Rattle.pgw_prog.specs.Pieces.{line_end}
 use Rattle.pgw_prog.specs.Held.{Says, PrintsSession, PrintsOutcome, Holds, CanComplete, NamesCall, IsNear, FailsNear, input_of, making_of, completed_text}
 use Rattle.pgw_prog.specs.Program.{AnswersText, AnswersScript, Completing, PrintsWhole, ListsFailure}
 use Rattle.pgw_prog.proofs.TextLaws.{io_text, not_sent, no_line}
-use Rattle.pgw_prog.proofs.GrammarLaws.{scripts, faults}
+use Rattle.pgw_script.proofs.GrammarLaws.{scripts, faults}
 use Rattle.pgw_prog.proofs.HeldLaws.{completed_text_printed}
 
 -- a text is one script

@@ -16,7 +16,7 @@ use Rattle.pgw_session.specs.Input.{Input}
 use Rattle.pgw_session.specs.Transcript.{Completes, report_of}
 use Rattle.pgw_client.specs.Session.{MovedBy}
 use Rattle.pgw_prog.specs.OverLink.{OverLink}
-use Rattle.pgw_prog.specs.declared.script.Script.{Script}
+use Rattle.pgw_script.specs.declared.script.Script.{Script}
 use Rattle.pgw_prog.specs.declared.printed.Printed.{Printed}
 use Rattle.pgw_prog.specs.Printing.{session_text}
 

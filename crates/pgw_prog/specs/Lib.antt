@@ -2,14 +2,9 @@ pub mod AnswerLines
 pub mod Pieces
 pub mod ErrorNames
 pub mod Printing
-pub mod Line
-pub mod Script
 pub mod Transfer
 pub mod OverLink
 pub mod Held
 pub mod Connected
 pub mod Command
 pub mod Program
-pub mod Grammar
-pub mod RequestLine
-pub mod ServerBytes

@@ -3,14 +3,14 @@ use Rattle.std.specs.Prelude.{◌≡◌, ◌⊎◌, ◌<◌, ◌≤◌, ℕ, ◌
 use Rattle.pgw_link.specs.Tape.{Rose}
 use Rattle.pgw_link.specs.Stream.{SourceTape, SinkTape}
 use Rattle.pgw_session.specs.Events.{Event}
-use Rattle.pgw_prog.specs.declared.script.Script.{Script}
+use Rattle.pgw_script.specs.declared.script.Script.{Script}
 use Rattle.pgw_prog.specs.declared.printed.Printed.{Printed}
 use Rattle.pgw_prog.specs.declared.command.Command.{Command}
 use Rattle.pgw_prog.specs.declared.command.Command.TheVariants as command
 use Rattle.pgw_prog.specs.declared.command.Connection.{Connection}
 use Rattle.pgw_prog.specs.declared.program.Stop.{Stop}
 use Rattle.pgw_prog.specs.declared.program.Stop.TheVariants as stop
-use Rattle.pgw_prog.specs.Grammar.{IsScript, IsFault}
+use Rattle.pgw_script.specs.Grammar.{IsScript, IsFault}
 use Rattle.pgw_prog.specs.Held.{Says, Holds, CanComplete, FailsNear, completed_text}
 use Rattle.pgw_prog.specs.Pieces.{line_end}
 

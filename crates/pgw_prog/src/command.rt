@@ -2,8 +2,8 @@
 ghost use Rattle.std.specs.Prelude.{◌≡◌, map, string_bytes, IfOk};
 ghost use Rattle.pgw_prog.specs.Command.{command_for, command_named as named, connect_for, queries_of as requests_for};
 
-use crate::line::read_number;
 use pgw_client::Request;
+use pgw_script::number::read_number;
 use pgw_types::listed::Listed;
 use pgw_types::memory::OutOfMemory;
 use pgw_types::text::Text;

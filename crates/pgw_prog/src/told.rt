@@ -1,7 +1,7 @@
 //! What people are told on standard error. No clause speaks of these texts; where memory runs out, nothing is told.
 
-use crate::expected::expected_at;
 use pgw_backend::client_error::{PgWireClientError, PgWireClientResult};
+use pgw_script::expected::expected_at;
 use pgw_session::types::SessionReport;
 use std::alloc::{AllocError, Global};
 use std::fmt::Write;

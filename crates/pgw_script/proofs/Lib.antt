@@ -1,0 +1,6 @@
+pub mod LineLaws
+pub mod ScriptLaws
+pub mod GrammarLaws
+pub mod SignedLaws
+pub mod HexLaws
+pub mod ServerLaws

@@ -1,0 +1,240 @@
+//! Session scripts.
+ghost use Rattle.std.specs.Prelude.{◌≡◌, ◌<◌, ◌∷◌, ◌==◌, Some, None, length, OnOk, IfOk, IfSome, position, if◌then◌else◌};
+ghost use Rattle.pgw_script.specs.Line.{Moves, bytes_in, known, line_of};
+ghost use Rattle.pgw_script.specs.Script.{first_script, with_line, place_of as place_for, may_follow as follows, may_end as ends, lines_of, step, read_script, Reads};
+
+use crate::line::{Line, read_line};
+use crate::server_bytes::ServerBytes;
+use pgw_conninfo::marks::behind_word;
+use pgw_session::types::Request;
+use pgw_types::context::ProtocolVersion;
+use pgw_types::listed::Listed;
+use pgw_types::memory::OutOfMemory;
+use pgw_types::text::Text;
+use std::alloc::Global;
+
+/// A session to be held over a link in memory.
+#[derive(Debug, Drop)]
+pub struct Script {
+    /// The connection text.
+    pub config: Text,
+    pub protocol_version: ProtocolVersion,
+    pub nonce: [u8; 18],
+    pub limit: u64,
+    pub cut: usize,
+    pub fail_reads: Listed<u64>,
+    pub fail_writes: Listed<u64>,
+    pub requests: Listed<Request>,
+    /// What the server sends.
+    pub server: ServerBytes,
+}
+
+/// Why a text is no script.
+#[derive(Clone, Copy, Debug, PartialEq, Eq)]
+pub enum ScriptFault {
+    /// The number of the first line outside the grammar.
+    Line(u64),
+    OutOfMemory,
+}
+
+/// The kind of the line that was read last.
+#[derive(Clone, Copy, Debug, PartialEq, Eq)]
+pub enum Place {
+    Start,
+    Config,
+    Protocol,
+    Nonce,
+    Limit,
+    Cut,
+    Fail,
+    Request,
+    Server,
+}
+
+impl From<OutOfMemory> for ScriptFault {
+    ghost use Rattle.pgw_script.specs.declared.script.ScriptFault.TheVariants.{OutOfMemory as NoMemory};
+
+    ghost from_gives = { λ _ e. e ≡ NoMemory };
+
+    fn from(_e: OutOfMemory) -> ScriptFault {
+        ScriptFault::OutOfMemory
+    }
+}
+
+impl Script {
+    fn new(alloc: Global) -> Script
+        ensures { result ≡ first_script }
+    {
+        Script {
+            config: Text::new(alloc),
+            protocol_version: ProtocolVersion::PROTOCOL3_0,
+            nonce: [0; 18],
+            limit: 0,
+            cut: 1,
+            fail_reads: Listed::new(alloc),
+            fail_writes: Listed::new(alloc),
+            requests: Listed::new(alloc),
+            server: ServerBytes::new(alloc),
+        }
+    }
+
+    fn take(&mut self, line: Line) -> Result<(), OutOfMemory>
+        ensures { OnOk result (self.new ≡ with_line self.old line) }
+    {
+        match line {
+            Line::Config(text) => self.config = text,
+            Line::Protocol(version) => self.protocol_version = version,
+            Line::Nonce(nonce) => self.nonce = nonce,
+            Line::Limit(limit) => self.limit = limit,
+            Line::Cut(cut) => self.cut = cut,
+            Line::FailRead(number) => self.fail_reads.push(number)?,
+            Line::FailWrite(number) => self.fail_writes.push(number)?,
+            Line::Request(request) => self.requests.push(request)?,
+            Line::Server(bytes) => self.server.add(bytes.as_slice())?,
+        }
+        Ok(())
+    }
+}
+
+fn place_of(line: &Line) -> Place
+    ensures { result ≡ place_for line.now }
+{
+    match line {
+        Line::Config(_) => Place::Config,
+        Line::Protocol(_) => Place::Protocol,
+        Line::Nonce(_) => Place::Nonce,
+        Line::Limit(_) => Place::Limit,
+        Line::Cut(_) => Place::Cut,
+        Line::FailRead(_) => Place::Fail,
+        Line::FailWrite(_) => Place::Fail,
+        Line::Request(_) => Place::Request,
+        Line::Server(_) => Place::Server,
+    }
+}
+
+/// Whether a line of the second kind may stand behind one of the first.
+pub fn may_follow(before: Place, next: Place) -> bool
+    ensures { result ≡ follows before next }
+{
+    match before {
+        Place::Start => matches!(next, Place::Config),
+        Place::Config => matches!(next, Place::Protocol | Place::Nonce),
+        Place::Protocol => matches!(next, Place::Nonce),
+        Place::Nonce => matches!(next, Place::Limit),
+        Place::Limit => matches!(next, Place::Cut),
+        Place::Cut | Place::Fail => matches!(next, Place::Fail | Place::Request | Place::Server),
+        Place::Request => matches!(next, Place::Request | Place::Server),
+        Place::Server => matches!(next, Place::Server),
+    }
+}
+
+fn may_end(place: Place) -> bool
+    ensures { result ≡ ends place }
+{
+    matches!(
+        place,
+        Place::Cut | Place::Fail | Place::Request | Place::Server
+    )
+}
+
+/// A script as far as its lines were read.
+#[derive(Drop)]
+struct Draft {
+    place: Place,
+    script: Script,
+}
+
+impl Draft {
+    /// Takes a line, where it may stand here.
+    fn take(&mut self, line: Line) -> Result<bool, OutOfMemory>
+        ensures step { IfOk result (λ went. step self.old.place self.old.script (Some line) ≡ (if went then Some (self.new.place, self.new.script) else None)) }
+        ensures moves { OnOk result (0 < self.old.script.cut → Moves line → 0 < self.new.script.cut) }
+    {
+        let next = place_of(&line);
+        if !may_follow(self.place, next) {
+            return Ok(false);
+        }
+        self.script.take(line)?;
+        self.place = next;
+        Ok(true)
+    }
+
+    // Takes a line of the server's bytes, where it may stand here and is in the grammar.
+    fn take_server(&mut self, digits: &[u8]) -> Result<bool, OutOfMemory>
+        ensures step { IfOk result (λ went. step self.old.place self.old.script (known Line.Server (bytes_in digits.now)) ≡ (if went then Some (self.new.place, self.new.script) else None)) }
+        ensures moves { OnOk result (0 < self.old.script.cut → 0 < self.new.script.cut) }
+    {
+        if !may_follow(self.place, Place::Server) {
+            return Ok(false);
+        }
+        if !self.script.server.add_hex(digits)? {
+            return Ok(false);
+        }
+        self.place = Place::Server;
+        Ok(true)
+    }
+
+    /// Reads a line and takes it, where it is in the grammar and may stand here.
+    fn read(&mut self, alloc: Global, line: &[u8]) -> Result<bool, OutOfMemory>
+        ensures step { IfOk result (λ went. step self.old.place self.old.script (line_of line.now) ≡ (if went then Some (self.new.place, self.new.script) else None)) }
+        ensures moves { OnOk result (0 < self.old.script.cut → 0 < self.new.script.cut) }
+    {
+        if let Some(digits) = behind_word(b"server ", line) {
+            return self.take_server(digits);
+        }
+        match read_line(alloc, line)? {
+            Some(line) => self.take(line),
+            None => Ok(false),
+        }
+    }
+}
+
+/// The place of the first line feed.
+fn line_end(text: &[u8]) -> Option<usize>
+    ensures place { result ≡ position (λ b. b == 10) text.now }
+    ensures bound { IfSome result (λ end. end < length text.now) }
+{
+    text.iter().position(|byte| *byte == b'\n')
+}
+
+/// The first line of a text, and what stands behind it.
+fn first_line(text: &[u8]) -> (&[u8], &[u8])
+    requires { 0 < length text.now }
+    ensures lines { lines_of text.now ≡ result.0.now ∷ lines_of result.1.now }
+    ensures less { length result.1.now < length text.now }
+{
+    match line_end(text) {
+        None => (text, b""),
+        Some(end) => {
+            let (line, _) = text.split_at(end);
+            let (_, behind) = text.split_at(end + 1);
+            (line, behind)
+        }
+    }
+}
+
+/// Reads a whole script.
+pub fn parse(alloc: Global, text: &[u8]) -> Result<Script, ScriptFault>
+    ensures exact { Reads result (read_script text.now) }
+    ensures moves { IfOk result (λ s. 0 < s.cut) }
+{
+    let mut draft = Draft {
+        place: Place::Start,
+        script: Script::new(alloc),
+    };
+    let mut number = 0u64;
+    let mut rest = text;
+    while rest.len() > 0 {
+        let (line, behind) = first_line(rest);
+        number += 1;
+        if !draft.read(alloc, line)? {
+            return Err(ScriptFault::Line(number));
+        }
+        rest = behind;
+    }
+    if may_end(draft.place) {
+        Ok(draft.script)
+    } else {
+        Err(ScriptFault::Line(number + 1))
+    }
+}
