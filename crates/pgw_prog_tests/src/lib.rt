@@ -1,4 +1,4 @@
-//! Tests of the program: worked sessions, faulty scripts, failing calls.
+//! A test of the program over a socket. The cases of `hothummei_cases` test all else.
 #![tactic(auto)]
 
 #[cfg(test)]

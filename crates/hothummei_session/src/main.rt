@@ -1,9 +1,0 @@
-//! The program, run on a session script.
-#![tactic(auto)]
-
-use pgw_prog::start::start;
-use std::process::ExitCode;
-
-fn main(rt: HostRuntime) -> ExitCode {
-    ExitCode::from(start(&rt))
-}
