@@ -38,25 +38,27 @@ fn reads<L: Link>(link: &mut L) -> [usize; 4] {
     answers
 }
 
+// The cut, the reads that fail, and what four reads answer.
+const READS: &[(usize, &[u64], [usize; 4])] = &[
+    (1, &[], [1, 1, 1, 1]),
+    (1000, &[], [3, 1, 0, 0]),
+    (2, &[2], [2, 9, 2, 0]),
+    (1000, &[1, 4], [9, 3, 1, 9]),
+];
+
 #[test]
 fn memory_link_reads(rt: HostRuntime) -> Result<(), Fail> {
     let alloc = rt.alloc();
-    let cases: [(usize, &[u64], [usize; 4]); 4] = [
-        (1, &[], [1, 1, 1, 1]),
-        (1000, &[], [3, 1, 0, 0]),
-        (2, &[2], [2, 9, 2, 0]),
-        (1000, &[1, 4], [9, 3, 1, 9]),
-    ];
-    for (cut, fails, want) in cases {
+    for (cut, fails, want) in READS {
         let server = Octets::from_slice(alloc, b"wxyz")?;
         let mut link = MemoryLink::new(
             alloc,
             server,
-            cut,
+            *cut,
             numbers(alloc, fails)?,
             Listed::new(alloc),
         );
-        assert_eq!(rt; reads(&mut link), want, "cut {cut}");
+        assert_eq!(rt; reads(&mut link), *want, "cut {cut}");
         assert!(rt; link.written().is_empty());
     }
     Ok(())
@@ -74,27 +76,28 @@ fn writes<L: Link>(link: &mut L, piece: &[u8; 3]) -> [usize; 3] {
     answers
 }
 
+// The cut, the writes that fail, what three writes answer, and what is written.
+const WRITES: &[(usize, &[u64], [usize; 3], &[u8])] = &[
+    (1, &[], [1, 1, 1], b"aaa"),
+    (1000, &[], [3, 3, 3], b"abcabcabc"),
+    (2, &[1, 3], [9, 2, 9], b"ab"),
+];
+
+// A link to a server that says nothing.
+fn silent(alloc: Global, cut: usize, fails: &[u64]) -> Result<MemoryLink, Fail> {
+    let server = Octets::from_slice(alloc, b"")?;
+    let fails = numbers(alloc, fails)?;
+    Ok(MemoryLink::new(alloc, server, cut.max(1), Listed::new(alloc), fails))
+}
+
 #[test]
 fn memory_link_writes(rt: HostRuntime) -> Result<(), Fail> {
-    let alloc = rt.alloc();
-    let cases: [(usize, &[u64], [usize; 3], &[u8]); 3] = [
-        (1, &[], [1, 1, 1], b"aaa"),
-        (1000, &[], [3, 3, 3], b"abcabcabc"),
-        (2, &[1, 3], [9, 2, 9], b"ab"),
-    ];
-    for (cut, fails, want, written) in cases {
-        let server = Octets::from_slice(alloc, b"")?;
-        let mut link = MemoryLink::new(
-            alloc,
-            server,
-            cut,
-            Listed::new(alloc),
-            numbers(alloc, fails)?,
-        );
-        assert_eq!(rt; writes(&mut link, b"abc"), want, "cut {cut}");
-        assert_eq!(rt; link.written(), written);
-        assert!(rt; link.flush().is_ok());
-        assert!(rt; !link.was_short_of_memory());
+    for (cut, fails, want, written) in WRITES {
+        let mut link = silent(rt.alloc(), *cut, fails)?;
+        assert_eq!(rt; writes(&mut link, b"abc"), *want, "cut {cut}");
+        assert_eq!(rt; link.written(), *written);
+        let flushed = link.flush().is_ok();
+        assert_eq!(rt; (flushed, link.was_short_of_memory()), (true, false));
     }
     Ok(())
 }
@@ -118,21 +121,34 @@ fn poured<S: Sink>(sink: &mut S) -> [usize; 2] {
     answers
 }
 
+// The cut, the calls that fail, what two reads answer, what two writes answer, and what is written.
+const STREAMS: &[(usize, &[u64], [usize; 2], [usize; 2], &[u8])] = &[
+    (2, &[], [2, 2], [2, 2], b"abab"),
+    (1000, &[2], [3, 9], [3, 9], b"abc"),
+    (1, &[1], [9, 1], [9, 1], b"a"),
+];
+
+fn read_twice(alloc: Global, cut: usize, fails: &[u64]) -> Result<[usize; 2], Fail> {
+    let bytes = Octets::from_slice(alloc, b"wxyz")?;
+    let mut source = MemorySource::new(bytes, cut.max(1), numbers(alloc, fails)?);
+    Ok(drawn(&mut source))
+}
+
 #[test]
-fn streams_in_memory(rt: HostRuntime) -> Result<(), Fail> {
+fn sources_in_memory(rt: HostRuntime) -> Result<(), Fail> {
+    for (cut, fails, read, _, _) in STREAMS {
+        assert_eq!(rt; read_twice(rt.alloc(), *cut, fails)?, *read, "cut {cut}");
+    }
+    Ok(())
+}
+
+#[test]
+fn sinks_in_memory(rt: HostRuntime) -> Result<(), Fail> {
     let alloc = rt.alloc();
-    let cases: [(usize, &[u64], [usize; 2], [usize; 2], &[u8]); 3] = [
-        (2, &[], [2, 2], [2, 2], b"abab"),
-        (1000, &[2], [3, 9], [3, 9], b"abc"),
-        (1, &[1], [9, 1], [9, 1], b"a"),
-    ];
-    for (cut, fails, read, wrote, written) in cases {
-        let bytes = Octets::from_slice(alloc, b"wxyz")?;
-        let mut source = MemorySource::new(bytes, cut, numbers(alloc, fails)?);
-        let mut sink = MemorySink::new(alloc, cut, numbers(alloc, fails)?);
-        assert_eq!(rt; drawn(&mut source), read, "cut {cut}");
-        assert_eq!(rt; poured(&mut sink), wrote, "cut {cut}");
-        assert_eq!(rt; sink.written(), written);
+    for (cut, fails, _, wrote, written) in STREAMS {
+        let mut sink = MemorySink::new(alloc, (*cut).max(1), numbers(alloc, fails)?);
+        assert_eq!(rt; poured(&mut sink), *wrote, "cut {cut}");
+        assert_eq!(rt; sink.written(), *written);
     }
     Ok(())
 }
@@ -197,20 +213,23 @@ impl Write for Faulty {
     }
 }
 
+// The bytes that move, what four reads answer, what three writes answer, and the faults of the writes and a flush.
+const OVER_STREAMS: &[(usize, [usize; 4], [usize; 3], u64)] = &[
+    (2, [2, 9, 9, 9], [2, 9, 9], 2),
+    (0, [0, 9, 9, 9], [9, 9, 9], 3),
+];
+
 #[test]
 fn links_over_streams(rt: HostRuntime) {
-    let cases: [(usize, [usize; 4], [usize; 3], u64); 2] = [
-        (2, [2, 9, 9, 9], [2, 9, 9], 2),
-        (0, [0, 9, 9, 9], [9, 9, 9], 3),
-    ];
-    for (moves, read, wrote, faults) in cases {
+    for (moves, read, wrote, faults) in OVER_STREAMS {
+        let moves = *moves;
         let mut link = StreamLink::new(Faulty { calls: 0, moves });
-        assert_eq!(rt; reads(&mut link), read);
+        assert_eq!(rt; reads(&mut link), *read);
         assert_eq!(rt; link.faults(), 3);
         let mut link = StreamLink::new(Faulty { calls: 0, moves });
-        assert_eq!(rt; writes(&mut link, b"abc"), wrote);
+        assert_eq!(rt; writes(&mut link, b"abc"), *wrote);
         assert!(rt; link.flush().is_ok());
-        assert_eq!(rt; link.faults(), faults);
+        assert_eq!(rt; link.faults(), *faults);
         let why = link.into_failure().map(|error| error.kind());
         assert_eq!(rt; why, Some(ErrorKind::ConnectionReset));
     }
@@ -239,24 +258,26 @@ fn dialled<D: Dialer>(dialer: &mut D, address: &Address) -> usize {
     }
 }
 
+// The dials that fail, and what comes of three dials.
+const DIALS: &[(&[u64], [usize; 3])] = &[(&[], [3, 0, 0]), (&[1], [0, 3, 0]), (&[2, 3], [3, 0, 0])];
+
+// What each of three dials reads.
+fn three_dials<D: Dialer>(dialer: &mut D, address: &Address) -> [usize; 3] {
+    let mut answers = [0usize; 3];
+    for answer in &mut answers {
+        *answer = dialled(dialer, address);
+    }
+    answers
+}
+
 #[test]
 fn dialers_in_memory(rt: HostRuntime) -> Result<(), Fail> {
     let alloc = rt.alloc();
     let address = Address::Host(Text::from_str(alloc, "db")?, 5432);
-    let cases: [(&[u64], [usize; 3]); 3] = [
-        (&[], [3, 0, 0]),
-        (&[1], [0, 3, 0]),
-        (&[2, 3], [3, 0, 0]),
-    ];
-    for (fails, want) in cases {
+    for (fails, want) in DIALS {
         let mut dialer = dialer_of_one(alloc, fails)?;
         assert!(rt; dialer.closed().is_none());
-        let got = [
-            dialled(&mut dialer, &address),
-            dialled(&mut dialer, &address),
-            dialled(&mut dialer, &address),
-        ];
-        assert_eq!(rt; got, want);
+        assert_eq!(rt; three_dials(&mut dialer, &address), *want);
         assert!(rt; dialer.closed().is_some_and(|link| link.has_failed()));
     }
     Ok(())

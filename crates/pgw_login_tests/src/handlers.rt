@@ -97,103 +97,171 @@ fn by_noop<R: Abort>(rt: &R, alloc: Global, steps: &[Step<'_>]) -> PgWireResult<
     })
 }
 
+const CLEARTEXT: &[(&[Step<'static>], &str, &[u8])] = &[
+    (&[Step::Startup("bob")], "ok", ASKED),
+    (
+        &[Step::Startup("bob"), Step::Password("secret")],
+        "ok",
+        LET_IN,
+    ),
+    (
+        &[Step::Startup("bob"), Step::Password("secreT")],
+        "bob",
+        ASKED,
+    ),
+    (&[Step::Startup(""), Step::Password("secreT")], "", ASKED),
+    (
+        &[
+            Step::Startup("bob"),
+            Step::Password("secreT"),
+            Step::Password("secret"),
+        ],
+        "InvalidSASLState",
+        ASKED,
+    ),
+    (
+        &[
+            Step::Startup("bob"),
+            Step::Password("secret"),
+            Step::Password("secret"),
+        ],
+        "InvalidSASLState",
+        LET_IN,
+    ),
+    (&[Step::Password("secret")], "InvalidSASLState", b""),
+    (
+        &[Step::Startup("bob"), Step::Startup("bob")],
+        "InvalidSASLState",
+        ASKED,
+    ),
+    (&[Step::Startup("eve")], "ok", ASKED),
+    (
+        &[Step::Startup("eve"), Step::Password("secret")],
+        "UserNameRequired",
+        ASKED,
+    ),
+    (&[Step::Terminate, Step::Startup("bob")], "ok", ASKED),
+    (&[Step::Version(3, 2)], "ok", ASKED),
+    (&[Step::Version(3, 1)], "ok", OFFERED),
+    (&[Step::Version(4, 0)], "UnsupportedProtocolVersion", b""),
+];
+
 #[test]
 fn cleartext_table(rt: HostRuntime) -> Result<(), Fail> {
-    let opened = Step::Startup("bob");
-    let right = Step::Password("secret");
-    let wrong = Step::Password("secreT");
-    let unnamed = Step::Startup("");
-    let eve = Step::Startup("eve");
-    let other = Step::Terminate;
-    let (later, between) = (Step::Version(3, 2), Step::Version(3, 1));
-    let unknown = Step::Version(4, 0);
-    let cases: [(&[Step<'_>], &str, &[u8]); 14] = [
-        (&[opened], "ok", ASKED),
-        (&[opened, right], "ok", LET_IN),
-        (&[opened, wrong], "bob", ASKED),
-        (&[unnamed, wrong], "", ASKED),
-        (&[opened, wrong, right], "InvalidSASLState", ASKED),
-        (&[opened, right, right], "InvalidSASLState", LET_IN),
-        (&[right], "InvalidSASLState", b""),
-        (&[opened, opened], "InvalidSASLState", ASKED),
-        (&[eve], "ok", ASKED),
-        (&[eve, right], "UserNameRequired", ASKED),
-        (&[other, opened], "ok", ASKED),
-        (&[later], "ok", ASKED),
-        (&[between], "ok", OFFERED),
-        (&[unknown], "UnsupportedProtocolVersion", b""),
-    ];
-    for (steps, words, sent) in cases {
+    for (steps, words, sent) in CLEARTEXT {
         let outcome = by_cleartext(&rt, rt.alloc(), steps)?;
-        assert_eq!(rt; words_of(&outcome.answer), words);
-        assert_eq!(rt; outcome.out.buffer.as_slice(), sent);
+        assert_eq!(rt; words_of(&outcome.answer), *words);
+        assert_eq!(rt; outcome.out.buffer.as_slice(), *sent);
     }
     Ok(())
 }
+
+const MD5: &[(&[Step<'static>], &str, &[u8])] = &[
+    (&[Step::Startup("zmjiang")], "ok", CHALLENGED),
+    (
+        &[Step::Startup("zmjiang"), Step::Password(HASHED)],
+        "ok",
+        LET_IN_BY_MD5,
+    ),
+    (
+        &[
+            Step::Startup("zmjiang"),
+            Step::Password("themanwhochangedchina"),
+        ],
+        "zmjiang",
+        CHALLENGED,
+    ),
+    (
+        &[
+            Step::Startup("zmjiang"),
+            Step::Password("themanwhochangedchina"),
+            Step::Password(HASHED),
+        ],
+        "InvalidSASLState",
+        CHALLENGED,
+    ),
+    (
+        &[
+            Step::Startup("zmjiang"),
+            Step::Password(HASHED),
+            Step::Password(HASHED),
+        ],
+        "InvalidSASLState",
+        LET_IN_BY_MD5,
+    ),
+    (&[Step::Password(HASHED)], "InvalidSASLState", b""),
+    (
+        &[Step::Startup("zmjiang"), Step::Startup("zmjiang")],
+        "InvalidSASLState",
+        CHALLENGED,
+    ),
+    (&[Step::Startup("tom")], "SaltRequired", b""),
+    (&[Step::Startup("eve")], "UserNameRequired", b""),
+    (&[Step::Terminate], "ok", b""),
+];
 
 #[test]
 fn md5_table(rt: HostRuntime) -> Result<(), Fail> {
-    let opened = Step::Startup("zmjiang");
-    let right = Step::Password(HASHED);
-    let wrong = Step::Password("themanwhochangedchina");
-    let (tom, eve) = (Step::Startup("tom"), Step::Startup("eve"));
-    let other = Step::Terminate;
-    let cases: [(&[Step<'_>], &str, &[u8]); 10] = [
-        (&[opened], "ok", CHALLENGED),
-        (&[opened, right], "ok", LET_IN_BY_MD5),
-        (&[opened, wrong], "zmjiang", CHALLENGED),
-        (&[opened, wrong, right], "InvalidSASLState", CHALLENGED),
-        (&[opened, right, right], "InvalidSASLState", LET_IN_BY_MD5),
-        (&[right], "InvalidSASLState", b""),
-        (&[opened, opened], "InvalidSASLState", CHALLENGED),
-        (&[tom], "SaltRequired", b""),
-        (&[eve], "UserNameRequired", b""),
-        (&[other], "ok", b""),
-    ];
-    for (steps, words, sent) in cases {
+    for (steps, words, sent) in MD5 {
         let outcome = by_md5(&rt, rt.alloc(), steps)?;
-        assert_eq!(rt; words_of(&outcome.answer), words);
-        assert_eq!(rt; outcome.out.buffer.as_slice(), sent);
+        assert_eq!(rt; words_of(&outcome.answer), *words);
+        assert_eq!(rt; outcome.out.buffer.as_slice(), *sent);
     }
     Ok(())
 }
+
+const NOOP: &[(&[Step<'static>], &str, &[u8])] = &[
+    (&[Step::Startup("bob")], "ok", WELCOMED),
+    (
+        &[Step::Startup("bob"), Step::Password("secret")],
+        "ok",
+        WELCOMED,
+    ),
+    (&[Step::Password("secret")], "ok", b""),
+    (&[Step::Terminate], "ok", b""),
+    (
+        &[Step::Startup("bob"), Step::Startup("bob")],
+        "InvalidSASLState",
+        WELCOMED,
+    ),
+    (&[Step::Version(2, 0)], "UnsupportedProtocolVersion", b""),
+];
 
 #[test]
 fn noop_table(rt: HostRuntime) -> Result<(), Fail> {
-    let opened = Step::Startup("bob");
-    let password = Step::Password("secret");
-    let other = Step::Terminate;
-    let unknown = Step::Version(2, 0);
-    let cases: [(&[Step<'_>], &str, &[u8]); 6] = [
-        (&[opened], "ok", WELCOMED),
-        (&[opened, password], "ok", WELCOMED),
-        (&[password], "ok", b""),
-        (&[other], "ok", b""),
-        (&[opened, opened], "InvalidSASLState", WELCOMED),
-        (&[unknown], "UnsupportedProtocolVersion", b""),
-    ];
-    for (steps, words, sent) in cases {
+    for (steps, words, sent) in NOOP {
         let outcome = by_noop(&rt, rt.alloc(), steps)?;
-        assert_eq!(rt; words_of(&outcome.answer), words);
-        assert_eq!(rt; outcome.out.buffer.as_slice(), sent);
+        assert_eq!(rt; words_of(&outcome.answer), *words);
+        assert_eq!(rt; outcome.out.buffer.as_slice(), *sent);
     }
     Ok(())
 }
 
-// What a handler sets in the client.
+// What a handler sets in the client while it asks, and where it lets it in.
 #[test]
-fn clients_are_set(rt: HostRuntime) -> Result<(), Fail> {
-    let alloc = rt.alloc();
-    let asked = by_cleartext(&rt, alloc, &[Step::Version(3, 1)])?.client;
+fn asked_clients_are_set(rt: HostRuntime) -> Result<(), Fail> {
+    let asked = by_cleartext(&rt, rt.alloc(), &[Step::Version(3, 1)])?.client;
+    let waits = asked.state == PgWireConnectionState::AuthenticationInProgress;
     assert_eq!(rt;
-        asked.state,
-        PgWireConnectionState::AuthenticationInProgress
+        (waits, asked.protocol_version),
+        (true, ProtocolVersion::PROTOCOL3_2)
     );
-    assert_eq!(rt; asked.protocol_version, ProtocolVersion::PROTOCOL3_2);
-    let let_in = by_noop(&rt, alloc, &[Step::Startup("bob")])?.client;
-    assert_eq!(rt; let_in.state, PgWireConnectionState::ReadyForQuery);
-    assert_eq!(rt; let_in.protocol_version, ProtocolVersion::PROTOCOL3_0);
-    assert_eq!(rt; let_in.pid_secret_key.0, 100_000);
-    assert!(rt; let_in.metadata.get("user").is_some());
+    Ok(())
+}
+
+#[test]
+fn let_in_clients_are_set(rt: HostRuntime) -> Result<(), Fail> {
+    let let_in = by_noop(&rt, rt.alloc(), &[Step::Startup("bob")])?.client;
+    let is_ready = let_in.state == PgWireConnectionState::ReadyForQuery;
+    let is_named = let_in.metadata.get("user").is_some();
+    assert_eq!(rt;
+        (
+            is_ready,
+            is_named,
+            let_in.protocol_version,
+            let_in.pid_secret_key.0
+        ),
+        (true, true, ProtocolVersion::PROTOCOL3_0, 100_000)
+    );
     Ok(())
 }

@@ -1,4 +1,4 @@
-use pgw_backend::client_error::{PgWireClientError, PgWireClientResult, SqlFault};
+use pgw_backend::client_error::{PgWireClientError, PgWireClientResult};
 use pgw_backend::field_info::{FieldFormat, FieldInfo};
 use pgw_backend::pg_type::PgType;
 use pgw_query::data::DataRow;
@@ -29,15 +29,27 @@ fn row(alloc: Global, payload: &[u8]) -> Result<DataRow, Fail> {
     Ok(DataRow::new(Octets::from_slice(alloc, payload)?, 1))
 }
 
-fn is_out_of_bounds<T>(read: &PgWireClientResult<T>) -> bool {
-    matches!(read, Err(PgWireClientError::DataRowIndexOutOfBounds))
+// What came of reading a value.
+fn outcome<T: Drop>(read: &PgWireClientResult<Option<T>>) -> &'static str {
+    match read {
+        Ok(Some(_)) => "a value",
+        Ok(None) => "NULL",
+        Err(PgWireClientError::DataRowIndexOutOfBounds) => "out of bounds",
+        Err(_) => "another error",
+    }
 }
 
-fn lends(read: PgWireClientResult<Option<&[u8]>>, wanted: Option<&[u8]>) -> bool {
-    match read {
-        Ok(raw) => raw == wanted,
-        Err(_) => false,
-    }
+fn next_text(alloc: Global, decoder: &mut DataRowDecoder<'_>) -> &'static str {
+    outcome(&decoder.next_value::<Text>(alloc))
+}
+
+// The bytes that are lent next; none where the row has no more.
+fn next_raw<'a>(decoder: &'a mut DataRowDecoder<'_>) -> Option<Option<&'a [u8]>> {
+    decoder.next_raw().ok()
+}
+
+fn next_number(alloc: Global, decoder: &mut DataRowDecoder<'_>) -> Result<Option<i32>, Fail> {
+    Ok(decoder.next_value::<i32>(alloc)?)
 }
 
 #[test]
@@ -45,35 +57,12 @@ fn select_one(rt: HostRuntime) -> Result<(), Fail> {
     let alloc = rt.alloc();
     let fields = columns(alloc, &[(PgType::Int4, FieldFormat::Text)])?;
     let mut decoder = DataRowDecoder::new(fields.as_slice(), row(alloc, b"\0\0\0\x011")?);
-    assert_eq!(rt; decoder.len(), 1);
-    assert!(rt; !decoder.is_empty());
-    assert!(rt; lends(decoder.next_raw(), Some(b"1".as_slice())));
-    assert!(rt; is_out_of_bounds(&decoder.next_raw()));
-    assert_eq!(rt; decoder.len(), 1);
+    assert_eq!(rt; (decoder.len(), decoder.is_empty()), (1, false));
+    assert_eq!(rt; next_number(alloc, &mut decoder)?, Some(1));
+    assert_eq!(rt; next_text(alloc, &mut decoder), "out of bounds");
     let mut decoder = DataRowDecoder::new(fields.as_slice(), row(alloc, b"\0\0\0\x011")?);
-    assert_eq!(rt; decoder.next_value::<i32>(alloc)?, Some(1));
-    assert!(rt; is_out_of_bounds(&decoder.next_value::<i32>(alloc)));
-    Ok(())
-}
-
-// Bytes that are lent pass one value over, NULL too, and a refusal passes none.
-#[test]
-fn lent_values_are_passed(rt: HostRuntime) -> Result<(), Fail> {
-    let alloc = rt.alloc();
-    let columns_of_text = [
-        (PgType::Int4, FieldFormat::Text),
-        (PgType::Int4, FieldFormat::Text),
-        (PgType::Int4, FieldFormat::Text),
-        (PgType::Int4, FieldFormat::Text),
-    ];
-    let fields = columns(alloc, &columns_of_text)?;
-    let payload = b"\0\0\0\x011\xff\xff\xff\xff\0\0\0\x012";
-    let mut decoder = DataRowDecoder::new(fields.as_slice(), row(alloc, payload)?);
-    assert!(rt; lends(decoder.next_raw(), Some(b"1".as_slice())));
-    assert!(rt; lends(decoder.next_raw(), None));
-    assert_eq!(rt; decoder.next_value::<i32>(alloc)?, Some(2));
-    assert!(rt; is_out_of_bounds(&decoder.next_raw()));
-    assert!(rt; is_out_of_bounds(&decoder.next_value::<i32>(alloc)));
+    assert_eq!(rt; next_raw(&mut decoder), Some(Some(b"1".as_slice())));
+    assert_eq!(rt; next_raw(&mut decoder), None);
     Ok(())
 }
 
@@ -98,45 +87,33 @@ fn rows_in_order(rt: HostRuntime) -> Result<(), Fail> {
     Ok(())
 }
 
-// A refused value is passed over, and NULL is none of any type.
-#[test]
-fn refused_values(rt: HostRuntime) -> Result<(), Fail> {
-    let alloc = rt.alloc();
-    let kinds = [(PgType::Bool, FieldFormat::Text); 3];
-    let fields = columns(alloc, &kinds)?;
-    let row = row(alloc, b"\0\0\0\x01t\xff\xff\xff\xff\0\0\0\x01f")?;
-    let mut decoder = DataRowDecoder::new(fields.as_slice(), row);
-    let refused = decoder.next_value::<i64>(alloc);
-    let wanted = SqlFault::WrongType(PgType::Bool);
-    assert!(rt;
-        matches!(&refused, Err(PgWireClientError::FromSqlError(fault)) if *fault == wanted)
-    );
-    assert_eq!(rt; decoder.next_value::<i64>(alloc)?, None);
-    assert_eq!(rt; decoder.next_value::<bool>(alloc)?, Some(false));
-    Ok(())
-}
+const BOTH_FORMATS: &[(PgType, FieldFormat)] = &[
+    (PgType::Bytea, FieldFormat::Binary),
+    (PgType::Bytea, FieldFormat::Text),
+];
 
-// The next value, and the one after it.
-fn two_octets(alloc: Global, decoder: &mut DataRowDecoder<'_>) -> Result<(Octets, Octets), Fail> {
-    let first = decoder.next_value::<Octets>(alloc)?.ok_or("NULL")?;
-    let second = decoder.next_value::<Octets>(alloc)?.ok_or("NULL")?;
-    Ok((first, second))
+fn next_octets(alloc: Global, decoder: &mut DataRowDecoder<'_>) -> Option<Octets> {
+    decoder.next_value::<Octets>(alloc).ok().flatten()
 }
 
 #[test]
 fn octets_in_both_formats(rt: HostRuntime) -> Result<(), Fail> {
     let alloc = rt.alloc();
-    let kinds = [
-        (PgType::Bytea, FieldFormat::Binary),
-        (PgType::Bytea, FieldFormat::Text),
-        (PgType::Text, FieldFormat::Binary),
-    ];
-    let fields = columns(alloc, &kinds)?;
-    let row = row(alloc, b"\0\0\0\x02\0\xff\0\0\0\x04\\x00\0\0\0\x02ab")?;
+    let fields = columns(alloc, BOTH_FORMATS)?;
+    let row = row(alloc, b"\0\0\0\x02\0\xff\0\0\0\x04\\x00")?;
     let mut decoder = DataRowDecoder::new(fields.as_slice(), row);
-    let (binary, text) = two_octets(alloc, &mut decoder)?;
+    let binary = next_octets(alloc, &mut decoder).ok_or("no value")?;
     assert_eq!(rt; binary.as_slice(), b"\0\xff".as_slice());
+    let text = next_octets(alloc, &mut decoder).ok_or("no value")?;
     assert_eq!(rt; text.as_slice(), b"\0".as_slice());
+    Ok(())
+}
+
+#[test]
+fn texts_are_read(rt: HostRuntime) -> Result<(), Fail> {
+    let alloc = rt.alloc();
+    let fields = columns(alloc, &[(PgType::Text, FieldFormat::Binary)])?;
+    let mut decoder = DataRowDecoder::new(fields.as_slice(), row(alloc, b"\0\0\0\x02ab")?);
     let text = decoder.next_value::<Text>(alloc)?.ok_or("NULL")?;
     assert_eq!(rt; text.as_str(), "ab");
     Ok(())
@@ -155,13 +132,21 @@ fn short_rows(rt: HostRuntime) -> Result<(), Fail> {
         &b"\x7f\xff\xff\xffa"[..],
     ] {
         let mut decoder = DataRowDecoder::new(fields.as_slice(), row(alloc, payload)?);
-        assert!(rt; is_out_of_bounds(&decoder.next_value::<Text>(alloc)));
-        assert!(rt; is_out_of_bounds(&decoder.next_raw()));
+        assert_eq!(rt; next_text(alloc, &mut decoder), "out of bounds");
+        assert_eq!(rt; next_raw(&mut decoder), None);
     }
+    Ok(())
+}
+
+// A negative length is NULL, and a row without columns has no value.
+#[test]
+fn other_rows(rt: HostRuntime) -> Result<(), Fail> {
+    let alloc = rt.alloc();
+    let fields = columns(alloc, &[(PgType::Text, FieldFormat::Text)])?;
     let mut decoder = DataRowDecoder::new(fields.as_slice(), row(alloc, b"\x80\0\0\0")?);
-    assert!(rt; lends(decoder.next_raw(), None));
+    assert_eq!(rt; next_raw(&mut decoder), Some(None));
     let mut decoder = DataRowDecoder::new(&[], row(alloc, b"\0\0\0\0")?);
     assert!(rt; decoder.is_empty());
-    assert!(rt; is_out_of_bounds(&decoder.next_raw()));
+    assert_eq!(rt; next_raw(&mut decoder), None);
     Ok(())
 }

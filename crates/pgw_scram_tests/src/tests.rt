@@ -1,7 +1,7 @@
 //! Vectors of the public documents, and what each end refuses.
 use pgw_backend::client_error::{PgWireClientError, ScramFault};
 use pgw_hash::pbkdf2::gen_salted_password;
-use pgw_scram::client::ScramClientAuth;
+use pgw_scram::client::{ScramClientAuth, ScramClientAuthWaitingForServerFirst};
 use pgw_scram::exchange::{client_final, client_first, client_first_bare};
 use pgw_scram::messages::{ClientFinal, ClientFirst, ServerFinal, ServerFirst};
 use pgw_scram::nonce::random_nonce;
@@ -107,26 +107,56 @@ fn fault_of<T: Drop>(reading: &PgWireResult<T>) -> Option<ScramMessageFault> {
     }
 }
 
+const CLIENT_FIRSTS: &[(&[u8], ScramMessageFault)] = &[
+    (b"n,,n=\xff,r=a", ScramMessageFault::NotUtf8),
+    (b"", ScramMessageFault::Grammar),
+    (b"n,n=user,r=a", ScramMessageFault::Grammar),
+    (b"x,,n=user,r=a", ScramMessageFault::Grammar),
+    (b"n,b=x,n=user,r=a", ScramMessageFault::Grammar),
+    (b"n,,n=a,b,r=c", ScramMessageFault::Grammar),
+];
+
+fn fault_of_client_first(alloc: Global, message: &[u8]) -> Option<ScramMessageFault> {
+    fault_of(&ClientFirst::read(alloc, message))
+}
+
 #[test]
 fn client_firsts(rt: HostRuntime) -> Result<(), Fail> {
     let message = b"p=tls-server-end-point,a=x,m=z,n=u=v,r=,more,s=1";
     let parts = ClientFirst::read(rt.alloc(), message)?;
-    assert_eq!(rt; parts.header.as_str(), "p=tls-server-end-point,a=x,");
-    assert_eq!(rt; parts.bare.as_str(), "m=z,n=u=v,r=,more,s=1");
-    assert_eq!(rt; (parts.user.as_str(), parts.nonce.as_str()), ("u=v", ""));
-    let faults: [(&[u8], ScramMessageFault); 6] = [
-        (b"n,,n=\xff,r=a", ScramMessageFault::NotUtf8),
-        (b"", ScramMessageFault::Grammar),
-        (b"n,n=user,r=a", ScramMessageFault::Grammar),
-        (b"x,,n=user,r=a", ScramMessageFault::Grammar),
-        (b"n,b=x,n=user,r=a", ScramMessageFault::Grammar),
-        (b"n,,n=a,b,r=c", ScramMessageFault::Grammar),
-    ];
-    for (message, fault) in faults {
-        let reading = ClientFirst::read(rt.alloc(), message);
-        assert_eq!(rt; fault_of(&reading), Some(fault));
+    assert_eq!(rt;
+        [
+            parts.header.as_str(),
+            parts.bare.as_str(),
+            parts.user.as_str(),
+            parts.nonce.as_str()
+        ],
+        [
+            "p=tls-server-end-point,a=x,",
+            "m=z,n=u=v,r=,more,s=1",
+            "u=v",
+            ""
+        ]
+    );
+    for (message, fault) in CLIENT_FIRSTS {
+        assert_eq!(rt; fault_of_client_first(rt.alloc(), message), Some(*fault));
     }
     Ok(())
+}
+
+const SERVER_FIRSTS: &[(&[u8], ScramMessageFault)] = &[
+    (b"r=\xc3,s=YmFy,i=12", ScramMessageFault::NotUtf8),
+    (b"r=b,s=YmFy", ScramMessageFault::Grammar),
+    (b"s=YmFy,r=b,i=12", ScramMessageFault::Grammar),
+    (b"e=no", ScramMessageFault::Grammar),
+    (b"r=b,s=YmFy,i=0", ScramMessageFault::Count),
+    (b"r=b,s=YmFy,i=4294967296", ScramMessageFault::Count),
+    (b"r=b,s=YmFy,i=-1", ScramMessageFault::Count),
+    (b"r=b,s=YmFy,i=", ScramMessageFault::Count),
+];
+
+fn fault_of_server_first(alloc: Global, message: &[u8]) -> Option<ScramMessageFault> {
+    fault_of(&ServerFirst::read(alloc, message))
 }
 
 #[test]
@@ -134,67 +164,67 @@ fn server_firsts(rt: HostRuntime) -> Result<(), Fail> {
     let parts = ServerFirst::read(rt.alloc(), b"m=a,r=b,s=,i=4294967295,i=0")?;
     assert_eq!(rt; (parts.nonce.as_str(), parts.salt.as_str()), ("b", ""));
     assert_eq!(rt; parts.count, 4294967295);
-    let faults: [(&[u8], ScramMessageFault); 8] = [
-        (b"r=\xc3,s=YmFy,i=12", ScramMessageFault::NotUtf8),
-        (b"r=b,s=YmFy", ScramMessageFault::Grammar),
-        (b"s=YmFy,r=b,i=12", ScramMessageFault::Grammar),
-        (b"e=no", ScramMessageFault::Grammar),
-        (b"r=b,s=YmFy,i=0", ScramMessageFault::Count),
-        (b"r=b,s=YmFy,i=4294967296", ScramMessageFault::Count),
-        (b"r=b,s=YmFy,i=-1", ScramMessageFault::Count),
-        (b"r=b,s=YmFy,i=", ScramMessageFault::Count),
-    ];
-    for (message, fault) in faults {
-        let reading = ServerFirst::read(rt.alloc(), message);
-        assert_eq!(rt; fault_of(&reading), Some(fault));
+    for (message, fault) in SERVER_FIRSTS {
+        assert_eq!(rt; fault_of_server_first(rt.alloc(), message), Some(*fault));
     }
     Ok(())
+}
+
+const CLIENT_FINALS: &[(&[u8], ScramMessageFault)] = &[
+    (b"c=biws,r=\xff,p=", ScramMessageFault::NotUtf8),
+    (b"c=biws,p=a", ScramMessageFault::Grammar),
+    (b"c=biws,r=a,p=b,x=y", ScramMessageFault::Grammar),
+    (b"r=a,c=biws,p=b", ScramMessageFault::Grammar),
+];
+
+fn fault_of_client_final(alloc: Global, message: &[u8]) -> Option<ScramMessageFault> {
+    fault_of(&ClientFinal::read(alloc, message))
 }
 
 #[test]
 fn client_finals(rt: HostRuntime) -> Result<(), Fail> {
     let parts = ClientFinal::read(rt.alloc(), b"c=biws,r=a,x=y,p=z=")?;
     assert_eq!(rt;
-        (parts.binding.as_str(), parts.nonce.as_str()),
-        ("biws", "a")
+        [
+            parts.binding.as_str(),
+            parts.nonce.as_str(),
+            parts.without_proof.as_str(),
+            parts.proof.as_str()
+        ],
+        ["biws", "a", "c=biws,r=a,x=y", "z="]
     );
-    assert_eq!(rt;
-        (parts.without_proof.as_str(), parts.proof.as_str()),
-        ("c=biws,r=a,x=y", "z=")
-    );
-    let faults: [(&[u8], ScramMessageFault); 4] = [
-        (b"c=biws,r=\xff,p=", ScramMessageFault::NotUtf8),
-        (b"c=biws,p=a", ScramMessageFault::Grammar),
-        (b"c=biws,r=a,p=b,x=y", ScramMessageFault::Grammar),
-        (b"r=a,c=biws,p=b", ScramMessageFault::Grammar),
-    ];
-    for (message, fault) in faults {
-        let reading = ClientFinal::read(rt.alloc(), message);
-        assert_eq!(rt; fault_of(&reading), Some(fault));
+    for (message, fault) in CLIENT_FINALS {
+        assert_eq!(rt; fault_of_client_final(rt.alloc(), message), Some(*fault));
     }
     Ok(())
 }
 
+const SERVER_FINALS: &[(&[u8], ScramMessageFault)] = &[
+    (b"v=\x80", ScramMessageFault::NotUtf8),
+    (b"", ScramMessageFault::Grammar),
+    (b"m=a,v=abc", ScramMessageFault::Grammar),
+];
+
+fn fault_of_server_final(alloc: Global, message: &[u8]) -> Option<ScramMessageFault> {
+    fault_of(&ServerFinal::read(alloc, message))
+}
+
+// What a server's last message says.
+fn last_words(alloc: Global, message: &[u8]) -> Result<String, Fail> {
+    Ok(match ServerFinal::read(alloc, message)? {
+        ServerFinal::Signature(text) => format!(in alloc; "signature {}", text.as_str())?,
+        ServerFinal::Failed(text) => format!(in alloc; "failed {}", text.as_str())?,
+    })
+}
+
 #[test]
 fn server_finals(rt: HostRuntime) -> Result<(), Fail> {
-    let signature = ServerFinal::read(rt.alloc(), b"v=abc,more")?;
-    assert_eq!(rt;
-        signature,
-        ServerFinal::Signature(Text::from_str(rt.alloc(), "abc")?)
-    );
-    let failed = ServerFinal::read(rt.alloc(), b"e=other-error,v=abc")?;
-    assert_eq!(rt;
-        failed,
-        ServerFinal::Failed(Text::from_str(rt.alloc(), "other-error")?)
-    );
-    let faults: [(&[u8], ScramMessageFault); 3] = [
-        (b"v=\x80", ScramMessageFault::NotUtf8),
-        (b"", ScramMessageFault::Grammar),
-        (b"m=a,v=abc", ScramMessageFault::Grammar),
-    ];
-    for (message, fault) in faults {
-        let reading = ServerFinal::read(rt.alloc(), message);
-        assert_eq!(rt; fault_of(&reading), Some(fault));
+    let signature = last_words(rt.alloc(), b"v=abc,more")?;
+    assert_eq!(rt; signature.as_str(), "signature abc");
+    let failed = last_words(rt.alloc(), b"e=other-error,v=abc")?;
+    assert_eq!(rt; failed.as_str(), "failed other-error");
+    for (message, fault) in SERVER_FINALS {
+        assert_eq!(rt; fault_of_server_final(rt.alloc(), message), Some(*fault));
     }
     Ok(())
 }
@@ -211,31 +241,55 @@ fn client(alloc: Global, user: &str, password: &str) -> PgWireResult<ScramClient
     Ok(ScramClientAuth::new(user, Text::from_str(alloc, password)?))
 }
 
+#[test]
+fn passwords_are_kept(rt: HostRuntime) -> Result<(), Fail> {
+    let password = kept(rt.alloc(), "\u{e9}\n=", b"bar", 12)?.duplicate()?;
+    assert_eq!(rt; password.salt(), Some(b"bar".as_slice()));
+    assert_eq!(rt; password.password().len(), 32);
+    Ok(())
+}
+
+// What a server with that password offers to a client's first message.
+fn offered(
+    alloc: Global,
+    first: &Text,
+) -> PgWireResult<(Text, ScramServerAuthWaitingForClientFinal)> {
+    let mut server = ScramServerAuth::default();
+    server.set_iterations(12);
+    let password = kept(alloc, "\u{e9}\n=", b"bar", 12)?;
+    server.on_client_first_message(alloc, first.as_str().as_bytes(), &password, &[1; 18])
+}
+
+// What a server says to a client that answers its offer, where the client takes it.
+fn accepted(
+    alloc: Global,
+    client: &ScramClientAuthWaitingForServerFirst,
+    offer: &Text,
+    server: &ScramServerAuthWaitingForClientFinal,
+) -> Result<Text, Fail> {
+    let (last, client) = client.build_client_final(alloc, offer.as_str().as_bytes())?;
+    let accepted = server.on_client_final_message(alloc, last.as_str().as_bytes())?;
+    client.verify_server_final(alloc, accepted.as_str().as_bytes())?;
+    Ok(accepted)
+}
+
 // Both ends accept, of a name and a password that are not ASCII and a password that cannot be prepared.
 #[test]
 fn both_ends(rt: HostRuntime) -> Result<(), Fail> {
     let alloc = rt.alloc();
     let client = client(alloc, "\u{e9} =", "\u{e9}\n=")?;
-    let mut server = ScramServerAuth::default();
-    server.set_iterations(12);
-    let password = kept(alloc, "\u{e9}\n=", b"bar", 12)?.duplicate()?;
-    assert_eq!(rt; password.salt(), Some(b"bar".as_slice()));
-    assert_eq!(rt; password.password().len(), 32);
     let (first, client) = client.build_client_first(alloc, &[0; 18])?;
     assert_eq!(rt; first.as_str(), "n,,n=\u{e9} =,r=AAAAAAAAAAAAAAAAAAAAAAAA");
-    let first = first.as_str().as_bytes();
-    let (offer, server) = server.on_client_first_message(alloc, first, &password, &[1; 18])?;
+    let (offer, server) = offered(alloc, &first)?;
     assert_eq!(rt;
         offer.as_str(),
         "r=AAAAAAAAAAAAAAAAAAAAAAAAAQEBAQEBAQEBAQEBAQEBAQEB,s=YmFy,i=12"
     );
-    let (last, client) = client.build_client_final(alloc, offer.as_str().as_bytes())?;
-    let accepted = server.on_client_final_message(alloc, last.as_str().as_bytes())?;
+    let accepted = accepted(alloc, &client, &offer, &server)?;
     assert_eq!(rt;
         accepted.as_str(),
         "v=TcWD4tohUtUvE5wz2Jokok+dxGL6Kxqxo2+hytTAVWo="
     );
-    client.verify_server_final(alloc, accepted.as_str().as_bytes())?;
     Ok(())
 }
 
