@@ -1,4 +1,5 @@
 pub mod LineLaws
+pub mod FeedLaws
 pub mod ScriptLaws
 pub mod GrammarLaws
 pub mod SignedLaws

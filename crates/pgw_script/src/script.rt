@@ -5,6 +5,7 @@ ghost use Rattle.pgw_script.specs.Script.{first_script, with_line, place_of as p
 
 use crate::line::{Line, read_line};
 use crate::server_bytes::ServerBytes;
+use memchr::memchr;
 use pgw_conninfo::marks::behind_word;
 use pgw_session::types::Request;
 use pgw_types::context::ProtocolVersion;
@@ -194,7 +195,7 @@ fn line_end(text: &[u8]) -> Option<usize>
     ensures place { result ≡ position (λ b. b == 10) text.now }
     ensures bound { IfSome result (λ end. end < length text.now) }
 {
-    text.iter().position(|byte| *byte == b'\n')
+    memchr(b'\n', text)
 }
 
 /// The first line of a text, and what stands behind it.

@@ -1,7 +1,7 @@
 //! What a script's server sends.
-ghost use Rattle.std.specs.Prelude.{◌≡◌, ◌<◌, ◌++◌, [], IfOk, IfSome, OnOk};
+ghost use Rattle.std.specs.Prelude.{◌≡◌, ◌<◌, ◌++◌, ◌∷◌, [], length, MatchOption, IfOk, IfSome, OnOk};
 ghost use Rattle.hex.specs.Hex.{hex_digit_value};
-ghost use Rattle.pgw_script.specs.ServerBytes.{Adds, TakesDigit};
+ghost use Rattle.pgw_script.specs.ServerBytes.{Adds, digits};
 
 use bytes::Bytes;
 use pgw_types::memory::OutOfMemory;
@@ -36,6 +36,20 @@ fn digit_of(byte: u8) -> Option<u8>
     }
 }
 
+// The first byte that is no space, and what stands behind it.
+#[inline]
+fn next_digit(text: &[u8]) -> Option<(u8, &[u8])>
+    ensures { MatchOption result (digits text.now ≡ []) (λ next. (digits text.now ≡ next.0 ∷ digits next.1.now) × (length next.1.now < length text.now)) }
+{
+    for at in 0..text.len() {
+        let byte = text[at];
+        if byte != b' ' {
+            return Some((byte, &text[at + 1..]));
+        }
+    }
+    None
+}
+
 impl ServerBytes {
     /// None.
     pub fn new(alloc: Global) -> ServerBytes
@@ -54,37 +68,23 @@ impl ServerBytes {
         Ok(())
     }
 
-    // Takes a digit: the first of a byte waits for the second.
-    fn take_digit(&mut self, high: Option<u8>, digit: u8) -> Result<Option<u8>, OutOfMemory>
-        requires waiting { IfSome high (λ first. first < 16) }
-        requires bound { digit < 16 }
-        ensures takes { IfOk result (TakesDigit high digit self.old self.new) }
-        ensures waits { IfOk result (λ next. IfSome next (λ first. first < 16)) }
-    {
-        match high {
-            None => Ok(Some(digit)),
-            Some(first) => {
-                self.bytes.push(first * 16 + digit)?;
-                Ok(None)
-            }
-        }
-    }
-
     /// Adds the bytes of a text of hex digits, among which spaces may stand; answers whether it is one. Of another text
     /// some bytes may have been added.
     pub fn add_hex(&mut self, text: &[u8]) -> Result<bool, OutOfMemory>
         ensures { IfOk result (λ known. Adds known text.now self.old self.new) }
     {
-        let mut high = None;
-        for byte in text {
-            if *byte != b' ' {
-                match digit_of(*byte) {
-                    Some(digit) => high = self.take_digit(high, digit)?,
-                    None => return Ok(false),
-                }
-            }
+        let mut rest = text;
+        while let Some((first, behind)) = next_digit(rest) {
+            let Some((second, more)) = next_digit(behind) else {
+                return Ok(false);
+            };
+            let (Some(high), Some(low)) = (digit_of(first), digit_of(second)) else {
+                return Ok(false);
+            };
+            self.bytes.push(high * 16 + low)?;
+            rest = more;
         }
-        Ok(high.is_none())
+        Ok(true)
     }
 
     /// The bytes. It copies none.

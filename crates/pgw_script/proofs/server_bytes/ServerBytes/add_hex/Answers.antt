@@ -1,44 +1,37 @@
-use Rattle.std.proofs.Common.{◌≡◌, ◌+◌, ◌==◌, List, ℕ, false, true, ◌∷◌, drop, drop-cons, get_or, add-one, sym, subst, ◌∙◌, arith, refl}
-use Rattle.std.proofs.Math.ListN.{drop_of_length-le}
-use Rattle.std.proofs.lemmas.Bool.Decides.{nat_tests}
-use Rattle.pgw_script.proofs.HexLaws.{Told, told_first, told_space, told_digit, told_none, told_end}
+use Rattle.std.proofs.Common.{◌≡◌, ◌∷◌, ℕ, List, Some, None, ap, sym, ◌∙◌, arith}
+use Rattle.pgw_script.specs.ServerBytes.{digits}
+use Rattle.pgw_script.proofs.HexLaws.{Told, told_first, told_pair, told_half, told_other, told_end}
 use Rattle.pgw_script.proofs.server_bytes.ServerBytes.add_hex.Goals as goal
-use Rattle.pgw_script.proofs.server_bytes.ServerBytes.add_hex.Goals.{then-byte-ne32+in-Some+in_ok-high-in-Some, else-byte-ne32}
+use Rattle.pgw_script.proofs.server_bytes.ServerBytes.add_hex.Goals.{in_default-2-via-in-Some+in_default, in_default-2-via-in_default}
 
-pub loop-byte-init : goal.loop-byte-init
-loop-byte-init c = record { waiting = tt; told = told_first c.args.self.now c.args.text.now }
+pub loop-first-init : goal.loop-first-init
+loop-first-init c = told_first c.args.self.now _ c.args.text.now c.self.view_is
 
-pub returns-in-None : goal.returns-in-None
-returns-in-None c =
-    let l = c.loop-byte in
-    let text = c.args.text.now in
-    let cut = drop-cons text l.byte-index 0 c.loop-byte-test.true in
-    let told = rw cut at l.invariant.told in
-    told_none c.args.self.now l.self text l.high _ _ told (grind (arith, nat_tests, c.if-byte-ne32.true)) (sym c.digit_of.ensures.value ∙ c.in-None.is)
+pub returns-in_default-next_digit : goal.returns-in_default-next_digit
+returns-in_default-next_digit c =
+    told_half c.args.self.now _ c.args.text.now c.loop-first.rest.now c.in-Some.first c.loop-first.invariant (c.in-Some.ensures.0 ∙ ap (λ (l : List ℕ). c.in-Some.first ∷ l) c.in_default-next_digit.ensures)
 
-pub loop-byte-preserved : goal.loop-byte-preserved
-loop-byte-preserved c =
-    let l = c.loop-byte in
-    let text = c.args.text.now in
-    let cut = drop-cons text l.byte-index 0 c.loop-byte-test.true in
-    let told = rw cut at l.invariant.told in
-    elim c.if-byte-ne32.branch [
-      | then-byte-ne32+in-Some+in_ok-high-in-Some w ↦
-          let e = w.in_ok-high-in-Some.ensures in
-          record {
-            waiting = rw w.high-is e.waits;
-            told = rw (w.self-is, w.high-is, add-one) (told_digit c.args.self.now l.self w.take_digit.new.self text l.high w.in_ok-high-in-Some.high _ w.in-Some.digit _ told (grind (arith, nat_tests, w.if-byte-ne32.true)) (sym w.digit_of.ensures.value ∙ w.in-Some.is) e.takes);
-          }
-      | else-byte-ne32 w ↦ record {
-        waiting = rw w.high-is l.invariant.waiting;
-        told = rw (w.self-is, w.high-is, add-one) (told_space c.args.self.now l.self text l.high _ _ told (grind (arith, nat_tests, w.if-byte-ne32.false)));
-      }
-    ]
+pub returns-in_default-2 : goal.returns-in_default-2
+returns-in_default-2 c =
+    let both = c.in-Some.ensures.0 ∙ ap (λ (l : List ℕ). c.in-Some.first ∷ l) c.in-Some-next_digit.ensures.0 in
+    told_other c.args.self.now _ c.args.text.now c.loop-first.rest.now (digits c.in-Some-next_digit.more.now) c.in-Some.first c.in-Some-next_digit.second c.loop-first.invariant both (λ d e high low.
+    elim c.in_default-2.branch [
+      | in_default-2-via-in-Some+in_default w ↦
+          let no : None ≡ Some e = sym w.in_default-2.is-1 ∙ c.digit_of-in-Some.ensures.value ∙ low in
+          cc
+      | in_default-2-via-in_default w ↦
+          let no : None ≡ Some d = sym w.in_default-2.is-0 ∙ c.digit_of.ensures.value ∙ high in
+          cc
+    ])
+
+pub loop-first-smaller : goal.loop-first-smaller
+loop-first-smaller c = omega (arith, c.in-Some.ensures.1, c.in-Some-next_digit.ensures.1)
+
+pub loop-first-preserved : goal.loop-first-preserved
+loop-first-preserved c =
+    let both = c.in-Some.ensures.0 ∙ ap (λ (l : List ℕ). c.in-Some.first ∷ l) c.in-Some-next_digit.ensures.0 in
+    told_pair c.args.self.now _ _ c.args.text.now c.loop-first.rest.now c.in-Some-next_digit.more.now c.in-Some.first c.in-Some-next_digit.second c.in-Some-Some.high c.in-Some-Some.low c.loop-first.invariant both
+    (sym c.digit_of.ensures.value ∙ c.in-Some-Some.is-0) (sym c.digit_of-in-Some.ensures.value ∙ c.in-Some-Some.is-1) c.in_ok-push.ensures.items
 
 pub returns : goal.returns
-returns c =
-    let l = c.loop-byte in
-    let text = c.args.text.now in
-    let over = drop_of_length-le text {i = l.byte-index} (omega (arith, c.loop-byte-test.false)) in
-    let told = rw over at l.invariant.told in
-    told_end c.args.self.now l.self text l.high c.is_none.result told (sym c.is_none.ensures)
+returns c = told_end c.args.self.now _ c.args.text.now c.loop-first.rest.now c.loop-first.invariant c.in_default.ensures

@@ -1,10 +1,9 @@
-use Rattle.std.proofs.Common.{◌<◌, drop}
-use Rattle.std.specs.Option.{IfSome}
+use Rattle.std.proofs.Common.{length}
 use Rattle.pgw_script.proofs.HexLaws.{Told}
 use Rattle.pgw_script.proofs.server_bytes.ServerBytes.add_hex.Given as goal
 
-abbrev pub invariant-loop-byte : goal.invariant-loop-byte
-invariant-loop-byte l = record {
-  waiting : IfSome l.high (λ first. first < 16);
-  told : Told l.fn.self l.self l.high (drop l.byte-index l.fn.text) l.fn.text;
-}
+abbrev pub invariant-loop-first : goal.invariant-loop-first
+invariant-loop-first l = Told l.fn.self l.self-inside.bytes.items l.rest l.fn.text
+
+abbrev pub decreases-loop-first : goal.decreases-loop-first
+decreases-loop-first l = length l.rest
