@@ -4,6 +4,7 @@ mod client;
 mod columns;
 mod constants;
 mod errors;
+mod flags;
 mod lists;
 mod login;
 mod server;
