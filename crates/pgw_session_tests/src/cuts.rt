@@ -88,16 +88,32 @@ fn requests_of(alloc: Global, case: &Case<'_>) -> Result<Vec<Request>, Fail> {
     Ok(requests)
 }
 
+fn config_of(alloc: Global, case: &Case<'_>) -> Result<Config, Fail> {
+    let mut config = Config::parse(alloc, "user=bob")?;
+    config.protocol_version(case.version);
+    Ok(config)
+}
+
+// A link to a server that says the case's bytes.
+fn link_of(alloc: Global, case: &Case<'_>, cut: usize) -> Result<MemoryLink, Fail>
+    requires { 0 < cut }
+{
+    let server = Octets::from_slice(alloc, case.server)?;
+    Ok(MemoryLink::new(alloc, server, cut, Listed::new(alloc), Listed::new(alloc)))
+}
+
+fn report_of(alloc: Global, case: &Case<'_>, link: &mut MemoryLink) -> Result<SessionReport, Fail> {
+    let config = config_of(alloc, case)?;
+    let requests = requests_of(alloc, case)?;
+    Ok(run_session(alloc, link, &config, &requests, &[0; 18], 1000)?)
+}
+
 // What is written, and the report, where at most so many bytes go at a time.
 fn held(alloc: Global, case: &Case<'_>, cut: usize) -> Result<(Vec<u8>, SessionReport), Fail>
     requires { 0 < cut }
 {
-    let mut config = Config::parse(alloc, "user=bob")?;
-    config.protocol_version(case.version);
-    let requests = requests_of(alloc, case)?;
-    let server = Octets::from_slice(alloc, case.server)?;
-    let mut link = MemoryLink::new(alloc, server, cut, Listed::new(alloc), Listed::new(alloc));
-    let report = run_session(alloc, &mut link, &config, &requests, &[0; 18], 1000)?;
+    let mut link = link_of(alloc, case, cut)?;
+    let report = report_of(alloc, case, &mut link)?;
     Ok((link.written().to_vec(alloc)?, report))
 }
 

@@ -53,25 +53,29 @@ fn ending(answer: &PgWireClientResult<SessionReport>) -> &'static str {
     }
 }
 
+fn link_of(alloc: Global, setting: &Setting<'_>, cut: usize) -> Result<MemoryLink, Fail>
+    requires { 0 < cut }
+{
+    let server = Octets::from_slice(alloc, setting.server)?;
+    let failing_reads = one(alloc, setting.failing_read)?;
+    let failing_writes = one(alloc, setting.failing_write)?;
+    Ok(MemoryLink::new(alloc, server, cut, failing_reads, failing_writes))
+}
+
+fn end_over(alloc: Global, limit: u64, link: &mut MemoryLink) -> Result<&'static str, Fail> {
+    let config = Config::parse(alloc, "user=bob")?;
+    let requests = [Request::simple(alloc, "SELECT 1")?];
+    let answer = run_session(alloc, link, &config, &requests, &[0; 18], limit);
+    Ok(ending(&answer))
+}
+
 // What is written, and how the session ends, where at most so many bytes go at a time.
 fn held(alloc: Global, setting: &Setting<'_>, cut: usize) -> Result<(Vec<u8>, &'static str), Fail>
     requires { 0 < cut }
 {
-    let config = Config::parse(alloc, "user=bob")?;
-    let requests = [Request::simple(alloc, "SELECT 1")?];
-    let server = Octets::from_slice(alloc, setting.server)?;
-    let failing_reads = one(alloc, setting.failing_read)?;
-    let failing_writes = one(alloc, setting.failing_write)?;
-    let mut link = MemoryLink::new(alloc, server, cut, failing_reads, failing_writes);
-    let answer = run_session(
-        alloc,
-        &mut link,
-        &config,
-        &requests,
-        &[0; 18],
-        setting.limit,
-    );
-    Ok((link.written().to_vec(alloc)?, ending(&answer)))
+    let mut link = link_of(alloc, setting, cut)?;
+    let ended = end_over(alloc, setting.limit, &mut link)?;
+    Ok((link.written().to_vec(alloc)?, ended))
 }
 
 // What is written by a client that got so many bytes.
