@@ -1,0 +1,61 @@
+-- What a handler of extended queries means.
+use Rattle.std.specs.Prelude.{List, Result, Ok, Err}
+use Rattle.pgw_ext.specs.declared.parse.Parse.{Parse}
+use Rattle.pgw_ext.specs.declared.bind.Bind.{Bind}
+use Rattle.pgw_ext.specs.declared.execute.Execute.{Execute}
+use Rattle.pgw_ext.specs.declared.target.Describe.{Describe}
+use Rattle.pgw_ext.specs.declared.target.Close.{Close}
+use Rattle.pgw_query.specs.declared.data.RowDescription.{RowDescription}
+use Rattle.pgw_query.specs.declared.data.DataRow.{DataRow}
+use Rattle.pgw_query.specs.declared.description.ParameterDescription.{ParameterDescription}
+use Rattle.pgw_query.specs.declared.response.CommandComplete.{CommandComplete}
+use Rattle.pgw_backend.specs.declared.pg_type.PgType.{PgType}
+use Rattle.pgw_backend.specs.declared.field_info.FieldInfo.{FieldInfo}
+use Rattle.pgw_backend.specs.declared.tag.Tag.{Tag}
+use Rattle.pgw_backend.specs.declared.client_error.PgWireClientError.{PgWireClientError as ClientError}
+
+-- a call of one of its functions, with its message
+pub data ExtendedCall : Type 0 where
+  parse : Parse → ExtendedCall
+  bind : Bind → ExtendedCall
+  execute : Execute → ExtendedCall
+  describe : Describe → ExtendedCall
+  close : Close → ExtendedCall
+  sync : ExtendedCall
+  flush : ExtendedCall
+  on_parameter_description : ParameterDescription → ExtendedCall
+  on_row_description : RowDescription → ExtendedCall
+  on_data_row : DataRow → ExtendedCall
+  on_command_complete : CommandComplete → ExtendedCall
+  on_portal_suspended : ExtendedCall
+
+-- what one of them gives: nothing, types, columns, what it makes of a row, or a tag
+pub data Gift (R : Type 0) : Type 0 where
+  nothing : Gift R
+  types : List PgType → Gift R
+  columns : List FieldInfo → Gift R
+  response : R → Gift R
+  tag : Tag → Gift R
+
+abbrev pub Reply : Type 0 → Type 0
+Reply R = Result (Gift R) ClientError
+
+abbrev pub done : {R : Type 0} → Result (Unit {0}) ClientError → Reply R
+done (Ok x) = Ok nothing
+done (Err e) = Err e
+
+abbrev pub of_types : {R : Type 0} → Result (List PgType) ClientError → Reply R
+of_types (Ok ts) = Ok (types ts)
+of_types (Err e) = Err e
+
+abbrev pub of_columns : {R : Type 0} → Result (List FieldInfo) ClientError → Reply R
+of_columns (Ok fs) = Ok (columns fs)
+of_columns (Err e) = Err e
+
+abbrev pub of_response : {R : Type 0} → Result R ClientError → Reply R
+of_response (Ok r) = Ok (response r)
+of_response (Err e) = Err e
+
+abbrev pub of_tag : {R : Type 0} → Result Tag ClientError → Reply R
+of_tag (Ok t) = Ok (tag t)
+of_tag (Err e) = Err e

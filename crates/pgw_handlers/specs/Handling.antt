@@ -1,0 +1,64 @@
+-- What a handler means, and what holds of each of its calls.
+use Rattle.std.specs.Prelude.{◌≡◌, ◌≤◌, ℕ, Bool, true, Result, Ok, Err}
+use Rattle.pgw_link.specs.Tape.{Rose}
+use Rattle.pgw_startup.specs.declared.parameter_status.ParameterStatus.{ParameterStatus}
+use Rattle.pgw_backend.specs.declared.client_error.PgWireClientError.{PgWireClientError as ClientError}
+use Rattle.pgw_backend.specs.declared.client_error.PgWireClientError.TheVariants as client
+use Rattle.pgw_handlers.specs.declared.client_info.ReadyState.{ReadyState}
+use Rattle.pgw_handlers.specs.declared.client_info.ReadyState.TheVariants.{Pending, Ready}
+use Rattle.pgw_handlers.specs.Client.{Sight, with_parameter}
+
+-- a handler and what it sees
+pub record Standing (H : Type 0) : Type 0 where
+  pub handler : H
+  pub sight : Sight
+
+abbrev pub standing : {H : Type 0} → H → Sight → Standing H
+standing h s = record { handler = h; sight = s }
+
+-- what a call of any function of a handler answers: it goes on, or this is the outcome
+abbrev pub Answer : Type 0 → Type 0
+Answer A = Result (ReadyState A) ClientError
+
+abbrev pub pending : {T A : Type 0} → Result T ClientError → Answer A
+pending (Ok x) = Ok Pending
+pending (Err e) = Err e
+
+abbrev pub ready : {A : Type 0} → Result A ClientError → Answer A
+ready (Ok x) = Ok (Ready x)
+ready (Err e) = Err e
+
+-- ---- what every handler does with some messages
+
+-- nothing is done
+abbrev pub Passes : {H A : Type 0} → Standing H → Standing H → Answer A → Type 0
+Passes before after answer = (after ≡ before) × (answer ≡ Ok Pending)
+
+-- nothing is done, and the answer is such an error
+abbrev pub IsRefusal : {A : Type 0} → (ClientError → Type 0) → Answer A → Type 0
+IsRefusal P (Ok x) = ⊥
+IsRefusal P (Err e) = P e
+
+abbrev pub Refuses : {H A : Type 0} → (ClientError → Type 0) → Standing H → Standing H → Answer A → Type 0
+Refuses P before after answer = (after ≡ before) × IsRefusal P answer
+
+-- a parameter that the server reports is the client's from then on, unless memory runs out
+abbrev pub Keeps : {H A : Type 0} → ParameterStatus → Standing H → Standing H → Answer A → Type 0
+Keeps m before after (Ok answer) = (after ≡ standing before.handler (with_parameter m.name m.value before.sight)) × (answer ≡ Pending)
+Keeps m before after (Err e) = (after ≡ before) × (e ≡ client.OutOfMemory)
+
+-- ---- causes, told or not
+
+-- IoError comes only where the count of faults rose, and Broken only from a client that an error has left so
+abbrev pub IsCaused : ClientError → ℕ → ℕ → Bool → Type 0
+IsCaused client.IoError before now broken = Rose before now
+IsCaused client.Broken before now broken = broken ≡ true
+IsCaused e before now broken = Unit {0}
+
+abbrev pub OfError : {T : Type 0} → Result T ClientError → ℕ → ℕ → Bool → Type 0
+OfError (Ok x) before now broken = Unit {0}
+OfError (Err e) before now broken = IsCaused e before now broken
+
+pub record HasCause {T : Type 0} (before now : ℕ) (broken : Bool) (result : Result T ClientError) : Type 0 where
+  pub later : before ≤ now
+  pub failed : OfError result before now broken

@@ -1,0 +1,142 @@
+//! What a client asks extended queries by.
+ghost use Rattle.std.specs.Prelude.{◌≡◌, ℕ, false};
+ghost use Rattle.pgw_handlers.specs.Client.{Sight};
+ghost use Rattle.pgw_handlers.specs.Handling.{Standing, standing, HasCause};
+ghost use Rattle.pgw_handlers.specs.Extended.{ExtendedCall, parse, bind, execute, describe, close, sync, flush, on_parameter_description, on_row_description, on_data_row, on_command_complete, on_portal_suspended, Reply, done, of_types, of_columns, of_response, of_tag};
+
+use crate::client_info::ClientInfo;
+use crate::outgoing::Outgoing;
+use pgw_backend::client_error::PgWireClientResult;
+use pgw_backend::field_info::FieldInfo;
+use pgw_backend::pg_type::PgType;
+use pgw_backend::tag::Tag;
+use pgw_ext::extendedquery::{Bind, Close, Describe, Execute, Flush, Parse, Sync};
+use pgw_query::data::{DataRow, RowDescription};
+use pgw_query::description::ParameterDescription;
+use pgw_query::response::CommandComplete;
+use pgw_types::listed::Listed;
+use std::alloc::Global;
+
+/// Sends the messages of extended queries, and makes something of what the server answers them with.
+pub trait ExtendedQueryHandler {
+    type QueryResponse;
+
+    /// What the handler does: a call leads from one standing to another, and gives the reply.
+    ghost means: { Standing Self → ExtendedCall → Standing Self → Reply Self.QueryResponse → Type 0 };
+
+    fn parse<C: ClientInfo + Outgoing>(
+        &mut self,
+        alloc: Global,
+        client: &mut C,
+        message: Parse,
+    ) -> PgWireClientResult<()>
+        ensures means { C.tells → means (standing self.old (C.sight client.old)) (parse message) (standing self.new (C.sight client.new)) (done result) }
+        ensures own { C.own client.new ≡ C.own client.old }
+        ensures rest { C.tells → C.rest client.new ≡ C.rest client.old }
+        ensures cause { HasCause (C.faults client.old) (C.faults client.new) (C.sight client.new).broken result };
+
+    fn bind<C: ClientInfo + Outgoing>(
+        &mut self,
+        alloc: Global,
+        client: &mut C,
+        message: Bind,
+    ) -> PgWireClientResult<()>
+        ensures means { C.tells → means (standing self.old (C.sight client.old)) (bind message) (standing self.new (C.sight client.new)) (done result) }
+        ensures own { C.own client.new ≡ C.own client.old }
+        ensures rest { C.tells → C.rest client.new ≡ C.rest client.old }
+        ensures cause { HasCause (C.faults client.old) (C.faults client.new) (C.sight client.new).broken result };
+
+    fn execute<C: ClientInfo + Outgoing>(
+        &mut self,
+        alloc: Global,
+        client: &mut C,
+        message: Execute,
+    ) -> PgWireClientResult<()>
+        ensures means { C.tells → means (standing self.old (C.sight client.old)) (execute message) (standing self.new (C.sight client.new)) (done result) }
+        ensures own { C.own client.new ≡ C.own client.old }
+        ensures rest { C.tells → C.rest client.new ≡ C.rest client.old }
+        ensures cause { HasCause (C.faults client.old) (C.faults client.new) (C.sight client.new).broken result };
+
+    fn describe<C: ClientInfo + Outgoing>(
+        &mut self,
+        alloc: Global,
+        client: &mut C,
+        message: Describe,
+    ) -> PgWireClientResult<()>
+        ensures means { C.tells → means (standing self.old (C.sight client.old)) (describe message) (standing self.new (C.sight client.new)) (done result) }
+        ensures own { C.own client.new ≡ C.own client.old }
+        ensures rest { C.tells → C.rest client.new ≡ C.rest client.old }
+        ensures cause { HasCause (C.faults client.old) (C.faults client.new) (C.sight client.new).broken result };
+
+    fn close<C: ClientInfo + Outgoing>(
+        &mut self,
+        alloc: Global,
+        client: &mut C,
+        message: Close,
+    ) -> PgWireClientResult<()>
+        ensures means { C.tells → means (standing self.old (C.sight client.old)) (close message) (standing self.new (C.sight client.new)) (done result) }
+        ensures own { C.own client.new ≡ C.own client.old }
+        ensures rest { C.tells → C.rest client.new ≡ C.rest client.old }
+        ensures cause { HasCause (C.faults client.old) (C.faults client.new) (C.sight client.new).broken result };
+
+    fn sync<C: ClientInfo + Outgoing>(
+        &mut self,
+        alloc: Global,
+        client: &mut C,
+        message: Sync,
+    ) -> PgWireClientResult<()>
+        ensures means { C.tells → means (standing self.old (C.sight client.old)) sync (standing self.new (C.sight client.new)) (done result) }
+        ensures own { C.own client.new ≡ C.own client.old }
+        ensures rest { C.tells → C.rest client.new ≡ C.rest client.old }
+        ensures cause { HasCause (C.faults client.old) (C.faults client.new) (C.sight client.new).broken result };
+
+    fn flush<C: ClientInfo + Outgoing>(
+        &mut self,
+        alloc: Global,
+        client: &mut C,
+        message: Flush,
+    ) -> PgWireClientResult<()>
+        ensures means { C.tells → means (standing self.old (C.sight client.old)) flush (standing self.new (C.sight client.new)) (done result) }
+        ensures own { C.own client.new ≡ C.own client.old }
+        ensures rest { C.tells → C.rest client.new ≡ C.rest client.old }
+        ensures cause { HasCause (C.faults client.old) (C.faults client.new) (C.sight client.new).broken result };
+
+    /// The types of the parameters.
+    fn on_parameter_description(
+        &mut self,
+        alloc: Global,
+        message: ParameterDescription,
+    ) -> PgWireClientResult<Listed<PgType>>
+        ensures means { (seen : Sight) → means (standing self.old seen) (on_parameter_description message) (standing self.new seen) (of_types result) }
+        ensures cause { (faults : ℕ) → HasCause faults faults false result };
+
+    /// The columns.
+    fn on_row_description(
+        &mut self,
+        alloc: Global,
+        message: RowDescription,
+    ) -> PgWireClientResult<Listed<FieldInfo>>
+        ensures means { (seen : Sight) → means (standing self.old seen) (on_row_description message) (standing self.new seen) (of_columns result) }
+        ensures cause { (faults : ℕ) → HasCause faults faults false result };
+
+    /// What is made of a row.
+    fn on_data_row(
+        &mut self,
+        alloc: Global,
+        message: DataRow,
+    ) -> PgWireClientResult<Self::QueryResponse>
+        ensures means { (seen : Sight) → means (standing self.old seen) (on_data_row message) (standing self.new seen) (of_response result) }
+        ensures cause { (faults : ℕ) → HasCause faults faults false result };
+
+    fn on_command_complete(
+        &mut self,
+        alloc: Global,
+        message: CommandComplete,
+    ) -> PgWireClientResult<Tag>
+        ensures means { (seen : Sight) → means (standing self.old seen) (on_command_complete message) (standing self.new seen) (of_tag result) }
+        ensures cause { (faults : ℕ) → HasCause faults faults false result };
+
+    fn on_portal_suspended(&mut self, alloc: Global) -> PgWireClientResult<()>
+        ensures means { (seen : Sight) → means (standing self.old seen) on_portal_suspended (standing self.new seen) (done result) }
+        ensures cause { (faults : ℕ) → HasCause faults faults false result };
+}

@@ -1,0 +1,157 @@
+//! What a client logs in by.
+ghost use Rattle.std.specs.Prelude.{◌≡◌};
+ghost use Rattle.pgw_startup.specs.declared.negotiate.NegotiateProtocolVersion.{NegotiateProtocolVersion as TheOffer};
+ghost use Rattle.pgw_startup.specs.declared.parameter_status.ParameterStatus.{ParameterStatus as TheStatus};
+ghost use Rattle.pgw_handlers.specs.declared.client_info.ServerInformation.{ServerInformation as TheInformation};
+ghost use Rattle.pgw_handlers.specs.Handling.{Standing, standing, Answer, pending, ready, Keeps, HasCause};
+ghost use Rattle.pgw_handlers.specs.Startup.{StartupCall, startup, on_authentication, on_negotiate_protocol_version, on_parameter_status, on_backend_key, on_ready_for_query, Settles, HeardAtStartup};
+
+use crate::causes::misplaced;
+use crate::client_info::{ClientInfo, ReadyState, ServerInformation};
+use crate::outgoing::Outgoing;
+use pgw_backend::backend::PgWireBackendMessage;
+use pgw_backend::client_error::{PgWireClientError, PgWireClientResult};
+use pgw_query::response::ReadyForQuery;
+use pgw_startup::authentication::Authentication;
+use pgw_startup::backend_key_data::BackendKeyData;
+use pgw_startup::negotiate::{NegotiateProtocolVersion, negotiated_version};
+use pgw_startup::parameter_status::ParameterStatus;
+use std::alloc::Global;
+
+/// Logs a client in: it sends what begins a connection, and hears the server's messages up to the first ReadyForQuery.
+pub trait StartupHandler {
+    /// What the handler does: a call leads from one standing to another, and gives the answer.
+    ghost means: { Standing Self → StartupCall → Standing Self → Answer TheInformation → Type 0 };
+
+    /// Begins the connection.
+    fn startup<C: ClientInfo + Outgoing>(
+        &mut self,
+        alloc: Global,
+        client: &mut C,
+    ) -> PgWireClientResult<()>
+        ensures means { C.tells → means (standing self.old (C.sight client.old)) startup (standing self.new (C.sight client.new)) (pending result) }
+        ensures own { C.own client.new ≡ C.own client.old }
+        ensures rest { C.tells → C.rest client.new ≡ C.rest client.old }
+        ensures cause { HasCause (C.faults client.old) (C.faults client.new) (C.sight client.new).broken result };
+
+    /// Hears a message: hands it to its function, and sets the status that a ReadyForQuery tells before that.
+    fn on_message<C: ClientInfo + Outgoing>(
+        &mut self,
+        alloc: Global,
+        client: &mut C,
+        message: PgWireBackendMessage,
+    ) -> PgWireClientResult<ReadyState<ServerInformation>>
+        ensures means { C.tells → HeardAtStartup means (standing self.old (C.sight client.old)) message (standing self.new (C.sight client.new)) result }
+        ensures own { C.own client.new ≡ C.own client.old }
+        ensures rest { C.tells → C.rest client.new ≡ C.rest client.old }
+        ensures cause { HasCause (C.faults client.old) (C.faults client.new) (C.sight client.new).broken result }
+    {
+        match message {
+            PgWireBackendMessage::Authentication(m) => {
+                self.on_authentication(alloc, client, m)?;
+                Ok(ReadyState::Pending)
+            }
+            PgWireBackendMessage::NegotiateProtocolVersion(m) => {
+                self.on_negotiate_protocol_version(alloc, client, m)?;
+                Ok(ReadyState::Pending)
+            }
+            PgWireBackendMessage::ParameterStatus(m) => {
+                self.on_parameter_status(alloc, client, m)?;
+                Ok(ReadyState::Pending)
+            }
+            PgWireBackendMessage::BackendKeyData(m) => {
+                self.on_backend_key(alloc, client, m)?;
+                Ok(ReadyState::Pending)
+            }
+            PgWireBackendMessage::ReadyForQuery(m) => {
+                client.set_transaction_status(m.status);
+                let information = self.on_ready_for_query(alloc, client, m)?;
+                Ok(ReadyState::Ready(information))
+            }
+            PgWireBackendMessage::ErrorResponse(m) => Err(PgWireClientError::RemoteError(m)),
+            PgWireBackendMessage::NoticeResponse(_) => Ok(ReadyState::Pending),
+            other => Err(misplaced(alloc, other)),
+        }
+    }
+
+    fn on_authentication<C: ClientInfo + Outgoing>(
+        &mut self,
+        alloc: Global,
+        client: &mut C,
+        message: Authentication,
+    ) -> PgWireClientResult<()>
+        ensures means { C.tells → means (standing self.old (C.sight client.old)) (on_authentication message) (standing self.new (C.sight client.new)) (pending result) }
+        ensures own { C.own client.new ≡ C.own client.old }
+        ensures rest { C.tells → C.rest client.new ≡ C.rest client.old }
+        ensures cause { HasCause (C.faults client.old) (C.faults client.new) (C.sight client.new).broken result };
+
+    /// Settles on the version that the server offers, where the client knows it.
+    fn on_negotiate_protocol_version<C: ClientInfo + Outgoing>(
+        &mut self,
+        alloc: Global,
+        client: &mut C,
+        message: NegotiateProtocolVersion,
+    ) -> PgWireClientResult<()>
+        ensures means { C.tells → means (standing self.old (C.sight client.old)) (on_negotiate_protocol_version message) (standing self.new (C.sight client.new)) (pending result) }
+        ensures own { C.own client.new ≡ C.own client.old }
+        ensures rest { C.tells → C.rest client.new ≡ C.rest client.old }
+        ensures cause { HasCause (C.faults client.old) (C.faults client.new) (C.sight client.new).broken result }
+    {
+        match negotiated_version(&message) {
+            Some(version) => {
+                client.set_protocol_version(version);
+                Ok(())
+            }
+            None => {
+                let message = PgWireBackendMessage::NegotiateProtocolVersion(message);
+                Err(misplaced(alloc, message))
+            }
+        }
+    }
+
+    /// Leaves a parameter that the server reports to the client.
+    fn on_parameter_status<C: ClientInfo + Outgoing>(
+        &mut self,
+        alloc: Global,
+        client: &mut C,
+        message: ParameterStatus,
+    ) -> PgWireClientResult<()>
+        ensures means { C.tells → means (standing self.old (C.sight client.old)) (on_parameter_status message) (standing self.new (C.sight client.new)) (pending result) }
+        ensures own { C.own client.new ≡ C.own client.old }
+        ensures rest { C.tells → C.rest client.new ≡ C.rest client.old }
+        ensures cause { HasCause (C.faults client.old) (C.faults client.new) (C.sight client.new).broken result }
+    {
+        let ParameterStatus { name, value } = message;
+        client.set_server_parameter(name, value)?;
+        Ok(())
+    }
+
+    fn on_backend_key<C: ClientInfo + Outgoing>(
+        &mut self,
+        alloc: Global,
+        client: &mut C,
+        message: BackendKeyData,
+    ) -> PgWireClientResult<()>
+        ensures means { C.tells → means (standing self.old (C.sight client.old)) (on_backend_key message) (standing self.new (C.sight client.new)) (pending result) }
+        ensures own { C.own client.new ≡ C.own client.old }
+        ensures rest { C.tells → C.rest client.new ≡ C.rest client.old }
+        ensures cause { HasCause (C.faults client.old) (C.faults client.new) (C.sight client.new).broken result };
+
+    /// What the server told of itself.
+    fn on_ready_for_query<C: ClientInfo + Outgoing>(
+        &mut self,
+        alloc: Global,
+        client: &mut C,
+        message: ReadyForQuery,
+    ) -> PgWireClientResult<ServerInformation>
+        ensures means { C.tells → means (standing self.old (C.sight client.old)) (on_ready_for_query message) (standing self.new (C.sight client.new)) (ready result) }
+        ensures own { C.own client.new ≡ C.own client.old }
+        ensures rest { C.tells → C.rest client.new ≡ C.rest client.old }
+        ensures cause { HasCause (C.faults client.old) (C.faults client.new) (C.sight client.new).broken result };
+
+    /// The handler may settle on a version as its own body does,
+    ghost settles: { (before after : Standing Self) (m : TheOffer) (answer : Answer TheInformation) → Settles m before after answer → means before (on_negotiate_protocol_version m) after answer };
+
+    /// and leave a parameter to the client.
+    ghost keeps: { (before after : Standing Self) (m : TheStatus) (answer : Answer TheInformation) → Keeps m before after answer → means before (on_parameter_status m) after answer };
+}
