@@ -11,45 +11,88 @@ use pgw_types::text::Text;
 use std::alloc::Global;
 use std::test::Fail;
 
-const LOGIN: &[&[u8]] = &[
-    b"R\0\0\0\x08\0\0\0\0",
-    b"R\0\0\0\x08\0\0\0\x02",
-    b"R\0\0\0\x08\0\0\0\x03",
-    b"R\0\0\0\x0c\0\0\0\x05\x01\x02\x03\x04",
-    b"R\0\0\0\x17\0\0\0\x0aSCRAM-SHA-256\0\0",
-    b"R\0\0\0\x0a\0\0\0\x0br=",
-    b"R\0\0\0\x0a\0\0\0\x0cv=",
-    b"S\0\0\0\x08a\0b\0",
-    b"K\0\0\0\x0d\0\0\0\x07\x01\x02\x03\x04\x05",
-    b"v\0\0\0\x0f\0\x03\0\x02\0\0\0\x01_x\0",
+const BODY: &str = "InvalidMessageBody";
+
+// What stands at the front where the length is 2147483647 and 4294967295, by the message's limit.
+const SMALL: [&str; 2] = [
+    "MessageTooLarge(10000, 2147483647)",
+    "MessageTooLarge(10000, 18446744073709551615)",
 ];
 
-const QUERY: &[&[u8]] = &[
-    b"C\0\0\0\x0dSELECT 1\0",
-    b"I\0\0\0\x04",
-    b"Z\0\0\0\x05I",
-    b"Z\0\0\0\x05T",
-    b"Z\0\0\0\x05E",
-    b"E\0\0\0\x16SERROR\0C42601\0Mx\0\0",
-    b"N\0\0\0\x05\0",
-    b"A\0\0\0\x0c\0\0\0\x07a\0b\0",
-    b"T\0\0\0\x1a\0\x01n\0\0\0\0\0\0\0\0\0\0\x19\xff\xff\xff\xff\xff\xff\0\0",
-    b"D\0\0\0\x0b\0\x01\0\0\0\x011",
+const SERVER: [&str; 2] = [
+    "MessageTooLarge(30000, 2147483647)",
+    "MessageTooLarge(30000, 18446744073709551615)",
 ];
 
-const EXTENDED: &[&[u8]] = &[
-    b"1\0\0\0\x04",
-    b"2\0\0\0\x04",
-    b"3\0\0\0\x04",
-    b"s\0\0\0\x04",
-    b"n\0\0\0\x04",
-    b"t\0\0\0\x0a\0\x01\0\0\0\x19",
-    b"d\0\0\0\x061\n",
-    b"c\0\0\0\x04",
-    b"f\0\0\0\x07no\0",
-    b"G\0\0\0\x0b\0\0\x02\0\0\0\0",
-    b"H\0\0\0\x09\x01\0\x01\0\x01",
-    b"W\0\0\0\x07\xff\0\0",
+const LARGE: [&str; 2] = [
+    "MessageTooLarge(1073741822, 2147483647)",
+    "MessageTooLarge(1073741822, 18446744073709551615)",
+];
+
+const LONG: [&str; 2] = [
+    "nothing yet",
+    "MessageTooLarge(2147483647, 18446744073709551615)",
+];
+
+// Each message; what stands at the front where its length is one less; and where it is one of those two.
+const MESSAGES: &[(&[u8], &str, [&str; 2])] = &[
+    (b"R\0\0\0\x08\0\0\0\0", BODY, SERVER),
+    (b"R\0\0\0\x08\0\0\0\x02", BODY, SERVER),
+    (b"R\0\0\0\x08\0\0\0\x03", BODY, SERVER),
+    (b"R\0\0\0\x0c\0\0\0\x05\x01\x02\x03\x04", BODY, SERVER),
+    (b"R\0\0\0\x17\0\0\0\x0aSCRAM-SHA-256\0\0", BODY, SERVER),
+    (b"R\0\0\0\x0a\0\0\0\x0br=", "a message", SERVER),
+    (b"R\0\0\0\x0a\0\0\0\x0cv=", "a message", SERVER),
+    (b"S\0\0\0\x08a\0b\0", BODY, SERVER),
+    (
+        b"K\0\0\0\x0d\0\0\0\x07\x01\x02\x03\x04\x05",
+        "a message",
+        SERVER,
+    ),
+    (
+        b"K\0\0\0\x0c\0\0\0\x07\x01\x02\x03\x04",
+        "InvalidSecretKey",
+        SERVER,
+    ),
+    (b"v\0\0\0\x0f\0\x03\0\x02\0\0\0\x01_x\0", BODY, SERVER),
+    (b"C\0\0\0\x0dSELECT 1\0", BODY, SERVER),
+    (b"I\0\0\0\x04", BODY, SERVER),
+    (b"Z\0\0\0\x05I", BODY, SERVER),
+    (b"Z\0\0\0\x05T", BODY, SERVER),
+    (b"Z\0\0\0\x05E", BODY, SERVER),
+    (b"E\0\0\0\x16SERROR\0C42601\0Mx\0\0", BODY, LONG),
+    (b"N\0\0\0\x05\0", BODY, LONG),
+    (b"A\0\0\0\x0c\0\0\0\x07a\0b\0", BODY, LONG),
+    (
+        b"T\0\0\0\x1a\0\x01n\0\0\0\0\0\0\0\0\0\0\x19\xff\xff\xff\xff\xff\xff\0\0",
+        BODY,
+        LONG,
+    ),
+    (b"D\0\0\0\x0b\0\x01\0\0\0\x011", "a message", LONG),
+    (b"1\0\0\0\x04", BODY, SERVER),
+    (b"2\0\0\0\x04", BODY, SERVER),
+    (b"3\0\0\0\x04", BODY, SERVER),
+    (b"s\0\0\0\x04", BODY, SERVER),
+    (b"n\0\0\0\x04", BODY, SERVER),
+    (
+        b"t\0\0\0\x0a\0\x01\0\0\0\x19",
+        "InvalidElementCount(1, 4, 3)",
+        LONG,
+    ),
+    (b"d\0\0\0\x061\n", "a message", LARGE),
+    (b"c\0\0\0\x04", BODY, SMALL),
+    (b"f\0\0\0\x07no\0", BODY, SMALL),
+    (
+        b"G\0\0\0\x0b\0\0\x02\0\0\0\0",
+        "InvalidElementCount(2, 4, 3)",
+        SERVER,
+    ),
+    (
+        b"H\0\0\0\x09\x01\0\x01\0\x01",
+        "InvalidElementCount(1, 2, 1)",
+        SERVER,
+    ),
+    (b"W\0\0\0\x07\xff\0\0", BODY, SERVER),
 ];
 
 // Whether the one message of the bytes is read, leaves what follows it, is copied, and is written as it was.
@@ -66,10 +109,8 @@ fn comes_back(alloc: Global, bytes: &[u8], ctx: &DecodeContext) -> Result<bool, 
 #[test]
 fn codec_roundtrip(rt: HostRuntime) -> Result<(), Fail> {
     let ctx = typed(ProtocolVersion::PROTOCOL3_2);
-    for table in [LOGIN, QUERY, EXTENDED] {
-        for bytes in table {
-            assert!(rt; comes_back(rt.alloc(), bytes, &ctx)?);
-        }
+    for (bytes, _, _) in MESSAGES {
+        assert!(rt; comes_back(rt.alloc(), bytes, &ctx)?);
     }
     Ok(())
 }
@@ -132,42 +173,51 @@ fn backend_refusals(rt: HostRuntime) -> Result<(), Fail> {
     Ok(())
 }
 
-// Each type byte with its limit.
-const LIMITS: &[(u8, &str)] = &[
-    (b'R', "MessageTooLarge(30000, 18446744073709551615)"),
-    (b'S', "MessageTooLarge(30000, 18446744073709551615)"),
-    (b'K', "MessageTooLarge(30000, 18446744073709551615)"),
-    (b'v', "MessageTooLarge(30000, 18446744073709551615)"),
-    (b'1', "MessageTooLarge(30000, 18446744073709551615)"),
-    (b'2', "MessageTooLarge(30000, 18446744073709551615)"),
-    (b'3', "MessageTooLarge(30000, 18446744073709551615)"),
-    (b's', "MessageTooLarge(30000, 18446744073709551615)"),
-    (b'I', "MessageTooLarge(30000, 18446744073709551615)"),
-    (b'n', "MessageTooLarge(30000, 18446744073709551615)"),
-    (b'C', "MessageTooLarge(30000, 18446744073709551615)"),
-    (b'Z', "MessageTooLarge(30000, 18446744073709551615)"),
-    (b'E', "MessageTooLarge(2147483647, 18446744073709551615)"),
-    (b'N', "MessageTooLarge(2147483647, 18446744073709551615)"),
-    (b'A', "MessageTooLarge(2147483647, 18446744073709551615)"),
-    (b't', "MessageTooLarge(2147483647, 18446744073709551615)"),
-    (b'T', "MessageTooLarge(2147483647, 18446744073709551615)"),
-    (b'D', "MessageTooLarge(2147483647, 18446744073709551615)"),
-    (b'd', "MessageTooLarge(1073741822, 18446744073709551615)"),
-    (b'c', "MessageTooLarge(10000, 18446744073709551615)"),
-    (b'f', "MessageTooLarge(10000, 18446744073709551615)"),
-    (b'G', "MessageTooLarge(30000, 18446744073709551615)"),
-    (b'H', "MessageTooLarge(30000, 18446744073709551615)"),
-    (b'W', "MessageTooLarge(30000, 18446744073709551615)"),
-];
+// The last byte of a message's length, whose other bytes are 0.
+fn length_of(message: &[u8]) -> u8 {
+    match message {
+        [_, _, _, _, length, ..] => *length,
+        _ => 0,
+    }
+}
+
+// What stands at the front where a message has this length.
+fn read_at(alloc: Global, message: &[u8], length: u32) -> Result<String, Fail> {
+    let mut buf = buffer(alloc, &message[..message.len().min(1)])?;
+    buf.extend_from_slice(&length.to_be_bytes())?;
+    buf.extend_from_slice(&message[message.len().min(5)..])?;
+    let ctx = typed(ProtocolVersion::PROTOCOL3_2);
+    let found = PgWireBackendMessage::decode(alloc, &mut buf, &ctx);
+    Ok(told(alloc, found)?)
+}
+
+// The first length at which something else stands.
+fn first_other(
+    alloc: Global,
+    message: &[u8],
+    lengths: &[(u32, &str)],
+) -> Result<Option<u32>, Fail> {
+    for (length, want) in lengths {
+        if read_at(alloc, message, *length)?.as_str() != *want {
+            return Ok(Some(*length));
+        }
+    }
+    Ok(None)
+}
 
 #[test]
-fn backend_limits(rt: HostRuntime) -> Result<(), Fail> {
-    let alloc = rt.alloc();
-    let ctx = typed(ProtocolVersion::PROTOCOL3_2);
-    for (byte, want) in LIMITS {
-        let mut buf = buffer(alloc, &[*byte, 255, 255, 255, 255])?;
-        let found = PgWireBackendMessage::decode(alloc, &mut buf, &ctx);
-        assert_eq!(rt; told(alloc, found)?.as_str(), *want);
+fn lengths_are_looked_at(rt: HostRuntime) -> Result<(), Fail> {
+    for (message, shorter, longest) in MESSAGES {
+        let length = u32::from(length_of(message));
+        let lengths = [
+            (0, BODY),
+            (3, BODY),
+            (length.saturating_sub(1), *shorter),
+            (length + 1, "nothing yet"),
+            (2147483647, longest[0]),
+            (4294967295, longest[1]),
+        ];
+        assert_eq!(rt; first_other(rt.alloc(), message, &lengths)?, None);
     }
     Ok(())
 }
