@@ -29,8 +29,6 @@ field \"a\" 23 0
 row 1 0000000131
 ";
 
-const TIMEOUT: Option<Duration> = Some(Duration::from_secs(10));
-
 // Answers one client, and says whether it sent what it should.
 fn serve(alloc: Global, listener: &TcpListener) -> io::Result<bool> {
     let (mut client, _) = listener.accept()?;
@@ -49,10 +47,11 @@ fn connected(rt: &HostRuntime, port: u16) -> Result<(Vec<u8>, u8), Fail> {
         String::from_str(alloc, "1000")?,
         String::from_str(alloc, "SELECT 1")?,
     ];
+    let timeout = Some(Duration::from_secs(10));
     let timeouts = Timeouts {
-        connect: TIMEOUT,
-        read: TIMEOUT,
-        write: TIMEOUT,
+        connect: timeout,
+        read: timeout,
+        write: timeout,
     };
     let mut dialer = SocketDialer::new(rt, timeouts);
     let mut input = MemorySource::new(Octets::from_slice(alloc, b"")?, 1, Listed::new(alloc));
