@@ -1,11 +1,11 @@
 //! A client's answers to an authentication request.
 
-use crate::tests::shared::comes_back;
+use crate::tests::shared::{comes_back, written};
 use bytes::BytesMut;
 use pgw_frontend::frontend::PgWireFrontendMessage;
 use pgw_startup::password::{Password, PasswordMessageFamily};
 use pgw_startup::sasl::{SASLInitialResponse, SASLResponse};
-use pgw_types::error::{PgWireError, PgWireResult};
+use pgw_types::error::PgWireResult;
 use pgw_types::listed::Duplicate;
 use pgw_types::octets::Octets;
 use pgw_types::text::Text;
@@ -121,10 +121,8 @@ fn empty_methods_are_refused(rt: HostRuntime) -> Result<(), Fail> {
     let alloc = rt.alloc();
     let mut buf = BytesMut::new(alloc);
     let empty = SASLInitialResponse::new(Text::new(alloc), None);
-    assert_eq!(rt;
-        empty.encode(&mut buf),
-        Err(PgWireError::InvalidMessageBody)
-    );
+    let found = written(alloc, empty.encode(&mut buf))?;
+    assert_eq!(rt; found.as_str(), "InvalidMessageBody");
     assert!(rt; buf.is_empty());
     Ok(())
 }

@@ -2,7 +2,7 @@
 
 use bytes::BytesMut;
 use pgw_types::context::{DecodeContext, ProtocolVersion};
-use pgw_types::error::PgWireError;
+use pgw_types::error::PgWireResult;
 use pgw_types::listed::Duplicate;
 use pgw_wire::message::Message;
 use std::alloc::{AllocError, Global};
@@ -26,13 +26,18 @@ pub fn buffer(alloc: Global, bytes: &[u8]) -> Result<BytesMut, AllocError> {
 }
 
 /// What a decoder gave.
-pub fn told<M: Drop>(
-    alloc: Global,
-    found: Result<Option<M>, PgWireError>,
-) -> Result<String, AllocError> {
+pub fn told<M: Drop>(alloc: Global, found: PgWireResult<Option<M>>) -> Result<String, AllocError> {
     match found {
         Ok(Some(_)) => String::from_str(alloc, "a message"),
         Ok(None) => String::from_str(alloc, "nothing yet"),
+        Err(e) => format!(in alloc; "{e:?}"),
+    }
+}
+
+/// How a message is written, or why it is not.
+pub fn written(alloc: Global, found: PgWireResult<()>) -> Result<String, AllocError> {
+    match found {
+        Ok(()) => String::from_str(alloc, "written"),
         Err(e) => format!(in alloc; "{e:?}"),
     }
 }
