@@ -1,0 +1,14 @@
+-- What a session over bytes at hand gives.
+use Rattle.std.specs.Prelude.{◌≡◌, ℕ, List, ◌++◌, ◌⊎◌, Result, Err}
+use Rattle.pgw_backend.specs.declared.client_error.PgWireClientError.{PgWireClientError as ClientError}
+use Rattle.pgw_backend.specs.declared.client_error.PgWireClientError.TheVariants as client
+use Rattle.pgw_dialogue.specs.declared.dialogue.Dialogue.{Dialogue}
+use Rattle.pgw_dialogue.specs.Dialogue.{Agrees, Stands, StartCause}
+use Rattle.pgw_session.specs.declared.types.SessionReport.{SessionReport}
+use Rattle.pgw_session.specs.Input.{Input}
+
+-- Nothing was begun, and nothing put out; or a dialogue stands for all the bytes given and those put out, and what it
+-- says of them is the answer, or memory was wanting.
+pub data Held (input : Input) (limit : ℕ) (given old_out new_out : List ℕ) (result : Result SessionReport ClientError) : Type 0 where
+  unbegun : (e : ClientError) → result ≡ Err e → StartCause input e → new_out ≡ old_out → Held input limit given old_out new_out result
+  begun : (d : Dialogue) (put : List ℕ) → new_out ≡ old_out ++ put → Stands input limit d given put → Agrees input limit d given result ⊎ (result ≡ Err client.OutOfMemory) → Held input limit given old_out new_out result
