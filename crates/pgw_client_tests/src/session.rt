@@ -1,3 +1,4 @@
+use crate::scram::HONEST;
 use pgw_client::{
     Answer, Config, DataRow, ExecuteResult, Listed, MemoryLink, Octets, PgWireClientError,
     PgWireError, Request, Response, SessionReport, Target, Text, run_session,
@@ -37,7 +38,7 @@ fn logins_are_sent(rt: HostRuntime) -> Result<(), Fail> {
         ),
         (
             "user=bob password=pencil",
-            b"R\0\0\0\x17\0\0\0\x0aSCRAM-SHA-256\0\0R\0\0\0\x4a\0\0\0\x0br=AAAAAAAAAAAAAAAAAAAAAAAAserver,s=W22ZaJ0SNY7soEsUEjb6gQ==,i=4096R\0\0\0\x36\0\0\0\x0cv=uHmpiQRcOxaoAlpl+3NqPqejwiGX+xLqz6G7nzX1oDE=R\0\0\0\x08\0\0\0\0Z\0\0\0\x05I",
+            HONEST,
             b"\0\0\0\x12\0\x03\0\0user\0bob\0\0p\0\0\0\x39SCRAM-SHA-256\0\0\0\0\x23n,,n=bob,r=AAAAAAAAAAAAAAAAAAAAAAAAp\0\0\0\x5ac=biws,r=AAAAAAAAAAAAAAAAAAAAAAAAserver,p=J0NXZihltZeaxM/aR3msf91g2I9t/18qmtWUTFIvbaQ=",
         ),
     ];

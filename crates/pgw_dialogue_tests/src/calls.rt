@@ -162,13 +162,18 @@ fn ends_have_meanings(rt: HostRuntime) -> Result<(), Fail> {
     Ok(())
 }
 
+fn name_of_start(alloc: Global, config: &Config, out: &mut BytesMut) -> &'static str {
+    match &Dialogue::start(alloc, config, &[], &[0; 18], 1000, out) {
+        Ok(_) => "begun",
+        Err(error) => name_of(error),
+    }
+}
+
 // How a beginning is refused, and how many bytes are put out.
 fn refused(alloc: Global, config: &Config) -> (&'static str, usize) {
     let mut out = BytesMut::new(alloc);
-    match Dialogue::start(alloc, config, &[], &[0; 18], 1000, &mut out) {
-        Ok(_dialogue) => ("begun", out.len()),
-        Err(error) => (name_of(&error), out.len()),
-    }
+    let name = name_of_start(alloc, config, &mut out);
+    (name, out.len())
 }
 
 // Encryption is demanded, or a login bound to it; a user name that has a zero byte; and nothing of these.

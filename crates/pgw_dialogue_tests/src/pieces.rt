@@ -20,17 +20,19 @@ fn select_one(alloc: Global) -> Result<Vec<Request>, Fail> {
     Ok(requests)
 }
 
-// What a session over a link writes, and its report as text.
-fn over_link(alloc: Global) -> Result<(Vec<u8>, String), Fail> {
+fn report_over(alloc: Global, link: &mut MemoryLink) -> Result<String, Fail> {
     let config = Config::parse(alloc, "user=bob")?;
     let requests = select_one(alloc)?;
+    let report = run_session(alloc, link, &config, &requests, &[0; 18], 1000)?;
+    Ok(format!(in alloc; "{report:?}")?)
+}
+
+// What a session over a link writes, and its report as text.
+fn over_link(alloc: Global) -> Result<(Vec<u8>, String), Fail> {
     let server = Octets::from_slice(alloc, SERVER)?;
     let mut link = MemoryLink::new(alloc, server, 50, Listed::new(alloc), Listed::new(alloc));
-    let report = run_session(alloc, &mut link, &config, &requests, &[0; 18], 1000)?;
-    Ok((
-        link.written().to_vec(alloc)?,
-        format!(in alloc; "{report:?}")?,
-    ))
+    let report = report_over(alloc, &mut link)?;
+    Ok((link.written().to_vec(alloc)?, report))
 }
 
 // The same of a dialogue, which is given pieces of this size.
