@@ -47,11 +47,11 @@ fn connected(rt: &HostRuntime, port: u16) -> Result<(Vec<u8>, u8), Fail> {
         String::from_str(alloc, "1000")?,
         String::from_str(alloc, "SELECT 1")?,
     ];
-    let timeout = Some(Duration::from_secs(10));
+    let limit = Some(Duration::from_secs(10));
     let timeouts = Timeouts {
-        connect: timeout,
-        read: timeout,
-        write: timeout,
+        connect: limit,
+        read: limit,
+        write: limit,
     };
     let mut dialer = SocketDialer::new(rt, timeouts);
     let mut input = MemorySource::new(Octets::from_slice(alloc, b"")?, 1, Listed::new(alloc));
