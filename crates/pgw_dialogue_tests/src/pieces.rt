@@ -8,11 +8,11 @@ use std::alloc::Global;
 use std::test::Fail;
 
 // AuthenticationOk, ReadyForQuery; then a row of one field, its result and ReadyForQuery.
-const SERVER: &[u8; 74] =
+pub const SERVER: &[u8; 74] =
     b"R\0\0\0\x08\0\0\0\0Z\0\0\0\x05IT\0\0\0\x1a\0\x01a\0\0\0\0\0\0\0\0\0\0\x17\0\x04\xff\xff\xff\xff\0\0D\0\0\0\x0b\0\x01\0\0\0\x011C\0\0\0\rSELECT 1\0Z\0\0\0\x05I";
 
 // The startup message, and the query.
-const CLIENT: &[u8] = b"\0\0\0\x12\0\x03\0\0user\0bob\0\0Q\0\0\0\rSELECT 1\0";
+pub const CLIENT: &[u8] = b"\0\0\0\x12\0\x03\0\0user\0bob\0\0Q\0\0\0\rSELECT 1\0";
 
 fn select_one(alloc: Global) -> Result<Vec<Request>, Fail> {
     let mut requests = Vec::new(alloc);

@@ -8,5 +8,3 @@
 
 pub mod ask;
 pub mod push;
-#[cfg(test)]
-mod tests;
