@@ -1,7 +1,5 @@
-//! Tests of connection texts and of the configuration.
+//! A test of the configuration's setters. The cases of `pgw_config_cases` test all else.
 #![tactic(auto)]
 
 #[cfg(test)]
-mod config;
-#[cfg(test)]
-mod conninfo;
+mod setters;
