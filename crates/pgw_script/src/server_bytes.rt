@@ -41,6 +41,15 @@ fn digit_of(byte: u8) -> Option<u8>
 fn next_digit(text: &[u8]) -> Option<(u8, &[u8])>
     ensures { MatchOption result (digits text.now ≡ []) (λ next. (digits text.now ≡ next.0 ∷ digits next.1.now) × (length next.1.now < length text.now)) }
 {
+    match text {
+        [first, behind @ ..] if *first != b' ' => Some((*first, behind)),
+        _ => behind_spaces(text),
+    }
+}
+
+fn behind_spaces(text: &[u8]) -> Option<(u8, &[u8])>
+    ensures { MatchOption result (digits text.now ≡ []) (λ next. (digits text.now ≡ next.0 ∷ digits next.1.now) × (length next.1.now < length text.now)) }
+{
     for at in 0..text.len() {
         let byte = text[at];
         if byte != b' ' {
