@@ -24,6 +24,7 @@ impl Model for ServerBytes {
 }
 
 // The value of a hex digit, in either case.
+#[inline]
 fn digit_of(byte: u8) -> Option<u8>
     ensures value { result ≡ hex_digit_value byte }
     ensures bound { IfSome result (λ digit. digit < 16) }
@@ -87,7 +88,10 @@ impl ServerBytes {
             let Some((second, more)) = next_digit(behind) else {
                 return Ok(false);
             };
-            let (Some(high), Some(low)) = (digit_of(first), digit_of(second)) else {
+            let Some(high) = digit_of(first) else {
+                return Ok(false);
+            };
+            let Some(low) = digit_of(second) else {
                 return Ok(false);
             };
             self.bytes.push(high * 16 + low)?;
