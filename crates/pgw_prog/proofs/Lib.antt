@@ -4,3 +4,4 @@ pub mod HeldLaws
 pub mod TextLaws
 pub mod ConnectLaws
 pub mod ProgramLaws
+pub mod GenLaws

@@ -1,5 +1,5 @@
 -- What the program prints of a script that completes its session.
-use Rattle.std.proofs.Common.{◌≡◌, ℕ, ◌+◌, List, [], ◌++◌, codes, Result, length, refl, sym, ap, subst, ◌∙◌, inl, inr, Ok, Err, arith}
+use Rattle.std.proofs.Common.{◌≡◌, ℕ, ◌+◌, List, [], ◌++◌, codes, Result, length, sym, ap, subst, ◌∙◌, inl, inr, Ok, Err, arith}
 use Rattle.std.specs.Prelude.{decimal}
 use Rattle.std.specs.Result.{IfOk}
 use Rattle.std.proofs.lemmas.List.{append_cancel_left}

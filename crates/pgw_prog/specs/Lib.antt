@@ -6,5 +6,7 @@ pub mod Transfer
 pub mod OverLink
 pub mod Held
 pub mod Connected
+pub mod GenSession
+pub mod Generated
 pub mod Command
 pub mod Program

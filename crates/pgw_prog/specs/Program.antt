@@ -11,6 +11,7 @@ use Rattle.pgw_prog.specs.declared.command.Connection.{Connection}
 use Rattle.pgw_prog.specs.declared.program.Stop.{Stop}
 use Rattle.pgw_prog.specs.declared.program.Stop.TheVariants as stop
 use Rattle.pgw_script.specs.Grammar.{IsScript, IsFault}
+use Rattle.pgw_prog.specs.Generated.{SaysGen}
 use Rattle.pgw_prog.specs.Held.{Says, Holds, CanComplete, FailsNear, completed_text}
 use Rattle.pgw_prog.specs.Pieces.{line_end}
 
@@ -27,12 +28,13 @@ AnswersScript bytes p =
     ⊎ ((length bytes ≤ 16777216) × AnswersText bytes p)
 
 -- what a command prints; a script is read from the source, which has these bytes where it tells them, help and
--- version are fixed texts, and what is printed of a session with a server is told by `connects`
+-- version are fixed texts, what is printed of a session with a server is told by `connects`, and `gen` prints what it made
 abbrev pub Answers : List ℕ → List ℕ → Command → Type 0 → List ℕ → (Connection → Printed → Type 0) → Printed → Type 0
 Answers help version command.Help tells bytes connects p = Says p help 0
 Answers help version command.Version tells bytes connects p = Says p version 0
 Answers help version command.Script tells bytes connects p = tells → AnswersScript bytes p
 Answers help version (command.Connect asked) tells bytes connects p = connects asked p
+Answers help version (command.Gen rows start) tells bytes connects p = SaysGen rows start p
 Answers help version command.Usage tells bytes connects p = Says p (codes "usage\n") 2
 
 -- the whole text of the answer behind what was written before, and its status

@@ -1,4 +1,4 @@
-//! What the program does: sessions with a server, and sessions from scripts.
+//! What the program does: sessions with a server, sessions from scripts, and sessions of any size.
 //!
 //! To whoever runs it, `program::run_program` promises the whole text that each command prints and the status it ends
 //! with, as `specs/Program` says them in the words of the script's grammar and of `run_session`'s contract; that a fault
@@ -10,6 +10,8 @@ mod answer_lines;
 mod command;
 mod connected;
 mod error_names;
+pub mod gen_session;
+mod generated;
 mod held;
 mod over_link;
 mod pieces;

@@ -9,6 +9,7 @@ ghost use Rattle.pgw_session.specs.Events.{Event};
 ghost use Rattle.pgw_script.specs.declared.script.Script.{Script as TheScript};
 ghost use Rattle.pgw_prog.specs.declared.command.Connection.{Connection as TheConnection};
 ghost use Rattle.pgw_prog.specs.Connected.{Connects, LeavesDialer, CanConnect, PrintsReport};
+ghost use Rattle.pgw_prog.specs.Generated.{PrintsGen};
 ghost use Rattle.pgw_prog.specs.Held.{Says};
 ghost use Rattle.pgw_prog.specs.Program.{AnswersText, AnswersScript, Answers, Prints, PrintsFront, Completing, PrintsWhole, ListsFailure, TookFront, Appended, CountsStop};
 ghost use Rattle.pgw_prog.specs.Printing.{error_line, session_text};
@@ -16,6 +17,7 @@ ghost use Rattle.pgw_prog.specs.Pieces.{line_end};
 
 use crate::command::{Command, command_of};
 use crate::connected::connect;
+use crate::generated::generate;
 use crate::held::hold;
 use crate::pieces::{put, put_decimal};
 use crate::printed::Printed;
@@ -41,6 +43,10 @@ hothummei
 hothummei script     reads a script from standard input, holds its session
                      against the server's bytes that it gives, and prints the
                      bytes sent and the report, or the error
+hothummei gen ROWS START
+                     makes a session of ROWS rows, at most 1000000, whose
+                     numbers follow from START, holds it, and prints how many
+                     rows and bytes it had, and SHA-256 of the rows
 hothummei --help     prints this text
 hothummei --version  prints the version
 
@@ -197,6 +203,7 @@ fn answer<I: Source, D: Dialer>(
     match command {
         Command::Script => answer_script(alloc, input),
         Command::Connect(asked) => Ok(connect(alloc, &asked, dialer, nonce)?),
+        Command::Gen(rows, start) => Ok(generate(alloc, rows, start, nonce)?),
         Command::Help => Ok(says(alloc, HELP.as_bytes(), 0, String::new(alloc))?),
         Command::Version => Ok(says(alloc, VERSION.as_bytes(), 0, String::new(alloc))?),
         Command::Usage => Ok(says(alloc, b"usage\n", 2, told_of_words(alloc, words))?),
@@ -278,6 +285,9 @@ pub fn run_program_with<I: Source, O: Sink, E: Sink, D: Dialer>(
     // Of a session with a server IoError is printed only where the dialer's count rose.
     ensures connect_io { O.tells → (asked : TheConnection) → command_for (map string_bytes words.now) ≡ kind.Connect asked → result ≡ 1 →
         (O.tape output.new).wrote ≡ (O.tape output.old).wrote ++ error_line client.IoError → Rose (D.faults dialer.old) (D.faults dialer.new) }
+    // Of a session of any size the number of its rows is printed, the length of its stream, and the digest of its rows.
+    ensures generates { O.tells → ¬ (Rose (O.faults output.old) (O.faults output.new)) → (rows start : ℕ) → command_for (map string_bytes words.now) ≡ kind.Gen rows start →
+        PrintsGen rows start (O.tape output.old).wrote (O.tape output.new).wrote result }
     // What people are told is appended to what was written before.
     ensures told { E.tells → Appended (E.tape errors.old) (E.tape errors.new) }
     ensures told_faults { E.faults errors.old ≤ E.faults errors.new }
@@ -353,6 +363,9 @@ pub fn run_program<I: Source, O: Sink, D: Dialer>(
     // Of a session with a server IoError is printed only where the dialer's count rose.
     ensures connect_io { O.tells → (asked : TheConnection) → command_for (map string_bytes words.now) ≡ kind.Connect asked → result ≡ 1 →
         (O.tape output.new).wrote ≡ (O.tape output.old).wrote ++ error_line client.IoError → Rose (D.faults dialer.old) (D.faults dialer.new) }
+    // Of a session of any size the number of its rows is printed, the length of its stream, and the digest of its rows.
+    ensures generates { O.tells → ¬ (Rose (O.faults output.old) (O.faults output.new)) → (rows start : ℕ) → command_for (map string_bytes words.now) ≡ kind.Gen rows start →
+        PrintsGen rows start (O.tape output.old).wrote (O.tape output.new).wrote result }
 {
     run_program_with(
         alloc,

@@ -58,6 +58,9 @@ fn more_fault(alloc: Global, word: &str, next: &str) -> Result<String, AllocErro
 fn words_fault(alloc: Global, words: &[String]) -> Result<String, AllocError> {
     match words {
         [word, rest @ ..] if word.as_str() == "connect" => connect_fault(alloc, rest),
+        [word, ..] if word.as_str() == "gen" => format!(in alloc;
+            "gen takes ROWS, a number up to 1000000, and START, a number of 32 bits"
+        ),
         [word] if word.is_empty() => format!(in alloc;
             "an empty word, or one that is not UTF-8, is no command"
         ),

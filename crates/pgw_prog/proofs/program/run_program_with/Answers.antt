@@ -1,6 +1,7 @@
 use Rattle.std.proofs.Common.{arith, refl, inr}
 use Rattle.pgw_prog.proofs.ConnectLaws.{report_written, io_written}
 use Rattle.pgw_prog.proofs.ProgramLaws.{whole_written, listed_written}
+use Rattle.pgw_prog.proofs.GenLaws.{generates}
 use Rattle.pgw_prog.proofs.program.run_program_with.Goals as goal
 
 pub returns-in-Ok-write_whole-clause-prints : goal.returns-in-Ok-write_whole-clause-prints
@@ -36,6 +37,11 @@ pub returns-in-Ok-write_whole-clause-connect_io : goal.returns-in-Ok-write_whole
 returns-in-Ok-write_whole-clause-connect_io g c = λ writes asked is one text.
     let connects = rw is at c.in-Ok.ensures.answers in
     io_written _ _ _ _ _ _ asked c.in-Ok.printed connects _ _ (rw c.deref.ensures.value at ((c.in-Ok-write_whole.ensures.wrote writes).wrote)) text
+
+pub returns-in-Ok-write_whole-clause-generates : goal.returns-in-Ok-write_whole-clause-generates
+returns-in-Ok-write_whole-clause-generates g c = λ writes quiet rows start is.
+    let says = rw is at c.in-Ok.ensures.answers in
+    generates rows start c.in-Ok.printed _ _ says (rw c.deref.ensures.value at ((c.in-Ok-write_whole.ensures.wrote writes).wrote))
 
 pub returns-in-Ok-clause-fault : goal.returns-in-Ok-clause-fault
 returns-in-Ok-clause-fault g c = λ three. inr (

@@ -1,0 +1,75 @@
+//! A session of any size, made from a number.
+ghost use Rattle.std.specs.Prelude.{◌≡◌, ◌<◌, ◌^◌, ◌++◌, ℕ, OnOk, IfOk};
+ghost use Rattle.pgw_gen.specs.Stream.{IsStream};
+ghost use Rattle.pgw_prog.specs.Generated.{SaysGen, stream_summary, summary_text};
+ghost use Rattle.pgw_prog.specs.Held.{Says};
+
+use crate::gen_session::gen_session;
+use crate::pieces::{put, put_decimal, put_hex};
+use crate::printed::Printed;
+use pgw_backend::client_error::PgWireClientResult;
+use pgw_gen::stream::stream;
+use pgw_gen::summary::GenSummary;
+use pgw_link::memory::MemoryLink;
+use pgw_types::listed::Listed;
+use pgw_types::memory::OutOfMemory;
+use pgw_types::octets::Octets;
+use std::alloc::Global;
+
+/// The most bytes that a call of the link moves.
+const CUT: usize = 65536;
+
+#[tactic(auto, unfolding(crate::specs::Generated::summary_text))]
+fn put_summary(out: &mut Vec<u8>, summary: &GenSummary, bytes: u64) -> Result<(), OutOfMemory>
+    ensures { OnOk result (out.new.items ≡ out.old.items ++ summary_text summary.now bytes) }
+{
+    put(out, b"rows ")?;
+    put_decimal(out, summary.rows)?;
+    put(out, b"\nbytes ")?;
+    put_decimal(out, bytes)?;
+    put(out, b"\nsha256 ")?;
+    put_hex(out, &summary.digest)?;
+    put(out, b"\n")
+}
+
+// The text of a summary.
+fn says(alloc: Global, summary: &GenSummary, bytes: u64) -> Result<Printed, OutOfMemory>
+    ensures { IfOk result (λ p. Says p (summary_text summary.now bytes) 0) }
+{
+    let mut text = Vec::new(alloc);
+    put_summary(&mut text, summary, bytes)?;
+    Ok(Printed {
+        text,
+        status: 0,
+        told: String::new(alloc),
+    })
+}
+
+// Holds the session over what the server sends.
+fn hold(alloc: Global, server: Octets, nonce: &[u8; 18]) -> PgWireClientResult<GenSummary>
+    ensures { IfOk result (λ summary. (count start : ℕ) → count < 2 ^ 64 → IsStream count start server → summary ≡ stream_summary count start) }
+{
+    let limit = server.len() as u64;
+    let mut link = MemoryLink::new(alloc, server, CUT, Listed::new(alloc), Listed::new(alloc));
+    gen_session(alloc, &mut link, nonce, limit)
+}
+
+/// Holds the session over its stream, and prints how many rows and bytes it had, and the digest of its rows. The stream
+/// completes the session, so no error comes but want of memory.
+pub fn generate(
+    alloc: Global,
+    rows: u32,
+    start: u32,
+    nonce: &[u8; 18],
+) -> Result<Printed, OutOfMemory>
+    ensures { IfOk result (SaysGen rows start) }
+{
+    let Ok(bytes) = stream(alloc, rows, start)?.freeze() else {
+        return Err(OutOfMemory);
+    };
+    let len = bytes.len() as u64;
+    match hold(alloc, Octets::from_bytes(bytes), nonce) {
+        Ok(summary) => says(alloc, &summary, len),
+        Err(_) => Err(OutOfMemory),
+    }
+}
