@@ -1,4 +1,4 @@
-# try: runs the session script crates/hothummei/stdin before anything is proved, within a minute.
+# try: runs the session script crates/hothummei/stdin before anything is proved, in a minute or two.
 # run: builds the program, which proves it, and runs the same script.
 # test: the gate. live: the program against a real PostgreSQL, in a scratch cluster (live/run).
 # plant: wrong bodies that a crate's contracts let through (make plant CRATE=pgw_wire).
@@ -15,7 +15,7 @@ try: needs-rt
 	@cd crates/hothummei && rt try hothummei < stdin
 
 run: needs-rt
-	@echo "proves each crate below the program that has changed, and builds it: the first time this may take half an hour and 6 GB of memory (make try takes a minute); the whole log is $(LOG)" >&2
+	@echo "proves each crate below the program that has changed, and builds it: the first time this may take half an hour and 6 GB of memory (make try takes a minute or two); the whole log is $(LOG)" >&2
 	@(cd crates/hothummei && rt run hothummei < stdin 2> >(tee ../../$(LOG) | grep --line-buffered -E '^rt: chose|^so far' >&2)) || { echo "make run: the build or the run failed, see $(LOG)" >&2; exit 1; }
 	@cp $(PROGRAM) hothummei
 	@echo "the program is ./hothummei: run it on another script by ./hothummei < SCRIPT" >&2

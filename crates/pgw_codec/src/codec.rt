@@ -88,7 +88,8 @@ impl PgWireMessageClientCodec {
         PgWireBackendMessage::decode_from(alloc, src, &self.decode_context)
     }
 
-    /// Appends the whole message, or nothing. Behind a request for encryption the answer to it is read next.
+    /// Appends the whole message, or nothing. Behind a request for encryption its answer is awaited, until a message that
+    /// is no such request is written.
     pub fn encode(&mut self, item: PgWireFrontendMessage, dst: &mut BytesMut) -> PgWireResult<()>
         // Which bytes are written, or which refusal it is.
         ensures exact { Appends result dst.old.items dst.new.items (encoding item) }

@@ -209,3 +209,24 @@ pub is_behind : (d : Dialogue) (fed : Result Bool ClientError) → d.state ≡ s
 is_behind d (Ok true) to = to
 is_behind d (Ok false) to = waiting_behind d d.room (d.notes).closed refl to
 is_behind d (Err e) to = refused_behind d e to
+
+-- a state of want of memory comes of want of memory
+pub starved_by : (r : Result DialoguePhase ClientError) → state_behind r ≡ state.Starved → r ≡ Err client.OutOfMemory
+starved_by (Ok phase.Waiting) is = absurd (cc)
+starved_by (Ok phase.Ready) is = absurd (cc)
+starved_by (Ok phase.Done) is = absurd (cc)
+starved_by (Err (client.InvalidConfig x)) is = absurd (cc)
+starved_by (Err (client.UnknownConfig x)) is = absurd (cc)
+starved_by (Err (client.InvalidUtf8ConfigValue x)) is = absurd (cc)
+starved_by (Err client.UnexpectedEOF) is = absurd (cc)
+starved_by (Err (client.UnexpectedMessage m)) is = absurd (cc)
+starved_by (Err client.IoError) is = absurd (cc)
+starved_by (Err (client.PgWireError x)) is = absurd (cc)
+starved_by (Err (client.RemoteError x)) is = absurd (cc)
+starved_by (Err (client.FromSqlError x)) is = absurd (cc)
+starved_by (Err client.DataRowIndexOutOfBounds) is = absurd (cc)
+starved_by (Err (client.ScramError x)) is = absurd (cc)
+starved_by (Err (client.UnsupportedSASLAuthMethods x)) is = absurd (cc)
+starved_by (Err client.ReadLimit) is = absurd (cc)
+starved_by (Err client.Broken) is = absurd (cc)
+starved_by (Err client.OutOfMemory) is = refl

@@ -1,5 +1,5 @@
 //! A session whose bytes the caller moves.
-ghost use Rattle.std.specs.Prelude.{◌≡◌, ◌<◌, ℕ, List, ◌++◌, true, Some, Ok, Err, IfSome, OnOk};
+ghost use Rattle.std.specs.Prelude.{◌≡◌, ◌<◌, ℕ, List, ◌++◌, ◌⊎◌, true, Some, Ok, Err, IfSome, OnOk};
 ghost use Rattle.pgw_backend.specs.declared.client_error.PgWireClientError.TheVariants as client;
 ghost use Rattle.pgw_client.specs.Demands.{Refuses};
 ghost use Rattle.pgw_client.specs.Input.{input_with};
@@ -83,7 +83,7 @@ fn state_behind(answer: &PgWireClientResult<DialoguePhase>) -> State
 }
 
 impl<'a> Dialogue<'a> {
-    ghost use Rattle.pgw_dialogue.specs.Dialogue.{Awaits, IsBehind, IsBroken, IsDone, Stands, Starts, Takes};
+    ghost use Rattle.pgw_dialogue.specs.Dialogue.{Awaits, IsBehind, IsBroken, IsDone, IsStarved, Stands, Starts, Takes};
 
     /// Begins a session: puts out the message that logs in.
     ///
@@ -141,6 +141,8 @@ impl<'a> Dialogue<'a> {
         ensures takes { Takes self.old self.new piece.now out.old.items out.new.items result }
         // It awaits more bytes, or is done, or broken, as it answers.
         ensures after { IsBehind self.new result }
+        // It is starved where memory was wanting, now or before.
+        ensures starved { IsStarved self.new → IsStarved self.old ⊎ (result ≡ Err client.OutOfMemory) }
         // Where the transcript is whole nothing changes,
         ensures done { IsDone self.old → (result ≡ Ok phase.Done) × (self.new ≡ self.old) × (out.new.items ≡ out.old.items) }
         // and where an earlier call was refused Broken is the answer, and nothing changes.

@@ -45,6 +45,21 @@ fn select_one(alloc: Global) -> Result<Vec<Request>, Fail> {
     Ok(requests)
 }
 
+fn taken(dialogue: &mut Dialogue<'_>, piece: &[u8], out: &mut BytesMut) -> &'static str {
+    answer_of(&dialogue.take(piece, out))
+}
+
+fn two_taken(
+    dialogue: &mut Dialogue<'_>,
+    pieces: [&[u8]; 2],
+    out: &mut BytesMut,
+) -> ([&'static str; 2], [usize; 2]) {
+    let first = taken(dialogue, pieces[0], out);
+    let count = out.len();
+    let second = taken(dialogue, pieces[1], out);
+    ([first, second], [count, out.len()])
+}
+
 // What two pieces are answered, and how many bytes were put out behind each.
 fn answers(
     alloc: Global,
@@ -55,10 +70,7 @@ fn answers(
     let requests = select_one(alloc)?;
     let mut out = BytesMut::new(alloc);
     let mut dialogue = Dialogue::start(alloc, &config, &requests, &[0; 18], limit, &mut out)?;
-    let first = answer_of(&dialogue.take(pieces[0], &mut out));
-    let count = out.len();
-    let second = answer_of(&dialogue.take(pieces[1], &mut out));
-    Ok(([first, second], [count, out.len()]))
+    Ok(two_taken(&mut dialogue, pieces, &mut out))
 }
 
 // Phases within and behind the startup segment; the transcript whole, with bytes behind it in the same piece, and behind
@@ -126,16 +138,24 @@ fn limits_are_kept(rt: HostRuntime) -> Result<(), Fail> {
     Ok(())
 }
 
+fn end_of(
+    dialogue: &mut Dialogue<'_>,
+    bytes: &[u8],
+    out: &mut BytesMut,
+) -> Result<&'static str, Fail> {
+    match dialogue.take(bytes, out)? {
+        DialoguePhase::Waiting | DialoguePhase::Ready => Ok(name_of(&dialogue.at_end())),
+        DialoguePhase::Done => Ok("Done"),
+    }
+}
+
 // What the link's end means behind these bytes.
 fn end_behind(alloc: Global, bytes: &[u8]) -> Result<&'static str, Fail> {
     let config = Config::parse(alloc, "user=bob")?;
     let requests = select_one(alloc)?;
     let mut out = BytesMut::new(alloc);
     let mut dialogue = Dialogue::start(alloc, &config, &requests, &[0; 18], 1000, &mut out)?;
-    match dialogue.take(bytes, &mut out)? {
-        DialoguePhase::Waiting | DialoguePhase::Ready => Ok(name_of(&dialogue.at_end())),
-        DialoguePhase::Done => Ok("Done"),
-    }
+    end_of(&mut dialogue, bytes, &mut out)
 }
 
 // No byte; a message begun; an error of the server; a message that has no place in a simple query, before its

@@ -1,5 +1,5 @@
 -- Pieces of bytes that a dialogue is given, one after the other.
-use Rattle.std.proofs.Common.{◌≡◌, ◌<◌, ◌≤◌, ◌⊎◌, ℕ, zero, suc, ◌+◌, ◌-◌, List, [], ◌∷◌, ◌++◌, length, get_or, take, drop, Result, Ok, Err, inl, inr, arith, refl, ◌∙◌, ap, sym, subst, add-one, append_assoc, length-append}
+use Rattle.std.proofs.Common.{◌≡◌, ◌<◌, ◌≤◌, ◌⊎◌, ℕ, zero, suc, ◌+◌, ◌-◌, List, [], ◌∷◌, ◌++◌, length, get_or, take, drop, Option, Some, None, IfSome, Result, Ok, Err, inl, inr, arith, refl, ◌∙◌, ap, sym, subst, add-one, append_assoc, length-append}
 use Rattle.std.proofs.lemmas.List.{append-nil, take-append-drop, take-append-le, take_all}
 use Rattle.std.proofs.lemmas.List.Folds.{concat-append}
 use Rattle.std.proofs.Math.Seq.{take-suc}
@@ -7,13 +7,14 @@ use Rattle.std.specs.List.{concat}
 use Rattle.pgw_backend.specs.declared.client_error.PgWireClientError.{PgWireClientError as ClientError}
 use Rattle.pgw_backend.specs.declared.client_error.PgWireClientError.TheVariants as client
 use Rattle.pgw_client.proofs.SessionTakingLaws.{memory_or}
+use Rattle.pgw_client.specs.Demands.{Refuses}
 use Rattle.pgw_client.specs.Machine.{notes_end, report_at}
 use Rattle.pgw_client.specs.Wire.{Unless}
 use Rattle.pgw_course.specs.Course.{Course, Waits, Over}
 use Rattle.pgw_dialogue.proofs.DialogueLaws.{split, takes_broken, takes_done}
 use Rattle.pgw_dialogue.proofs.TalkLaws.{over_on}
 use Rattle.pgw_dialogue.specs.Answers.{answer_at, answer_to, taken_of, waiting_answer}
-use Rattle.pgw_dialogue.specs.Dialogue.{Awaits, IsBehind, IsBroken, IsDone, Stands, Starts, Takes}
+use Rattle.pgw_dialogue.specs.Dialogue.{Awaits, IsBehind, IsBroken, IsDone, IsStarved, Stands, Starts, Takes}
 use Rattle.pgw_dialogue.specs.declared.dialogue.Dialogue.{Dialogue}
 use Rattle.pgw_dialogue.specs.declared.phase.DialoguePhase.{DialoguePhase}
 use Rattle.pgw_dialogue.specs.declared.phase.DialoguePhase.TheVariants as phase
@@ -113,6 +114,9 @@ awaits_or_broken : (d : Dialogue) → Awaits d → IsBroken d → ⊥
 awaits_or_broken d awaits (inl is) = let e = sym awaits.0 ∙ is in cc
 awaits_or_broken d awaits (inr is) = let e = sym awaits.0 ∙ is in cc
 
+done_or_starved : (d : Dialogue) → IsDone d → IsStarved d → ⊥
+done_or_starved d is starved = let e = sym is ∙ starved in cc
+
 -- ---- what is answered
 
 pub not_begun : (input : Input) (limit : ℕ) (all old_out out : List ℕ) (e : ClientError) → Starts input limit old_out out (Err e) → Held input limit all old_out out (Err e)
@@ -132,15 +136,19 @@ pub done_held : (input : Input) (limit : ℕ) (old new : Dialogue) (all given pi
     → SoFar input limit old given old_out before → Takes old new piece before out answer → IsDone new → report ≡ report_at new.notes → Held input limit all old_out out (Ok report)
 done_held input limit old new all given piece more old_out before out answer report are s t is reported =
     let x = done input limit old new all given piece more old_out before out answer are s t is in
-    begun new x.0 x.1 x.2 (inl (is, sym reported))
+    begun new x.0 x.1 x.2 (λ starved. absurd (done_or_starved new is starved)) (inl (is, sym reported))
 
 pub refused : (input : Input) (limit : ℕ) (old new : Dialogue) (all given piece more old_out before out : List ℕ) (e : ClientError) → all ≡ (given ++ piece) ++ more
-    → SoFar input limit old given old_out before → Takes old new piece before out (Err e) → IsBroken new → Held input limit all old_out out (Err e)
-refused input limit old new all given piece more old_out before out e are s t broken =
+    → SoFar input limit old given old_out before → Takes old new piece before out (Err e) → IsBroken new → (IsStarved new → IsStarved old ⊎ ◌≡◌ {A = Result DialoguePhase ClientError} (Err e) (Err client.OutOfMemory)) → Held input limit all old_out out (Err e)
+refused input limit old new all given piece more old_out before out e are s t broken lacks =
     let answers = t.answers input limit given s.put s.stands (awaits_or_broken old s.awaits) in
     begun new (s.put ++ t.out)
     (t.puts ∙ ap (λ (b : List ℕ). b ++ t.out) s.puts ∙ append_assoc old_out s.put t.out)
     (subst (λ (b : List ℕ). Stands input limit new b (s.put ++ t.out)) (sym are) (broken_on new broken input limit (given ++ piece) more (s.put ++ t.out) (t.stands input limit given s.put s.stands)))
+    (λ starved. elim (lacks starved) [
+      | inl was ↦ absurd (awaits_or_broken old s.awaits (inr was))
+      | inr now ↦ let same : e ≡ client.OutOfMemory = cc in ap Err same
+    ])
     (elim answers.answer [
       | inl is ↦ inl (inl (ap (answer_to input limit) are ∙ error_stays input limit (given ++ piece) more e (conversation input (taken_of limit (given ++ piece))) refl (sym is)))
       | inr lack ↦ let same : e ≡ client.OutOfMemory = cc in inr (ap Err same)
@@ -148,8 +156,13 @@ refused input limit old new all given piece more old_out before out e are s t br
 
 pub ended : (input : Input) (limit : ℕ) (d : Dialogue) (all given old_out out : List ℕ) (e : ClientError) → given ≡ all → SoFar input limit d given old_out out → Unless e (e ≡ notes_end d.notes) → Held input limit all old_out out (Err e)
 ended input limit d all given old_out out e are s is =
-    begun d s.put s.puts (subst (λ (b : List ℕ). Stands input limit d b s.put) are s.stands)
+    begun d s.put s.puts (subst (λ (b : List ℕ). Stands input limit d b s.put) are s.stands) (λ starved. absurd (awaits_or_broken d s.awaits (inr starved)))
     (elim (memory_or e) [
       | inl lack ↦ inr (ap Err lack)
       | inr ne ↦ inl (inr (s.awaits, sym (is ne)))
     ])
+
+-- a configuration that was taken demands nothing that is refused
+pub not_demanded : {T : Type 0} (o : Option (List ℕ)) (r : Result T ClientError) → IfSome o (λ key. ⊥) → IfSome o (λ key. Refuses key r)
+not_demanded None r h = h
+not_demanded (Some key) r h = absurd h

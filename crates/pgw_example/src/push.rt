@@ -1,9 +1,11 @@
 //! A session over bytes that another runtime moves.
-ghost use Rattle.std.specs.Prelude.{◌≡◌, ◌<◌, ◌++◌, ℕ, List, IfOk};
+ghost use Rattle.std.specs.Prelude.{◌≡◌, ◌<◌, ◌++◌, ℕ, List, IfOk, IfSome};
 ghost use Rattle.std.specs.List.{concat};
+ghost use Rattle.pgw_client.specs.Demands.{Refuses};
 ghost use Rattle.pgw_client.specs.Input.{input_with};
 ghost use Rattle.pgw_dialogue.specs.Answers.{taken_of};
 ghost use Rattle.pgw_example.specs.Push.{Held};
+ghost use Rattle.pgw_session.specs.Demands.{refused_config};
 ghost use Rattle.pgw_session.specs.Transcript.{Completed};
 
 use bytes::BytesMut;
@@ -14,7 +16,7 @@ use std::alloc::Global;
 /// Holds a session over what each read from the server gave, and puts out what is to be sent to it.
 ///
 /// Where a runtime reads as the session goes, each read is a piece; what stands in `out` behind `start`, and behind each
-/// `take`, is written and cleared before the next read.
+/// `take`, whatever it answers, is written and cleared before the answer is used.
 pub fn over_pieces(
     alloc: Global,
     config: &Config,
@@ -25,6 +27,8 @@ pub fn over_pieces(
     out: &mut BytesMut,
 ) -> PgWireClientResult<SessionReport>
     requires { 0 < limit }
+    // A configuration that demands what this client can't do is refused by that key, or memory is wanting.
+    ensures refused { IfSome (refused_config config.now) (λ key. Refuses key result) }
     // What is put out, and the answer, are those of a dialogue that was given all these bytes; so they are those of a
     // session over a link that has them.
     ensures held { Held (input_with config.now requests.now nonce.now) limit (concat pieces.now) out.old.items out.new.items result }

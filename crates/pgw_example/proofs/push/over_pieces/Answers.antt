@@ -1,9 +1,11 @@
-use Rattle.std.proofs.Common.{◌+◌, List, ℕ, Ok, take, drop, sym, subst}
+use Rattle.std.proofs.Common.{◌+◌, List, ℕ, Ok, Err, take, drop, sym, subst}
 use Rattle.std.proofs.lemmas.Result.{err_from_is_err_and}
 use Rattle.std.specs.List.{concat}
 use Rattle.pgw_client.specs.Input.{input_with}
 use Rattle.pgw_dialogue.specs.Dialogue.{IsBehind}
-use Rattle.pgw_example.proofs.PieceLaws.{SoFar, all_of, awaits_behind, begins, done, done_held, ended, goes_on, not_begun, refused, with_next, with_rest}
+use Rattle.pgw_session.specs.Demands.{refused_config}
+use Rattle.pgw_session.specs.declared.types.SessionReport.{SessionReport}
+use Rattle.pgw_example.proofs.PieceLaws.{SoFar, all_of, awaits_behind, begins, done, done_held, ended, goes_on, not_begun, not_demanded, refused, with_next, with_rest}
 use Rattle.pgw_example.proofs.push.over_pieces.Goals as goal
 
 pub loop-piece-init : goal.loop-piece-init
@@ -37,7 +39,7 @@ returns-in_err-take-clause-held c =
     let p = err_from_is_err_and c.from_residual-in_err-take.result c.from_residual-in_err-take.ensures.1 in
     rw (p.1, p.2)
     (refused _ _ c.loop-piece.dialogue c.take.new.self _ (concat (take i pieces)) c.as_slice.result.now (concat (drop (i + 1) pieces)) _ c.loop-piece.out.items _ _
-    (with_rest pieces i c.as_slice.result.now c.piece-item.result c.loop-piece-test.true c.piece-item.is c.as_slice.ensures) c.loop-piece.invariant c.in_err-take.ensures.takes c.in_err-take.ensures.after)
+    (with_rest pieces i c.as_slice.result.now c.piece-item.result c.loop-piece-test.true c.piece-item.is c.as_slice.ensures) c.loop-piece.invariant c.in_err-take.ensures.takes c.in_err-take.ensures.after c.in_err-take.ensures.starved)
 
 pub returns-in-Done-clause-held : goal.returns-in-Done-clause-held
 returns-in-Done-clause-held c =
@@ -62,3 +64,9 @@ returns-clause-held c =
     let pieces = c.args.pieces.now in
     let i = c.loop-piece.piece-index in
     ended _ _ c.loop-piece.dialogue _ (concat (take i pieces)) _ _ _ (all_of pieces i c.loop-piece-test.false) c.loop-piece.invariant c.at_end.ensures.is
+
+pub returns-in_err-take-clause-refused : goal.returns-in_err-take-clause-refused
+returns-in_err-take-clause-refused c = not_demanded {T = SessionReport} (refused_config c.args.config.now) c.from_residual-in_err-take.result c.in_ok-dialogue.ensures.refused
+
+pub returns-clause-refused : goal.returns-clause-refused
+returns-clause-refused c = not_demanded {T = SessionReport} (refused_config c.args.config.now) (Err c.at_end.result) c.in_ok-dialogue.ensures.refused
