@@ -8,25 +8,32 @@ use pgw_backend::tag::Tag;
 use pgw_query::data::FieldDescription;
 use pgw_query::description::NoData;
 use pgw_types::listed::Duplicate;
+use pgw_types::memory::OutOfMemory;
 use pgw_types::text::Text;
+use std::alloc::Global;
 use std::test::Fail;
+
+// Each tag with the parts that are read of it.
+const TAGS: &[(&str, &str)] = &[
+    ("SELECT 3", "SELECT None Some(3)"),
+    ("INSERT 0 5", "INSERT Some(0) Some(5)"),
+    (" UPDATE +7 ", "UPDATE None Some(7)"),
+    ("CREATE TABLE", "CREATE TABLE None None"),
+    ("INSERT 4294967296 1", "INSERT 4294967296 1 None None"),
+    ("BEGIN", "BEGIN None None"),
+    ("A 1 2 3", "A 1 2 3 None None"),
+];
+
+fn tag_shown(alloc: Global, text: &str) -> Result<String, OutOfMemory> {
+    let tag = Tag::parse(alloc, text)?.duplicate()?;
+    let command = tag.command.as_str();
+    Ok(format!(in alloc; "{command} {:?} {:?}", tag.oid, tag.rows)?)
+}
 
 #[test]
 fn tags(rt: HostRuntime) -> Result<(), Fail> {
-    let cases = [
-        ("SELECT 3", "SELECT", None, Some(3)),
-        ("INSERT 0 5", "INSERT", Some(0), Some(5)),
-        (" UPDATE +7 ", "UPDATE", None, Some(7)),
-        ("CREATE TABLE", "CREATE TABLE", None, None),
-        ("INSERT 4294967296 1", "INSERT 4294967296 1", None, None),
-        ("BEGIN", "BEGIN", None, None),
-        ("A 1 2 3", "A 1 2 3", None, None),
-    ];
-    for (text, command, oid, rows) in cases {
-        let tag = Tag::parse(rt.alloc(), text)?.duplicate()?;
-        assert_eq!(rt; tag.command.as_str(), command);
-        assert_eq!(rt; tag.oid, oid);
-        assert_eq!(rt; tag.rows, rows);
+    for (text, want) in TAGS {
+        assert_eq!(rt; tag_shown(rt.alloc(), text)?.as_str(), *want);
     }
     Ok(())
 }
@@ -41,24 +48,24 @@ fn tags_as_messages(rt: HostRuntime) -> Result<(), Fail> {
     Ok(())
 }
 
+const TYPES: &[(u32, PgType)] = &[
+    (16, PgType::Bool),
+    (17, PgType::Bytea),
+    (19, PgType::Name),
+    (20, PgType::Int8),
+    (21, PgType::Int2),
+    (23, PgType::Int4),
+    (25, PgType::Text),
+    (705, PgType::Unknown),
+    (1042, PgType::Bpchar),
+    (1043, PgType::Varchar),
+    (26, PgType::Other(26)),
+];
+
 #[test]
 fn types(rt: HostRuntime) -> Result<(), Fail> {
-    let cases = [
-        (16, PgType::Bool),
-        (17, PgType::Bytea),
-        (19, PgType::Name),
-        (20, PgType::Int8),
-        (21, PgType::Int2),
-        (23, PgType::Int4),
-        (25, PgType::Text),
-        (705, PgType::Unknown),
-        (1042, PgType::Bpchar),
-        (1043, PgType::Varchar),
-        (26, PgType::Other(26)),
-    ];
-    for (oid, want) in cases {
-        assert!(rt; PgType::from_oid(oid) == want);
-        assert_eq!(rt; want.oid(), oid);
+    for (oid, want) in TYPES {
+        assert!(rt; PgType::from_oid(*oid) == *want && want.oid() == *oid);
     }
     Ok(())
 }

@@ -73,17 +73,18 @@ fn info_fields(rt: HostRuntime) -> Result<(), Fail> {
     Ok(())
 }
 
+const FAULTY: [(u8, &str); 5] = [
+    (b'M', "first"),
+    (b'X', "no part"),
+    (b'L', "+12"),
+    (b'L', "12a"),
+    (b'M', "second"),
+];
+
 #[test]
 fn faulty_fields(rt: HostRuntime) -> Result<(), Fail> {
     let alloc = rt.alloc();
-    let cases = [
-        (b'M', "first"),
-        (b'X', "no part"),
-        (b'L', "+12"),
-        (b'L', "12a"),
-        (b'M', "second"),
-    ];
-    let info = ErrorInfo::from_fields(fields_of(alloc, &cases)?);
+    let info = ErrorInfo::from_fields(fields_of(alloc, &FAULTY)?);
     let fields = info.into_fields(alloc)?;
     assert_eq!(rt;
         shown(alloc, fields.as_slice())?.as_str(),
@@ -303,34 +304,38 @@ fn client_errors_are_told(rt: HostRuntime) -> Result<(), Fail> {
 }
 
 // What people read of a configuration that is refused by one of these keys.
+const REFUSED_KEYS: &[(&str, &str)] = &[
+    (
+        "syntax",
+        "`syntax`: the connection text has a part that is no key with a value",
+    ),
+    (
+        "sslmode",
+        "`sslmode`: the value of sslmode is unknown or not supported: no connection is ever encrypted",
+    ),
+    (
+        "channel_binding",
+        "`channel_binding`: the value of channel_binding is unknown or not supported: no login is bound to a connection",
+    ),
+    (
+        "user",
+        "`user`: the user name has no form for a SCRAM login",
+    ),
+    (
+        "host",
+        "`host`: no host and no address is given, or one is not well-formed",
+    ),
+];
+
+fn key_printed(alloc: Global, key: &str) -> Result<String, OutOfMemory> {
+    let error = PgWireClientError::InvalidConfig(Text::from_str(alloc, key)?);
+    Ok(format!(in alloc; "{error}")?)
+}
+
 #[test]
 fn refused_keys_are_told(rt: HostRuntime) -> Result<(), Fail> {
-    let alloc = rt.alloc();
-    let cases = [
-        (
-            "syntax",
-            "`syntax`: the connection text has a part that is no key with a value",
-        ),
-        (
-            "sslmode",
-            "`sslmode`: the value of sslmode is unknown or not supported: no connection is ever encrypted",
-        ),
-        (
-            "channel_binding",
-            "`channel_binding`: the value of channel_binding is unknown or not supported: no login is bound to a connection",
-        ),
-        (
-            "user",
-            "`user`: the user name has no form for a SCRAM login",
-        ),
-        (
-            "host",
-            "`host`: no host and no address is given, or one is not well-formed",
-        ),
-    ];
-    for (key, want) in cases {
-        let error = PgWireClientError::InvalidConfig(Text::from_str(alloc, key)?);
-        assert_eq!(rt; format!(in alloc; "{error}")?.as_str(), want);
+    for (key, want) in REFUSED_KEYS {
+        assert_eq!(rt; key_printed(rt.alloc(), key)?.as_str(), *want);
     }
     Ok(())
 }

@@ -33,26 +33,28 @@ fn shown_among_all(alloc: Global, kind: usize) -> Result<String, Fail> {
     Ok(format!(in alloc; "{message:?}")?)
 }
 
+const SHOWN: [&str; 4] = [
+    "Raw(_)",
+    "Password(_)",
+    "SASLInitialResponse(_)",
+    "SASLResponse(_)",
+];
+
+const SHOWN_AMONG_ALL: [&str; 4] = [
+    "PasswordMessageFamily(Raw(_))",
+    "PasswordMessageFamily(Password(_))",
+    "PasswordMessageFamily(SASLInitialResponse(_))",
+    "PasswordMessageFamily(SASLResponse(_))",
+];
+
 #[test]
 fn no_secret_is_shown(rt: HostRuntime) -> Result<(), Fail> {
     let alloc = rt.alloc();
-    let cases = [
-        (0, "Raw(_)", "PasswordMessageFamily(Raw(_))"),
-        (1, "Password(_)", "PasswordMessageFamily(Password(_))"),
-        (
-            2,
-            "SASLInitialResponse(_)",
-            "PasswordMessageFamily(SASLInitialResponse(_))",
-        ),
-        (
-            3,
-            "SASLResponse(_)",
-            "PasswordMessageFamily(SASLResponse(_))",
-        ),
-    ];
-    for (kind, want, whole) in cases {
-        assert_eq!(rt; shown(alloc, kind)?.as_str(), want);
-        assert_eq!(rt; shown_among_all(alloc, kind)?.as_str(), whole);
+    for (kind, want) in SHOWN.iter().enumerate() {
+        assert_eq!(rt; shown(alloc, kind)?.as_str(), *want);
+    }
+    for (kind, want) in SHOWN_AMONG_ALL.iter().enumerate() {
+        assert_eq!(rt; shown_among_all(alloc, kind)?.as_str(), *want);
     }
     Ok(())
 }

@@ -26,11 +26,13 @@ fn small_types(rt: HostRuntime) -> Result<(), Fail> {
     Ok(())
 }
 
+const PARAMS: &[(&str, &str)] = &[("b", "1"), ("a", "2"), ("b", "3")];
+
 #[test]
 fn params_in_order(rt: HostRuntime) -> Result<(), Fail> {
     let alloc = rt.alloc();
     let mut params = Params::new(alloc);
-    for (name, value) in [("b", "1"), ("a", "2"), ("b", "3")] {
+    for (name, value) in PARAMS {
         params.insert(Text::from_str(alloc, name)?, Text::from_str(alloc, value)?)?;
     }
     let copy = params.duplicate()?;
