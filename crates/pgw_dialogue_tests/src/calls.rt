@@ -183,9 +183,9 @@ fn ends_have_meanings(rt: HostRuntime) -> Result<(), Fail> {
 }
 
 fn name_of_start(alloc: Global, config: &Config, out: &mut BytesMut) -> &'static str {
-    match &Dialogue::start(alloc, config, &[], &[0; 18], 1000, out) {
-        Ok(_) => "begun",
-        Err(error) => name_of(error),
+    match Dialogue::start(alloc, config, &[], &[0; 18], 1000, out).err() {
+        None => "begun",
+        Some(error) => name_of(&error),
     }
 }
 

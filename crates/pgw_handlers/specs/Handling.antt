@@ -2,6 +2,8 @@
 use Rattle.std.specs.Prelude.{◌≡◌, ◌≤◌, ℕ, Bool, true, Result, Ok, Err}
 use Rattle.pgw_link.specs.Tape.{Rose}
 use Rattle.pgw_startup.specs.declared.parameter_status.ParameterStatus.{ParameterStatus}
+use Rattle.pgw_backend.specs.declared.backend.PgWireBackendMessage.{PgWireBackendMessage as Backend}
+use Rattle.pgw_backend.specs.declared.backend.PgWireBackendMessage.TheVariants as backend
 use Rattle.pgw_backend.specs.declared.client_error.PgWireClientError.{PgWireClientError as ClientError}
 use Rattle.pgw_backend.specs.declared.client_error.PgWireClientError.TheVariants as client
 use Rattle.pgw_handlers.specs.declared.client_info.ReadyState.{ReadyState}
@@ -27,6 +29,13 @@ pending (Err e) = Err e
 abbrev pub ready : {A : Type 0} → Result A ClientError → Answer A
 ready (Ok x) = Ok (Ready x)
 ready (Err e) = Err e
+
+-- hearing is over exactly behind a ReadyForQuery
+abbrev pub EndsAtReady : {A : Type 0} → Backend → ReadyState A → Type 0
+EndsAtReady (backend.ReadyForQuery m) (Ready x) = Unit {0}
+EndsAtReady (backend.ReadyForQuery m) Pending = ⊥
+EndsAtReady m (Ready x) = ⊥
+EndsAtReady m Pending = Unit {0}
 
 -- ---- what every handler does with some messages
 

@@ -1,7 +1,7 @@
 //! Where a handler's messages go.
 ghost use Rattle.std.specs.Prelude.{◌≡◌, OnOk, IfErr};
 ghost use Rattle.pgw_frontend.specs.Frontend.{encoding};
-ghost use Rattle.pgw_handlers.specs.Sending.{Sent, NotSent, IsUsable};
+ghost use Rattle.pgw_handlers.specs.Sending.{Sent, NotSent, IsSpelled, IsUsable};
 ghost use Rattle.pgw_handlers.specs.Handling.{HasCause};
 
 use crate::client_info::Seen;
@@ -15,6 +15,7 @@ pub trait Outgoing: Seen {
     fn send(&mut self, message: PgWireFrontendMessage) -> PgWireClientResult<()>
         ensures sent { Self.tells → OnOk result (Sent (encoding message) (Self.sight self.old) (Self.sight self.new)) }
         ensures failed { Self.tells → IfErr result (λ e. NotSent (encoding message) (Self.sight self.old) (Self.sight self.new) e) }
+        ensures spelled { IsSpelled (encoding message) result }
         ensures client { (Self.sight self.new).client ≡ (Self.sight self.old).client }
         ensures usable { IsUsable result (Self.sight self.old).broken (Self.sight self.new).broken }
         ensures own { Self.own self.new ≡ Self.own self.old }

@@ -1,7 +1,7 @@
 //! What a client asks simple queries by.
-ghost use Rattle.std.specs.Prelude.{◌≡◌, List};
+ghost use Rattle.std.specs.Prelude.{◌≡◌, List, IfOk};
 ghost use Rattle.pgw_startup.specs.declared.parameter_status.ParameterStatus.{ParameterStatus as TheStatus};
-ghost use Rattle.pgw_handlers.specs.Handling.{Standing, standing, Answer, pending, ready, Keeps, HasCause};
+ghost use Rattle.pgw_handlers.specs.Handling.{Standing, standing, Answer, pending, ready, EndsAtReady, Keeps, HasCause};
 ghost use Rattle.pgw_handlers.specs.Simple.{SimpleCall, simple_query, on_row_description, on_data_row, on_command_complete, on_empty_query, on_parameter_status, on_ready_for_query, HeardInQuery};
 
 use crate::causes::misplaced;
@@ -42,6 +42,7 @@ pub trait SimpleQueryHandler {
         message: PgWireBackendMessage,
     ) -> PgWireClientResult<ReadyState<Listed<Self::QueryResponse>>>
         ensures means { C.tells → HeardInQuery means (standing self.old (C.sight client.old)) message (standing self.new (C.sight client.new)) result }
+        ensures ready { IfOk result (EndsAtReady message) }
         ensures own { C.own client.new ≡ C.own client.old }
         ensures rest { C.tells → C.rest client.new ≡ C.rest client.old }
         ensures cause { HasCause (C.faults client.old) (C.faults client.new) (C.sight client.new).broken result }

@@ -1,9 +1,9 @@
 //! What a client logs in by.
-ghost use Rattle.std.specs.Prelude.{◌≡◌};
+ghost use Rattle.std.specs.Prelude.{◌≡◌, IfOk};
 ghost use Rattle.pgw_startup.specs.declared.negotiate.NegotiateProtocolVersion.{NegotiateProtocolVersion as TheOffer};
 ghost use Rattle.pgw_startup.specs.declared.parameter_status.ParameterStatus.{ParameterStatus as TheStatus};
 ghost use Rattle.pgw_handlers.specs.declared.client_info.ServerInformation.{ServerInformation as TheInformation};
-ghost use Rattle.pgw_handlers.specs.Handling.{Standing, standing, Answer, pending, ready, Keeps, HasCause};
+ghost use Rattle.pgw_handlers.specs.Handling.{Standing, standing, Answer, pending, ready, EndsAtReady, Keeps, HasCause};
 ghost use Rattle.pgw_handlers.specs.Startup.{StartupCall, startup, on_authentication, on_negotiate_protocol_version, on_parameter_status, on_backend_key, on_ready_for_query, Settles, HeardAtStartup};
 
 use crate::causes::misplaced;
@@ -42,6 +42,7 @@ pub trait StartupHandler {
         message: PgWireBackendMessage,
     ) -> PgWireClientResult<ReadyState<ServerInformation>>
         ensures means { C.tells → HeardAtStartup means (standing self.old (C.sight client.old)) message (standing self.new (C.sight client.new)) result }
+        ensures ready { IfOk result (EndsAtReady message) }
         ensures own { C.own client.new ≡ C.own client.old }
         ensures rest { C.tells → C.rest client.new ≡ C.rest client.old }
         ensures cause { HasCause (C.faults client.old) (C.faults client.new) (C.sight client.new).broken result }
