@@ -2,6 +2,9 @@
 ghost use Rattle.std.specs.Prelude.{◌≡◌};
 ghost use Rattle.pgw_backend.specs.Fields.{type_of, oid_of};
 
+use pgw_types::listed::Duplicate;
+use pgw_types::memory::OutOfMemory;
+
 /// A type by its object identifier (pg_type). `Other` holds a number that no other variant stands for.
 #[derive(Clone, Copy, Debug, PartialEq, Eq)]
 pub enum PgType {
@@ -56,5 +59,11 @@ impl PgType {
             PgType::Varchar => 1043,
             PgType::Other(oid) => *oid,
         }
+    }
+}
+
+impl Duplicate for PgType {
+    fn duplicate(&self) -> Result<PgType, OutOfMemory> {
+        Ok(*self)
     }
 }

@@ -1,5 +1,5 @@
 -- What is taken from a front of some bytes is taken from all of them.
-use Rattle.std.proofs.Common.{◌≡◌, ◌++◌, ℕ, List, drop, Option, Some, Result, Ok, Err, ap, sym, subst, ◌∙◌}
+use Rattle.std.proofs.Common.{◌≡◌, ◌++◌, ℕ, List, Option, Some, Result, Ok, Err, ap, sym, subst, ◌∙◌}
 use Rattle.std.proofs.lemmas.List.{drop-append-le}
 use Rattle.pgw_types.specs.declared.context.ProtocolVersion.{ProtocolVersion}
 use Rattle.pgw_backend.specs.declared.backend.PgWireBackendMessage.{PgWireBackendMessage as Backend}

@@ -9,6 +9,7 @@ use pgw_backend::pg_type::PgType;
 use pgw_backend::tag::Tag;
 use pgw_query::data::{DataRow, FieldDescription};
 use pgw_query::response::CommandComplete;
+use pgw_rows::data_rows::DataRows;
 use pgw_session::tally::{Opened, Tally};
 use pgw_session::types::{
     Answer, DescribeResponse, ExecuteResult, PrepareResponse, Request, Response,
@@ -27,15 +28,18 @@ pub fn no_tally(alloc: Global) -> Tally
         opened: None,
         param_types: Listed::new(alloc),
         executed: None,
-        rows: Listed::new(alloc),
+        rows: DataRows::new(alloc),
         remote: None,
     }
 }
 
 // ---- what a message gives
 
-// The columns that a row description tells of.
-fn columns(alloc: Global, fields: Vec<FieldDescription>) -> Result<Listed<FieldInfo>, OutOfMemory>
+/// The columns that a row description tells of.
+pub fn columns(
+    alloc: Global,
+    fields: Vec<FieldDescription>,
+) -> Result<Listed<FieldInfo>, OutOfMemory>
     ensures { IfOk result (λ columns. columns ≡ map field_info_of fields.items) }
 {
     let mut columns = Listed::new(alloc);
@@ -45,8 +49,8 @@ fn columns(alloc: Global, fields: Vec<FieldDescription>) -> Result<Listed<FieldI
     Ok(columns)
 }
 
-// The types of some numbers.
-fn types(alloc: Global, oids: &[u32]) -> Result<Listed<PgType>, OutOfMemory>
+/// The types of some numbers.
+pub fn types(alloc: Global, oids: &[u32]) -> Result<Listed<PgType>, OutOfMemory>
     ensures { IfOk result (λ types. types ≡ map type_of oids.now) }
 {
     let mut types = Listed::new(alloc);
@@ -56,8 +60,8 @@ fn types(alloc: Global, oids: &[u32]) -> Result<Listed<PgType>, OutOfMemory>
     Ok(types)
 }
 
-/// Notes a row behind no error.
-pub fn note_row(tally: &mut Tally, row: DataRow) -> Result<(), OutOfMemory>
+// Notes a row behind no error.
+fn note_row(tally: &mut Tally, row: DataRow) -> Result<(), OutOfMemory>
     ensures { OnOk result (tally.new ≡ with_row tally.old.opened tally.old row) }
 {
     match &mut tally.opened {
@@ -71,7 +75,7 @@ fn complete(alloc: Global, tally: &mut Tally)
     ensures { tally.new ≡ with_end tally.old.executed tally.old (ExecuteResult.Complete tally.old.rows) }
 {
     if tally.executed.is_none() {
-        let rows = replace(&mut tally.rows, Listed::new(alloc));
+        let rows = replace(&mut tally.rows, DataRows::new(alloc));
         tally.executed = Some(ExecuteResult::Complete(rows));
     }
 }
@@ -81,7 +85,7 @@ fn suspend(alloc: Global, tally: &mut Tally)
     ensures { tally.new ≡ with_end tally.old.executed tally.old (ExecuteResult.Suspended tally.old.rows) }
 {
     if tally.executed.is_none() {
-        let rows = replace(&mut tally.rows, Listed::new(alloc));
+        let rows = replace(&mut tally.rows, DataRows::new(alloc));
         tally.executed = Some(ExecuteResult::Suspended(rows));
     }
 }
@@ -130,7 +134,7 @@ pub fn note(
             let fields = columns(alloc, m.fields.into_vec())?;
             tally.opened = Some(Opened {
                 fields,
-                rows: Listed::new(alloc),
+                rows: DataRows::new(alloc),
             });
         }
         PgWireBackendMessage::ParameterDescription(m) => {
@@ -169,39 +173,31 @@ pub fn note(
 
 // ---- the answer
 
-fn executed_of(
-    alloc: Global,
-    executed: Option<ExecuteResult<Listed<DataRow>>>,
-) -> ExecuteResult<Listed<DataRow>>
+fn executed_of(alloc: Global, executed: Option<ExecuteResult<DataRows>>) -> ExecuteResult<DataRows>
     ensures { result ≡ executed_of executed }
 {
     match executed {
         Some(executed) => executed,
-        None => ExecuteResult::Complete(Listed::new(alloc)),
+        None => ExecuteResult::Complete(DataRows::new(alloc)),
     }
 }
 
 // The rows up to the portal's end.
-fn rows_until(alloc: Global, executed: Option<ExecuteResult<Listed<DataRow>>>) -> Listed<DataRow>
+fn rows_until(alloc: Global, executed: Option<ExecuteResult<DataRows>>) -> DataRows
     ensures { result ≡ rows_until executed }
 {
     match executed {
         Some(ExecuteResult::Complete(rows)) => rows,
         Some(ExecuteResult::Suspended(rows)) => rows,
-        None => Listed::new(alloc),
+        None => DataRows::new(alloc),
     }
 }
 
 // Some rows and others behind them.
-fn with_rows(
-    mut rows: Listed<DataRow>,
-    behind: Listed<DataRow>,
-) -> Result<Listed<DataRow>, OutOfMemory>
+fn with_rows(mut rows: DataRows, behind: DataRows) -> Result<DataRows, OutOfMemory>
     ensures { IfOk result (λ all. all ≡ rows ++ behind) }
 {
-    for row in behind.into_vec() {
-        rows.push(row)?;
-    }
+    rows.append(behind)?;
     Ok(rows)
 }
 

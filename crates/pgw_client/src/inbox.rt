@@ -1,12 +1,13 @@
 //! The bytes that were read and not taken yet.
-ghost use Rattle.std.specs.Prelude.{◌≡◌, [], ◌++◌, ◌≤◌, length, None, Some, Ok, IfErr, IfSome, OnOk, OnErr};
+ghost use Rattle.std.specs.Prelude.{◌≡◌, [], ◌++◌, ◌≤◌, length, IfErr, IfOk, OnOk, OnErr};
+ghost use Rattle.pgw_rows.specs.Runs.{MovesRows};
 ghost use Rattle.pgw_client.specs.Wire.{IsOwn, Decoded};
 
-use crate::wire::{decode, decode_row};
+use crate::wire::decode;
 use bytes::{Bytes, BytesMut};
 use pgw_backend::backend::PgWireBackendMessage;
 use pgw_backend::client_error::PgWireClientError;
-use pgw_query::data::DataRow;
+use pgw_rows::data_rows::DataRows;
 use pgw_types::context::ProtocolVersion;
 use pgw_types::memory::OutOfMemory;
 use pgw_types::octets::Octets;
@@ -47,6 +48,13 @@ impl Inbox {
         }
     }
 
+    /// How many bytes.
+    pub fn len(&self) -> usize
+        ensures { result ≡ length self.now }
+    {
+        self.front.len() + self.tail.len()
+    }
+
     /// Adds bytes that were read.
     pub fn append(&mut self, bytes: &[u8]) -> Result<(), OutOfMemory>
         ensures ok { OnOk result (self.new ≡ self.old ++ bytes.now) }
@@ -72,13 +80,14 @@ impl Inbox {
         }
     }
 
-    /// Takes the row at the front, where it came whole with what stood before it. Where there is none to take, that
-    /// tells nothing of what stands there: `next_message` does.
-    pub fn next_row(&mut self, alloc: Global, version: ProtocolVersion) -> Option<DataRow>
-        ensures found { IfSome result (λ row. Decoded version self.old self.new (Ok (Some (PgWireBackendMessage.DataRow row)))) }
-        ensures left { result ≡ None → self.new ≡ self.old }
+    /// Takes the rows at the front, as far as they came whole with what stood before them, and adds them to others, as
+    /// they lie; answers how many there were. Where there is none to take, that tells nothing of what stands there:
+    /// `next_message` does.
+    pub fn take_rows(&mut self, rows: &mut DataRows) -> Result<usize, OutOfMemory>
+        ensures taken { IfOk result (MovesRows rows.old rows.new self.old self.new) }
+        ensures err { OnErr result ((rows.new ≡ rows.old) × (self.new ≡ self.old)) }
     {
-        decode_row(alloc, version, &mut self.front)
+        rows.take_front(&mut self.front)
     }
 }
 

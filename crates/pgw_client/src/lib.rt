@@ -37,9 +37,12 @@ pub use pgw_link::socket::ClientSocket;
 pub use pgw_link::socket_dialer::{SocketDialer, Timeouts};
 pub use pgw_query::data::DataRow;
 pub use pgw_query::response::{ErrorResponse, TransactionStatus};
+pub use pgw_rows::data_rows::DataRows;
 pub use pgw_rows::decoder::DataRowDecoder;
 pub use pgw_rows::from_sql::{FromSql, FromSqlText};
 pub use pgw_rows::result::DataRowsReader;
+pub use pgw_rows::row_iter::DataRowsIter;
+pub use pgw_rows::row_ref::DataRowRef;
 pub use pgw_session::types::{
     Answer, DescribeResponse, ExecuteResult, PrepareResponse, Request, Response, SessionReport,
     Target,

@@ -77,8 +77,11 @@ fn startup_parameters(alloc: Global, input: &Input<'_>) -> Result<Params, OutOfM
     Ok(parameters)
 }
 
-// The message that opens the session.
-fn startup_message(alloc: Global, input: &Input<'_>) -> Result<PgWireFrontendMessage, OutOfMemory>
+/// The message that opens the session.
+pub fn startup_message(
+    alloc: Global,
+    input: &Input<'_>,
+) -> Result<PgWireFrontendMessage, OutOfMemory>
     ensures { IfOk result (λ message. message ≡ startup_message (input_of input.now)) }
 {
     let (major, minor) = input.config.protocol_version.version_number();
@@ -401,7 +404,7 @@ pub fn advance(
     ensures step { Advanced (input_of input.now) notes.old notes.new buffer.old buffer.new out.old.items out.new.items result }
 {
     if takes_rows(notes) {
-        match take_rows(alloc, notes, buffer) {
+        match take_rows(notes, buffer) {
             Ok(true) => return Ok(Progress::Went),
             Ok(false) => {}
             Err(_) => return Err(PgWireClientError::OutOfMemory),

@@ -1,13 +1,12 @@
-//! The rows of a result, which a session takes one after the other and without what other messages need.
+//! The rows of a result, which a session takes together and without what other messages need.
 ghost use Rattle.std.specs.Prelude.{◌≡◌, true, IfOk};
-ghost use Rattle.pgw_client.specs.Rows.{TakesRows, RowsTaken};
+ghost use Rattle.pgw_client.specs.Rows.{AddsRows, TakesRows, RowsTaken};
 
-use crate::answers::note_row;
 use crate::inbox::Inbox;
 use pgw_session::notes::Notes;
 use pgw_session::stage::{Kind, Stage};
+use pgw_session::tally::Tally;
 use pgw_types::memory::OutOfMemory;
-use std::alloc::Global;
 
 /// Whether rows may come now, each of which changes nothing but what the open segment gave.
 pub fn takes_rows(notes: &Notes) -> bool
@@ -26,15 +25,21 @@ pub fn takes_rows(notes: &Notes) -> bool
     }
 }
 
+// Adds the rows that stand whole at the inbox's front to those of the open result, or else of the portal.
+fn add_rows(tally: &mut Tally, inbox: &mut Inbox) -> Result<usize, OutOfMemory>
+    ensures { IfOk result (AddsRows tally.old tally.new inbox.old inbox.new) }
+{
+    match &mut tally.opened {
+        Some(opened) => inbox.take_rows(&mut opened.rows),
+        None => inbox.take_rows(&mut tally.rows),
+    }
+}
+
 /// Takes the rows that stand whole at the inbox's front; answers whether there was one.
-pub fn take_rows(alloc: Global, notes: &mut Notes, inbox: &mut Inbox) -> Result<bool, OutOfMemory>
+pub fn take_rows(notes: &mut Notes, inbox: &mut Inbox) -> Result<bool, OutOfMemory>
     requires { TakesRows notes.old }
     ensures { IfOk result (λ some. RowsTaken some notes.old notes.new inbox.old inbox.new) }
 {
-    let mut some = false;
-    while let Some(row) = inbox.next_row(alloc, notes.standing.version) {
-        note_row(&mut notes.tally, row)?;
-        some = true;
-    }
-    Ok(some)
+    let count = add_rows(&mut notes.tally, inbox)?;
+    Ok(count > 0)
 }

@@ -26,8 +26,8 @@ use std::alloc::Global;
 /// The most bytes that one read asks for.
 const CHUNK: usize = 8192;
 
-// Writes the bytes, all of them, and flushes.
-fn send<L: Link>(link: &mut L, bytes: &[u8]) -> Result<(), LinkFault>
+/// Writes the bytes, all of them, and flushes.
+pub fn send<L: Link>(link: &mut L, bytes: &[u8]) -> Result<(), LinkFault>
     ensures cause { HasCause (L.faults link.old) (L.faults link.new) result }
     ensures clean { L.tells → OnOk result (L.faults link.new ≡ L.faults link.old) }
     ensures kept { L.plan link.new ≡ L.plan link.old }
@@ -78,8 +78,8 @@ fn take_all<L: Link>(
     }
 }
 
-// How many bytes to ask for.
-fn chunk_size(room: u64) -> usize
+/// How many bytes one read asks for.
+pub fn chunk_size(room: u64) -> usize
     requires { 0 < room }
     ensures some { 0 < result }
     ensures in_room { result ≤ room }
@@ -88,8 +88,8 @@ fn chunk_size(room: u64) -> usize
     if room < 8192 { room as usize } else { CHUNK }
 }
 
-// Reads once, no more than there is room for.
-fn fill<L: Link>(link: &mut L, buffer: &mut Inbox, room: u64) -> PgWireClientResult<usize>
+/// Reads once, no more than there is room for and no more than 8192 bytes.
+pub fn fill<L: Link>(link: &mut L, buffer: &mut Inbox, room: u64) -> PgWireClientResult<usize>
     requires { 0 < room }
     ensures bound { IfOk result (λ n. n ≤ room) }
     ensures cause { IoHasCause (L.faults link.old) (L.faults link.new) result }

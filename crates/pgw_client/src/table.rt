@@ -43,8 +43,8 @@ pub fn is_ready(message: &PgWireBackendMessage) -> bool
 
 // ---- requests
 
-// What a message is to a segment of a kind.
-fn role(kind: Kind, rows: bool, message: &PgWireBackendMessage) -> Role
+/// What a message is to a segment of a kind.
+pub fn role(kind: Kind, rows: bool, message: &PgWireBackendMessage) -> Role
     ensures { result ≡ role kind rows message.now }
 {
     match message {

@@ -1,6 +1,6 @@
 use crate::scram::HONEST;
 use pgw_client::{
-    Answer, Config, DataRow, ExecuteResult, Listed, MemoryLink, Octets, PgWireClientError,
+    Answer, Config, DataRows, ExecuteResult, Listed, MemoryLink, Octets, PgWireClientError,
     PgWireError, Request, Response, SessionReport, Target, Text, run_session,
 };
 use std::alloc::Global;
@@ -182,11 +182,11 @@ fn answered(answer: &Answer) -> (&str, usize) {
         Answer::Responses(responses) => ("responses", responses.as_slice().len()),
         Answer::Prepared(statement) => ("prepared", statement.param_types.as_slice().len()),
         Answer::Bound => ("bound", 0),
-        Answer::Executed(ExecuteResult::Complete(rows)) => ("complete", rows.as_slice().len()),
-        Answer::Executed(ExecuteResult::Suspended(rows)) => ("suspended", rows.as_slice().len()),
+        Answer::Executed(ExecuteResult::Complete(rows)) => ("complete", rows.len()),
+        Answer::Executed(ExecuteResult::Suspended(rows)) => ("suspended", rows.len()),
         Answer::Described(target) => ("described", target.fields.as_slice().len()),
         Answer::Closed => ("closed", 0),
-        Answer::Rows(rows) => ("rows", rows.as_slice().len()),
+        Answer::Rows(rows) => ("rows", rows.len()),
         Answer::Remote(_) => ("remote", 0),
     }
 }
@@ -231,13 +231,13 @@ fn report_of(alloc: Global, server: &[u8], cut: usize) -> Result<SessionReport, 
 }
 
 // The rows of one simple query.
-fn rows_of(report: &SessionReport) -> &[DataRow] {
+fn rows_of(report: &SessionReport) -> Option<&DataRows> {
     if let [Answer::Responses(responses)] = report.answers.as_slice() {
         if let [Response::Query(_, _, rows)] = responses.as_slice() {
-            return rows.as_slice();
+            return Some(rows);
         }
     }
-    &[]
+    None
 }
 
 // A row of 40,000 bytes between two of one, in pieces and whole.
@@ -256,11 +256,11 @@ fn a_large_row_comes_in_pieces(rt: HostRuntime) -> Result<(), Fail> {
     let want = [(5, b'1'), (40_004, b'x'), (5, b'2')];
     for cut in [999, 8192, 65536] {
         let report = report_of(alloc, server.as_slice(), cut)?;
-        let rows = rows_of(&report);
+        let rows = rows_of(&report).ok_or("no rows")?;
         assert_eq!(rt; rows.len(), 3);
         for (row, (len, last)) in rows.iter().zip(want) {
             assert_eq!(rt; row.payload.len(), len);
-            assert_eq!(rt; row.payload.as_slice().last(), Some(&last));
+            assert_eq!(rt; row.payload.last(), Some(&last));
         }
     }
     Ok(())

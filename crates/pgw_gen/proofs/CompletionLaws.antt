@@ -1,5 +1,5 @@
 -- The stream completes the one transcript of its session, whose report has its rows.
-use Rattle.std.proofs.Common.{◌≡◌, ◌≤◌, ℕ, zero, suc, ◌+◌, List, [], ◌∷◌, ◌++◌, length, map, codes, ◌==◌, true, false, Option, Some, None, Result, Ok, Err, refl, ap, sym, subst, ◌∙◌, arith, append_assoc, ◌<◌, ◌^◌, ◌%◌, get_or}
+use Rattle.std.proofs.Common.{◌≡◌, ℕ, zero, suc, List, [], ◌∷◌, ◌++◌, length, map, codes, ◌==◌, true, false, Some, refl, ap, sym, subst, ◌∙◌, arith, append_assoc, ◌<◌, ◌^◌, ◌%◌}
 use Rattle.std.specs.List.{fold, flat_map}
 use Rattle.std.specs.List.{All}
 use Rattle.std.proofs.lemmas.List.{append-nil, length-map, map-append}
@@ -14,11 +14,9 @@ use Rattle.pgw_backend.specs.Fields.{field_info_of}
 use Rattle.pgw_wire.specs.Writing.{has_zero, text}
 use Rattle.pgw_session.specs.Answers.{answer_by, answers_of, no_tally, tally_at, tally_of}
 use Rattle.pgw_session.specs.declared.types.Request.{Request}
-use Rattle.pgw_session.specs.Events.{Event, Sent, Got, sents, joined}
-use Rattle.pgw_session.specs.Input.{Input}
+use Rattle.pgw_session.specs.Events.{Event, Got, sents, joined}
 use Rattle.pgw_session.specs.Logins.{Unasked}
-use Rattle.pgw_session.specs.Requests.{sends_of}
-use Rattle.pgw_session.specs.Segments.{AreTaken, IsRequestSegment, IsStartupSegment, startup_message}
+use Rattle.pgw_session.specs.Segments.{AreTaken, IsRequestSegment, IsStartupSegment}
 use Rattle.pgw_session.specs.Standings.{first_standing}
 use Rattle.pgw_session.specs.Transcript.{Completes, IsTranscript, SpellsGot, report_of}
 use Rattle.pgw_session.specs.Valid.{CanLogIn, HasNoZero, IsValidInput, IsValidRequest}

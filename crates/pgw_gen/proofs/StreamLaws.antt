@@ -1,5 +1,5 @@
 -- The stream as encodings, and the spellings that it is cut into.
-use Rattle.std.proofs.Common.{◌≡◌, ◌≤◌, ◌<◌, ◌^◌, ◌%◌, ℕ, zero, suc, ◌+◌, List, [], ◌∷◌, ◌++◌, length, map, codes, decimal, Some, None, Result, Ok, Err, refl, ap, sym, ◌∙◌, arith, append_assoc}
+use Rattle.std.proofs.Common.{◌≡◌, ◌≤◌, ◌<◌, ◌^◌, ◌%◌, ℕ, zero, suc, ◌+◌, List, [], ◌∷◌, ◌++◌, length, map, codes, decimal, None, Result, Ok, Err, refl, ap, sym, ◌∙◌, arith, append_assoc}
 use Rattle.std.proofs.lemmas.Int.{ints}
 use Rattle.std.specs.Prelude.{pos, IsUtf8}
 use Rattle.std.specs.Int.{w32, to_be_bytes}
@@ -12,7 +12,7 @@ use Rattle.std.proofs.lemmas.Bool.{le-ltb}
 use Rattle.pgw_types.specs.declared.error.PgWireError.{PgWireError}
 use Rattle.pgw_types.specs.declared.context.ProtocolVersion.{ProtocolVersion}
 use Rattle.pgw_wire.specs.declared.framing.Framing.TheVariants.{Typed}
-use Rattle.pgw_wire.specs.Framing.{encoded, header, length_field, saturated}
+use Rattle.pgw_wire.specs.Framing.{encoded, saturated}
 use Rattle.pgw_wire.specs.Reading.{◌>>=◌}
 use Rattle.pgw_wire.specs.Writing.{i16, u32}
 use Rattle.pgw_startup.specs.declared.authentication.Authentication.TheVariants as authentication

@@ -19,6 +19,12 @@ use std::alloc::Global;
 /// The numbers are below this.
 const MODULUS: u32 = 2147483648;
 
+/// The most bytes of a row, whose number has ten digits at most.
+const ROW: usize = 21;
+
+/// The most bytes of what stands before the rows and behind them.
+const AROUND: usize = 128;
+
 // The number behind one.
 fn next_number(number: u32) -> u32
     requires { number < 2 ^ 31 }
@@ -118,7 +124,7 @@ fn put_end(alloc: Global, out: &mut BytesMut, count: u32) -> Result<(), OutOfMem
 pub fn stream(alloc: Global, count: u32, start: u32) -> Result<BytesMut, OutOfMemory>
     ensures { IfOk result (λ out. IsStream count start out.items) }
 {
-    let mut out = BytesMut::new(alloc);
+    let mut out = BytesMut::with_capacity(alloc, AROUND + count as usize * ROW)?;
     put_beginning(alloc, &mut out)?;
     put_rows(&mut out, count, start % MODULUS)?;
     put_end(alloc, &mut out, count)?;

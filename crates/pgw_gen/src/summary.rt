@@ -3,7 +3,7 @@ ghost use Rattle.std.specs.Prelude.{◌≡◌, IfOk, OnOk};
 ghost use Rattle.std.specs.List.{flat_map};
 ghost use Rattle.pgw_gen.specs.Summary.{Adds, answer_rows, response_rows, summary_of as summary_for};
 
-use pgw_query::data::DataRow;
+use pgw_rows::data_rows::DataRows;
 use pgw_session::types::{Answer, Response, SessionReport};
 use pgw_types::memory::OutOfMemory;
 use sha2::{Digest, Sha256};
@@ -26,7 +26,7 @@ struct Sum {
 
 impl Sum {
     // Adds the rows of a result.
-    fn add_rows(&mut self, rows: &[DataRow]) -> Result<(), OutOfMemory>
+    fn add_rows(&mut self, rows: &DataRows) -> Result<(), OutOfMemory>
         ensures { OnOk result (Adds rows.now self.old self.new) }
     {
         let Some(count) = self.rows.checked_add(rows.len() as u64) else {
@@ -34,7 +34,7 @@ impl Sum {
         };
         self.rows = count;
         for row in rows {
-            self.hasher.update(row.payload.as_slice());
+            self.hasher.update(row.payload);
         }
         Ok(())
     }
@@ -44,7 +44,7 @@ impl Sum {
     {
         for response in responses {
             if let Response::Query(_tag, _fields, rows) = response {
-                self.add_rows(rows.as_slice())?;
+                self.add_rows(rows)?;
             }
         }
         Ok(())

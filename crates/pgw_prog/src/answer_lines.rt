@@ -1,6 +1,7 @@
 //! The printed lines of answers.
 ghost use Rattle.std.specs.Prelude.{◌≡◌, ◌++◌, ◌∷◌, [], OnOk, codes, decimal, ◌+◌, ◌<◌, ◌^◌};
 ghost use Rattle.std.specs.List.{flat_map};
+ghost use Rattle.pgw_rows.specs.Runs.{lent_row};
 ghost use Rattle.pgw_prog.specs.Pieces.{line_end, quoted};
 ghost use Rattle.pgw_prog.specs.AnswerLines.{tag_text, type_number, format_number, field_line, row_line, response_lines, item_line, name_text, oid_text, oids_text, rows_lines, executed_lines, told_lines, answer_lines, numbered};
 
@@ -8,8 +9,9 @@ use crate::pieces::{put, put_decimal, put_hex, put_quoted, put_signed};
 use pgw_backend::field_info::{FieldFormat, FieldInfo};
 use pgw_backend::pg_type::PgType;
 use pgw_backend::tag::Tag;
-use pgw_client::{Answer, DescribeResponse, ExecuteResult, Listed, PrepareResponse, Response};
-use pgw_query::data::DataRow;
+use pgw_client::{
+    Answer, DataRowRef, DataRows, DescribeResponse, ExecuteResult, PrepareResponse, Response,
+};
 use pgw_types::memory::OutOfMemory;
 use pgw_types::text::Text;
 
@@ -56,13 +58,13 @@ fn put_field(out: &mut Vec<u8>, field: &FieldInfo) -> Result<(), OutOfMemory>
 }
 
 #[tactic(auto, unfolding(crate::specs::AnswerLines::row_line))]
-fn put_row(out: &mut Vec<u8>, row: &DataRow) -> Result<(), OutOfMemory>
-    ensures { OnOk result (out.new.items ≡ out.old.items ++ row_line row.now) }
+fn put_row(out: &mut Vec<u8>, row: DataRowRef<'_>) -> Result<(), OutOfMemory>
+    ensures { OnOk result (out.new.items ≡ out.old.items ++ row_line (lent_row row.entry)) }
 {
     put(out, b"row ")?;
     put_signed(out, i32::from(row.field_count))?;
     put(out, b" ")?;
-    put_hex(out, row.payload.as_slice())?;
+    put_hex(out, row.payload)?;
     put(out, b"\n")
 }
 
@@ -105,7 +107,7 @@ fn put_fields(out: &mut Vec<u8>, fields: &[FieldInfo]) -> Result<(), OutOfMemory
     Ok(())
 }
 
-fn put_rows(out: &mut Vec<u8>, rows: &[DataRow]) -> Result<(), OutOfMemory>
+fn put_rows(out: &mut Vec<u8>, rows: &DataRows) -> Result<(), OutOfMemory>
     ensures { OnOk result (out.new.items ≡ out.old.items ++ flat_map row_line rows.now) }
 {
     for row in rows {
@@ -130,7 +132,7 @@ fn put_response(out: &mut Vec<u8>, response: &Response) -> Result<(), OutOfMemor
             put_quoted_tag(out, tag)?;
             put(out, b"\n")?;
             put_fields(out, fields.as_slice())?;
-            put_rows(out, rows.as_slice())
+            put_rows(out, rows)
         }
     }
 }
@@ -197,7 +199,7 @@ fn put_oids(out: &mut Vec<u8>, types: &[PgType]) -> Result<(), OutOfMemory>
     }
 }
 
-fn put_counted_rows(out: &mut Vec<u8>, word: &[u8], rows: &[DataRow]) -> Result<(), OutOfMemory>
+fn put_counted_rows(out: &mut Vec<u8>, word: &[u8], rows: &DataRows) -> Result<(), OutOfMemory>
     ensures { OnOk result (out.new.items ≡ out.old.items ++ rows_lines word.now rows.now) }
 {
     put(out, word)?;
@@ -206,15 +208,12 @@ fn put_counted_rows(out: &mut Vec<u8>, word: &[u8], rows: &[DataRow]) -> Result<
     put_rows(out, rows)
 }
 
-fn put_executed(
-    out: &mut Vec<u8>,
-    answer: &ExecuteResult<Listed<DataRow>>,
-) -> Result<(), OutOfMemory>
+fn put_executed(out: &mut Vec<u8>, answer: &ExecuteResult<DataRows>) -> Result<(), OutOfMemory>
     ensures { OnOk result (out.new.items ≡ out.old.items ++ executed_lines answer.now) }
 {
     match answer {
-        ExecuteResult::Complete(rows) => put_counted_rows(out, b" complete ", rows.as_slice()),
-        ExecuteResult::Suspended(rows) => put_counted_rows(out, b" suspended ", rows.as_slice()),
+        ExecuteResult::Complete(rows) => put_counted_rows(out, b" complete ", rows),
+        ExecuteResult::Suspended(rows) => put_counted_rows(out, b" suspended ", rows),
     }
 }
 
@@ -254,7 +253,7 @@ fn put_told(out: &mut Vec<u8>, answer: &Answer) -> Result<(), OutOfMemory>
         Answer::Executed(rows) => put_executed(out, rows),
         Answer::Described(described) => put_described(out, described),
         Answer::Closed => put(out, b" closed\n"),
-        Answer::Rows(rows) => put_counted_rows(out, b" rows ", rows.as_slice()),
+        Answer::Rows(rows) => put_counted_rows(out, b" rows ", rows),
         Answer::Remote(error) => {
             put(out, b" remote\n")?;
             put_items(out, error.fields.as_slice())

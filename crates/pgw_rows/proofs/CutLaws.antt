@@ -1,10 +1,10 @@
 -- Values stand where their lengths say.
-use Rattle.std.proofs.Common.{◌≡◌, ℕ, ℤ, pos, negsuc, ◌+◌, ◌-◌, ◌<◌, ◌≤◌, ltb, false, true, List, length, take, drop, nat_abs, Some, None, Ok, refl, sym, ap, arith}
+use Rattle.std.proofs.Common.{◌≡◌, ℕ, ℤ, pos, negsuc, ◌+◌, ◌-◌, ◌<◌, ◌≤◌, ltb, false, true, List, length, take, drop, nat_abs, Some, None, Ok, refl, sym, ap, ◌∙◌, arith}
 use Rattle.std.specs.Prelude.{slice_range}
 use Rattle.std.specs.Int.{w32}
 use Rattle.std.proofs.Math.Seq.{take-length}
 use Rattle.std.proofs.lemmas.Bool.{lt-ltb, le-ltb, ltb-true}
-use Rattle.std.proofs.lemmas.List.{drop-drop, length-drop}
+use Rattle.std.proofs.lemmas.List.{drop-drop, drop-take, length-drop, take-take}
 use Rattle.std.proofs.lemmas.Int.{to_z-of_z}
 use lib.Signed.{lt_z}
 use mir.Val.{SFits, to_z, of_z}
@@ -38,3 +38,14 @@ value_whole row at n e h =
     let cut : take n (drop 4 (drop at row)) ≡ slice_range row (at + 4) (at + 4 + n) = rw drop-drop (ap (λ (k : ℕ). take k (drop (at + 4) row)) (omega arith)) in
     let rest : drop n (drop 4 (drop at row)) ≡ drop (at + 4 + n) row = rw (drop-drop, drop-drop) (ap (λ (k : ℕ). drop k row) (omega arith)) in
     rw (e, le-ltb _ _ h, cut, rest) refl
+
+-- ---- rows that are the front of some bytes
+
+pub cut_within : (bytes : List ℕ) (end from to : ℕ) → from ≤ to → to ≤ end → slice_range (take end bytes) from to ≡ slice_range bytes from to
+cut_within bytes end from to ordered within =
+    let parts : end ≡ from + (end - from) = omega (arith, ordered, within) in
+    ap (λ (k : ℕ). take (to - from) (drop from (take k bytes))) parts ∙ ap (take (to - from)) (drop-take from (end - from) bytes) ∙ take-take (to - from) (end - from) (drop from bytes) (omega (arith, ordered, within))
+
+-- the bytes behind a place of a front
+pub front_from : (bytes : List ℕ) (from to : ℕ) → from ≤ to → drop from (take to bytes) ≡ slice_range bytes from to
+front_from bytes from to ordered = ap (λ (k : ℕ). drop from (take k bytes)) (omega (arith, ordered)) ∙ drop-take from (to - from) bytes

@@ -1,3 +1,5 @@
-pub mod Values
 pub mod Rows
+pub mod Runs
+pub mod Values
 pub mod Cuts
+pub mod Unread

@@ -1,5 +1,5 @@
 //! Where values stand in a row.
-ghost use Rattle.std.specs.Prelude.{◌≡◌, ◌⊎◌, ◌≤◌, length, IfSome};
+ghost use Rattle.std.specs.Prelude.{◌≡◌, ◌⊎◌, ◌≤◌, length, take, IfSome};
 ghost use Rattle.std.specs.Option.{option_copied, option_map};
 ghost use Rattle.pgw_rows.specs.Cuts.{HasLength, IsIn, Locates, Passes, cut_of};
 ghost use Rattle.pgw_rows.specs.Rows.{Gives, read_by};
@@ -48,7 +48,7 @@ pub struct Cut {
 /// Passes a value over, and answers where its bytes stand, or none for NULL.
 pub fn pass(
     fields: &[FieldInfo],
-    row: &Octets,
+    row: &[u8],
     passed: &mut usize,
     at: &mut usize,
 ) -> PgWireClientResult<Option<Cut>>
@@ -58,7 +58,7 @@ pub fn pass(
     if *passed >= fields.len() {
         return Err(PgWireClientError::DataRowIndexOutOfBounds);
     }
-    match locate(row.as_slice(), *at) {
+    match locate(row, *at) {
         None => Err(PgWireClientError::DataRowIndexOutOfBounds),
         Some(None) => {
             *passed += 1;
@@ -85,20 +85,22 @@ pub fn cut_out(row: &[u8], cut: Option<Cut>) -> Option<&[u8]>
     }
 }
 
-/// Reads the bytes that stand there, in the format of their column.
+/// Reads the bytes that stand there in a row, which is the front of some bytes, in the format of their column.
 pub fn read_value<T: FromSql + FromSqlText>(
     alloc: Global,
     field: &FieldInfo,
-    row: &Octets,
+    bytes: &Octets,
+    end: usize,
     cut: Cut,
 ) -> PgWireClientResult<T>
-    requires { IsIn row.now cut }
-    ensures { Gives (T.FromSql.may_lack ⊎ T.FromSqlText.may_lack) (read_by T.of_binary T.of_text field.now (cut_of row.now cut)) result }
+    requires within { end ≤ length bytes.now }
+    requires in_row { IsIn (take end bytes.now) cut }
+    ensures { Gives (T.FromSql.may_lack ⊎ T.FromSqlText.may_lack) (read_by T.of_binary T.of_text field.now (cut_of (take end bytes.now) cut)) result }
 {
     match field.format {
-        FieldFormat::Binary => T::from_row(alloc, &field.datatype, row, cut.from, cut.to),
+        FieldFormat::Binary => T::from_row(alloc, &field.datatype, bytes, cut.from, cut.to),
         FieldFormat::Text => {
-            T::from_sql_text(alloc, &field.datatype, &row.as_slice()[cut.from..cut.to])
+            T::from_sql_text(alloc, &field.datatype, &bytes.as_slice()[cut.from..cut.to])
         }
     }
 }

@@ -1,12 +1,14 @@
 //! A row, read value by value.
-ghost use Rattle.std.specs.Prelude.{◌≡◌, ◌⊎◌, ◌==◌, length};
+ghost use Rattle.std.specs.Prelude.{◌≡◌, ◌⊎◌, ◌≤◌, ◌==◌, length, slice_range};
 ghost use Rattle.pgw_rows.specs.Rows.{Answers, IsLent, lent, read_by, row_start, standing_at};
 
 use crate::cut::{cut_out, pass, read_value};
 use crate::from_sql::{FromSql, FromSqlText};
+use crate::source::Source;
 use pgw_backend::client_error::PgWireClientResult;
 use pgw_backend::field_info::FieldInfo;
 use pgw_query::data::DataRow;
+use pgw_types::octets::Octets;
 use std::alloc::Global;
 use std::marker::Model;
 
@@ -14,20 +16,22 @@ use std::marker::Model;
 #[derive(Drop)]
 pub struct DataRowDecoder<'a> {
     fields: &'a [FieldInfo],
-    row: DataRow,
+    source: Source<'a>,
     passed: usize,
     at: usize,
+    end: usize,
 }
 
 impl<'a> Model for DataRowDecoder<'a> {
-    ghost use Rattle.std.specs.Prelude.{◌≤◌, drop, length};
+    ghost use Rattle.std.specs.Prelude.{◌≤◌, drop, take, length};
     ghost use Rattle.pgw_rows.specs.Rows.{Place};
+    ghost use Rattle.pgw_rows.specs.Unread.{source_bytes};
 
     ghost Value = { Place };
 
-    ghost view = { λ d. record { fields = d.fields.now; passed = d.passed; bytes = drop d.at d.row.payload } };
+    ghost view = { λ d. record { fields = d.fields.now; passed = d.passed; bytes = drop d.at (take d.end (source_bytes d.source)) } };
 
-    ghost invariant = { λ d. d.at ≤ length d.row.payload };
+    ghost invariant = { λ d. (d.at ≤ d.end) × (d.end ≤ length (source_bytes d.source)) };
 }
 
 impl<'a> DataRowDecoder<'a> {
@@ -35,11 +39,33 @@ impl<'a> DataRowDecoder<'a> {
     pub fn new(fields: &'a [FieldInfo], row: DataRow) -> DataRowDecoder<'a>
         ensures { result ≡ row_start fields.now row }
     {
+        let end = row.payload.len();
         DataRowDecoder {
             fields,
-            row,
+            source: Source::Own(row.payload),
             passed: 0,
             at: 0,
+            end,
+        }
+    }
+
+    // The same of a row whose payload lies from one place of these bytes to another.
+    pub(crate) fn within(
+        fields: &'a [FieldInfo],
+        bytes: &'a Octets,
+        from: usize,
+        to: usize,
+    ) -> DataRowDecoder<'a>
+        requires ordered { from ≤ to }
+        requires within { to ≤ length bytes.now }
+        ensures { result ≡ record { fields = fields.now; passed = 0; bytes = slice_range bytes.now from to } }
+    {
+        DataRowDecoder {
+            fields,
+            source: Source::Lent(bytes),
+            passed: 0,
+            at: from,
+            end: to,
         }
     }
 
@@ -71,11 +97,17 @@ impl<'a> DataRowDecoder<'a> {
     {
         let fields = self.fields;
         let index = self.passed;
-        let row = &self.row.payload;
-        match pass(fields, row, &mut self.passed, &mut self.at) {
+        let end = self.end;
+        let bytes = self.source.octets();
+        match pass(
+            fields,
+            &bytes.as_slice()[..end],
+            &mut self.passed,
+            &mut self.at,
+        ) {
             Err(e) => Err(e),
             Ok(None) => Ok(None),
-            Ok(Some(cut)) => match read_value(alloc, &fields[index], row, cut) {
+            Ok(Some(cut)) => match read_value(alloc, &fields[index], bytes, end, cut) {
                 Ok(value) => Ok(Some(value)),
                 Err(e) => Err(e),
             },
@@ -87,12 +119,13 @@ impl<'a> DataRowDecoder<'a> {
     pub fn next_raw(&mut self) -> PgWireClientResult<Option<&[u8]>>
         ensures { IsLent (standing_at self.old) (lent result) }
     {
+        let end = self.end;
         let cut = pass(
             self.fields,
-            &self.row.payload,
+            &self.source.octets().as_slice()[..end],
             &mut self.passed,
             &mut self.at,
         )?;
-        Ok(cut_out(self.row.payload.as_slice(), cut))
+        Ok(cut_out(&self.source.octets().as_slice()[..end], cut))
     }
 }

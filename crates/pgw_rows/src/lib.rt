@@ -5,15 +5,24 @@
 #![tactic(auto)]
 
 mod cut;
+pub mod data_rows;
 pub mod decoder;
 pub mod from_sql;
 mod integers;
 pub mod laws;
 mod octets;
 pub mod result;
+pub mod row_iter;
+pub mod row_ref;
+mod run;
+mod source;
 mod text;
 mod truth;
+mod unread;
 
+pub use crate::data_rows::DataRows;
 pub use crate::decoder::DataRowDecoder;
 pub use crate::from_sql::{FromSql, FromSqlText};
 pub use crate::result::DataRowsReader;
+pub use crate::row_iter::DataRowsIter;
+pub use crate::row_ref::DataRowRef;

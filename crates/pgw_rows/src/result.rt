@@ -1,41 +1,42 @@
 //! The rows of a result.
-ghost use Rattle.std.specs.Prelude.{◌≡◌, [], slice_get};
+ghost use Rattle.std.specs.Prelude.{◌≡◌, [], slice_get, IfOk, OnErr};
 ghost use Rattle.std.specs.Option.{option_map};
 ghost use Rattle.pgw_rows.specs.Rows.{GivesFirst, row_start};
 
+use crate::data_rows::DataRows;
 use crate::decoder::DataRowDecoder;
+use crate::unread::{First, Unread};
 use pgw_backend::field_info::FieldInfo;
 use pgw_query::data::DataRow;
 use pgw_types::listed::Listed;
+use pgw_types::memory::OutOfMemory;
 use std::alloc::Global;
 use std::marker::Model;
-use std::vec;
 
 /// The rows of a result, first row first.
 #[derive(Drop)]
 pub struct DataRowsReader {
-    fields: Listed<FieldInfo>,
-    rows: vec::IntoIter<DataRow>,
+    unread: Unread,
 }
 
 impl Model for DataRowsReader {
-    ghost use Rattle.std.specs.Vec.Iter.{into_iter_items};
-    ghost use Rattle.pgw_rows.specs.Cuts.{IsIn, Locates, Passes, cut_of};
     ghost use Rattle.pgw_rows.specs.Rows.{Waiting};
+    ghost use Rattle.pgw_rows.specs.Unread.{IsUnread, unread_rows};
 
     ghost Value = { Waiting };
 
-    ghost view = { λ r. record { fields = r.fields; rows = into_iter_items r.rows } };
+    ghost view = { λ r. record { fields = r.unread.fields; rows = unread_rows r.unread } };
+
+    ghost invariant = { λ r. IsUnread r.unread };
 }
 
 impl DataRowsReader {
     /// Rows with their columns.
-    pub fn new(fields: Listed<FieldInfo>, rows: Listed<DataRow>) -> DataRowsReader
+    pub fn new(fields: Listed<FieldInfo>, rows: DataRows) -> DataRowsReader
         ensures { result ≡ record { fields = fields; rows = rows } }
     {
         DataRowsReader {
-            fields,
-            rows: rows.into_vec().into_iter(),
+            unread: Unread::over(fields, rows.into_runs()),
         }
     }
 
@@ -43,39 +44,39 @@ impl DataRowsReader {
     pub fn empty(alloc: Global) -> DataRowsReader
         ensures { result ≡ record { fields = []; rows = [] } }
     {
-        DataRowsReader::new(Listed::new(alloc), Listed::new(alloc))
+        DataRowsReader::new(Listed::new(alloc), DataRows::new(alloc))
     }
 
     /// The columns of the rows.
     pub fn fields(&self) -> &[FieldInfo]
         ensures { result.now ≡ self.now.fields }
     {
-        self.fields.as_slice()
+        self.unread.fields.as_slice()
     }
 
-    /// Takes the first of the rows that wait. It takes no memory.
-    pub fn take_row(&mut self) -> Option<DataRow>
-        ensures { GivesFirst self.old result self.new }
+    /// Takes the first of the rows that wait, as a cut of the block that it lies in: it copies no byte.
+    pub fn take_row(&mut self) -> Result<Option<DataRow>, OutOfMemory>
+        ensures first { IfOk result (λ row. GivesFirst self.old row self.new) }
+        ensures err { OnErr result (self.new ≡ self.old) }
     {
-        self.rows.next()
+        match self.unread.open() {
+            First::Nothing => Ok(None),
+            First::Alone(row) => Ok(Some(row)),
+            First::InRun => {
+                let place = self.unread.place();
+                let payload = self.unread.bytes.slice(place.from, place.to)?;
+                self.unread.pass(place);
+                Ok(Some(DataRow::new(payload, place.field_count)))
+            }
+        }
     }
 
-    /// The first of the rows that wait, to be read, which then no longer waits: `take_row`, and
+    /// The first of the rows that wait, to be read, which then no longer waits: as `take_row`, and
     /// `DataRowDecoder::new` over the row with `fields`. It takes no memory.
     pub fn next_row(&mut self) -> Option<DataRowDecoder<'_>>
         ensures { result ≡ option_map (row_start self.old.fields) (slice_get self.old.rows 0) }
     {
-        let row = self.take_row();
-        begin(self.fields.as_slice(), row)
-    }
-}
-
-// The place before the first value of a row.
-fn begin(fields: &[FieldInfo], row: Option<DataRow>) -> Option<DataRowDecoder<'_>>
-    ensures { result ≡ option_map (row_start fields.now) row }
-{
-    match row {
-        None => None,
-        Some(row) => Some(DataRowDecoder::new(fields, row)),
+        let step = self.unread.step();
+        self.unread.begin(step)
     }
 }

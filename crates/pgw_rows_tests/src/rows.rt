@@ -2,7 +2,7 @@ use pgw_backend::client_error::{PgWireClientError, PgWireClientResult};
 use pgw_backend::field_info::{FieldFormat, FieldInfo};
 use pgw_backend::pg_type::PgType;
 use pgw_query::data::DataRow;
-use pgw_rows::{DataRowDecoder, DataRowsReader};
+use pgw_rows::{DataRowDecoder, DataRows, DataRowsReader};
 use pgw_types::listed::Listed;
 use pgw_types::octets::Octets;
 use pgw_types::text::Text;
@@ -70,7 +70,7 @@ fn select_one(rt: HostRuntime) -> Result<(), Fail> {
 fn rows_in_order(rt: HostRuntime) -> Result<(), Fail> {
     let alloc = rt.alloc();
     let fields = columns(alloc, &[(PgType::Int2, FieldFormat::Binary)])?;
-    let mut rows = Listed::new(alloc);
+    let mut rows = DataRows::new(alloc);
     for number in [1_u8, 2, 3] {
         rows.push(row(alloc, &[0, 0, 0, 2, 0, number])?)?;
     }
@@ -84,6 +84,113 @@ fn rows_in_order(rt: HostRuntime) -> Result<(), Fail> {
     assert!(rt; reader.next_row().is_none());
     let mut reader = DataRowsReader::empty(alloc);
     assert!(rt; reader.next_row().is_none());
+    Ok(())
+}
+
+/// Two rows of one value and one without, and the beginning of a message that is no row, since its length ends before the
+/// number of values does.
+const FRONT: &[u8] =
+    b"D\0\0\0\x0b\0\x01\0\0\0\x011D\0\0\0\x0b\0\x01\0\0\0\x012D\0\0\0\x06\0\0D\0\0\0\x05\0\0";
+
+// A row that is pushed, and behind it those of the front.
+fn some_rows(alloc: Global) -> Result<DataRows, Fail> {
+    let mut rows = DataRows::new(alloc);
+    rows.push(row(alloc, b"\0\0\0\x010")?)?;
+    let mut bytes = Octets::from_slice(alloc, FRONT)?;
+    if rows.take_front(&mut bytes)? != 3 || bytes.as_slice() != b"D\0\0\0\x05\0\0".as_slice() {
+        return Err(Fail::from("other rows"));
+    }
+    Ok(rows)
+}
+
+/// The rows of `some_rows`: how many values each has, and its payload.
+const LENT: &[(i16, &[u8])] = &[
+    (1, b"\0\0\0\x010"),
+    (1, b"\0\0\0\x011"),
+    (1, b"\0\0\0\x012"),
+    (0, b""),
+];
+
+#[test]
+fn rows_are_lent(rt: HostRuntime) -> Result<(), Fail> {
+    let alloc = rt.alloc();
+    let rows = some_rows(alloc)?;
+    assert_eq!(rt; (rows.len(), rows.is_empty()), (4, false));
+    let mut lent = rows.iter();
+    for (field_count, payload) in LENT {
+        let row = lent.next().ok_or("no row")?;
+        assert_eq!(rt; row.field_count, *field_count);
+        assert_eq!(rt; row.payload, *payload);
+    }
+    assert!(rt; lent.next().is_none());
+    Ok(())
+}
+
+#[test]
+fn rows_are_taken(rt: HostRuntime) -> Result<(), Fail> {
+    let alloc = rt.alloc();
+    let mut rows = DataRows::new(alloc);
+    rows.push(row(alloc, b"\0\0\0\x01a")?)?;
+    rows.append(some_rows(alloc)?)?;
+    let mut reader = DataRowsReader::new(Listed::new(alloc), rows);
+    for want in [
+        b"\0\0\0\x01a",
+        b"\0\0\0\x010",
+        b"\0\0\0\x011",
+        b"\0\0\0\x012",
+    ] {
+        let row = reader.take_row()?.ok_or("no row")?;
+        assert_eq!(rt;
+            (row.field_count, row.payload.as_slice()),
+            (1, want.as_slice())
+        );
+    }
+    let row = reader.take_row()?.ok_or("no row")?;
+    assert_eq!(rt; (row.field_count, row.payload.is_empty()), (0, true));
+    assert!(rt; reader.take_row()?.is_none());
+    Ok(())
+}
+
+// A row of a run is let go once it is given, and ends where it does in the run.
+#[test]
+fn rows_of_a_run_in_order(rt: HostRuntime) -> Result<(), Fail> {
+    let alloc = rt.alloc();
+    let fields = columns(alloc, &[(PgType::Int4, FieldFormat::Text); 2])?;
+    let mut reader = DataRowsReader::new(fields, some_rows(alloc)?);
+    for number in [Some(0_i32), Some(1), Some(2), None] {
+        let Some(mut decoder) = reader.next_row() else {
+            return Err(Fail::from("no row"));
+        };
+        let read = decoder.next_value::<i32>(alloc);
+        assert_eq!(rt; read.ok().flatten(), number);
+        assert!(rt; decoder.next_value::<i32>(alloc).is_err());
+    }
+    assert!(rt; reader.next_row().is_none());
+    Ok(())
+}
+
+/// Bytes, how many rows stand whole at their front, and how many bytes are left.
+const FRONTS: &[(&[u8], usize, usize)] = &[
+    (b"", 0, 0),
+    (b"D\0\0\0\x06\0", 0, 6),
+    (b"D\0\0\0\x06\0\0", 1, 0),
+    (b"E\0\0\0\x06\0\0", 0, 7),
+    (b"D\0\0\0\x05\0\0", 0, 7),
+    (b"D\0\0\0\x07\0\0", 0, 7),
+    (b"D\x80\0\0\x06\0\0", 0, 7),
+    (b"D\xff\xff\xff\xff\0\0", 0, 7),
+    (b"D\0\0\0\x06\0\x01D\0\0\0\x06\0\x02D", 2, 1),
+];
+
+#[test]
+fn rows_at_fronts(rt: HostRuntime) -> Result<(), Fail> {
+    let alloc = rt.alloc();
+    for (front, count, left) in FRONTS {
+        let mut bytes = Octets::from_slice(alloc, front)?;
+        let mut rows = DataRows::new(alloc);
+        assert_eq!(rt; rows.take_front(&mut bytes)?, *count);
+        assert_eq!(rt; (rows.len(), bytes.len()), (*count, *left));
+    }
     Ok(())
 }
 

@@ -3,15 +3,15 @@
 use crate::types::{ExecuteResult, Response};
 use pgw_backend::field_info::FieldInfo;
 use pgw_backend::pg_type::PgType;
-use pgw_query::data::DataRow;
 use pgw_query::response::ErrorResponse;
+use pgw_rows::data_rows::DataRows;
 use pgw_types::listed::Listed;
 
 /// A result whose rows are still coming.
 #[derive(Debug, Drop)]
 pub struct Opened {
     pub fields: Listed<FieldInfo>,
-    pub rows: Listed<DataRow>,
+    pub rows: DataRows,
 }
 
 /// What a request gave so far.
@@ -24,9 +24,9 @@ pub struct Tally {
     /// The parameters described last.
     pub param_types: Listed<PgType>,
     /// How the portal first ended, with its rows up to then.
-    pub executed: Option<ExecuteResult<Listed<DataRow>>>,
+    pub executed: Option<ExecuteResult<DataRows>>,
     /// The rows since then, of no described result.
-    pub rows: Listed<DataRow>,
+    pub rows: DataRows,
     /// The segment's first error.
     pub remote: Option<ErrorResponse>,
 }

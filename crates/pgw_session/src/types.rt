@@ -6,11 +6,11 @@ ghost use Rattle.pgw_wire.specs.Reading.{name_of};
 use pgw_backend::field_info::FieldInfo;
 use pgw_backend::pg_type::PgType;
 use pgw_backend::tag::Tag;
-use pgw_query::data::DataRow;
 use pgw_query::response::{ErrorResponse, TransactionStatus};
+use pgw_rows::data_rows::DataRows;
 use pgw_rows::result::DataRowsReader;
 use pgw_types::context::ProtocolVersion;
-use pgw_types::listed::Listed;
+use pgw_types::listed::{Duplicate, Listed};
 use pgw_types::memory::OutOfMemory;
 use pgw_types::octets::Octets;
 use pgw_types::text::Text;
@@ -131,7 +131,7 @@ impl Request {
 pub enum Response {
     EmptyQuery,
     /// The rows of a result, with its columns and its command tag.
-    Query(Tag, Listed<FieldInfo>, Listed<DataRow>),
+    Query(Tag, Listed<FieldInfo>, DataRows),
     /// The tag of a command without rows.
     Execution(Tag),
 }
@@ -158,6 +158,15 @@ pub struct PrepareResponse {
     pub param_types: Listed<PgType>,
 }
 
+impl Duplicate for PrepareResponse {
+    fn duplicate(&self) -> Result<PrepareResponse, OutOfMemory> {
+        Ok(PrepareResponse {
+            name: self.name.duplicate()?,
+            param_types: self.param_types.duplicate()?,
+        })
+    }
+}
+
 /// What was described.
 #[derive(Debug, Drop)]
 pub struct DescribeResponse {
@@ -178,10 +187,10 @@ pub enum Answer {
     Responses(Listed<Response>),
     Prepared(PrepareResponse),
     Bound,
-    Executed(ExecuteResult<Listed<DataRow>>),
+    Executed(ExecuteResult<DataRows>),
     Described(DescribeResponse),
     Closed,
-    Rows(Listed<DataRow>),
+    Rows(DataRows),
     /// The server's error; the connection stays usable.
     Remote(ErrorResponse),
 }

@@ -121,8 +121,8 @@ fn held(alloc: Global, case: &Case<'_>, cut: usize) -> Result<(Vec<u8>, SessionR
 fn answered(answer: &Answer) -> (&'static str, usize) {
     match answer {
         Answer::Responses(responses) => ("responses", responses.as_slice().len()),
-        Answer::Executed(ExecuteResult::Complete(rows)) => ("complete", rows.as_slice().len()),
-        Answer::Executed(ExecuteResult::Suspended(rows)) => ("suspended", rows.as_slice().len()),
+        Answer::Executed(ExecuteResult::Complete(rows)) => ("complete", rows.len()),
+        Answer::Executed(ExecuteResult::Suspended(rows)) => ("suspended", rows.len()),
         Answer::Remote(_) => ("remote", 0),
         _ => ("another", 0),
     }

@@ -1,4 +1,4 @@
-use Rattle.std.proofs.Common.{◌≡◌, ◌++◌, ◌∷◌, [], List, ℕ, decimal, ap, ◌∙◌, arith}
+use Rattle.std.proofs.Common.{decimal, ◌∙◌, arith}
 use Rattle.pgw_gen.proofs.StreamLaws.{puts_row, row_parts}
 use Rattle.pgw_gen.proofs.stream.put_row.Goals as goal
 

@@ -1,4 +1,4 @@
-use Rattle.std.proofs.Common.{◌≡◌, ◌-◌, suc, subst, arith, refl}
+use Rattle.std.proofs.Common.{◌≡◌, ◌-◌, subst, arith}
 use Rattle.pgw_gen.proofs.StreamLaws.{PutSome, put_all, put_none, put_one}
 use Rattle.pgw_gen.proofs.stream.put_rows.Goals as goal
 

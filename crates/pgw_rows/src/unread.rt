@@ -1,0 +1,153 @@
+//! Rows that wait to be read.
+ghost use Rattle.std.specs.Prelude.{◌≡◌, ◌<◌};
+ghost use Rattle.pgw_rows.specs.Runs.{AreRuns, rows_of};
+ghost use Rattle.std.specs.Option.{option_map};
+ghost use Rattle.pgw_rows.specs.Rows.{row_start};
+ghost use Rattle.pgw_rows.specs.Unread.{IsPlace, IsUnread, IsWithin, Opens, PassesRow, Steps, stepped, unread_rows};
+
+use crate::decoder::DataRowDecoder;
+use crate::run::{HEAD, Run, head_of};
+use bytes::Bytes;
+use pgw_backend::field_info::FieldInfo;
+use pgw_query::data::DataRow;
+use pgw_types::listed::Listed;
+use pgw_types::octets::Octets;
+use std::vec;
+
+/// Rows that wait to be read, with their columns: those of a run behind a place, and those of other runs.
+#[derive(Drop)]
+pub struct Unread {
+    pub fields: Listed<FieldInfo>,
+    pub bytes: Octets,
+    pub at: usize,
+    pub left: usize,
+    pub runs: vec::IntoIter<Run>,
+}
+
+/// What comes first of them.
+#[derive(Drop)]
+pub enum First {
+    Nothing,
+    /// A row alone, which no longer waits.
+    Alone(DataRow),
+    /// The row at the place in the run, which still waits.
+    InRun,
+}
+
+/// What came first of them, and no longer waits.
+#[derive(Drop)]
+pub enum Step {
+    Nothing,
+    Alone(DataRow),
+    InRun(RowPlace),
+}
+
+/// Where a row's payload lies, and how many values it has.
+#[derive(Clone, Copy)]
+pub struct RowPlace {
+    pub field_count: i16,
+    pub from: usize,
+    pub to: usize,
+}
+
+impl Unread {
+    /// The rows of some runs.
+    pub fn over(fields: Listed<FieldInfo>, runs: Vec<Run>) -> Unread
+        requires { AreRuns runs.items }
+        ensures columns { result.fields ≡ fields }
+        ensures rows { unread_rows result ≡ rows_of runs.items }
+        ensures are { IsUnread result }
+    {
+        Unread {
+            fields,
+            bytes: Octets::from_bytes(Bytes::new()),
+            at: 0,
+            left: 0,
+            runs: runs.into_iter(),
+        }
+    }
+
+    /// Looks what comes first, and opens the next run where none is open.
+    pub fn open(&mut self) -> First
+        requires { IsUnread self.old }
+        ensures are { IsUnread self.new }
+        ensures columns { self.new.fields ≡ self.old.fields }
+        ensures first { Opens self.old self.new result }
+    {
+        if self.left > 0 {
+            return First::InRun;
+        }
+        match self.runs.next() {
+            None => First::Nothing,
+            Some(Run::Row(row)) => First::Alone(row),
+            Some(Run::Messages(count, bytes)) => {
+                self.bytes = bytes;
+                self.at = 0;
+                self.left = count;
+                First::InRun
+            }
+        }
+    }
+
+    /// Where the first row of the run lies.
+    pub fn place(&self) -> RowPlace
+        requires are { IsUnread self.now }
+        requires some { 0 < self.now.left }
+        ensures { IsPlace self.now result }
+    {
+        let head = head_of(&self.bytes.as_slice()[self.at..]);
+        RowPlace {
+            field_count: head.field_count,
+            from: self.at + HEAD,
+            to: self.at + head.end,
+        }
+    }
+
+    /// Passes the first row of the run over.
+    pub fn pass(&mut self, place: RowPlace)
+        requires are { IsUnread self.old }
+        requires some { 0 < self.old.left }
+        requires place { IsPlace self.old place }
+        ensures columns { self.new.fields ≡ self.old.fields }
+        ensures passed { PassesRow self.old place self.new }
+    {
+        self.at = place.to;
+        self.left -= 1;
+    }
+
+    /// Passes what comes first over.
+    pub fn step(&mut self) -> Step
+        requires { IsUnread self.old }
+        ensures are { IsUnread self.new }
+        ensures columns { self.new.fields ≡ self.old.fields }
+        ensures step { Steps self.old self.new result }
+        ensures within { IsWithin self.new.bytes result }
+    {
+        match self.open() {
+            First::Nothing => Step::Nothing,
+            First::Alone(row) => Step::Alone(row),
+            First::InRun => {
+                let place = self.place();
+                self.pass(place);
+                Step::InRun(place)
+            }
+        }
+    }
+
+    /// The place before the first value of a row that was passed over.
+    pub fn begin(&self, step: Step) -> Option<DataRowDecoder<'_>>
+        requires { IsWithin self.now.bytes step }
+        ensures { result ≡ option_map (row_start self.now.fields) (stepped self.now.bytes step) }
+    {
+        match step {
+            Step::Nothing => None,
+            Step::Alone(row) => Some(DataRowDecoder::new(self.fields.as_slice(), row)),
+            Step::InRun(place) => Some(DataRowDecoder::within(
+                self.fields.as_slice(),
+                &self.bytes,
+                place.from,
+                place.to,
+            )),
+        }
+    }
+}
