@@ -4,9 +4,10 @@
 # plant: wrong bodies that a crate's contracts let through (make plant CRATE=pgw_wire).
 SHELL = /bin/bash
 PROGRAM = crates/hothummei/out/hothummei
+VISIT = crates/hothummei_visit/out/hothummei_visit
 LOG = build.log
 
-.PHONY: try run install test program live fmt plant needs-rt
+.PHONY: try run install test program visit live fmt plant needs-rt
 
 needs-rt:
 	@command -v rt > /dev/null || { echo "rt is not in the PATH: install the Rattle kit that README.md names, and put its folder bin into the PATH" >&2; exit 1; }
@@ -32,8 +33,11 @@ test: needs-rt
 program: needs-rt
 	@(cd crates/hothummei && rt run -- --version > ../../$(LOG) 2>&1) || { echo "make program: the build failed, see $(LOG)" >&2; exit 1; }
 
-live: program
-	@live/run $(PROGRAM)
+visit: needs-rt
+	@(cd crates/hothummei_visit && rt run >> ../../$(LOG) 2>&1) || { echo "make visit: the build failed, see $(LOG)" >&2; exit 1; }
+
+live: program visit
+	@live/run $(PROGRAM) $(VISIT)
 
 fmt:
 	@for crate in crates/*/; do (cd $$crate && rt fmt) || exit 1; done

@@ -1,5 +1,5 @@
 -- What a handler of a login means.
-use Rattle.std.specs.Prelude.{◌≡◌, Option, Some, None, Ok}
+use Rattle.std.specs.Prelude.{◌≡◌, Bool, true, false, not, Option, Some, None, Result, Ok, Err}
 use Rattle.pgw_types.specs.declared.context.ProtocolVersion.{ProtocolVersion}
 use Rattle.pgw_startup.specs.declared.authentication.Authentication.{Authentication}
 use Rattle.pgw_startup.specs.declared.negotiate.NegotiateProtocolVersion.{NegotiateProtocolVersion}
@@ -9,6 +9,7 @@ use Rattle.pgw_startup.specs.Negotiate.{negotiated_version}
 use Rattle.pgw_query.specs.declared.response.ReadyForQuery.{ReadyForQuery}
 use Rattle.pgw_backend.specs.declared.backend.PgWireBackendMessage.{PgWireBackendMessage as Backend}
 use Rattle.pgw_backend.specs.declared.backend.PgWireBackendMessage.TheVariants as backend
+use Rattle.pgw_backend.specs.declared.client_error.PgWireClientError.{PgWireClientError as ClientError}
 use Rattle.pgw_backend.specs.declared.client_error.PgWireClientError.TheVariants as client
 use Rattle.pgw_backend.specs.ClientError.{IsUnexpected}
 use Rattle.pgw_handlers.specs.declared.client_info.ReadyState.TheVariants.{Pending}
@@ -33,13 +34,32 @@ SettlesBy None m before after answer = Refuses (IsUnexpected (backend.NegotiateP
 abbrev pub Settles : {H A : Type 0} → NegotiateProtocolVersion → Standing H → Standing H → Answer A → Type 0
 Settles m before after answer = SettlesBy (negotiated_version m.newest_minor_protocol) m before after answer
 
--- what it is to hear a message: its function is called, and behind ReadyForQuery with the status set
-abbrev pub HeardAtStartup : {H : Type 0} → (Standing H → StartupCall → Standing H → Answer ServerInformation → Type 0) → Standing H → Backend → Standing H → Answer ServerInformation → Type 0
-HeardAtStartup M before (backend.Authentication m) after answer = M before (on_authentication m) after answer
-HeardAtStartup M before (backend.NegotiateProtocolVersion m) after answer = M before (on_negotiate_protocol_version m) after answer
-HeardAtStartup M before (backend.ParameterStatus m) after answer = M before (on_parameter_status m) after answer
-HeardAtStartup M before (backend.BackendKeyData m) after answer = M before (on_backend_key m) after answer
-HeardAtStartup M before (backend.ReadyForQuery m) after answer = M (standing before.handler (with_status m.status before.sight)) (on_ready_for_query m) after answer
-HeardAtStartup M before (backend.ErrorResponse m) after answer = Refuses (λ e. e ≡ client.RemoteError m) before after answer
-HeardAtStartup M before (backend.NoticeResponse m) after answer = Passes before after answer
-HeardAtStartup M before m after answer = Refuses (IsUnexpected m) before after answer
+-- within a login exchange a server says what the exchange consists of, or an error, and nothing else
+abbrev pub may_come : Bool → Backend → Bool
+may_come in_exchange (backend.Authentication m) = true
+may_come in_exchange (backend.ErrorResponse m) = true
+may_come in_exchange m = not in_exchange
+
+-- the message is given back where it may come
+abbrev pub IsAdmitted : Bool → Backend → Result Backend ClientError → Type 0
+IsAdmitted in_exchange m (Ok same) = (same ≡ m) × (may_come in_exchange m ≡ true)
+IsAdmitted in_exchange m (Err e) = IsUnexpected m e × (may_come in_exchange m ≡ false)
+
+-- a message has its function, which is called, and behind ReadyForQuery with the status set
+abbrev pub Hears : {H : Type 0} → (Standing H → StartupCall → Standing H → Answer ServerInformation → Type 0) → Standing H → Backend → Standing H → Answer ServerInformation → Type 0
+Hears M before (backend.Authentication m) after answer = M before (on_authentication m) after answer
+Hears M before (backend.NegotiateProtocolVersion m) after answer = M before (on_negotiate_protocol_version m) after answer
+Hears M before (backend.ParameterStatus m) after answer = M before (on_parameter_status m) after answer
+Hears M before (backend.BackendKeyData m) after answer = M before (on_backend_key m) after answer
+Hears M before (backend.ReadyForQuery m) after answer = M (standing before.handler (with_status m.status before.sight)) (on_ready_for_query m) after answer
+Hears M before (backend.ErrorResponse m) after answer = Refuses (λ e. e ≡ client.RemoteError m) before after answer
+Hears M before (backend.NoticeResponse m) after answer = Passes before after answer
+Hears M before m after answer = Refuses (IsUnexpected m) before after answer
+
+abbrev pub HearsIf : {H : Type 0} → Bool → (Standing H → StartupCall → Standing H → Answer ServerInformation → Type 0) → Standing H → Backend → Standing H → Answer ServerInformation → Type 0
+HearsIf true M before m after answer = Hears M before m after answer
+HearsIf false M before m after answer = Refuses (IsUnexpected m) before after answer
+
+-- what it is to hear a message, by whether the handler is in an exchange: it has its function, or may not come
+abbrev pub HeardAtStartup : {H : Type 0} → (H → Bool) → (Standing H → StartupCall → Standing H → Answer ServerInformation → Type 0) → Standing H → Backend → Standing H → Answer ServerInformation → Type 0
+HeardAtStartup exchanges M before m after answer = HearsIf (may_come (exchanges before.handler) m) M before m after answer

@@ -19,7 +19,7 @@ use std::alloc::Global;
 
 /// Sends the messages of extended queries, and makes something of what the server answers them with.
 pub trait ExtendedQueryHandler {
-    type QueryResponse;
+    type QueryResponse: Drop;
 
     /// What the handler does: a call leads from one standing to another, and gives the reply.
     ghost means: { Standing Self → ExtendedCall → Standing Self → Reply Self.QueryResponse → Type 0 };

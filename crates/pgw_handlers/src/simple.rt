@@ -17,7 +17,7 @@ use std::alloc::Global;
 
 /// Asks a simple query, and makes responses of the server's messages up to ReadyForQuery.
 pub trait SimpleQueryHandler {
-    type QueryResponse;
+    type QueryResponse: Drop;
 
     /// What the handler does: a call leads from one standing to another, and gives the answer.
     ghost means: { Standing Self → SimpleCall → Standing Self → Answer (List Self.QueryResponse) → Type 0 };

@@ -1,12 +1,12 @@
 //! What a client logs in by.
-ghost use Rattle.std.specs.Prelude.{◌≡◌, IfOk};
+ghost use Rattle.std.specs.Prelude.{◌≡◌, Bool, IfOk};
 ghost use Rattle.pgw_startup.specs.declared.negotiate.NegotiateProtocolVersion.{NegotiateProtocolVersion as TheOffer};
 ghost use Rattle.pgw_startup.specs.declared.parameter_status.ParameterStatus.{ParameterStatus as TheStatus};
 ghost use Rattle.pgw_handlers.specs.declared.client_info.ServerInformation.{ServerInformation as TheInformation};
 ghost use Rattle.pgw_handlers.specs.Handling.{Standing, standing, Answer, pending, ready, EndsAtReady, Keeps, HasCause};
 ghost use Rattle.pgw_handlers.specs.Startup.{StartupCall, startup, on_authentication, on_negotiate_protocol_version, on_parameter_status, on_backend_key, on_ready_for_query, Settles, HeardAtStartup};
 
-use crate::causes::misplaced;
+use crate::causes::{admitted, misplaced};
 use crate::client_info::{ClientInfo, ReadyState, ServerInformation};
 use crate::outgoing::Outgoing;
 use pgw_backend::backend::PgWireBackendMessage;
@@ -23,6 +23,12 @@ pub trait StartupHandler {
     /// What the handler does: a call leads from one standing to another, and gives the answer.
     ghost means: { Standing Self → StartupCall → Standing Self → Answer TheInformation → Type 0 };
 
+    /// Whether the handler is within a login exchange, where a server says nothing else than the next of it.
+    ghost exchanges: { Self → Bool };
+
+    fn in_exchange(&self) -> bool
+        ensures { result ≡ exchanges self.now };
+
     /// Begins the connection.
     fn startup<C: ClientInfo + Outgoing>(
         &mut self,
@@ -34,19 +40,21 @@ pub trait StartupHandler {
         ensures rest { C.tells → C.rest client.new ≡ C.rest client.old }
         ensures cause { HasCause (C.faults client.old) (C.faults client.new) (C.sight client.new).broken result };
 
-    /// Hears a message: hands it to its function, and sets the status that a ReadyForQuery tells before that.
+    /// Hears a message: hands it to its function, and sets the status that a ReadyForQuery tells before that. Within a
+    /// login exchange only an authentication request and an error have one.
     fn on_message<C: ClientInfo + Outgoing>(
         &mut self,
         alloc: Global,
         client: &mut C,
         message: PgWireBackendMessage,
     ) -> PgWireClientResult<ReadyState<ServerInformation>>
-        ensures means { C.tells → HeardAtStartup means (standing self.old (C.sight client.old)) message (standing self.new (C.sight client.new)) result }
+        ensures means { C.tells → HeardAtStartup exchanges means (standing self.old (C.sight client.old)) message (standing self.new (C.sight client.new)) result }
         ensures ready { IfOk result (EndsAtReady message) }
         ensures own { C.own client.new ≡ C.own client.old }
         ensures rest { C.tells → C.rest client.new ≡ C.rest client.old }
         ensures cause { HasCause (C.faults client.old) (C.faults client.new) (C.sight client.new).broken result }
     {
+        let message = admitted(alloc, self.in_exchange(), message)?;
         match message {
             PgWireBackendMessage::Authentication(m) => {
                 self.on_authentication(alloc, client, m)?;

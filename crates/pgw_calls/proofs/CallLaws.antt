@@ -1,0 +1,71 @@
+-- A client's calls over a line.
+use Rattle.std.proofs.Common.{◌≡◌, ℕ, false, List, [], ◌++◌, length, Ok, refl, sym, ◌∙◌, ap, subst}
+use Rattle.pgw_config.specs.declared.config.Config.{Config}
+use Rattle.pgw_session.specs.declared.types.Request.{Request}
+use Rattle.pgw_session.specs.declared.types.Request.TheVariants as request
+use Rattle.pgw_session.specs.declared.types.Response.{Response}
+use Rattle.pgw_session.specs.declared.types.Answer.TheVariants as answer
+use Rattle.pgw_handlers.specs.declared.client_info.ServerInformation.{ServerInformation}
+use Rattle.pgw_handlers.specs.Client.{Client}
+use Rattle.pgw_handlers.specs.Simple.{HeardInQuery, simple_query}
+use Rattle.pgw_handlers.specs.Startup.{HeardAtStartup, startup}
+use Rattle.pgw_default_handlers.specs.declared.simple.DefaultSimpleQueryHandler.{DefaultSimpleQueryHandler}
+use Rattle.pgw_default_handlers.specs.declared.startup.DefaultStartupHandler.{DefaultStartupHandler}
+use Rattle.pgw_query.specs.declared.data.DataRow.{DataRow}
+use Rattle.pgw_default_handlers.specs.declared.extended.DefaultExtendedQueryHandler.{DefaultExtendedQueryHandler}
+use Rattle.pgw_default_handlers.specs.Extended.{ExtendedMeans}
+use Rattle.pgw_default_handlers.specs.Simple.{QueryMeans}
+use Rattle.pgw_default_handlers.specs.Startup.{StartupMeans, exchanges}
+use Rattle.pgw_connection.specs.Talk.{End, end, passes}
+use Rattle.pgw_connection.specs.Desk.{first_client, with_information}
+use Rattle.pgw_connection.specs.Line.{Line, Drew, Moved, Pause, IsFlushed}
+use Rattle.pgw_connection.specs.Reading.{Grew}
+use Rattle.pgw_connection.specs.Calls.{Call}
+use Rattle.pgw_connection.specs.Extended.{Finish}
+use Rattle.pgw_connection.specs.ExtendedSteps.{Called}
+use Rattle.pgw_calls.specs.Stands.{Made, Stands, StandsBehind}
+use Rattle.pgw_calls.specs.Startup.{LoggedIn}
+use Rattle.pgw_calls.specs.Extended.{IsExtended, given}
+use Rattle.pgw_calls.proofs.ExtendedLaws.{extended_call}
+use Rattle.pgw_calls.proofs.SimpleLaws.{simple_call}
+use Rattle.pgw_calls.proofs.LoginLaws.{login_call}
+use Rattle.pgw_calls.proofs.StandLaws.{stands_first, stands_more, stands_behind}
+
+pub login_stands : (config : Config) (h : DefaultStartupHandler) (old now : Line) (told : Client) (information : ServerInformation) → old.buffer ≡ [] →
+    Call (λ before after answer. StartupMeans before startup after answer) (HeardAtStartup exchanges StartupMeans) (λ e. false) h (first_client config) old now (end (Ok information) told false now.buffer) →
+    (read wrote : List ℕ) × Moved old now read wrote × (IsFlushed old → IsFlushed now) × Stands config h.nonce [] read wrote (with_information information told) now.buffer
+login_stands config h old now told information none call =
+    let l = login_call old.faults now config h (old.buffer ++ call.taken) call.sent (end (Ok information) told false now.buffer) call.asked in
+    let m : LoggedIn config h.nonce call.taken call.sent information told now.buffer = subst (λ (b : List ℕ). LoggedIn config h.nonce (b ++ call.taken) call.sent information told now.buffer) none l in
+    (call.taken, call.sent, call.moved, λ flushed. call.flushed flushed refl, stands_first config h.nonce call.taken call.sent information told now.buffer m)
+
+pub query_stands : (config : Config) (nonce : List ℕ) (ts : List Made) (read wrote : List ℕ) (q : List ℕ) (h : DefaultSimpleQueryHandler) (c : Client) (old now : Line) (last : End (List Response)) → Stands config nonce ts read wrote c old.buffer →
+    Call (λ before after answer. QueryMeans before (simple_query q) after answer) (HeardInQuery QueryMeans) passes h c old now last →
+    (more sent : List ℕ) × Moved old now more sent × (IsFlushed old → last.broken ≡ false → IsFlushed now) × StandsBehind answer.Responses config nonce ts (request.Simple q) (read ++ more) (wrote ++ sent) last.info last.rest last.answer last.broken
+query_stands config nonce ts read wrote q h c old now last stands call = (
+  call.taken,
+  call.sent,
+  call.moved,
+  call.flushed,
+  stands_behind answer.Responses (Pause old.faults now) config nonce ts (request.Simple q) read wrote call.taken call.sent c last.info old.buffer last.rest stands last.answer last.broken
+      (simple_call q old.faults now h c (old.buffer ++ call.taken) call.sent last call.asked),
+)
+
+pub extended_stands : (config : Config) (nonce : List ℕ) (ts : List Made) (read wrote : List ℕ) (q : Request) (h : DefaultExtendedQueryHandler) (c : Client) (old now : Line) (last : Finish DefaultExtendedQueryHandler DataRow) → IsExtended q → Stands config nonce ts read wrote c old.buffer →
+    Called ExtendedMeans q h c old now last →
+    (more sent : List ℕ) × Moved old now more sent × (IsFlushed old → last.broken ≡ false → IsFlushed now) × StandsBehind (given q) config nonce ts q (read ++ more) (wrote ++ sent) last.info last.rest last.answer last.broken
+extended_stands config nonce ts read wrote q h c old now last e stands call = (
+  call.taken,
+  call.sent,
+  call.moved,
+  call.flushed,
+  stands_behind (given q) (Pause old.faults now) config nonce ts q read wrote call.taken call.sent c last.info old.buffer last.rest stands last.answer last.broken
+      (extended_call q old.faults now h c (old.buffer ++ call.taken) call.sent last e call.requested),
+)
+
+pub filled_stands : (config : Config) (nonce : List ℕ) (ts : List Made) (read wrote : List ℕ) (c : Client) (old now : Line) → Stands config nonce ts read wrote c old.buffer → Grew old now →
+    (more : List ℕ) × Drew old now more × (IsFlushed old → IsFlushed now) × Stands config nonce ts (read ++ more) wrote c now.buffer
+filled_stands config nonce ts read wrote c old now stands grew =
+    let d = grew.drew in
+    let s = stands_more config nonce ts read wrote grew.piece c old.buffer stands in
+    (grew.piece, d, λ flushed. d.flushed ∙ flushed ∙ ap length (sym d.wrote), subst (Stands config nonce ts (read ++ grew.piece) wrote c) (sym grew.buffer) s)

@@ -1,0 +1,16 @@
+pub mod Openings
+pub mod Exchanges
+pub mod Came
+pub mod Tallies
+pub mod Called
+pub mod SimpleLaws
+pub mod PassedLaws
+pub mod Gathers
+pub mod ExtendedLaws
+pub mod StandLaws
+pub mod ParameterLaws
+pub mod Logins
+pub mod LoginLaws
+pub mod CallLaws
+pub mod ReportLaws
+pub mod UniqueLaws

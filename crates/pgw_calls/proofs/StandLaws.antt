@@ -1,0 +1,178 @@
+-- A call takes a client to one that stands for one request more.
+use Rattle.std.proofs.Common.{◌≡◌, ℕ, Bool, true, false, List, [], ◌∷◌, ◌++◌, map, fold, Result, Ok, Err, inl, inr, refl, sym, ◌∙◌, ap, subst, append_assoc}
+use Rattle.std.proofs.lemmas.List.{append-nil}
+use Rattle.std.proofs.lemmas.List.Sums.{fold-append}
+use Rattle.pgw_backend.specs.declared.backend.PgWireBackendMessage.{PgWireBackendMessage as Backend}
+use Rattle.pgw_backend.specs.declared.backend.PgWireBackendMessage.TheVariants as backend
+use Rattle.pgw_backend.specs.declared.client_error.PgWireClientError.{PgWireClientError as ClientError}
+use Rattle.pgw_backend.specs.declared.client_error.PgWireClientError.TheVariants as client
+use Rattle.pgw_frontend.specs.Frontend.{encodings, both}
+use Rattle.pgw_query.specs.declared.response.ReadyForQuery.{ReadyForQuery}
+use Rattle.pgw_config.specs.declared.config.Config.{Config}
+use Rattle.pgw_session.specs.declared.types.Request.{Request}
+use Rattle.pgw_session.specs.declared.types.Answer.{Answer}
+use Rattle.pgw_session.specs.declared.types.Answer.TheVariants as answer
+use Rattle.pgw_session.specs.declared.standing.Standing.{Standing}
+use Rattle.pgw_session.specs.Input.{Input}
+use Rattle.pgw_session.specs.Events.{Event, Sent, Got, sents, joined}
+use Rattle.pgw_session.specs.Standings.{first_standing, standing_at, standing_by, standing_of}
+use Rattle.pgw_session.specs.Logins.{login_events}
+use Rattle.pgw_session.specs.Segments.{IsStartupSegment, startup_message}
+use Rattle.pgw_session.specs.Transcript.{AreSegments, SpellsGot, EncodesSent}
+use Rattle.pgw_session.proofs.Grammar.{startup_same}
+use Rattle.pgw_session.proofs.Hears.{sents_append}
+use Rattle.pgw_session.proofs.Events.{encodings_append}
+use Rattle.pgw_handlers.specs.Client.{Client}
+use Rattle.pgw_calls.specs.Turns.{knowing, standing_of_client, Exchanged, Does, IsAnswered}
+use Rattle.pgw_handlers.specs.declared.client_info.ServerInformation.{ServerInformation}
+use Rattle.pgw_calls.specs.Startup.{LoggedIn}
+use Rattle.pgw_connection.specs.Desk.{with_information}
+use Rattle.pgw_calls.specs.Calls.{Comes}
+use Rattle.pgw_calls.specs.Stands.{login, Made, made, IsMade, AreMade, events_of, Stands, OneMore, StandsBehind, requests_of, segments_of, AreAnswered, IsSession}
+
+-- ---- exchanges, one behind the other
+
+spells_append : (s : Standing) (xs ys : List Event) (a b : List ℕ) → SpellsGot s xs a → SpellsGot (fold standing_at s xs) ys b → SpellsGot s (xs ++ ys) (a ++ b)
+spells_append s [] ys a b x y = subst (λ (l : List ℕ). SpellsGot s ys (l ++ b)) (sym x) y
+spells_append s (Sent m ∷ xs) ys a b x y = spells_append s xs ys a b x y
+spells_append s (Got m ∷ xs) ys a b x y = (x.0, x.1 ++ b, ap (λ (l : List ℕ). l ++ b) x.2 ∙ append_assoc x.0 x.1 b, x.3, spells_append (standing_by s m) xs ys x.1 b x.4 y)
+
+pub exchanged_append : (config : Config) (s : Standing) (read wrote more out : List ℕ) (xs ys : List Event) (c info : Client) (buffer rest : List ℕ) →
+    Exchanged config s read wrote xs c buffer → Exchanged config (fold standing_at s xs) (buffer ++ more) out ys info rest → Exchanged config s (read ++ more) (wrote ++ out) (xs ++ ys) info rest
+exchanged_append config s read wrote more out xs ys c info buffer rest x y = record {
+  spelled = x.spelled ++ y.spelled;
+  begins = ap (λ (l : List ℕ). l ++ more) x.begins ∙ append_assoc x.spelled buffer more ∙ ap (λ (l : List ℕ). x.spelled ++ l) y.begins ∙ sym (append_assoc x.spelled y.spelled rest);
+  got = spells_append s xs ys x.spelled y.spelled x.got y.got;
+  put = ap encodings (sents_append xs ys) ∙ encodings_append (sents xs) (sents ys) ∙ ap (λ o. both o (encodings (sents ys))) x.put ∙ ap (both (Ok wrote)) y.put;
+  knows = y.knows ∙ ap (knowing config) (sym (fold-append standing_at s xs ys));
+}
+
+-- more bytes alone
+pub exchanged_more : (config : Config) (s : Standing) (read wrote more : List ℕ) (es : List Event) (c : Client) (buffer : List ℕ) → Exchanged config s read wrote es c buffer → Exchanged config s (read ++ more) wrote es c (buffer ++ more)
+exchanged_more config s read wrote more es c buffer x = record {
+  spelled = x.spelled;
+  begins = ap (λ (l : List ℕ). l ++ more) x.begins ∙ append_assoc x.spelled buffer more;
+  got = x.got;
+  put = x.put;
+  knows = x.knows;
+}
+
+-- ---- behind a login
+
+settled_by : (s : Standing) (m : Backend) → s.settled ≡ true → (standing_by s m).settled ≡ true
+settled_by s (backend.NegotiateProtocolVersion m) is = rw is refl
+settled_by s (backend.BackendKeyData m) is = rw is refl
+settled_by s (backend.ReadyForQuery m) is = refl
+settled_by s m is = is
+
+settled_stays : (s : Standing) (es : List Event) → s.settled ≡ true → (fold standing_at s es).settled ≡ true
+settled_stays s [] is = is
+settled_stays s (Sent m ∷ es) is = settled_stays s es is
+settled_stays s (Got m ∷ es) is = settled_stays (standing_by s m) es (settled_by s m is)
+
+settled_ready : (s : Standing) (before : List Event) (ready : ReadyForQuery) (behind : List Event) → (fold standing_at s (before ++ Got (backend.ReadyForQuery ready) ∷ behind)).settled ≡ true
+settled_ready s before ready behind = ap (λ (r : Standing). r.settled) (fold-append standing_at s before (Got (backend.ReadyForQuery ready) ∷ behind)) ∙ settled_stays _ behind refl
+
+pub settled_startup : (input : Input) (s : Standing) (startup behind : List Event) → IsStartupSegment input startup → (fold standing_at s (startup ++ behind)).settled ≡ true
+settled_startup input s startup behind is =
+    let g = is.2 in
+    let r = g.ends in
+    let front = Sent (startup_message input) ∷ (map Got g.news ++ (login_events input g.login ++ map Got r.ms)) in
+    let whole : startup ≡ front ++ Got (backend.ReadyForQuery r.ready) ∷ [] =
+    is.1 ∙ ap (λ (l : List Event). Sent (startup_message input) ∷ l)
+    (g.are ∙ ap (λ (l : List Event). map Got g.news ++ (login_events input g.login ++ l)) r.are
+    ∙ ap (λ (l : List Event). map Got g.news ++ l) (sym (append_assoc (login_events input g.login) (map Got r.ms) (Got (backend.ReadyForQuery r.ready) ∷ [])))
+    ∙ sym (append_assoc (map Got g.news) (login_events input g.login ++ map Got r.ms) (Got (backend.ReadyForQuery r.ready) ∷ []))) in
+    ap (λ (l : List Event). (fold standing_at s (l ++ behind)).settled) whole
+    ∙ ap (λ (l : List Event). (fold standing_at s l).settled) (append_assoc front (Got (backend.ReadyForQuery r.ready) ∷ []) behind)
+    ∙ settled_ready s front r.ready behind
+
+-- what stands by a client is what it was told
+pub standing_is : (config : Config) (s : Standing) (c : Client) → c ≡ knowing config s → s.settled ≡ true → standing_of_client c ≡ s
+standing_is config s c is settled = ap standing_of_client is ∙ rw settled refl
+
+config_is : (config : Config) (s : Standing) (c : Client) → c ≡ knowing config s → c.config ≡ config
+config_is config s c is = ap (λ (x : Client). x.config) is
+
+-- ---- one request more
+
+events_more : (ts : List Made) (t : Made) → events_of (ts ++ t ∷ []) ≡ events_of ts ++ t.events
+events_more [] t = append-nil t.events
+events_more (x ∷ ts) t = ap (λ (l : List Event). x.events ++ l) (events_more ts t) ∙ sym (append_assoc x.events (events_of ts) t.events)
+
+are_more : (ts : List Made) (t : Made) → AreMade ts → IsMade t → AreMade (ts ++ t ∷ [])
+are_more [] t are is = (is, tt)
+are_more (x ∷ ts) t are is = (are.0, are_more ts t are.1 is)
+
+one_more : (config : Config) (nonce : List ℕ) (ts : List Made) (q : Request) (read wrote more out : List ℕ) (c info : Client) (buffer rest : List ℕ) (es : List Event) → Stands config nonce ts read wrote c buffer → IsMade (made q es) →
+    Exchanged c.config (standing_of_client c) (buffer ++ more) out es info rest → Stands config nonce (ts ++ made q es ∷ []) (read ++ more) (wrote ++ out) info rest
+one_more config nonce ts q read wrote more out c info buffer rest es s is x =
+    let said = s.startup ++ events_of ts in
+    let told = fold standing_at (first_standing config) said in
+    let knows : c ≡ knowing config told = s.exchanged.knows in
+    let stands : standing_of_client c ≡ told = standing_is config told c knows (settled_startup (login config nonce) (first_standing config) s.startup (events_of ts) s.begins) in
+    let y : Exchanged config told (buffer ++ more) out es info rest = subst (λ (r : Standing). Exchanged config r (buffer ++ more) out es info rest) stands (subst (λ (k : Config). Exchanged k (standing_of_client c) (buffer ++ more) out es info rest) (config_is config told c knows) x) in
+    record {
+      startup = s.startup;
+      begins = s.begins;
+      are = are_more ts (made q es) s.are is;
+      exchanged = subst (λ (l : List Event). Exchanged config (first_standing config) (read ++ more) (wrote ++ out) l info rest) (append_assoc s.startup (events_of ts) es ∙ ap (λ (l : List Event). s.startup ++ l) (sym (events_more ts (made q es))))
+          (exchanged_append config (first_standing config) read wrote more out said es c info buffer rest s.exchanged y);
+    }
+
+-- more bytes alone
+pub stands_more : (config : Config) (nonce : List ℕ) (ts : List Made) (read wrote more : List ℕ) (c : Client) (buffer : List ℕ) → Stands config nonce ts read wrote c buffer → Stands config nonce ts (read ++ more) wrote c (buffer ++ more)
+stands_more config nonce ts read wrote more c buffer s = record {
+  startup = s.startup;
+  begins = s.begins;
+  are = s.are;
+  exchanged = exchanged_more config (first_standing config) read wrote more (s.startup ++ events_of ts) c buffer s.exchanged;
+}
+
+module _ {A : Type 0} (give : A → Answer) (P : ClientError → Type 0) (config : Config) (nonce : List ℕ) (ts : List Made) (q : Request) (read wrote more out : List ℕ) (c info : Client) (buffer rest : List ℕ) (s : Stands config nonce ts read wrote c buffer) where
+  answered_behind : (a : Answer) → Does (IsAnswered q a) c (buffer ++ more) out info rest → OneMore config nonce ts q (IsAnswered q a) (read ++ more) (wrote ++ out) info rest
+  answered_behind a x = (x.0, x.1, one_more config nonce ts q read wrote more out c info buffer rest x.0 s (inl (x.1).0) x.2)
+
+  pub stands_behind : (result : Result A ClientError) (broken : Bool) → Comes give P q c (buffer ++ more) out info rest result broken → StandsBehind give config nonce ts q (read ++ more) (wrote ++ out) info rest result broken
+  stands_behind result true x = tt
+  stands_behind (Ok v) false x = answered_behind (give v) x
+  stands_behind (Err (client.RemoteError e)) false x = answered_behind (answer.Remote e) x
+  stands_behind (Err (client.UnexpectedMessage m)) false x = (x.0, x.1, one_more config nonce ts q read wrote more out c info buffer rest x.0 s (inr (m, x.1)) x.2)
+  stands_behind (Err (client.PgWireError why)) false x =
+      rw (x.1, x.2, x.3, append-nil wrote) (stands_more config nonce ts read wrote more c buffer s)
+  stands_behind (Err e) false x = absurd x
+
+-- ---- a login
+
+pub stands_first : (config : Config) (nonce bytes sent : List ℕ) (information : ServerInformation) (info : Client) (rest : List ℕ) → LoggedIn config nonce bytes sent information info rest → Stands config nonce [] bytes sent (with_information information info) rest
+stands_first config nonce bytes sent information info rest l = record {
+  startup = l.es;
+  begins = l.segment;
+  are = tt;
+  exchanged = subst (λ (es : List Event). Exchanged config (first_standing config) bytes sent es (with_information information info) rest) (sym (append-nil l.es)) l.exchanged;
+}
+
+-- ---- a session
+
+joined_is : (ts : List Made) → joined (segments_of ts) ≡ events_of ts
+joined_is [] = refl
+joined_is (t ∷ ts) = ap (λ (l : List Event). t.events ++ l) (joined_is ts)
+
+are_segments : (ts : List Made) → AreAnswered ts → AreSegments (requests_of ts) (segments_of ts)
+are_segments [] are = tt
+are_segments (t ∷ ts) are = (are.0, are_segments ts are.1)
+
+pub is_session : (config : Config) (nonce : List ℕ) (ts : List Made) (read wrote : List ℕ) (c : Client) (buffer : List ℕ) → Stands config nonce ts read wrote c buffer → AreAnswered ts → IsSession config nonce ts read wrote c buffer
+unfolding standing_of
+is_session config nonce ts read wrote c buffer s are =
+    let x = s.exchanged in
+    let whole : s.startup ++ events_of ts ≡ joined (s.startup ∷ segments_of ts) = ap (λ (l : List Event). s.startup ++ l) (sym (joined_is ts)) in
+    record {
+      startup = s.startup;
+      transcript = (startup_same (login config nonce) (requests_of ts) s.startup s.begins, are_segments ts are);
+      spelled = x.spelled;
+      begins = x.begins;
+      got = subst (λ (l : List Event). SpellsGot (first_standing config) l x.spelled) whole x.got;
+      put = subst (λ (l : List Event). EncodesSent l wrote) whole x.put;
+      knows = x.knows ∙ ap (λ (l : List Event). knowing config (fold standing_at (first_standing config) l)) whole;
+    }

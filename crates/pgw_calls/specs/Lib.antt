@@ -1,0 +1,5 @@
+pub mod Turns
+pub mod Calls
+pub mod Stands
+pub mod Startup
+pub mod Extended

@@ -1,0 +1,60 @@
+-- A client's login, by its answer.
+use Rattle.std.specs.Prelude.{◌≡◌, ◌⊎◌, ℕ, Bool, true, false, List, [], ◌∷◌, ◌++◌, None, Result, Ok, Err}
+use Rattle.pgw_types.specs.declared.error.PgWireError.{PgWireError}
+use Rattle.pgw_backend.specs.declared.client_error.PgWireClientError.{PgWireClientError as ClientError}
+use Rattle.pgw_backend.specs.declared.client_error.PgWireClientError.TheVariants as client
+use Rattle.pgw_frontend.specs.Frontend.{encodings}
+use Rattle.pgw_config.specs.declared.config.Config.{Config}
+use Rattle.pgw_session.specs.Input.{Input}
+use Rattle.pgw_session.specs.Events.{Event}
+use Rattle.pgw_session.specs.Standings.{first_standing}
+use Rattle.pgw_session.specs.Segments.{IsStartupSegment, startup_message}
+use Rattle.pgw_session.specs.Failures.{HasNoPlace, FailsAtStartup, Unreadable, Unsendable, LeftWith, WaitsStill, IsHopeless, IsUnfinished, Told}
+use Rattle.pgw_handlers.specs.declared.client_info.ServerInformation.{ServerInformation}
+use Rattle.pgw_handlers.specs.Client.{Client}
+use Rattle.pgw_connection.specs.Talk.{End}
+use Rattle.pgw_connection.specs.Desk.{first_client, with_information}
+use Rattle.pgw_calls.specs.Turns.{Exchanged}
+use Rattle.pgw_calls.specs.Stands.{login}
+
+-- The events are the startup segment. A client that is given the information knows what they tell, and the parameters of
+-- both are the same.
+pub record LoggedIn (config : Config) (nonce bytes sent : List ℕ) (information : ServerInformation) (info : Client) (rest : List ℕ) : Type 0 where
+  pub es : List Event
+  pub segment : IsStartupSegment (login config nonce) es
+  pub exchanged : Exchanged config (first_standing config) bytes sent es (with_information information info) rest
+  pub parameters : information.parameters ≡ info.parameters
+
+-- The startup message has no encoding, and nothing was done.
+abbrev pub IsUnopened : Config → List ℕ → List ℕ → List ℕ → PgWireError → Client → List ℕ → Type 0
+IsUnopened config nonce bytes sent why info rest = (encodings (startup_message (login config nonce) ∷ []) ≡ Err why) × (sent ≡ []) × (info ≡ first_client config) × (rest ≡ bytes)
+
+-- a message is next at startup for which this error stands
+abbrev pub IsRefused : Input → List ℕ → List ℕ → ClientError → Type 0
+IsRefused input bytes sent e = FailsAtStartup input bytes sent e × IsHopeless input bytes
+
+-- The cause of each error, where these bytes came and these were written. P says why no more came, or why some were not
+-- written. No other error comes.
+abbrev pub LoginFails : (ClientError → Type 0) → Input → List ℕ → List ℕ → ClientError → Type 0
+LoginFails P input bytes sent client.OutOfMemory = Unit {0}
+LoginFails P input bytes sent (client.PgWireError why) = ((Unreadable input bytes sent why ⊎ Unsendable input bytes sent why) × IsHopeless input bytes) ⊎ IsRefused input bytes sent (client.PgWireError why)
+LoginFails P input bytes sent (client.UnexpectedMessage m) = HasNoPlace input ⊥ bytes sent m × IsHopeless input bytes
+LoginFails P input bytes sent client.UnexpectedEOF = P client.UnexpectedEOF × LeftWith input bytes sent None × IsUnfinished input bytes
+LoginFails P input bytes sent client.ReadLimit = P client.ReadLimit × WaitsStill input bytes sent
+LoginFails P input bytes sent client.IoError = P client.IoError × (WaitsStill input bytes sent ⊎ ((unsent : List ℕ) × Told input bytes (sent ++ unsent)))
+LoginFails P input bytes sent (client.RemoteError e) = IsRefused input bytes sent (client.RemoteError e)
+LoginFails P input bytes sent (client.ScramError fault) = IsRefused input bytes sent (client.ScramError fault)
+LoginFails P input bytes sent (client.UnsupportedSASLAuthMethods methods) = IsRefused input bytes sent (client.UnsupportedSASLAuthMethods methods)
+LoginFails P input bytes sent (client.InvalidConfig key) = IsRefused input bytes sent (client.InvalidConfig key)
+LoginFails P input bytes sent e = ⊥
+
+abbrev pub LoginEnds : (ClientError → Type 0) → Config → List ℕ → List ℕ → List ℕ → Client → List ℕ → Result ServerInformation ClientError → Bool → Type 0
+LoginEnds P config nonce bytes sent info rest (Ok information) false = LoggedIn config nonce bytes sent information info rest
+LoginEnds P config nonce bytes sent info rest (Ok information) true = ⊥
+LoginEnds P config nonce bytes sent info rest (Err e) true = LoginFails P (login config nonce) bytes sent e
+LoginEnds P config nonce bytes sent info rest (Err (client.PgWireError why)) false = IsUnopened config nonce bytes sent why info rest
+LoginEnds P config nonce bytes sent info rest (Err e) false = ⊥
+
+-- a login came to this end
+abbrev pub LoginCall : Config → List ℕ → List ℕ → List ℕ → (ClientError → Type 0) → End ServerInformation → Type 0
+LoginCall config nonce bytes sent P end = LoginEnds P config nonce bytes sent end.info end.rest end.answer end.broken

@@ -1,0 +1,109 @@
+//! What holds of calls.
+ghost use Rattle.std.specs.Prelude.{◌≡◌, ℕ, Bool, false, Ok, List, [], ◌∷◌, ◌++◌, map};
+ghost use Rattle.pgw_backend.specs.declared.backend.PgWireBackendMessage.{PgWireBackendMessage as Backend};
+ghost use Rattle.pgw_session.specs.declared.types.Request.{Request as TheRequest};
+ghost use Rattle.pgw_session.specs.declared.stage.Role.TheVariants.{Misplaced};
+ghost use Rattle.pgw_session.specs.Events.{Event, Sent, Got};
+ghost use Rattle.pgw_session.specs.Requests.{kind_of, sends_of, role};
+ghost use Rattle.pgw_session.specs.Segments.{AreTaken, IsRequestSegment};
+ghost use Rattle.pgw_session.specs.declared.types.Response.{Response as TheResponse};
+ghost use Rattle.pgw_handlers.specs.Client.{Client};
+ghost use Rattle.pgw_handlers.specs.Simple.{HeardInQuery, simple_query};
+ghost use Rattle.pgw_default_handlers.specs.declared.simple.DefaultSimpleQueryHandler.{DefaultSimpleQueryHandler as TheHandler};
+ghost use Rattle.pgw_default_handlers.specs.Simple.{QueryMeans};
+ghost use Rattle.pgw_connection.specs.Talk.{End, end, Asked, passes};
+ghost use Rattle.pgw_connection.specs.Desk.{first_client, with_information};
+ghost use Rattle.pgw_connection.specs.Line.{Line, Drew, Moved, Pause, IsFlushed};
+ghost use Rattle.pgw_config.specs.declared.config.Config.{Config as TheConfig};
+ghost use Rattle.pgw_session.specs.declared.types.Answer.TheVariants as answer;
+ghost use Rattle.pgw_session.specs.declared.types.Request.TheVariants as request;
+ghost use Rattle.pgw_handlers.specs.declared.client_info.ServerInformation.{ServerInformation as TheInformation};
+ghost use Rattle.pgw_handlers.specs.Startup.{HeardAtStartup, startup};
+ghost use Rattle.pgw_default_handlers.specs.declared.startup.DefaultStartupHandler.{DefaultStartupHandler as TheLogin};
+ghost use Rattle.pgw_default_handlers.specs.Startup.{StartupMeans, exchanges};
+ghost use Rattle.pgw_calls.specs.Startup.{LoginCall};
+ghost use Rattle.pgw_query.specs.declared.data.DataRow.{DataRow as TheRow};
+ghost use Rattle.pgw_default_handlers.specs.declared.extended.DefaultExtendedQueryHandler.{DefaultExtendedQueryHandler as TheExtended};
+ghost use Rattle.pgw_default_handlers.specs.Extended.{ExtendedMeans};
+ghost use Rattle.pgw_connection.specs.Calls.{Call};
+ghost use Rattle.pgw_connection.specs.Reading.{Grew};
+ghost use Rattle.pgw_connection.specs.Extended.{Finish, Requested};
+ghost use Rattle.pgw_connection.specs.ExtendedSteps.{Called};
+ghost use Rattle.pgw_calls.specs.Calls.{SimpleCall, Reports};
+ghost use Rattle.pgw_calls.specs.Turns.{standing_of_client};
+ghost use Rattle.pgw_session.specs.Answers.{answer_of};
+ghost use Rattle.pgw_session.specs.Transcript.{SpellsGot};
+ghost use Rattle.pgw_calls.specs.Extended.{ExtendedCall, IsExtended, given};
+ghost use Rattle.pgw_calls.specs.Stands.{Made, Stands, StandsBehind, AreAnswered, IsSession};
+
+/// A simple query is one segment, and its answer is that of its own segment.
+pub fn simple_queries_are_segments()
+    ensures { (q : List ℕ) (before : ℕ) (now : Line) (h : TheHandler) (c : Client) (bytes sent : List ℕ) (end : End (List TheResponse)) →
+        Asked (λ old new answer. QueryMeans old (simple_query q) new answer) (HeardInQuery QueryMeans) (Pause before now) passes h c bytes sent end → SimpleCall q c bytes sent (Pause before now) end }
+{}
+
+/// A login is the startup segment, and each of its errors has the cause that it has in a session.
+pub fn logins_are_startup_segments()
+    ensures { (before : ℕ) (now : Line) (config : TheConfig) (h : TheLogin) (bytes sent : List ℕ) (end : End TheInformation) →
+        Asked (λ old new answer. StartupMeans old startup new answer) (HeardAtStartup exchanges StartupMeans) (Pause before now) (λ e. false) h (first_client config) bytes sent end → LoginCall config h.nonce bytes sent (Pause before now) end }
+{}
+
+/// Where the bytes to come begin with spellings of a segment of a simple query, the call gives that segment's answer.
+pub fn whole_segments_are_reported()
+    ensures { (q : List ℕ) (before : ℕ) (now : Line) (h : TheHandler) (c : Client) (bytes sent : List ℕ) (end : End (List TheResponse)) (es : List Event) (spelled more : List ℕ) →
+        Asked (λ old new answer. QueryMeans old (simple_query q) new answer) (HeardInQuery QueryMeans) (Pause before now) passes h c bytes sent end →
+        IsRequestSegment (request.Simple q) es → SpellsGot (standing_of_client c) es spelled → bytes ≡ spelled ++ more →
+        Reports answer.Responses (Pause before now) (request.Simple q) (answer_of (request.Simple q) es) end.answer }
+{}
+
+/// A call of extended queries is one segment, and its answer is that of its own segment.
+pub fn extended_queries_are_segments()
+    ensures { (q : TheRequest) (before : ℕ) (now : Line) (h : TheExtended) (c : Client) (bytes sent : List ℕ) (end : Finish TheExtended TheRow) → IsExtended q →
+        Requested ExtendedMeans (Pause before now) q h c bytes sent end → ExtendedCall q c bytes sent (Pause before now) end }
+{}
+
+/// Where the bytes to come begin with spellings of a segment of such a request, the call gives that segment's answer.
+pub fn whole_extended_segments_are_reported()
+    ensures { (q : TheRequest) (before : ℕ) (now : Line) (h : TheExtended) (c : Client) (bytes sent : List ℕ) (end : Finish TheExtended TheRow) (es : List Event) (spelled more : List ℕ) → IsExtended q →
+        Requested ExtendedMeans (Pause before now) q h c bytes sent end → IsRequestSegment q es → SpellsGot (standing_of_client c) es spelled → bytes ≡ spelled ++ more →
+        Reports (given q) (Pause before now) q (answer_of q es) end.answer }
+{}
+
+/// No segment of a request begins with a message that has no place behind those that are taken.
+pub fn misplaced_messages_begin_no_segment()
+    ensures { (q : TheRequest) (ms : List Backend) (behind : Bool) (m : Backend) (more : List Event) → AreTaken (kind_of q) false ms behind → role (kind_of q) behind m ≡ Misplaced →
+        IsRequestSegment q (map Sent (sends_of q) ++ (map Got ms ++ Got m ∷ more)) → ⊥ }
+{}
+
+/// A client that has logged in over a new line stands for its login alone.
+pub fn logins_begin_a_client()
+    ensures { (config : TheConfig) (h : TheLogin) (old now : Line) (told : Client) (information : TheInformation) → old.buffer ≡ [] →
+        Call (λ before after answer. StartupMeans before startup after answer) (HeardAtStartup exchanges StartupMeans) (λ e. false) h (first_client config) old now (end (Ok information) told false now.buffer) →
+        (read wrote : List ℕ) × Moved old now read wrote × (IsFlushed old → IsFlushed now) × Stands config h.nonce [] read wrote (with_information information told) now.buffer }
+{}
+
+/// A simple query takes a client that stands for some requests to one that stands for one request more.
+pub fn simple_queries_follow_one_another()
+    ensures { (config : TheConfig) (nonce : List ℕ) (ts : List Made) (read wrote : List ℕ) (q : List ℕ) (h : TheHandler) (c : Client) (old now : Line) (last : End (List TheResponse)) → Stands config nonce ts read wrote c old.buffer →
+        Call (λ before after answer. QueryMeans before (simple_query q) after answer) (HeardInQuery QueryMeans) passes h c old now last →
+        (more sent : List ℕ) × Moved old now more sent × (IsFlushed old → last.broken ≡ false → IsFlushed now) × StandsBehind answer.Responses config nonce ts (request.Simple q) (read ++ more) (wrote ++ sent) last.info last.rest last.answer last.broken }
+{}
+
+/// So does a call of extended queries.
+pub fn extended_queries_follow_one_another()
+    ensures { (config : TheConfig) (nonce : List ℕ) (ts : List Made) (read wrote : List ℕ) (q : TheRequest) (h : TheExtended) (c : Client) (old now : Line) (last : Finish TheExtended TheRow) → IsExtended q → Stands config nonce ts read wrote c old.buffer →
+        Called ExtendedMeans q h c old now last →
+        (more sent : List ℕ) × Moved old now more sent × (IsFlushed old → last.broken ≡ false → IsFlushed now) × StandsBehind (given q) config nonce ts q (read ++ more) (wrote ++ sent) last.info last.rest last.answer last.broken }
+{}
+
+/// A client whose buffer is filled stands for the same requests.
+pub fn filled_clients_stand()
+    ensures { (config : TheConfig) (nonce : List ℕ) (ts : List Made) (read wrote : List ℕ) (c : Client) (old now : Line) → Stands config nonce ts read wrote c old.buffer →
+        Grew old now →
+        (more : List ℕ) × Drew old now more × (IsFlushed old → IsFlushed now) × Stands config nonce ts (read ++ more) wrote c now.buffer }
+{}
+
+/// A client that stands for requests, each answered by its own segment, is a session of them.
+pub fn clients_are_sessions()
+    ensures { (config : TheConfig) (nonce : List ℕ) (ts : List Made) (read wrote : List ℕ) (c : Client) (buffer : List ℕ) → Stands config nonce ts read wrote c buffer → AreAnswered ts → IsSession config nonce ts read wrote c buffer }
+{}

@@ -1,0 +1,466 @@
+-- What a client's calls leave.
+use Rattle.std.proofs.Common.{◌≡◌, ◌≢◌, ℕ, Bool, true, false, not, List, [], ◌++◌, length, take, drop, Result, Ok, Err, refl, sym, ap, subst, ◌∙◌, arith, inl, append_assoc, length-append, ◌⊎◌, inr}
+use Rattle.std.proofs.lemmas.List.{append-nil, take-append-drop}
+use Rattle.pgw_backend.specs.declared.backend.PgWireBackendMessage.{PgWireBackendMessage as Backend}
+use Rattle.pgw_backend.specs.declared.backend.PgWireBackendMessage.TheVariants as backend
+use Rattle.pgw_backend.specs.declared.client_error.PgWireClientError.{PgWireClientError as ClientError}
+use Rattle.pgw_backend.specs.declared.client_error.PgWireClientError.TheVariants as client
+use Rattle.pgw_link.specs.Tape.{Tape, Rose}
+use Rattle.pgw_client.specs.SessionSteps.{Wrote, WroteSome}
+use Rattle.pgw_session.specs.Segments.{is_ready}
+use Rattle.pgw_handlers.specs.Client.{Client, Sight}
+use Rattle.pgw_handlers.specs.Handling.{Standing, standing, Answer, pending, IsCaused, OfError, EndsAtReady}
+use Rattle.pgw_handlers.specs.Sending.{Sent, NotSent, bytes_or_none, WroteSome as SentSome}
+use Rattle.pgw_types.specs.declared.error.PgWireError.{PgWireError}
+use Rattle.std.specs.Result.{OnOk, OnErr, IfOk, IfErr}
+use Rattle.pgw_handlers.specs.declared.client_info.ReadyState.{ReadyState}
+use Rattle.pgw_handlers.specs.declared.client_info.ReadyState.TheVariants.{Pending, Ready}
+use Rattle.pgw_connection.specs.Talk as talk
+use Rattle.pgw_connection.specs.Talk.{fresh, Next, Lack, End, end, Hearing, Talk, Drained, IsCut, Asked, passes, is_remote, is_refusal}
+use Rattle.pgw_connection.specs.Line.{Line, Pause, IsFlushed, Halts, Drew, Moved}
+use Rattle.pgw_connection.specs.Reading.{Came, PassedOver}
+use Rattle.pgw_connection.specs.Calls.{link_sight, PutAll, PutSome, Puts, Opens, starved, wrote, cut, refused, GivesUp, breaks, fails, drains, Follows, starves, writes, cuts, gives_up, HeardOne, Talked, HeardNext, IsHalted, Call}
+use Rattle.pgw_connection.proofs.ReadingLaws.{next_more, drew_on, not_halted, not_at_end}
+
+-- ---- writing
+
+pub put_none : (old : Line) → PutAll [] old old
+put_none old = record {
+  moved = record { left = refl; wrote = sym (append-nil old.tape.wrote); read = omega arith; limit = refl };
+  buffer = refl;
+  flushed = λ f. f;
+  goes_on = (refl, refl);
+}
+
+pub put_all : (old new : Line) (bytes : List ℕ) → Wrote old.tape new.tape bytes → new.faults ≡ old.faults → new.buffer ≡ old.buffer → new.read ≡ old.read → new.limit ≡ old.limit → PutAll bytes old new
+put_all old new bytes w faults buffer read limit = record {
+  moved = record { left = sym w.reads_nothing.left; wrote = w.wrote; read = omega (arith, read); limit = limit };
+  buffer = buffer;
+  flushed = λ f. w.flushed;
+  goes_on = (w.reads_nothing.ended, faults);
+}
+
+pub put_some : (old new : Line) (bytes : List ℕ) → bytes ≢ [] → WroteSome old.tape new.tape bytes → Rose old.faults new.faults → new.buffer ≡ old.buffer → new.read ≡ old.read → new.limit ≡ old.limit → PutSome bytes old new
+put_some old new bytes some w rose buffer read limit = record {
+  part = take w.count bytes;
+  cut = (some, drop w.count bytes, sym (take-append-drop w.count bytes));
+  moved = record { left = sym w.reads_nothing.left; wrote = w.wrote; read = omega (arith, read); limit = limit };
+  buffer = buffer;
+  ended = w.reads_nothing.ended;
+  rose = rose;
+}
+
+-- what writing answered
+pub puts_of : (old new : Line) (bytes : List ℕ) (r : Result (Unit {0}) ClientError) → bytes ≢ [] → OnOk r (Wrote old.tape new.tape bytes) → OnErr r (WroteSome old.tape new.tape bytes) → OnOk r (new.faults ≡ old.faults)
+    → IfErr r (λ e. e ≡ client.IoError) → OfError r old.faults new.faults false → new.buffer ≡ old.buffer → new.read ≡ old.read → new.limit ≡ old.limit → Puts bytes old new r
+puts_of old new bytes (Ok done) some w f clean io cause buffer read limit = put_all old new bytes w clean buffer read limit
+puts_of old new bytes (Err e) some w f clean io cause buffer read limit =
+    (io, put_some old new bytes some f (subst (λ (x : ClientError). IsCaused x old.faults new.faults false) io cause) buffer read limit)
+
+-- ---- the opening of a call
+
+pub began_starved : (was : Bool) (out : List ℕ) (old : Line) (opened : Result (Unit {0}) ClientError) → was ≡ true → Opens was out old old opened (Err client.OutOfMemory) was
+began_starved was out old opened is = subst (λ (b : Bool). Opens was out old old opened (Err client.OutOfMemory) b) (sym is) (starved opened is refl)
+
+pub began_put : (was broken : Bool) (out : List ℕ) (old new : Line) (opened r : Result (Unit {0}) ClientError) → was ≡ false → opened ≡ Ok tt → Puts out old new r → OnOk r (broken ≡ was) → OnErr r (broken ≡ true) → Opens was out old new opened r broken
+began_put was broken out old new opened (Ok done) usable is put stays ends =
+    subst (λ (b : Bool). Opens was out old new opened (Ok tt) b) (sym (stays ∙ usable)) (subst (λ (o : Result (Unit {0}) ClientError). Opens was out old new o (Ok tt) false) (sym is) (wrote usable put))
+began_put was broken out old new opened (Err e) usable is put stays ends =
+    subst (λ (b : Bool). Opens was out old new opened (Err e) b) (sym ends)
+    (subst (λ (x : ClientError). Opens was out old new opened (Err x) true) (sym put.0)
+    (subst (λ (o : Result (Unit {0}) ClientError). Opens was out old new o (Err client.IoError) true) (sym is) (cut usable put.1)))
+
+pub began_refused : (was refusal : Bool) (out : List ℕ) (old : Line) (opened : Result (Unit {0}) ClientError) (e : ClientError) → was ≡ false → opened ≡ Err e → refusal ≡ is_refusal e → Opens was out old old opened (Err e) (not refusal)
+began_refused was refusal out old opened e usable is tells =
+    subst (λ (b : Bool). Opens was out old old opened (Err e) (not b)) (sym tells) (subst (λ (o : Result (Unit {0}) ClientError). Opens was out old old o (Err e) (not (is_refusal e))) (sym is) (refused e usable refl))
+
+-- ---- a message of a caller's own
+
+-- it was not written whole
+pub send_cut : (spelled : Result (List ℕ) PgWireError) (s0 s1 : Sight) (t0 t1 : Tape) (c0 c1 : Client) (was broken : Bool) (r : Result (Unit {0}) ClientError) → s0.wrote ≡ [] → Sent spelled s0 s1 → was ≡ false → c1 ≡ c0
+    → OnErr r (WroteSome t0 t1 s1.wrote) → IfErr r (λ e. e ≡ client.IoError) → OnErr r (broken ≡ true) → IfErr r (λ e. NotSent spelled (link_sight c0 t0 was) (link_sight c1 t1 broken) e)
+send_cut spelled s0 s1 t0 t1 c0 c1 was broken (Ok done) empty sent usable same w io ends = tt
+send_cut spelled s0 s1 t0 t1 c0 c1 was broken (Err e) empty sent usable same w io ends =
+    let put : s1.wrote ≡ sent.bytes = ap (λ (s : Sight). s.wrote) sent.after ∙ ap (λ (l : List ℕ). l ++ sent.bytes) empty in
+    let after : link_sight c1 t1 broken ≡ record { client = c0; wrote = t0.wrote ++ take w.count s1.wrote; flushed = t0.flushed; broken = true } = rw (same, w.wrote, w.flushed, ends) refl in
+    let some : SentSome spelled (link_sight c0 t0 was) (link_sight c1 t1 broken) = record {
+      front = take w.count s1.wrote;
+      behind = drop w.count s1.wrote;
+      cut = ap bytes_or_none sent.spells ∙ sym put ∙ sym (take-append-drop w.count s1.wrote);
+      usable = usable;
+      after = after;
+    } in
+    subst (λ (x : ClientError). NotSent spelled (link_sight c0 t0 was) (link_sight c1 t1 broken) x) (sym io) some
+
+-- ---- a handler's answer
+
+-- it gives up
+pub gave_up : (goes_on : ClientError → Bool) (closing may : Bool) (c : Client) (old : Line) (e : ClientError) → may ≡ goes_on e → may ≡ false → GivesUp goes_on closing c old old e e c true
+gave_up goes_on closing may c old e is ends = breaks e (sym is ∙ ends) refl
+
+pub gave_back : (goes_on : ClientError → Bool) (closing may broken : Bool) (c : Client) (old : Line) (e : ClientError) → may ≡ goes_on e → may ≡ true → closing ≡ true → broken ≡ false → GivesUp goes_on closing c old old e e c broken
+gave_back goes_on closing may broken c old e is goes ready usable = subst (λ (b : Bool). GivesUp goes_on closing c old old e e c b) (sym usable) (fails e (sym is ∙ goes) ready refl)
+
+pub drained : (goes_on : ClientError → Bool) (closing may broken : Bool) (c last : Client) (old new : Line) (e x : ClientError) → may ≡ goes_on e → may ≡ true → closing ≡ false → PassedOver e c old new x last broken → GivesUp goes_on closing c old new e x last broken
+drained goes_on closing may broken c last old new e x is goes quiet p = drains e x last broken (sym is ∙ goes) quiet p
+
+module _ {T : Type 0} (goes_on : ClientError → Bool) (closing was : Bool) (out : List ℕ) (c : Client) (old : Line) (answer : Answer T) where
+  pub followed_starved : was ≡ true → Follows goes_on closing was out c old old answer (Err client.OutOfMemory) c was
+  followed_starved wanting = subst (λ (b : Bool). Follows goes_on closing was out c old old answer (Err client.OutOfMemory) c b) (sym wanting) (starves answer wanting refl)
+
+  pub followed_put : (new : Line) (s : ReadyState T) (last : Client) (broken : Bool) → was ≡ false → answer ≡ Ok s → PutAll out old new → last ≡ c → broken ≡ was → Follows goes_on closing was out c old new answer (Ok s) last broken
+  followed_put new s last broken usable is put same stays =
+      subst (λ (a : Answer T). Follows goes_on closing was out c old new a (Ok s) last broken) (sym is)
+      (subst (λ (x : Client). Follows goes_on closing was out c old new (Ok s) (Ok s) x broken) (sym same)
+      (subst (λ (b : Bool). Follows goes_on closing was out c old new (Ok s) (Ok s) c b) (sym (stays ∙ usable)) (writes s usable put)))
+
+  pub followed_cut : (new : Line) (s : ReadyState T) (e : ClientError) (last : Client) (broken : Bool) → was ≡ false → answer ≡ Ok s → Puts out old new (Err e) → last ≡ c → broken ≡ true → Follows goes_on closing was out c old new answer (Err e) last broken
+  followed_cut new s e last broken usable is put same ends =
+      subst (λ (a : Answer T). Follows goes_on closing was out c old new a (Err e) last broken) (sym is)
+      (subst (λ (x : ClientError). Follows goes_on closing was out c old new (Ok s) (Err x) last broken) (sym put.0)
+      (subst (λ (x : Client). Follows goes_on closing was out c old new (Ok s) (Err client.IoError) x broken) (sym same)
+      (subst (λ (b : Bool). Follows goes_on closing was out c old new (Ok s) (Err client.IoError) c b) (sym ends) (cuts s usable put.1))))
+
+  pub followed_error : (new : Line) (e x : ClientError) (last : Client) (broken : Bool) → was ≡ false → answer ≡ Err e → GivesUp goes_on closing c old new e x last broken → Follows goes_on closing was out c old new answer (Err x) last broken
+  followed_error new e x last broken usable is g = subst (λ (a : Answer T). Follows goes_on closing was out c old new a (Err x) last broken) (sym is) (gives_up e x last broken usable g)
+
+-- ---- one message
+
+-- a handler that goes on heard no ReadyForQuery
+goes_quiet : (A : Type 0) (m : Backend) → EndsAtReady {A = A} m Pending → is_ready m ≡ false
+goes_quiet A (backend.ReadyForQuery m) e = absurd e
+goes_quiet A m e = refl
+
+-- and one that ends heard it
+ends_ready : {A : Type 0} (m : Backend) (x : A) → EndsAtReady m (Ready x) → is_ready m ≡ true
+ends_ready (backend.ReadyForQuery m) x e = refl
+ends_ready m x e = absurd e
+
+-- bytes were read, and others written behind that
+pub moved_by : (old mid new : Line) (taken sent : List ℕ) → Drew old mid taken → Moved mid new [] sent → Moved old new taken sent
+moved_by old mid new taken sent d m = record {
+  left = d.left ∙ ap (λ (l : List ℕ). taken ++ l) m.left;
+  wrote = m.wrote ∙ ap (λ (w : List ℕ). w ++ sent) d.wrote;
+  read = omega (arith, d.read, m.read);
+  limit = m.limit ∙ d.limit;
+}
+
+-- bytes were read, and nothing written
+pub moved_none : (old new : Line) (taken : List ℕ) → Drew old new taken → Moved old new taken []
+moved_none old new taken d = record { left = d.left; wrote = d.wrote ∙ sym (append-nil old.tape.wrote); read = d.read; limit = d.limit }
+
+pub still_flushed : (old new : Line) (taken : List ℕ) → Drew old new taken → IsFlushed old → IsFlushed new
+still_flushed old new taken d f = d.flushed ∙ f ∙ ap length (sym d.wrote)
+
+-- where all was flushed, the end found all written flushed
+pub flushed_at : (c : Client) (old new : Line) (taken : List ℕ) → Drew old new taken → IsFlushed old → Halts c old.tape.flushed old new → Halts c (length new.tape.wrote) old new
+flushed_at c old new taken d f h none n some = let x = h none n some in (x.0 ∙ f ∙ ap length (sym d.wrote), x.1)
+
+-- one thing behind another
+pub moved_on : (old mid new : Line) (taken more sent also : List ℕ) → Moved old mid taken sent → Moved mid new more also → Moved old new (taken ++ more) (sent ++ also)
+moved_on old mid new taken more sent also a b = record {
+  left = a.left ∙ ap (λ (l : List ℕ). taken ++ l) b.left ∙ sym (append_assoc taken more new.tape.left);
+  wrote = b.wrote ∙ ap (λ (w : List ℕ). w ++ also) a.wrote ∙ append_assoc old.tape.wrote sent also;
+  read = omega (arith, a.read, b.read, length-append taken more);
+  limit = b.limit ∙ a.limit;
+}
+
+pub rose_from : (before was now : ℕ) → before ≡ was → Rose before now → Rose was now
+rose_from before was now same r = subst (λ (n : ℕ). Rose n now) same r
+
+module _ {H A : Type 0} (M : Hearing H A) (goes_on : ClientError → Bool) where
+  talk_as : (before was : ℕ) (new : Line) (h other : H) (c also : Client) (bytes sent : List ℕ) (last : End A) → before ≡ was → h ≡ other → c ≡ also
+      → Talk M (Pause before new) goes_on h c bytes sent last → Talk M (Pause was new) goes_on other also bytes sent last
+  talk_as before was new h other c also bytes sent last b e f t =
+      subst (λ (n : ℕ). Talk M (Pause n new) goes_on other also bytes sent last) b
+      (subst (λ (x : H). Talk M (Pause before new) goes_on x also bytes sent last) e
+      (subst (λ (x : Client). Talk M (Pause before new) goes_on h x bytes sent last) f t))
+
+  -- the error behind which messages were passed over
+  halted : (x : ClientError) (broken : Bool) → goes_on x ≡ true → broken ≡ true → IsHalted {A = A} goes_on (Err x) broken
+  halted client.UnexpectedEOF broken goes ends = ends
+  halted x broken goes ends = (goes, ends)
+
+  halted_behind : (e x : ClientError) (broken : Bool) → goes_on client.UnexpectedEOF ≡ false → goes_on e ≡ true → broken ≡ true → (x ≡ e) ⊎ ((e ≡ client.UnexpectedEOF) × (is_remote x ≡ true)) → IsHalted {A = A} goes_on (Err x) broken
+  halted_behind e x broken eof goes ends (inl same) = halted x broken (ap goes_on same ∙ goes) ends
+  halted_behind e x broken eof goes ends (inr other) = absurd (let no : false ≡ true = sym eof ∙ ap goes_on (sym other.0) ∙ goes in cc)
+
+  -- no message came
+  pub heard_none : (h : H) (c : Client) (old new : Line) (e : ClientError) → Came c old new (Err e) → Talked M goes_on h c old new (end (Err e) c true new.buffer)
+  heard_none h c old new e came = record {
+    taken = came.taken;
+    sent = [];
+    moved = moved_none old new came.taken came.drew;
+    talk = talk.lacks h c (old.buffer ++ came.taken) new.buffer e came.found;
+    flushed = λ f usable. absurd (let no : true ≡ false = usable in cc);
+    halts = λ f. flushed_at c old new came.taken came.drew f came.halts;
+    at_end = λ none n some.
+        let is : e ≡ client.UnexpectedEOF = (let same = came.at_end none n some in cc) in
+        subst (λ (y : ClientError). IsHalted {A = A} goes_on (Err y) true) (sym is) refl;
+  }
+
+  module _ (h handler : H) (c : Client) (s : Sight) (old mid : Line) (m : Backend) (came : Came c old mid (Ok m)) where
+    -- memory was wanting
+    heard_starved : (last : Client) → Talked M goes_on h c old mid (end (Err client.OutOfMemory) last true mid.buffer)
+    heard_starved last = record {
+      taken = came.taken;
+      sent = [];
+      moved = moved_none old mid came.taken came.drew;
+      talk = talk.starves h c (old.buffer ++ came.taken) last mid.buffer;
+      flushed = λ f usable. absurd (let no : true ≡ false = usable in cc);
+      halts = λ f. not_halted last (length mid.tape.wrote) old mid came.goes_on.0;
+      at_end = not_at_end _ old mid came.goes_on.0;
+    }
+
+    next_in : (new : Line) → new.buffer ≡ mid.buffer → Next c (old.buffer ++ came.taken) m new.buffer
+    next_in new same = subst (λ (b : List ℕ). Next c (old.buffer ++ came.taken) m b) (sym same) came.found
+
+    heard_on : (new : Line) → M (standing h (fresh c)) m (standing handler s) (Ok Pending) → s.broken ≡ false → is_ready m ≡ false → PutAll s.wrote mid new → HeardOne M h c old new handler s.client
+    heard_on new heard usable quiet put = record {
+      taken = came.taken;
+      message = m;
+      after = standing handler s;
+      moved = moved_by old mid new came.taken s.wrote came.drew put.moved;
+      next = next_in new put.buffer;
+      heard = heard;
+      usable = usable;
+      quiet = quiet;
+      handler_is = refl;
+      info_is = refl;
+      flushed = λ f. put.flushed (still_flushed old mid came.taken came.drew f);
+      goes_on = (put.goes_on.0 ∙ came.goes_on.0, put.goes_on.1 ∙ came.goes_on.1);
+    }
+
+    heard_last : (new : Line) (x : A) → M (standing h (fresh c)) m (standing handler s) (Ok (Ready x)) → s.broken ≡ false → is_ready m ≡ true → PutAll s.wrote mid new → Talked M goes_on h c old new (end (Ok x) s.client false new.buffer)
+    heard_last new x heard usable ready put = record {
+      taken = came.taken;
+      sent = s.wrote;
+      moved = moved_by old mid new came.taken s.wrote came.drew put.moved;
+      talk = talk.closes h c (old.buffer ++ came.taken) m new.buffer (standing handler s) x (next_in new put.buffer) heard usable ready;
+      flushed = λ f _. put.flushed (still_flushed old mid came.taken came.drew f);
+      halts = λ f. not_halted s.client (length new.tape.wrote) old new (put.goes_on.0 ∙ came.goes_on.0);
+      at_end = not_at_end _ old new (put.goes_on.0 ∙ came.goes_on.0);
+    }
+
+    heard_cut : (new : Line) (answer : ReadyState A) → M (standing h (fresh c)) m (standing handler s) (Ok answer) → PutSome s.wrote mid new → Talked M goes_on h c old new (end (Err client.IoError) s.client true new.buffer)
+    heard_cut new answer heard put = record {
+      taken = came.taken;
+      sent = put.part;
+      moved = moved_by old mid new came.taken put.part came.drew put.moved;
+      talk = talk.unwritten h c (old.buffer ++ came.taken) m new.buffer (standing handler s) answer put.part (next_in new put.buffer) heard put.cut (rose_from mid.faults old.faults new.faults came.goes_on.1 put.rose);
+      flushed = λ f usable. absurd (let no : true ≡ false = usable in cc);
+      halts = λ f. not_halted s.client (length new.tape.wrote) old new (put.ended ∙ came.goes_on.0);
+      at_end = not_at_end _ old new (put.ended ∙ came.goes_on.0);
+    }
+
+    heard_error : (e : ClientError) → M (standing h (fresh c)) m (standing handler s) (Err e) → IsCaused e 0 0 s.broken → goes_on e ≡ false → Talked M goes_on h c old mid (end (Err e) s.client true mid.buffer)
+    heard_error e heard caused ends = record {
+      taken = came.taken;
+      sent = [];
+      moved = moved_none old mid came.taken came.drew;
+      talk = talk.breaks h c (old.buffer ++ came.taken) m mid.buffer (standing handler s) e came.found heard caused (inl ends);
+      flushed = λ f usable. absurd (let no : true ≡ false = usable in cc);
+      halts = λ f. not_halted s.client (length mid.tape.wrote) old mid came.goes_on.0;
+      at_end = not_at_end _ old mid came.goes_on.0;
+    }
+
+    heard_failure : (e : ClientError) → M (standing h (fresh c)) m (standing handler s) (Err e) → s.broken ≡ false → goes_on e ≡ true → is_ready m ≡ true → Talked M goes_on h c old mid (end (Err e) s.client false mid.buffer)
+    heard_failure e heard usable goes ready = record {
+      taken = came.taken;
+      sent = [];
+      moved = moved_none old mid came.taken came.drew;
+      talk = talk.fails h c (old.buffer ++ came.taken) m mid.buffer (standing handler s) e came.found heard goes usable ready;
+      flushed = λ f _. still_flushed old mid came.taken came.drew f;
+      halts = λ f. not_halted s.client (length mid.tape.wrote) old mid came.goes_on.0;
+      at_end = not_at_end _ old mid came.goes_on.0;
+    }
+
+    heard_drained : (eof : goes_on client.UnexpectedEOF ≡ false) (new : Line) (e x : ClientError) (last : Client) (broken : Bool) → M (standing h (fresh c)) m (standing handler s) (Err e) → s.broken ≡ false → goes_on e ≡ true → is_ready m ≡ false
+        → PassedOver e s.client mid new x last broken → Talked M goes_on h c old new (end (Err x) last broken new.buffer)
+    heard_drained eof new e x last broken heard usable goes quiet p =
+        let drew = drew_on old mid new came.taken p.taken came.drew p.drew in
+        let more = next_more c (old.buffer ++ came.taken) mid.buffer p.taken m came.found in
+        let next = subst (λ (b : List ℕ). Next c b m (mid.buffer ++ p.taken)) (append_assoc old.buffer came.taken p.taken) more in
+        let drained = subst (λ (n : ℕ). Drained (Pause n new) e s.client (mid.buffer ++ p.taken) x last new.buffer broken) came.goes_on.1 p.drained in
+        record {
+          taken = came.taken ++ p.taken;
+          sent = [];
+          moved = moved_none old new (came.taken ++ p.taken) drew;
+          talk = talk.drains h c (old.buffer ++ (came.taken ++ p.taken)) m (mid.buffer ++ p.taken) (standing handler s) e x last new.buffer broken next heard goes usable quiet drained;
+          flushed = λ f _. still_flushed old new (came.taken ++ p.taken) drew f;
+          halts = λ f none n some.
+              let at = p.halts (came.goes_on.0 ∙ none) n some in
+              (at.0 ∙ came.drew.flushed ∙ f ∙ ap length (sym drew.wrote), at.1);
+          at_end = λ none n some. let h = p.at_end (came.goes_on.0 ∙ none) n some in halted_behind e x broken eof goes h.0 h.1;
+        }
+
+    given_up : (eof : goes_on client.UnexpectedEOF ≡ false) (new : Line) (e x : ClientError) (last : Client) (broken : Bool) → M (standing h (fresh c)) m (standing handler s) (Err e) → IsCaused e 0 0 s.broken → s.broken ≡ false
+        → GivesUp goes_on (is_ready m) s.client mid new e x last broken → Talked M goes_on h c old new (end (Err x) last broken new.buffer)
+    given_up eof new e x last broken heard caused usable (breaks e2 ends same) =
+        subst (λ (l : Line). Talked M goes_on h c old l (end (Err e2) s.client true l.buffer)) (sym same) (heard_error e2 heard caused ends)
+    given_up eof new e x last broken heard caused usable (fails e2 goes ready same) =
+        subst (λ (l : Line). Talked M goes_on h c old l (end (Err e2) s.client false l.buffer)) (sym same) (heard_failure e2 heard usable goes ready)
+    given_up eof new e x last broken heard caused usable (drains e2 x2 last2 broken2 goes quiet p) = heard_drained eof new e2 x2 last2 broken2 heard usable goes quiet p
+
+    -- a message was heard, and its answer followed
+    pub heard_next : (eof : goes_on client.UnexpectedEOF ≡ false) (new : Line) (answer result : Answer A) (last : Client) (broken : Bool) → M (standing h (fresh c)) m (standing handler s) answer → OfError answer 0 0 s.broken → IfOk answer (EndsAtReady m)
+        → Follows goes_on (is_ready m) s.broken s.wrote s.client mid new answer result last broken → HeardNext M goes_on h c old new handler last broken result
+    heard_next eof new answer result last broken heard caused closes (starves answer2 wanting same) =
+        subst (λ (l : Line). Talked M goes_on h c old l (end (Err client.OutOfMemory) s.client true l.buffer)) (sym same) (heard_starved s.client)
+    heard_next eof new answer result last broken heard caused closes (writes Pending usable put) = (heard_on new heard usable (goes_quiet A m closes) put, refl)
+    heard_next eof new answer result last broken heard caused closes (writes (Ready x) usable put) = heard_last new x heard usable (ends_ready m x closes) put
+    heard_next eof new answer result last broken heard caused closes (cuts state usable put) = heard_cut new state heard put
+    heard_next eof new answer result last broken heard caused closes (gives_up e x last2 broken2 usable g) = given_up eof new e x last2 broken2 heard caused usable g
+
+  -- no message came, for a client that is as it was
+  pub heard_nothing : (h : H) (c info : Client) (old new : Line) (e : ClientError) → info ≡ c → Came c old new (Err e) → Talked M goes_on h c old new (end (Err e) info true new.buffer)
+  heard_nothing h c info old new e same came = subst (λ (x : Client). Talked M goes_on h c old new (end (Err e) x true new.buffer)) (sym same) (heard_none h c old new e came)
+
+  -- a message was heard from a desk that was cleared
+  pub heard_so : (eof : goes_on client.UnexpectedEOF ≡ false) (h handler : H) (c : Client) (s0 s : Sight) (old mid new : Line) (m : Backend) (closing : Bool) (answer result : Answer A) (last : Client) (broken : Bool) → Came c old mid (Ok m) → s0 ≡ fresh c → closing ≡ is_ready m
+      → M (standing h s0) m (standing handler s) answer → OfError answer 0 0 s.broken → IfOk answer (EndsAtReady m) → Follows goes_on closing s.broken s.wrote s.client mid new answer result last broken → HeardNext M goes_on h c old new handler last broken result
+  heard_so eof h handler c s0 s old mid new m closing answer result last broken came cleared ready heard caused closes follows =
+      heard_next h handler c s old mid m came eof new answer result last broken
+      (subst (λ (x : Sight). M (standing h x) m (standing handler s) answer) cleared heard) caused closes
+      (subst (λ (b : Bool). Follows goes_on b s.broken s.wrote s.client mid new answer result last broken) ready follows)
+
+  -- one message was heard, and then the others
+  pub talked_on : (h handler : H) (c info : Client) (old mid new : Line) (last : End A) → HeardOne M h c old mid handler info → Talked M goes_on handler info mid new last → Talked M goes_on h c old new last
+  talked_on h handler c info old mid new last one t =
+      let after = one.after in
+      let more = next_more c (old.buffer ++ one.taken) mid.buffer t.taken one.message one.next in
+      let next = subst (λ (b : List ℕ). Next c b one.message (mid.buffer ++ t.taken)) (append_assoc old.buffer one.taken t.taken) more in
+      record {
+        taken = one.taken ++ t.taken;
+        sent = after.sight.wrote ++ t.sent;
+        moved = moved_on old mid new one.taken t.taken after.sight.wrote t.sent one.moved t.moved;
+        talk = talk.hears h c (old.buffer ++ (one.taken ++ t.taken)) one.message (mid.buffer ++ t.taken) after t.sent last next one.heard one.usable one.quiet
+            (talk_as mid.faults old.faults new handler after.handler info after.sight.client (mid.buffer ++ t.taken) t.sent last one.goes_on.1 (sym one.handler_is) (sym one.info_is) t.talk);
+        flushed = λ f usable. t.flushed (one.flushed f) usable;
+        halts = λ f none n some. t.halts (one.flushed f) (one.goes_on.0 ∙ none) n some;
+        at_end = λ none n some. t.at_end (one.goes_on.0 ∙ none) n some;
+      }
+
+-- ---- a call
+
+module _ {H A : Type 0} (opens : Standing H → Standing H → Answer A → Type 0) (M : Hearing H A) (goes_on : ClientError → Bool) (h handler : H) (c : Client) (s : Sight) (old : Line) where
+  -- the opening was written, and messages were handed over
+  pub call_talked : (info : Client) (mid new : Line) (last : End A) → opens (standing h (fresh c)) (standing handler s) (Ok Pending) → s.broken ≡ false → PutAll s.wrote old mid → info ≡ s.client
+      → Talked M goes_on handler info mid new last → Call opens M goes_on h c old new last
+  call_talked info mid new last opened usable put same t =
+      let bytes = subst (λ (b : List ℕ). Talk M (Pause mid.faults new) goes_on handler info (b ++ t.taken) t.sent last) put.buffer t.talk in
+      record {
+        taken = t.taken;
+        sent = s.wrote ++ t.sent;
+        moved = moved_on old mid new [] t.taken s.wrote t.sent put.moved t.moved;
+        asked = talk.opened (standing handler s) t.sent last opened usable (talk_as M goes_on mid.faults old.faults new handler handler info s.client (old.buffer ++ t.taken) t.sent last put.goes_on.1 refl same bytes);
+        flushed = λ f good. t.flushed (put.flushed f) good;
+        halts = λ f none n some. t.halts (put.flushed f) (put.goes_on.0 ∙ none) n some;
+        at_end = λ none n some. t.at_end (put.goes_on.0 ∙ none) n some;
+      }
+
+  moved_still : Moved old old [] []
+  moved_still = record { left = refl; wrote = sym (append-nil old.tape.wrote); read = omega arith; limit = refl }
+
+  call_starved : (last : Client) → Call opens M goes_on h c old old (end (Err client.OutOfMemory) last true old.buffer)
+  call_starved last = record {
+    taken = [];
+    sent = [];
+    moved = moved_still;
+    asked = talk.starves last old.buffer;
+    flushed = λ f good. f;
+    halts = λ f. not_halted last (length old.tape.wrote) old old refl;
+    at_end = not_at_end _ old old refl;
+  }
+
+  bytes_are : (sent : List ℕ) (P : ClientError → Type 0) (answer : Result A ClientError) (info : Client) (broken : Bool) (rest : List ℕ) → rest ≡ old.buffer
+      → Asked opens M P goes_on h c old.buffer sent (end answer info broken old.buffer) → Asked opens M P goes_on h c (old.buffer ++ []) sent (end answer info broken rest)
+  bytes_are sent P answer info broken rest same a =
+      subst (λ (b : List ℕ). Asked opens M P goes_on h c b sent (end answer info broken rest)) (sym (append-nil old.buffer))
+      (subst (λ (b : List ℕ). Asked opens M P goes_on h c old.buffer sent (end answer info broken b)) (sym same) a)
+
+  call_cut : (new : Line) → opens (standing h (fresh c)) (standing handler s) (Ok Pending) → PutSome s.wrote old new → Call opens M goes_on h c old new (end (Err client.IoError) s.client true new.buffer)
+  call_cut new opened put = record {
+    taken = [];
+    sent = put.part;
+    moved = put.moved;
+    asked = bytes_are put.part (Pause old.faults new) (Err client.IoError) s.client true new.buffer put.buffer (talk.unwritten (standing handler s) put.part opened put.cut put.rose);
+    flushed = λ f good. absurd (let no : true ≡ false = good in cc);
+    halts = λ f. not_halted s.client (length new.tape.wrote) old new put.ended;
+    at_end = not_at_end _ old new put.ended;
+  }
+
+  call_refused : (e : ClientError) → opens (standing h (fresh c)) (standing handler s) (Err e) → s.broken ≡ false → IsCaused e 0 0 s.broken → (b : Bool) → is_refusal e ≡ b → Call opens M goes_on h c old old (end (Err e) s.client (not b) old.buffer)
+  call_refused e opened usable caused true is = record {
+    taken = [];
+    sent = [];
+    moved = moved_still;
+    asked = bytes_are [] (Pause old.faults old) (Err e) s.client false old.buffer refl (talk.refused (standing handler s) e opened is usable);
+    flushed = λ f good. f;
+    halts = λ f. not_halted s.client (length old.tape.wrote) old old refl;
+    at_end = not_at_end _ old old refl;
+  }
+  call_refused e opened usable caused false is = record {
+    taken = [];
+    sent = [];
+    moved = moved_still;
+    asked = bytes_are [] (Pause old.faults old) (Err e) s.client true old.buffer refl (talk.breaks (standing handler s) e opened caused (inl is));
+    flushed = λ f good. f;
+    halts = λ f. not_halted s.client (length old.tape.wrote) old old refl;
+    at_end = not_at_end _ old old refl;
+  }
+
+  -- what the handler answered as it opened the call, in one of its results
+  abbrev OpensBy : Result (Unit {0}) ClientError → Type 0
+  OpensBy (Ok done) = opens (standing h (fresh c)) (standing handler s) (Ok Pending)
+  OpensBy (Err e) = opens (standing h (fresh c)) (standing handler s) (Err e)
+
+  call_ended : (new : Line) (opened result : Result (Unit {0}) ClientError) (e : ClientError) (broken : Bool) → OpensBy opened → OfError opened 0 0 s.broken → Opens s.broken s.wrote old new opened result broken → result ≡ Err e
+      → Call opens M goes_on h c old new (end (Err e) s.client broken new.buffer)
+  call_ended new opened result e broken o caused (starved opened2 wanting same) is =
+      let x : client.OutOfMemory ≡ e = cc in
+      subst (λ (y : ClientError). Call opens M goes_on h c old new (end (Err y) s.client true new.buffer)) x
+      (subst (λ (l : Line). Call opens M goes_on h c old l (end (Err client.OutOfMemory) s.client true l.buffer)) (sym same) (call_starved s.client))
+  call_ended new opened result e broken o caused (wrote usable put) is = absurd cc
+  call_ended new opened result e broken o caused (cut usable put) is =
+      let x : client.IoError ≡ e = cc in
+      subst (λ (y : ClientError). Call opens M goes_on h c old new (end (Err y) s.client true new.buffer)) x (call_cut new o put)
+  call_ended new opened result e broken o caused (refused e2 usable same) is =
+      let x : e2 ≡ e = cc in
+      subst (λ (y : ClientError). Call opens M goes_on h c old new (end (Err y) s.client (not (is_refusal e2)) new.buffer)) x
+      (subst (λ (l : Line). Call opens M goes_on h c old l (end (Err e2) s.client (not (is_refusal e2)) l.buffer)) (sym same) (call_refused e2 o usable caused (is_refusal e2) refl))
+
+  -- the opening was refused or not written
+  pub call_unopened : (new : Line) (opened : Result (Unit {0}) ClientError) (e : ClientError) (info : Client) (broken : Bool) → OpensBy opened → OfError opened 0 0 s.broken → Opens s.broken s.wrote old new opened (Err e) broken → info ≡ s.client
+      → Call opens M goes_on h c old new (end (Err e) info broken new.buffer)
+  call_unopened new opened e info broken o caused opens2 same =
+      subst (λ (y : Client). Call opens M goes_on h c old new (end (Err e) y broken new.buffer)) (sym same) (call_ended new opened (Err e) e broken o caused opens2 refl)
+
+opened_by : (was broken : Bool) (out : List ℕ) (old new : Line) (opened result : Result (Unit {0}) ClientError) → Opens was out old new opened result broken → result ≡ Ok tt → (opened ≡ Ok tt) × (was ≡ false) × PutAll out old new × (broken ≡ false)
+opened_by was broken out old new opened result (starved opened2 wanting same) is = absurd cc
+opened_by was broken out old new opened result (wrote usable put) is = (refl, usable, put, refl)
+opened_by was broken out old new opened result (cut usable put) is = absurd cc
+opened_by was broken out old new opened result (refused e usable same) is = absurd cc
+
+-- what opened a call well
+pub opened_well : (was broken : Bool) (out : List ℕ) (old new : Line) (opened : Result (Unit {0}) ClientError) → Opens was out old new opened (Ok tt) broken → (opened ≡ Ok tt) × (was ≡ false) × PutAll out old new × (broken ≡ false)
+opened_well was broken out old new opened o = opened_by was broken out old new opened (Ok tt) o refl
+
+module _ {H A : Type 0} (opens : Standing H → Standing H → Answer A → Type 0) (M : Hearing H A) (goes_on : ClientError → Bool) (h handler : H) (c : Client) (s0 s : Sight) (old mid : Line) (opened : Result (Unit {0}) ClientError) (cleared : s0 ≡ fresh c) (means : opens (standing h s0) (standing handler s) (pending opened)) where
+  means_so : opens (standing h (fresh c)) (standing handler s) (pending opened)
+  means_so = subst (λ (x : Sight). opens (standing h x) (standing handler s) (pending opened)) cleared means
+
+  -- a call that was opened from a desk that was cleared
+  pub call_opened : (new : Line) (info : Client) (broken : Bool) (last : End A) → Opens s.broken s.wrote old mid opened (Ok tt) broken → info ≡ s.client → Talked M goes_on handler info mid new last → Call opens M goes_on h c old new last
+  call_opened new info broken last begun same t =
+      let well = opened_well s.broken broken s.wrote old mid opened begun in
+      call_talked opens M goes_on h handler c s old info mid new last
+      (subst (λ (r : Result (Unit {0}) ClientError). opens (standing h (fresh c)) (standing handler s) (pending r)) well.0 means_so) well.1 well.2 same t
+
+  opens_by : (r : Result (Unit {0}) ClientError) → opens (standing h (fresh c)) (standing handler s) (pending r) → OpensBy opens M goes_on h handler c s old r
+  opens_by (Ok done) o = o
+  opens_by (Err e) o = o
+
+  -- and one that was not
+  pub call_closed : (e : ClientError) (info : Client) (broken : Bool) → OfError opened 0 0 s.broken → Opens s.broken s.wrote old mid opened (Err e) broken → info ≡ s.client → Call opens M goes_on h c old mid (end (Err e) info broken mid.buffer)
+  call_closed e info broken caused begun same = call_unopened opens M goes_on h handler c s old mid opened e info broken (opens_by opened means_so) caused begun same

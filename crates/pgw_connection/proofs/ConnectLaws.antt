@@ -1,0 +1,90 @@
+-- Connecting, and canceling over a link of its own.
+use Rattle.std.proofs.Common.{◌≡◌, ◌<◌, ℕ, Bool, false, List, [], Option, Some, None, Result, Ok, Err, sym, subst, ◌∙◌, arith}
+use Rattle.std.specs.Result.{OnOk, IfErr}
+use Rattle.pgw_types.specs.declared.error.PgWireError.{PgWireError}
+use Rattle.pgw_backend.specs.declared.client_error.PgWireClientError.{PgWireClientError as ClientError}
+use Rattle.pgw_backend.specs.declared.client_error.PgWireClientError.TheVariants as client
+use Rattle.pgw_conninfo.specs.declared.address.Address.{Address}
+use Rattle.pgw_config.specs.declared.config.Config.{Config}
+use Rattle.pgw_config.specs.Address.{address_of}
+use Rattle.pgw_config.specs.Answers.{Answers}
+use Rattle.pgw_link.specs.Tape.{Tape, Rose}
+use Rattle.pgw_link.specs.Dials.{DialTape, Dialled, Shut, CountsClose}
+use Rattle.pgw_session.specs.Demands.{refused_config}
+use Rattle.pgw_client.specs.Demands.{Checked}
+use Rattle.pgw_client.specs.Wire.{PutOut}
+use Rattle.pgw_handlers.specs.Client.{Client}
+use Rattle.pgw_handlers.specs.Handling.{Standing, Answer, IsCaused}
+use Rattle.pgw_handlers.specs.declared.client_info.ServerInformation.{ServerInformation}
+use Rattle.pgw_connection.specs.Talk.{end, Hearing}
+use Rattle.pgw_connection.specs.Desk.{with_information}
+use Rattle.pgw_connection.specs.Line.{Line, line}
+use Rattle.pgw_connection.specs.Calls.{Call}
+use Rattle.pgw_connection.specs.Connecting.{never, LeadsTo, IsRefusedBy, NoLink, DialledOnce, LogsIn, new_line, ConnectedAt, Connected, ClosedAgain, NotConnectedAt, NotConnected, SentOnce, NotSentOnce, Cancels}
+use Rattle.pgw_connection.specs.Connecting as connecting
+
+-- ---- the address
+
+pub leads : (config : Config) (address : Address) (o : Option (List ℕ)) → o ≡ refused_config config → Checked o (Ok tt) → address_of config ≡ Ok address → LeadsTo config address
+leads config address None is c at = (sym is, at)
+leads config address (Some key) is c at = absurd c
+
+pub no_lead : (config : Config) (e : ClientError) (o : Option (List ℕ)) → Checked o (Ok tt) → Answers (Err e) (address_of config) → IsRefusedBy o config e
+no_lead config e None c at = at
+no_lead config e (Some key) c at = absurd c
+
+pub refused_demand : (config : Config) (e : ClientError) (o : Option (List ℕ)) → Checked o (Err e) → IsRefusedBy o config e
+refused_demand config e None c = absurd c
+refused_demand config e (Some key) c = c
+
+-- ---- a login
+
+pub logged_in : {S : Type 0} (opens : Standing S → Standing S → Answer ServerInformation → Type 0) (M : Hearing S ServerInformation) (h : S) (c info told : Client) (old new : Line) (information : ServerInformation) (broken : Bool)
+    → Call opens M never h c old new (end (Ok information) told broken new.buffer) → broken ≡ false → info ≡ with_information information told → LogsIn opens M h c old new info (Ok tt)
+logged_in opens M h c info told old new information broken call usable same =
+    (information, told, subst (λ (b : Bool). Call opens M never h c old new (end (Ok information) told b new.buffer)) usable call, same)
+
+pub not_taken_in : {S : Type 0} (opens : Standing S → Standing S → Answer ServerInformation → Type 0) (M : Hearing S ServerInformation) (h : S) (c told : Client) (old new : Line) (information : ServerInformation) (broken : Bool)
+    → Call opens M never h c old new (end (Ok information) told broken new.buffer) → broken ≡ false → Call opens M never h c old new (end (Ok information) told false new.buffer)
+not_taken_in opens M h c told old new information broken call usable = subst (λ (b : Bool). Call opens M never h c old new (end (Ok information) told b new.buffer)) usable call
+
+-- a client that was made over a link begins with nothing
+pub from_new : {S : Type 0} (opens : Standing S → Standing S → Answer ServerInformation → Type 0) (M : Hearing S ServerInformation) (h : S) (c also info : Client) (t made : Tape) (faults read limit also_limit : ℕ) (buffer : List ℕ) (new : Line) (r : Result (Unit {0}) ClientError)
+    → also ≡ c → made ≡ t → faults ≡ 0 → buffer ≡ [] → read ≡ 0 → also_limit ≡ limit → LogsIn opens M h also (line made faults buffer read also_limit) new info r → LogsIn opens M h c (new_line t limit) new info r
+from_new opens M h c also info t made faults read limit also_limit buffer new r e1 e2 e3 e4 e5 e6 l =
+    subst (λ (x : Client). LogsIn opens M h x (line t 0 [] 0 limit) new info r) e1
+    (subst (λ (x : Tape). LogsIn opens M h also (line x 0 [] 0 limit) new info r) e2
+    (subst (λ (x : ℕ). LogsIn opens M h also (line made x [] 0 limit) new info r) e3
+    (subst (λ (x : List ℕ). LogsIn opens M h also (line made faults x 0 limit) new info r) e4
+    (subst (λ (x : ℕ). LogsIn opens M h also (line made faults buffer x limit) new info r) e5
+    (subst (λ (x : ℕ). LogsIn opens M h also (line made faults buffer read x) new info r) e6 l)))))
+
+-- ---- the dialer
+
+pub once : (to : Address) (old between new : DialTape) (first after : Tape) → Dialled to old between first → Shut between new after → DialledOnce to old new first after
+once to old between new first after d s = record { dials = s.dials ∙ d.dials; address = s.address ∙ d.address; fresh = d.fresh; shut = s.shut }
+
+pub rose_some : (faults : ℕ) → Rose 0 faults → 0 < faults
+rose_some faults r = omega (arith, r)
+
+pub counts_from : (before dialled now faults : ℕ) → dialled ≡ before → CountsClose dialled now faults → CountsClose before now faults
+counts_from before dialled now faults same c = subst (λ (n : ℕ). CountsClose n now faults) same c
+
+pub failed_some : (e : ClientError) (before faults : ℕ) → before ≡ 0 → IsCaused e before faults false → e ≡ client.IoError → 0 < faults
+failed_some e before faults none caused is =
+    let rose : Rose before faults = subst (λ (x : ClientError). IsCaused x before faults false) is caused in
+    rose_some faults (subst (λ (n : ℕ). Rose n faults) none rose)
+
+-- a failed call of a link raises its dialer's count as the link is closed
+pub rose_once : (before dialled now none faults : ℕ) → none ≡ 0 → dialled ≡ before → Rose none faults → CountsClose dialled now faults → Rose before now
+rose_once before dialled now none faults is same rose counts =
+    (counts_from before dialled now faults same counts).failed (rose_some faults (subst (λ (n : ℕ). Rose n faults) is rose))
+
+-- ---- a cancel
+
+pub cancel_sent : {same tells : Type 0} {old new : DialTape} {before now : ℕ} (config : Config) (spelled : Result (List ℕ) PgWireError) (address : Address) (out : List ℕ) (r : Result (Unit {0}) ClientError) → PutOut spelled [] out (Ok tt) → address_of config ≡ Ok address
+    → OnOk r (SentOnce tells address out old new) → IfErr r (NotSentOnce tells address out old new before now) → Cancels same tells config spelled old new before now r
+cancel_sent {same} {tells} {old} {new} {before} {now} config spelled address out (Ok done) p at s f =
+    connecting.sent address p.0 at p.1 (subst (λ (b : List ℕ). SentOnce tells address b old new) p.2 s)
+cancel_sent {same} {tells} {old} {new} {before} {now} config spelled address out (Err e) p at s f =
+    connecting.unsent address p.0 e at p.1 (subst (λ (b : List ℕ). NotSentOnce tells address b old new before now e) p.2 f)

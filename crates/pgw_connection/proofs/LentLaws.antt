@@ -1,0 +1,75 @@
+-- A call with a client and a handler that were lent for it.
+use Rattle.std.proofs.Common.{◌≡◌, ◌≤◌, ℕ, Bool, true, false, Result, Ok, Err, refl, sym, ap, subst, ◌∙◌, arith, inl}
+use Rattle.pgw_backend.specs.declared.client_error.PgWireClientError.{PgWireClientError as ClientError}
+use Rattle.pgw_backend.specs.declared.client_error.PgWireClientError.TheVariants as client
+use Rattle.pgw_link.specs.Tape.{Tape}
+use Rattle.pgw_link.specs.declared.link.Link as Link
+use Rattle.pgw_session.specs.declared.types.Request.{Request}
+use Rattle.pgw_handlers.specs.Handling.{HasCause, IsCaused}
+use Rattle.pgw_connection.specs.declared.client.PgWireClient.{PgWireClient}
+use Rattle.pgw_connection.specs.declared.gathered.Gathered.{Gathered}
+use Rattle.pgw_connection.specs.Desk.{client_of}
+use Rattle.pgw_connection.specs.Line.{Line}
+use Rattle.pgw_connection.specs.Calls.{IsUsable}
+use Rattle.pgw_connection.specs.Extended.{Meaning, finish}
+use Rattle.pgw_connection.specs.ExtendedSteps.{Called, given, may_stay}
+use Rattle.pgw_connection.specs.Lent.{Asks, both, line_of}
+use Rattle.pgw_connection.proofs.RequestLaws.{called_starved}
+
+given_both : {R A : Type 0} (give : Gathered R → Bool → A) (r : Result (Gathered R × Bool) ClientError) → given give (given both r) ≡ given give r
+given_both give (Ok x) = refl
+given_both give (Err e) = refl
+
+given_caused : {R A : Type 0} (give : Gathered R → Bool → A) (r : Result (Gathered R × Bool) ClientError) (before now : ℕ) (broken : Bool) → HasCause before now broken r → HasCause before now broken (given give r)
+given_caused give (Ok x) before now broken c = record { later = c.later; failed = tt }
+given_caused give (Err e) before now broken c = record { later = c.later; failed = c.failed }
+
+given_usable : {R A : Type 0} (give : Gathered R → Bool → A) (r : Result (Gathered R × Bool) ClientError) (broken : Bool) → IsUsable may_stay r broken → IsUsable may_stay (given give r) broken
+given_usable give (Ok x) broken u = u
+given_usable give (Err e) broken u = u
+
+module _ {X : Type 0} {L : Link.Ghosts X} {H R : Type 0} (tells : Type 0) (tape : X → Tape) (faults : X → ℕ) (M : Meaning H R) (q : Request) (h : H) (before after : PgWireClient X L) where
+  -- a call that makes its own answer of what was gathered
+  pub asks_as : {A : Type 0} (give : Gathered R → Bool → A) (handler : H) (r : Result (Gathered R × Bool) ClientError) (result : Result A ClientError) → result ≡ given give r → Asks tells tape faults M q both h handler before after r → Asks tells tape faults M q give h handler before after result
+  asks_as {A} give handler r result is a =
+      subst (λ (x : Result A ClientError). Asks tells tape faults M q give h handler before after x) (sym is)
+      record {
+        broken = λ was. let b = a.broken was in (ap (given give) b.0, b.1, b.2);
+        asked = λ t usable.
+            let x = a.asked t usable in
+            record { answer = x.answer; gives = ap (given give) x.gives ∙ given_both give x.answer; called = x.called };
+        cause = given_caused give r (faults before.link) (faults after.link) before.desk.broken a.cause;
+        usable = λ was. given_usable give r after.desk.broken (a.usable was);
+        within = a.within;
+        limit = a.limit;
+        config = a.config;
+      }
+
+  starve_caused : (broken : Bool) (e : ClientError) (was now : ℕ) → (broken ≡ true → e ≡ client.Broken) → (broken ≡ false → e ≡ client.OutOfMemory) → IsCaused e was now broken
+  starve_caused true e was now b s = subst (λ (x : ClientError). IsCaused x was now true) (sym (b refl)) refl
+  starve_caused false e was now b s = subst (λ (x : ClientError). IsCaused x was now false) (sym (s refl)) tt
+
+  -- memory was wanting
+  pub asks_starved : (e : ClientError) → (before.desk.broken ≡ true → (e ≡ client.Broken) × (after ≡ before)) → (before.desk.broken ≡ false → (e ≡ client.OutOfMemory) × (after.desk.broken ≡ true)) → line_of tape faults after ≡ line_of tape faults before
+      → after.read ≤ after.limit → after.desk.config ≡ before.desk.config → Asks tells tape faults M q both h h before after (Err e)
+  asks_starved e broken starved same within config = record {
+    broken = λ was. let b = broken was in (ap Err b.0, b.1, refl);
+    asked = λ t usable.
+        let s = starved usable in
+        let called = called_starved M q h h (client_of before.desk) (client_of after.desk) (line_of tape faults before) in
+        let there = subst (λ (l : Line). Called M q h (client_of before.desk) (line_of tape faults before) l (finish (Err client.OutOfMemory) h (client_of after.desk) true l.buffer)) (sym same) called in
+        let so = subst (λ (x : ClientError). Called M q h (client_of before.desk) (line_of tape faults before) (line_of tape faults after) (finish (Err x) h (client_of after.desk) true after.inbox)) (sym s.0) there in
+        record {
+          answer = Err e;
+          gives = refl;
+          called = subst (λ (b : Bool). Called M q h (client_of before.desk) (line_of tape faults before) (line_of tape faults after) (finish (Err e) h (client_of after.desk) b after.inbox)) (sym s.1) so;
+        };
+    cause = record {
+      later = (let f = ap (λ (l : Line). l.faults) same in omega (arith, f));
+      failed = starve_caused before.desk.broken e (faults before.link) (faults after.link) (λ was. (broken was).0) (λ was. (starved was).0);
+    };
+    usable = λ was. inl (starved was).1;
+    within = within;
+    limit = ap (λ (l : Line). l.limit) same;
+    config = config;
+  }

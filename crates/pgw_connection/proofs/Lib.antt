@@ -1,0 +1,9 @@
+pub mod DeskLaws
+pub mod FrameLaws
+pub mod ReadingLaws
+pub mod CallLaws
+pub mod ConnectLaws
+pub mod ExtendedLaws
+pub mod ExchangeLaws
+pub mod RequestLaws
+pub mod LentLaws

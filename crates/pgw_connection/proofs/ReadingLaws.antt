@@ -1,0 +1,319 @@
+-- How a client comes by its messages.
+use Rattle.std.proofs.Common.{◌≡◌, ◌⊎◌, ◌<◌, ℕ, Bool, true, false, List, [], ◌∷◌, ◌++◌, length, drop, length-drop, Some, None, Result, Ok, Err, refl, sym, ap, subst, ◌∙◌, arith, inl, inr, append_assoc, length-append}
+use Rattle.std.proofs.lemmas.List.{append-nil, drop-append-le}
+use Rattle.std.proofs.lemmas.Result.{on_ok_weaker}
+use Rattle.pgw_types.specs.declared.context.ProtocolVersion.{ProtocolVersion}
+use Rattle.pgw_backend.specs.Front.{front, More}
+use Rattle.pgw_backend.proofs.FrontLaws.{front_nil, front_whole, front_whole_more}
+use Rattle.pgw_backend.specs.declared.backend.PgWireBackendMessage.{PgWireBackendMessage as Backend}
+use Rattle.pgw_backend.specs.declared.backend.PgWireBackendMessage.TheVariants as backend
+use Rattle.pgw_backend.specs.declared.client_error.PgWireClientError.{PgWireClientError as ClientError}
+use Rattle.pgw_backend.specs.declared.client_error.PgWireClientError.TheVariants as client
+use Rattle.pgw_link.specs.Tape.{Tape, Rose, Failed as LinkFailed, end_of, counted}
+use Rattle.pgw_client.specs.Wire.{Decoded}
+use Rattle.pgw_session.specs.Segments.{is_ready}
+use Rattle.pgw_handlers.specs.Client.{Client}
+use Rattle.pgw_handlers.specs.Handling.{IsCaused}
+use Rattle.pgw_connection.specs.Talk.{Next, Lack, unread, halts, starves as lack_starves, passes, is_remote, told, in_place_of, first_of, Drained, lacks, closes, goes, starves}
+use Rattle.pgw_connection.specs.Line.{Line, line, Pause, Halts, AtEnd, Drew}
+use Rattle.pgw_connection.specs.Reading.{GoesOn, Grew, Ended, Failed, Lost, ReadOnce, Found, Came, PassedOver}
+
+-- ---- bytes behind others
+
+-- a message at the front stays there, whatever follows
+pub next_more : (c : Client) (bytes rest more : List ℕ) (m : Backend) → Next c bytes m rest → Next c (bytes ++ more) m (rest ++ more)
+next_more c bytes rest more m n =
+    let len = n.0 in
+    (len, front_whole_more c.protocol_version bytes more m len n.1, ap (λ (r : List ℕ). r ++ more) n.2 ∙ sym (drop-append-le len bytes more (front_whole c.protocol_version bytes m len n.1).1))
+
+pub drew_on : (old mid new : Line) (piece taken : List ℕ) → Drew old mid piece → Drew mid new taken → Drew old new (piece ++ taken)
+drew_on old mid new piece taken a b = record {
+  left = a.left ∙ ap (λ (l : List ℕ). piece ++ l) b.left ∙ sym (append_assoc piece taken new.tape.left);
+  wrote = b.wrote ∙ a.wrote;
+  flushed = b.flushed ∙ a.flushed;
+  read = omega (arith, a.read, b.read, length-append piece taken);
+  limit = b.limit ∙ a.limit;
+}
+
+-- the bytes of a line, in whatever pieces they came
+pub pieces : (was now piece taken : List ℕ) → now ≡ was ++ piece → now ++ taken ≡ was ++ (piece ++ taken)
+pieces was now piece taken is = ap (λ (b : List ℕ). b ++ taken) is ∙ append_assoc was piece taken
+
+-- nothing was read
+pub drew_none : (t : Tape) (faults : ℕ) (was now : List ℕ) (read limit : ℕ) → Drew (line t faults was read limit) (line t faults now read limit) []
+drew_none t faults was now read limit = record { left = refl; wrote = refl; flushed = refl; read = omega arith; limit = refl }
+
+-- where the end was not answered before and is not now, nothing is to be said
+pub not_halted : (c : Client) (flushed : ℕ) (old new : Line) → new.tape.ended ≡ old.tape.ended → Halts c flushed old new
+not_halted c flushed old new same none n some = absurd (let e : None ≡ Some n = sym none ∙ sym same ∙ some in cc)
+
+-- so of any fact
+pub not_at_end : (fact : Type 0) (old new : Line) → new.tape.ended ≡ old.tape.ended → AtEnd old new fact
+not_at_end fact old new same none n some = absurd (let e : None ≡ Some n = sym none ∙ sym same ∙ some in cc)
+
+-- ---- one read
+
+-- a failed read
+pub read_failed : (old new : Line) → LinkFailed old.tape new.tape (counted old.tape.reads) old.tape.writes → Rose old.faults new.faults → new.buffer ≡ old.buffer → new.read ≡ old.read → new.limit ≡ old.limit → Failed old new client.IoError
+read_failed old new f rose buffer read limit = record {
+  drew = record { left = sym f.left; wrote = f.wrote; flushed = f.flushed; read = omega (arith, read); limit = limit };
+  buffer = buffer;
+  ended = f.ended;
+  pause = rose;
+}
+
+pub read_at_limit : (old : Line) → old.read ≡ old.limit → Failed old old client.ReadLimit
+read_at_limit old is = record { drew = record { left = refl; wrote = refl; flushed = refl; read = omega arith; limit = refl }; buffer = refl; ended = refl; pause = is }
+
+-- ---- the message at the front
+
+found_as : (c : Client) (before was : ℕ) (now : Line) (bytes other rest : List ℕ) (r : Result Backend ClientError) → before ≡ was → bytes ≡ other → Found (Pause before now) c bytes r rest → Found (Pause was now) c other r rest
+found_as c before was now bytes other rest r faults same f =
+    subst (λ (n : ℕ). Found (Pause n now) c other r rest) faults (subst (λ (b : List ℕ). Found (Pause before now) c b r rest) same f)
+
+-- more bytes came, and then a message
+pub came_on : (c : Client) (old mid new : Line) (r : Result Backend ClientError) → Grew old mid → Came c mid new r → Came c old new r
+came_on c old mid new r grew came = record {
+  taken = grew.piece ++ came.taken;
+  drew = drew_on old mid new grew.piece came.taken grew.drew came.drew;
+  found = found_as c mid.faults old.faults new (mid.buffer ++ came.taken) (old.buffer ++ (grew.piece ++ came.taken)) new.buffer r grew.goes_on.1 (pieces old.buffer mid.buffer grew.piece came.taken grew.buffer) came.found;
+  halts = λ none n some. let h = came.halts (grew.goes_on.0 ∙ none) n some in (h.0 ∙ grew.drew.flushed, h.1);
+  at_end = λ none n some. came.at_end (grew.goes_on.0 ∙ none) n some;
+  goes_on = on_ok_weaker r (λ (g : GoesOn mid new). (g.0 ∙ grew.goes_on.0, g.1 ∙ grew.goes_on.1)) came.goes_on;
+}
+
+-- it stands in the buffer
+pub came_whole : (c : Client) (t : Tape) (faults : ℕ) (was now : List ℕ) (read limit : ℕ) (m : Backend) → Decoded c.protocol_version was now (Ok (Some m)) → Came c (line t faults was read limit) (line t faults now read limit) (Ok m)
+came_whole c t faults was now read limit m d = record {
+  taken = [];
+  drew = drew_none t faults was now read limit;
+  found = subst (λ (b : List ℕ). Next c b m now) (sym (append-nil was)) d;
+  halts = not_halted c t.flushed (line t faults was read limit) (line t faults now read limit) refl;
+  at_end = not_at_end (Ok m ≡ Err client.UnexpectedEOF) (line t faults was read limit) (line t faults now read limit) refl;
+  goes_on = (refl, refl);
+}
+
+-- an answer that is no message
+abbrev failed : ClientError → Result Backend ClientError
+failed e = Err e
+
+lack_of : (P : ClientError → Type 0) (c : Client) (bytes rest : List ℕ) (e : ClientError) → Decoded c.protocol_version bytes rest (Err e) → Lack P c bytes rest e
+lack_of P c bytes rest client.OutOfMemory d = lack_starves rest
+lack_of P c bytes rest e d =
+    let bad = d.1 (λ is. cc) in
+    subst (λ (x : ClientError). Lack P c bytes rest x) (sym bad.2) (subst (λ (b : List ℕ). Lack P c bytes b (client.PgWireError bad.0)) (sym d.0) (unread bad.0 bad.1))
+
+-- it cannot be read
+pub came_refused : (c : Client) (t : Tape) (faults : ℕ) (was now : List ℕ) (read limit : ℕ) (e : ClientError) → Decoded c.protocol_version was now (Err e) → Came c (line t faults was read limit) (line t faults now read limit) (Err e)
+came_refused c t faults was now read limit e d =
+    let new = line t faults now read limit in
+    record {
+      taken = [];
+      drew = drew_none t faults was now read limit;
+      found = subst (λ (b : List ℕ). Lack (Pause faults new) c b now e) (sym (append-nil was)) (lack_of (Pause faults new) c was now e d);
+      halts = not_halted c t.flushed (line t faults was read limit) new refl;
+      at_end = not_at_end (failed e ≡ Err client.UnexpectedEOF) (line t faults was read limit) new refl;
+      goes_on = tt;
+    }
+
+-- no more bytes came
+lack_more : (P : ClientError → Type 0) (c : Client) (was now : List ℕ) (e : ClientError) → front c.protocol_version was ≡ More → now ≡ was → P e → Lack P c (was ++ []) now e
+lack_more P c was now e more same why =
+    subst (λ (b : List ℕ). Lack P c b now e) (sym (append-nil was)) (subst (λ (b : List ℕ). Lack P c was b e) (sym same) (halts e more why))
+
+pub came_ended : (c : Client) (old new : Line) → front c.protocol_version old.buffer ≡ More → Ended old new → Came c old new (Err client.UnexpectedEOF)
+came_ended c old new more e = record {
+  taken = [];
+  drew = e.drew;
+  found = lack_more (Pause old.faults new) c old.buffer new.buffer client.UnexpectedEOF more e.buffer e.at_end;
+  halts = λ none n some. (
+    (let is : Some n ≡ Some old.tape.flushed = sym some ∙ e.ended ∙ ap (λ o. end_of o old.tape.flushed) none in cc),
+    subst (λ (b : List ℕ). front c.protocol_version b ≡ More) (sym e.buffer) more,
+  );
+  at_end = λ none n some. refl;
+  goes_on = tt;
+}
+
+came_lost : (c : Client) (old new : Line) → Lost old new → Came c old new (Err client.OutOfMemory)
+came_lost c old new l = record {
+  taken = l.piece;
+  drew = l.drew;
+  found = lack_starves new.buffer;
+  halts = not_halted c old.tape.flushed old new l.ended;
+  at_end = not_at_end (failed client.OutOfMemory ≡ Err client.UnexpectedEOF) old new l.ended;
+  goes_on = tt;
+}
+
+came_failed : (c : Client) (old new : Line) (e : ClientError) → front c.protocol_version old.buffer ≡ More → Failed old new e → Came c old new (Err e)
+came_failed c old new e more f = record {
+  taken = [];
+  drew = f.drew;
+  found = lack_more (Pause old.faults new) c old.buffer new.buffer e more f.buffer f.pause;
+  halts = not_halted c old.tape.flushed old new f.ended;
+  at_end = not_at_end (failed e ≡ Err client.UnexpectedEOF) old new f.ended;
+  goes_on = tt;
+}
+
+pub came_unread : (c : Client) (old new : Line) (e : ClientError) → front c.protocol_version old.buffer ≡ More → ReadOnce old new (Err e) → Came c old new (Err e)
+came_unread c old new client.OutOfMemory more r = came_lost c old new r
+came_unread c old new client.IoError more r = came_failed c old new client.IoError more r
+came_unread c old new client.ReadLimit more r = came_failed c old new client.ReadLimit more r
+came_unread c old new e more r = came_failed c old new e more r
+
+-- ---- messages passed over
+
+passed_as : (e x : ClientError) (c last : Client) (before was : ℕ) (now : Line) (bytes other left : List ℕ) (broken : Bool) → before ≡ was → bytes ≡ other → Drained (Pause before now) e c bytes x last left broken → Drained (Pause was now) e c other x last left broken
+passed_as e x c last before was now bytes other left broken faults same d =
+    subst (λ (n : ℕ). Drained (Pause n now) e c other x last left broken) faults (subst (λ (b : List ℕ). Drained (Pause before now) e c b x last left broken) same d)
+
+abbrev PassedEnd : ClientError → ClientError → Bool → Type 0
+PassedEnd e x broken = (broken ≡ true) × ((x ≡ e) ⊎ ((e ≡ client.UnexpectedEOF) × (is_remote x ≡ true)))
+
+-- the error behind a message is the one before it, or the server's first
+first_cases : (e : ClientError) (m : Backend) → (first_of e m ≡ e) ⊎ ((e ≡ client.UnexpectedEOF) × (passes (first_of e m) ≡ true) × IsCaused (first_of e m) 0 0 false)
+first_cases client.UnexpectedEOF (backend.ErrorResponse m) = inr (refl, refl, tt)
+first_cases client.UnexpectedEOF m = inl refl
+first_cases e m = inl refl
+
+remote_cases : (e : ClientError) (m : Backend) → (first_of e m ≡ e) ⊎ ((e ≡ client.UnexpectedEOF) × (is_remote (first_of e m) ≡ true))
+remote_cases client.UnexpectedEOF (backend.ErrorResponse m) = inr (refl, refl)
+remote_cases client.UnexpectedEOF m = inl refl
+remote_cases e m = inl refl
+
+first_stays : (e x : ClientError) (m : Backend) → (x ≡ first_of e m) ⊎ ((first_of e m ≡ client.UnexpectedEOF) × (is_remote x ≡ true)) → (x ≡ e) ⊎ ((e ≡ client.UnexpectedEOF) × (is_remote x ≡ true))
+first_stays e x m (inl is) = elim (remote_cases e m) [
+  | inl same ↦ inl (is ∙ same)
+  | inr other ↦ inr (other.0, ap is_remote is ∙ other.1)
+]
+first_stays e x m (inr none) = elim (remote_cases e m) [
+  | inl same ↦ inr (sym same ∙ none.0, none.1)
+  | inr other ↦ inr (other.0, none.1)
+]
+
+-- one message more is passed over
+pub passed_on : (e x : ClientError) (c last : Client) (old mid new : Line) (m : Backend) (broken : Bool) → Came c old mid (Ok m) → is_ready m ≡ false → PassedOver (first_of e m) (told m c) mid new x last broken → PassedOver e c old new x last broken
+passed_on e x c last old mid new m broken came quiet p =
+    let more = next_more c (old.buffer ++ came.taken) mid.buffer p.taken m came.found in
+    let next = subst (λ (b : List ℕ). Next c b m (mid.buffer ++ p.taken)) (append_assoc old.buffer came.taken p.taken) more in
+    record {
+      taken = came.taken ++ p.taken;
+      drew = drew_on old mid new came.taken p.taken came.drew p.drew;
+      drained = goes e c (old.buffer ++ (came.taken ++ p.taken)) m (mid.buffer ++ p.taken) x last new.buffer broken next quiet
+          (passed_as (first_of e m) x (told m c) last mid.faults old.faults new (mid.buffer ++ p.taken) (mid.buffer ++ p.taken) new.buffer broken came.goes_on.1 refl p.drained);
+      halts = λ none n some. let h = p.halts (came.goes_on.0 ∙ none) n some in (h.0 ∙ came.drew.flushed, h.1);
+      at_end = λ none n some. let h = p.at_end (came.goes_on.0 ∙ none) n some in (h.0, first_stays e x m h.1);
+    }
+
+pub passed_all : (e : ClientError) (c : Client) (old new : Line) (m : Backend) → Came c old new (Ok m) → is_ready m ≡ true → PassedOver e c old new e (told m c) false
+passed_all e c old new m came ready = record {
+  taken = came.taken;
+  drew = came.drew;
+  drained = closes e c (old.buffer ++ came.taken) m new.buffer came.found ready;
+  halts = not_halted (told m c) old.tape.flushed old new came.goes_on.0;
+  at_end = not_at_end (PassedEnd e e false) old new came.goes_on.0;
+}
+
+pub passed_none : (e x : ClientError) (c : Client) (old new : Line) → Came c old new (Err x) → PassedOver e c old new (in_place_of e x) c true
+passed_none e x c old new came = record {
+  taken = came.taken;
+  drew = came.drew;
+  drained = lacks e c (old.buffer ++ came.taken) new.buffer x came.found;
+  halts = came.halts;
+  at_end = λ none n some. (refl, inl (let is : x ≡ client.UnexpectedEOF = (let same = came.at_end none n some in cc) in ap (in_place_of e) is));
+}
+
+pub passed_starved : (e : ClientError) (c : Client) (old new : Line) (m : Backend) → Came c old new (Ok m) → PassedOver e c old new client.OutOfMemory c true
+passed_starved e c old new m came = record {
+  taken = came.taken;
+  drew = came.drew;
+  drained = starves e c (old.buffer ++ came.taken) new.buffer;
+  halts = not_halted c old.tape.flushed old new came.goes_on.0;
+  at_end = not_at_end (PassedEnd e client.OutOfMemory true) old new came.goes_on.0;
+}
+
+-- what is taken is gone from the buffer
+pub taken_shrinks : (v : ProtocolVersion) (was now : List ℕ) (m : Backend) → Decoded v was now (Ok (Some m)) → length now < length was
+taken_shrinks v was now m d =
+    let w = front_whole v was m d.0 d.1 in
+    let size : length now ≡ length (drop d.0 was) = ap length d.2 in
+    omega (arith, w.0, w.1, size, length-drop d.0 was)
+
+pub ready_first : (e : ClientError) (m : Backend) → is_ready m ≡ true → first_of e m ≡ e
+ready_first client.UnexpectedEOF (backend.ReadyForQuery m) is = refl
+ready_first client.UnexpectedEOF m is = absurd cc
+ready_first e m is = refl
+
+-- no error makes IoError or Broken by itself
+pub caused_from : (e : ClientError) (before now : ℕ) → IsCaused e 0 0 false → IsCaused e before now false
+caused_from client.IoError before now c = absurd (omega (arith, c))
+caused_from client.Broken before now c = absurd (let no : false ≡ true = c in cc)
+caused_from e before now c = tt
+
+-- the same behind a look at the buffer, which took nothing
+pub came_after : (c also : Client) (t : Tape) (faults : ℕ) (was now : List ℕ) (read limit : ℕ) (mid final : Line) (r : Result Backend ClientError) → now ≡ was → also ≡ c
+    → Grew (line t faults now read limit) mid → Came also mid final r → Came c (line t faults was read limit) final r
+came_after c also t faults was now read limit mid final r same client grew came =
+    subst (λ (x : Client). Came x (line t faults was read limit) final r) client
+    (subst (λ (b : List ℕ). Came also (line t faults b read limit) final r) same (came_on also (line t faults now read limit) mid final r grew came))
+
+pub ended_after : (c : Client) (t : Tape) (faults : ℕ) (was now : List ℕ) (read limit : ℕ) (new : Line) → now ≡ was → front c.protocol_version was ≡ More
+    → Ended (line t faults now read limit) new → Came c (line t faults was read limit) new (Err client.UnexpectedEOF)
+ended_after c t faults was now read limit new same more e =
+    came_ended c (line t faults was read limit) new more (subst (λ (b : List ℕ). Ended (line t faults b read limit) new) same e)
+
+pub unread_after : (c : Client) (t : Tape) (faults : ℕ) (was now : List ℕ) (read limit : ℕ) (new : Line) (e : ClientError) → now ≡ was → front c.protocol_version was ≡ More
+    → ReadOnce (line t faults now read limit) new (Err e) → Came c (line t faults was read limit) new (Err e)
+unread_after c t faults was now read limit new e same more r =
+    came_unread c (line t faults was read limit) new e more (subst (λ (b : List ℕ). ReadOnce (line t faults b read limit) new (Err e)) same r)
+
+-- ---- one turn of passing over
+
+pub first_caused : (e r : ClientError) (m : Backend) → r ≡ first_of e m → IsCaused e 0 0 false → IsCaused r 0 0 false
+first_caused e r m is own = subst (λ (x : ClientError). IsCaused x 0 0 false) (sym is) (elim (first_cases e m) [
+  | inl same ↦ subst (λ (x : ClientError). IsCaused x 0 0 false) (sym same) own
+  | inr other ↦ other.2
+])
+
+pub first_same : (e first r : ClientError) (m : Backend) → r ≡ first_of e m → (e ≡ first) ⊎ (passes e ≡ true) → (r ≡ first) ⊎ (passes r ≡ true)
+first_same e first r m is (inl same) = elim (first_cases e m) [
+  | inl stays ↦ inl (is ∙ stays ∙ same)
+  | inr other ↦ inr (ap passes is ∙ other.1)
+]
+first_same e first r m is (inr good) = elim (first_cases e m) [
+  | inl stays ↦ inr (ap passes (is ∙ stays) ∙ good)
+  | inr other ↦ inr (ap passes is ∙ other.1)
+]
+
+pub first_remote : (e first r : ClientError) (m : Backend) → r ≡ first_of e m → (e ≡ first) ⊎ (is_remote e ≡ true) → (r ≡ first) ⊎ (is_remote r ≡ true)
+first_remote e first r m is (inl same) = elim (remote_cases e m) [
+  | inl stays ↦ inl (is ∙ stays ∙ same)
+  | inr other ↦ inr (ap is_remote is ∙ other.1)
+]
+first_remote e first r m is (inr good) = elim (remote_cases e m) [
+  | inl stays ↦ inr (ap is_remote (is ∙ stays) ∙ good)
+  | inr other ↦ inr (ap is_remote is ∙ other.1)
+]
+
+pub passed_failed : (e x r : ClientError) (c also : Client) (old new : Line) → Came c old new (Err x) → r ≡ in_place_of e x → also ≡ c → PassedOver e c old new r also true
+passed_failed e x r c also old new came is same =
+    subst (λ (y : ClientError). PassedOver e c old new y also true) (sym is) (subst (λ (y : Client). PassedOver e c old new (in_place_of e x) y true) (sym same) (passed_none e x c old new came))
+
+pub passed_ready : (e r : ClientError) (m : Backend) (c also after : Client) (old new : Line) (broken : Bool) → Came c old new (Ok m) → is_ready m ≡ true → r ≡ first_of e m → also ≡ c → after ≡ told m also → broken ≡ false → PassedOver e c old new r after broken
+passed_ready e r m c also after old new broken came ready is same tells usable =
+    subst (λ (y : ClientError). PassedOver e c old new y after broken) (sym (is ∙ ready_first e m ready))
+    (subst (λ (y : Client). PassedOver e c old new e y broken) (sym (tells ∙ ap (told m) same))
+    (subst (λ (b : Bool). PassedOver e c old new e (told m c) b) (sym usable) (passed_all e c old new m came ready)))
+
+pub passed_wanting : (e : ClientError) (m : Backend) (c after : Client) (old new : Line) → Came c old new (Ok m) → after ≡ c → PassedOver e c old new client.OutOfMemory after true
+passed_wanting e m c after old new came same = subst (λ (y : Client). PassedOver e c old new client.OutOfMemory y true) (sym same) (passed_starved e c old new m came)
+
+pub passed_after : (e r x : ClientError) (m : Backend) (c also after last : Client) (old mid new : Line) (broken : Bool) → Came c old mid (Ok m) → is_ready m ≡ false → r ≡ first_of e m → also ≡ c → after ≡ told m also
+    → PassedOver r after mid new x last broken → PassedOver e c old new x last broken
+passed_after e r x m c also after last old mid new broken came quiet is same tells p =
+    passed_on e x c last old mid new m broken came quiet
+    (subst (λ (y : ClientError). PassedOver y (told m c) mid new x last broken) is (subst (λ (y : Client). PassedOver r y mid new x last broken) (tells ∙ ap (told m) same) p))
+
+-- no bytes are no message
+pub polled_empty : (v : ProtocolVersion) (bytes : List ℕ) → length bytes ≡ 0 → front v bytes ≡ More
+polled_empty v [] none = front_nil v
+polled_empty v (b ∷ bytes) none = absurd (omega (arith, none))

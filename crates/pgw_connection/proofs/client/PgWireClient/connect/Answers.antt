@@ -1,0 +1,6 @@
+use Rattle.std.proofs.Common.{inr}
+use Rattle.std.proofs.lemmas.Result.{IfErr-weaker}
+use Rattle.pgw_connection.proofs.client.PgWireClient.connect.Goals as goal
+
+pub returns-in-Ok-clause-refused : goal.returns-in-Ok-clause-refused
+returns-in-Ok-clause-refused g c = IfErr-weaker c.connect_at.result _ _ (λ e failed. inr (c.in-Ok.address, c.in-Ok.ensures.leads, failed)) c.connect_at.ensures.failed

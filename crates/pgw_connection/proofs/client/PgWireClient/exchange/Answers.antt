@@ -1,0 +1,16 @@
+use Rattle.std.proofs.Common.{arith, ◌∙◌}
+use Rattle.pgw_connection.proofs.ExchangeLaws.{exchanged_on}
+use Rattle.pgw_connection.proofs.client.PgWireClient.exchange.Goals as goal
+
+pub messages-preserved : goal.messages-preserved
+messages-preserved g c =
+    let h = c.heed_next.ensures in
+    record {
+      usable = c.in-Ok-Pending.ensures.usable;
+      limit = h.limit ∙ c.messages.invariant.limit;
+      config = h.config ∙ c.messages.invariant.config;
+      later = omega (arith, c.messages.invariant.later, h.cause.later);
+      exchanged = λ t final last rest.
+          let one = rw c.in-Ok-Pending.field-0-is at c.in-Ok-Pending.ensures.heeded t in
+          c.messages.invariant.exchanged t final last (exchanged_on g.H.ExtendedQueryHandler.means c.args.kind _ _ _ _ _ _ _ _ final last one.0 rest);
+    }

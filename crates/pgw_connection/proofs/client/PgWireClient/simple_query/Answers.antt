@@ -1,0 +1,17 @@
+use Rattle.pgw_handlers.specs.Simple.{simple_query, HeardInQuery}
+use Rattle.pgw_connection.specs.Talk.{passes}
+use Rattle.pgw_connection.specs.Desk.{sight_of}
+use Rattle.pgw_connection.proofs.CallLaws.{call_opened, call_closed}
+use Rattle.pgw_connection.proofs.client.PgWireClient.simple_query.Goals as goal
+
+pub returns-in-Ok-clause-asked : goal.returns-in-Ok-clause-asked
+returns-in-Ok-clause-asked g c = λ t usable.
+    let o = c.simple_query-opened in
+    call_opened (λ before after answer. g.H.SimpleQueryHandler.means before (simple_query c.args.query.now) after answer) (HeardInQuery g.H.SimpleQueryHandler.means) passes c.args.handler o.new.self _ (sight_of c.clear.new.self) (sight_of o.new.client) _ _ o.result
+    (c.clear.ensures.fresh usable) (o.ensures.means tt) _ _ _ _ (c.in-Ok.ensures.opens t) c.begin.ensures.client (c.talk_in_query.ensures.talked t)
+
+pub returns-clause-asked : goal.returns-clause-asked
+returns-clause-asked g c = λ t usable.
+    let o = c.simple_query-opened in
+    call_closed (λ before after answer. g.H.SimpleQueryHandler.means before (simple_query c.args.query.now) after answer) (HeardInQuery g.H.SimpleQueryHandler.means) passes c.args.handler o.new.self _ (sight_of c.clear.new.self) (sight_of o.new.client) _ _ o.result
+    (c.clear.ensures.fresh usable) (o.ensures.means tt) c.in-Err.error _ _ o.ensures.cause.failed (c.in-Err.ensures.opens t) c.begin.ensures.client

@@ -1,0 +1,17 @@
+use Rattle.pgw_handlers.specs.Startup.{startup, HeardAtStartup}
+use Rattle.pgw_connection.specs.Connecting.{never}
+use Rattle.pgw_connection.specs.Desk.{sight_of}
+use Rattle.pgw_connection.proofs.CallLaws.{call_opened, call_closed}
+use Rattle.pgw_connection.proofs.client.PgWireClient.start.Goals as goal
+
+pub returns-in-Ok-clause-asked : goal.returns-in-Ok-clause-asked
+returns-in-Ok-clause-asked g c = λ t.
+    let o = c.startup-opened in
+    call_opened (λ before after answer. g.S.StartupHandler.means before startup after answer) (HeardAtStartup g.S.StartupHandler.exchanges g.S.StartupHandler.means) never c.args.handler o.new.self _ (sight_of c.clear.new.self) (sight_of o.new.client) _ _ o.result
+    (c.clear.ensures.fresh c.requires) (o.ensures.means tt) _ _ _ _ (c.in-Ok.ensures.opens t) c.begin.ensures.client (c.talk_at_startup.ensures.talked t)
+
+pub returns-clause-asked : goal.returns-clause-asked
+returns-clause-asked g c = λ t.
+    let o = c.startup-opened in
+    call_closed (λ before after answer. g.S.StartupHandler.means before startup after answer) (HeardAtStartup g.S.StartupHandler.exchanges g.S.StartupHandler.means) never c.args.handler o.new.self _ (sight_of c.clear.new.self) (sight_of o.new.client) _ _ o.result
+    (c.clear.ensures.fresh c.requires) (o.ensures.means tt) c.in-Err.error _ _ o.ensures.cause.failed (c.in-Err.ensures.opens t) c.begin.ensures.client

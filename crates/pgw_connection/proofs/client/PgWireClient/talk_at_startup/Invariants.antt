@@ -1,0 +1,23 @@
+use Rattle.std.proofs.Common.{◌≡◌, ◌≤◌, ◌+◌, ◌-◌, length, false}
+use Rattle.pgw_handlers.specs.Startup.{HeardAtStartup}
+use Rattle.pgw_connection.specs.Talk.{End}
+use Rattle.pgw_connection.specs.Connecting.{never}
+use Rattle.pgw_connection.specs.Desk.{client_of}
+use Rattle.pgw_connection.specs.Line.{Line, line}
+use Rattle.pgw_connection.specs.Calls.{Talked}
+use Rattle.pgw_connection.proofs.client.PgWireClient.talk_at_startup.Given as goal
+
+-- what is said from here on is said from the beginning
+abbrev pub invariant-messages : goal.invariant-messages
+invariant-messages g l = record {
+  usable : l.self.desk.broken ≡ false;
+  limit : l.self.limit ≡ l.fn.self.limit;
+  config : l.self.desk.config ≡ l.fn.self.desk.config;
+  later : g.L.Link.faults l.fn.self.link ≤ g.L.Link.faults l.self.link;
+  talked : g.L.Link.tells → (final : Line) (last : End _) →
+      Talked (HeardAtStartup g.S.StartupHandler.exchanges g.S.StartupHandler.means) never l.handler (client_of l.self.desk) (line (g.L.Link.tape l.self.link) (g.L.Link.faults l.self.link) l.self.inbox l.self.read l.self.limit) final last →
+      Talked (HeardAtStartup g.S.StartupHandler.exchanges g.S.StartupHandler.means) never l.fn.handler (client_of l.fn.self.desk) (line (g.L.Link.tape l.fn.self.link) (g.L.Link.faults l.fn.self.link) l.fn.self.inbox l.fn.self.read l.fn.self.limit) final last;
+}
+
+abbrev pub decreases-messages : goal.decreases-messages
+decreases-messages g l = (l.self.limit - l.self.read) + length l.self.inbox

@@ -1,0 +1,166 @@
+-- What a client's calls leave.
+use Rattle.std.specs.Prelude.{◌≡◌, ◌⊎◌, ℕ, Bool, true, false, not, ◌&&◌, ◌||◌, List, [], ◌++◌, length, drop, Option, Result, Ok, Err}
+use Rattle.pgw_types.specs.declared.error.PgWireError.{PgWireError}
+use Rattle.pgw_types.specs.declared.context.ProtocolVersion.{ProtocolVersion}
+use Rattle.pgw_backend.specs.Front.{front, More, Bad, Whole}
+use Rattle.pgw_client.specs.Wire.{Unless}
+use Rattle.pgw_backend.specs.declared.client_error.PgWireClientError.{PgWireClientError as ClientError}
+use Rattle.pgw_backend.specs.declared.client_error.PgWireClientError.TheVariants as client
+use Rattle.pgw_backend.specs.declared.backend.PgWireBackendMessage.{PgWireBackendMessage as Backend}
+use Rattle.pgw_config.specs.declared.config.Config.{Config}
+use Rattle.pgw_link.specs.Tape.{Tape, Rose}
+use Rattle.pgw_session.specs.Segments.{is_ready}
+use Rattle.pgw_handlers.specs.Client.{Client, Sight}
+use Rattle.pgw_handlers.specs.Handling.{Standing, standing, Answer}
+use Rattle.pgw_handlers.specs.declared.client_info.ReadyState.{ReadyState}
+use Rattle.pgw_handlers.specs.declared.client_info.ReadyState.TheVariants.{Pending, Ready}
+use Rattle.pgw_connection.specs.Talk.{fresh, Next, End, end, Hearing, Talk, Asked, IsCut, passes, is_refusal}
+use Rattle.pgw_connection.specs.Line.{Line, Pause, IsFlushed, Halts, AtEnd, Moved}
+use Rattle.pgw_connection.specs.Reading.{GoesOn, PassedOver}
+
+-- ---- what no handler changes
+
+pub record Kept : Type 0 where
+  pub config : Config
+  pub buffer : List ℕ
+  pub read : ℕ
+  pub limit : ℕ
+
+abbrev pub kept : Config → List ℕ → ℕ → ℕ → Kept
+kept config buffer read limit = record { config = config; buffer = buffer; read = read; limit = limit }
+
+-- where the link tells
+pub record KeptRest : Type 0 where
+  pub left : List ℕ
+  pub ended : Option ℕ
+  pub reads : ℕ
+
+abbrev pub kept_rest : Tape → KeptRest
+kept_rest tape = record { left = tape.left; ended = tape.ended; reads = tape.reads }
+
+-- what is seen of a client over its link
+abbrev pub link_sight : Client → Tape → Bool → Sight
+link_sight c tape broken = record { client = c; wrote = tape.wrote; flushed = tape.flushed; broken = broken }
+
+-- ---- whether a client can be used behind an answer, told or not
+
+-- behind an error that none of these is, it cannot
+abbrev pub IsUsable : {T : Type 0} → (ClientError → Bool) → Result T ClientError → Bool → Type 0
+IsUsable allowed (Ok x) broken = broken ≡ false
+IsUsable allowed (Err e) broken = (broken ≡ true) ⊎ (allowed e ≡ true)
+
+-- behind these it goes on, where it goes on at all
+abbrev pub goes_on_if : Bool → ClientError → Bool
+goes_on_if some e = some && passes e
+
+-- of a call, a refused opening too
+abbrev pub may_go_on : ClientError → Bool
+may_go_on e = passes e || is_refusal e
+
+-- ---- writing
+
+-- what a handler sent was written as one piece and flushed; nothing is neither
+pub record PutAll (bytes : List ℕ) (old new : Line) : Type 0 where
+  pub moved : Moved old new [] bytes
+  pub buffer : new.buffer ≡ old.buffer
+  pub flushed : IsFlushed old → IsFlushed new
+  pub goes_on : GoesOn old new
+
+-- a part of it was written
+pub record PutSome (bytes : List ℕ) (old new : Line) : Type 0 where
+  pub part : List ℕ
+  pub cut : IsCut bytes part
+  pub moved : Moved old new [] part
+  pub buffer : new.buffer ≡ old.buffer
+  pub ended : new.tape.ended ≡ old.tape.ended
+  pub rose : Rose old.faults new.faults
+
+abbrev pub Puts : List ℕ → Line → Line → Result (Unit {0}) ClientError → Type 0
+Puts bytes old new (Ok done) = PutAll bytes old new
+Puts bytes old new (Err e) = (e ≡ client.IoError) × PutSome bytes old new
+
+-- ---- the opening of a call
+
+-- What becomes of a handler's opening: `out` is what it sent, and `was` says that memory ran out in that.
+pub data Opens (was : Bool) (out : List ℕ) (old new : Line) : Result (Unit {0}) ClientError → Result (Unit {0}) ClientError → Bool → Type 0 where
+  starved : (opened : Result (Unit {0}) ClientError) → was ≡ true → new ≡ old → Opens was out old new opened (Err client.OutOfMemory) true
+  wrote : was ≡ false → PutAll out old new → Opens was out old new (Ok tt) (Ok tt) false
+  cut : was ≡ false → PutSome out old new → Opens was out old new (Ok tt) (Err client.IoError) true
+  refused : (e : ClientError) → was ≡ false → new ≡ old → Opens was out old new (Err e) (Err e) (not (is_refusal e))
+
+-- ---- a handler's answer
+
+-- What becomes of a handler's error: `closing` says that it was behind ReadyForQuery.
+pub data GivesUp (goes_on : ClientError → Bool) (closing : Bool) (c : Client) (old new : Line) : ClientError → ClientError → Client → Bool → Type 0 where
+  breaks : (e : ClientError) → goes_on e ≡ false → new ≡ old → GivesUp goes_on closing c old new e e c true
+  fails : (e : ClientError) → goes_on e ≡ true → closing ≡ true → new ≡ old → GivesUp goes_on closing c old new e e c false
+  drains : (e x : ClientError) (last : Client) (broken : Bool) → goes_on e ≡ true → closing ≡ false → PassedOver e c old new x last broken → GivesUp goes_on closing c old new e x last broken
+
+-- What becomes of its answer.
+pub data Follows {T : Type 0} (goes_on : ClientError → Bool) (closing was : Bool) (out : List ℕ) (c : Client) (old new : Line) : Answer T → Answer T → Client → Bool → Type 0 where
+  starves : (answer : Answer T) → was ≡ true → new ≡ old → Follows goes_on closing was out c old new answer (Err client.OutOfMemory) c true
+  writes : (s : ReadyState T) → was ≡ false → PutAll out old new → Follows goes_on closing was out c old new (Ok s) (Ok s) c false
+  cuts : (s : ReadyState T) → was ≡ false → PutSome out old new → Follows goes_on closing was out c old new (Ok s) (Err client.IoError) c true
+  gives_up : (e x : ClientError) (last : Client) (broken : Bool) → was ≡ false → GivesUp goes_on closing c old new e x last broken → Follows goes_on closing was out c old new (Err e) (Err x) last broken
+
+-- ---- messages handed to a handler
+
+-- what is answered where the link ended before the next message: that, or the error behind which messages were passed over
+abbrev pub IsHalted : {A : Type 0} → (ClientError → Bool) → Result A ClientError → Bool → Type 0
+IsHalted goes_on (Ok x) broken = ⊥
+IsHalted goes_on (Err client.UnexpectedEOF) broken = broken ≡ true
+IsHalted goes_on (Err e) broken = (goes_on e ≡ true) × (broken ≡ true)
+
+-- a message was heard, what the handler sent was written, and the call goes on
+pub record HeardOne {H A : Type 0} (M : Hearing H A) (h : H) (c : Client) (old new : Line) (handler : H) (info : Client) : Type 0 where
+  pub taken : List ℕ
+  pub message : Backend
+  pub after : Standing H
+  pub moved : Moved old new taken after.sight.wrote
+  pub next : Next c (old.buffer ++ taken) message new.buffer
+  pub heard : M (standing h (fresh c)) message after (Ok Pending)
+  pub usable : after.sight.broken ≡ false
+  pub quiet : is_ready message ≡ false
+  pub handler_is : after.handler ≡ handler
+  pub info_is : after.sight.client ≡ info
+  pub flushed : IsFlushed old → IsFlushed new
+  pub goes_on : GoesOn old new
+
+-- messages were handed over up to the call's end
+pub record Talked {H A : Type 0} (M : Hearing H A) (goes_on : ClientError → Bool) (h : H) (c : Client) (old new : Line) (last : End A) : Type 0 where
+  pub taken : List ℕ
+  pub sent : List ℕ
+  pub moved : Moved old new taken sent
+  pub talk : Talk M (Pause old.faults new) goes_on h c (old.buffer ++ taken) sent last
+  pub flushed : IsFlushed old → last.broken ≡ false → IsFlushed new
+  pub halts : IsFlushed old → Halts last.info (length new.tape.wrote) old new
+  pub at_end : AtEnd old new (IsHalted goes_on last.answer last.broken)
+
+-- one message was handed over: the call goes on, or has ended
+abbrev pub HeardNext : {H A : Type 0} → Hearing H A → (ClientError → Bool) → H → Client → Line → Line → H → Client → Bool → Answer A → Type 0
+HeardNext M goes_on h c old new handler info broken (Ok Pending) = HeardOne M h c old new handler info × (broken ≡ false)
+HeardNext M goes_on h c old new handler info broken (Ok (Ready x)) = Talked M goes_on h c old new (end (Ok x) info broken new.buffer)
+HeardNext M goes_on h c old new handler info broken (Err e) = Talked M goes_on h c old new (end (Err e) info broken new.buffer)
+
+-- ---- a call
+
+-- A call of a client, as its handler means it: what it read and wrote, that what it read is counted, that a usable client
+-- has flushed all that it wrote, and that the link's end, where it was first answered in this call, was asked for a message
+-- that was awaited, with all flushed, and is what the call answers, or the error behind which it passed messages over.
+pub record Call {H A : Type 0} (opens : Standing H → Standing H → Answer A → Type 0) (M : Hearing H A) (goes_on : ClientError → Bool) (h : H) (c : Client) (old new : Line) (last : End A) : Type 0 where
+  pub taken : List ℕ
+  pub sent : List ℕ
+  pub moved : Moved old new taken sent
+  pub asked : Asked opens M (Pause old.faults new) goes_on h c (old.buffer ++ taken) sent last
+  pub flushed : IsFlushed old → last.broken ≡ false → IsFlushed new
+  pub halts : IsFlushed old → Halts last.info (length new.tape.wrote) old new
+  pub at_end : AtEnd old new (IsHalted goes_on last.answer last.broken)
+
+-- ---- taking a message from the buffer
+
+-- no message is whole yet, exactly where Pending comes; a message was taken; or the bytes cannot be read, and the client
+-- cannot be used any more
+abbrev pub Polled : ProtocolVersion → List ℕ → List ℕ → Bool → Result (ReadyState Backend) ClientError → Type 0
+Polled version old new broken (Ok Pending) = (front version old ≡ More) × (new ≡ old) × (broken ≡ false)
+Polled version old new broken (Ok (Ready m)) = (len : ℕ) × (front version old ≡ Whole m len) × (new ≡ drop len old) × (broken ≡ false)
+Polled version old new broken (Err e) = Unless e ((why : PgWireError) × (front version old ≡ Bad why) × (e ≡ client.PgWireError why)) × (new ≡ old) × (broken ≡ true)

@@ -1,0 +1,144 @@
+-- What the steps of a call of extended queries leave.
+use Rattle.std.specs.Prelude.{◌≡◌, ℕ, Bool, true, false, ◌||◌, List, ◌++◌, length, Option, Some, None, Result, Ok, Err}
+use Rattle.pgw_backend.specs.declared.backend.PgWireBackendMessage.{PgWireBackendMessage as Backend}
+use Rattle.pgw_backend.specs.ClientError.{IsUnexpected}
+use Rattle.pgw_backend.specs.declared.client_error.PgWireClientError.{PgWireClientError as ClientError}
+use Rattle.pgw_backend.specs.declared.client_error.PgWireClientError.TheVariants as client
+use Rattle.pgw_session.specs.declared.stage.Kind.{Kind}
+use Rattle.pgw_session.specs.declared.stage.Role.TheVariants.{Taken, Closing, Completing, Failing, Misplaced}
+use Rattle.pgw_session.specs.declared.types.Request.{Request}
+use Rattle.pgw_session.specs.Requests.{role, behind_error}
+use Rattle.pgw_frontend.specs.declared.frontend.PgWireFrontendMessage.{PgWireFrontendMessage as Frontend}
+use Rattle.pgw_handlers.specs.Client.{Client, Sight}
+use Rattle.pgw_handlers.specs.Handling.{standing, Answer, IsCaused}
+use Rattle.pgw_handlers.specs.Extended.{sync, nothing}
+use Rattle.pgw_handlers.specs.declared.client_info.ReadyState.{ReadyState}
+use Rattle.pgw_handlers.specs.declared.client_info.ReadyState.TheVariants.{Pending, Ready}
+use Rattle.pgw_connection.specs.declared.gathered.Gathered.{Gathered}
+use Rattle.pgw_connection.specs.Talk.{fresh, Next, told, first_of, is_remote, is_refusal}
+use Rattle.pgw_connection.specs.Line.{Line, Pause, IsFlushed, Halts, AtEnd, Drew, Moved}
+use Rattle.pgw_connection.specs.Reading.{GoesOn, PassedOver}
+use Rattle.pgw_connection.specs.Calls.{IsHalted, PutAll, PutSome}
+use Rattle.pgw_connection.specs.Extended.{Meaning, call_for, Heeds, RefusesBy, Finish, finish, is_suspended, Exchange, Requested}
+
+-- ---- one message
+
+-- A message was given to its function: it was heeded, or refused, or memory was wanting for what the function gave.
+pub data Heeded {H R : Type 0} (M : Meaning H R) (h : H) (c : Client) (g : Gathered R) (m : Backend) (after : H) (more : Gathered R) : Result (Unit {0}) ClientError → Type 0 where
+  heeds : Heeds M h c g m after more → Heeded M h c g m after more (Ok tt)
+  refuses : (e : ClientError) → RefusesBy M (call_for m) h c after e → IsCaused e 0 0 false → Heeded M h c g m after more (Err e)
+  wants : Heeded M h c g m after more (Err client.OutOfMemory)
+
+-- The same, and what it tells of the connection was noted.
+pub data Took {H R : Type 0} (M : Meaning H R) (h : H) (c : Client) (g : Gathered R) (m : Backend) (after : H) (info : Client) (more : Gathered R) : Result (Unit {0}) ClientError → Bool → Type 0 where
+  takes : Heeds M h c g m after more → info ≡ told m c → Took M h c g m after info more (Ok tt) false
+  refuses : (e : ClientError) → RefusesBy M (call_for m) h c after e → IsCaused e 0 0 false → info ≡ c → Took M h c g m after info more (Err e) true
+  wants : Took M h c g m after info more (Err client.OutOfMemory) true
+
+-- ---- behind the end of an answer
+
+-- whether Sync is due behind the server's error
+abbrev pub is_some_due : Option Frontend → Bool
+is_some_due None = false
+is_some_due (Some m) = true
+
+abbrev pub is_due : Kind → Bool
+is_due k = is_some_due (behind_error k)
+
+-- no error leaves a usable client
+abbrev pub no_error : ClientError → Bool
+no_error e = false
+
+-- What becomes of Sync, where it is due.
+pub data Synced {H R : Type 0} (M : Meaning H R) (h : H) (c : Client) (old new : Line) (after : H) (info : Client) : Bool → Result (Unit {0}) ClientError → Bool → Type 0 where
+  spares : new ≡ old → after ≡ h → info ≡ c → Synced M h c old new after info false (Ok tt) false
+  sends : (s : Sight) → M (standing h (fresh c)) sync (standing after s) (Ok nothing) → s.broken ≡ false → PutAll s.wrote old new → info ≡ s.client → Synced M h c old new after info true (Ok tt) false
+  cuts : (s : Sight) → M (standing h (fresh c)) sync (standing after s) (Ok nothing) → PutSome s.wrote old new → info ≡ s.client → Synced M h c old new after info true (Err client.IoError) true
+  refuses : (s : Sight) (e : ClientError) → M (standing h (fresh c)) sync (standing after s) (Err e) → IsCaused e 0 0 s.broken → new ≡ old → info ≡ s.client → Synced M h c old new after info true (Err e) true
+  wants : new ≡ old → Synced M h c old new after info true (Err client.OutOfMemory) true
+
+-- the answer of messages that were passed over
+abbrev pub passed_answer : ClientError → Bool → Answer Bool
+passed_answer client.UnexpectedEOF false = Ok (Ready false)
+passed_answer e broken = Err e
+
+-- Sync was sent where it is due, and then messages were passed over.
+pub data Settled {H R : Type 0} (M : Meaning H R) (due : Bool) (h : H) (c : Client) (old new : Line) (e : ClientError) (handler : H) (info : Client) : Answer Bool → Bool → Type 0 where
+  stops : (x : ClientError) → Synced M h c old new handler info due (Err x) true → Settled M due h c old new e handler info (Err x) true
+  passes : (mid : Line) (between : Client) (x : ClientError) (broken was : Bool) → Synced M h c old mid handler between due (Ok tt) was → PassedOver e between mid new x info broken
+      → Settled M due h c old new e handler info (passed_answer x broken) broken
+
+-- ---- the messages of a call
+
+-- what becomes of a taken message's error, and of the last one's
+abbrev pub answer_with : ReadyState Bool → Result (Unit {0}) ClientError → Answer Bool
+answer_with state (Ok done) = Ok state
+answer_with state (Err e) = Err e
+
+-- What becomes of a message by its role.
+pub data HeededOne {H R : Type 0} (M : Meaning H R) (k : Kind) (h : H) (c : Client) (g : Gathered R) (m : Backend) (old new : Line) (handler : H) (info : Client) (more : Gathered R) : Answer Bool → Bool → Type 0 where
+  takes : (rows : Bool) (r : Result (Unit {0}) ClientError) (broken : Bool) → role k false m ≡ Taken rows → Took M h c g m handler info more r broken → new ≡ old
+      → HeededOne M k h c g m old new handler info more (answer_with Pending r) broken
+  closes : (r : Result (Unit {0}) ClientError) (broken : Bool) → role k false m ≡ Closing → Took M h c g m handler info more r broken → new ≡ old
+      → HeededOne M k h c g m old new handler info more (answer_with (Ready (is_suspended m)) r) broken
+  stops : (e : ClientError) (broken : Bool) → role k false m ≡ Completing → Took M h c g m handler info more (Err e) broken → new ≡ old → HeededOne M k h c g m old new handler info more (Err e) broken
+  completes : (after : H) (between : Client) (answer : Answer Bool) (was broken : Bool) → role k false m ≡ Completing → Took M h c g m after between more (Ok tt) was
+      → Settled M true after between old new client.UnexpectedEOF handler info answer broken → HeededOne M k h c g m old new handler info more answer broken
+  fails : (answer : Answer Bool) (broken : Bool) → role k false m ≡ Failing → Settled M (is_due k) h c old new (first_of client.UnexpectedEOF m) handler info answer broken → more ≡ g
+      → HeededOne M k h c g m old new handler info more answer broken
+  misplaced : (e : ClientError) → role k false m ≡ Misplaced → IsUnexpected m e → handler ≡ h → info ≡ c → new ≡ old → HeededOne M k h c g m old new handler info more (Err e) true
+
+-- a message was taken, and the call goes on
+pub record TookOne {H R : Type 0} (M : Meaning H R) (k : Kind) (h : H) (c : Client) (g : Gathered R) (old new : Line) (handler : H) (info : Client) (more : Gathered R) : Type 0 where
+  pub taken : List ℕ
+  pub message : Backend
+  pub rows : Bool
+  pub drew : Drew old new taken
+  pub next : Next c (old.buffer ++ taken) message new.buffer
+  pub takes : role k false message ≡ Taken rows
+  pub heeds : Heeds M h c g message handler more
+  pub info_is : info ≡ told message c
+  pub goes_on : GoesOn old new
+
+-- messages were taken up to the call's end
+pub record Exchanged {H R : Type 0} (M : Meaning H R) (k : Kind) (h : H) (c : Client) (g : Gathered R) (old new : Line) (last : Finish H R) : Type 0 where
+  pub taken : List ℕ
+  pub sent : List ℕ
+  pub moved : Moved old new taken sent
+  pub exchange : Exchange M (Pause old.faults new) k h c g (old.buffer ++ taken) sent last
+  pub flushed : IsFlushed old → last.broken ≡ false → IsFlushed new
+  pub halts : IsFlushed old → Halts last.info (length new.tape.wrote) old new
+  pub at_end : AtEnd old new (IsHalted is_remote last.answer last.broken)
+
+-- one message was taken: the call goes on, or has ended, and this says whether the portal was suspended
+abbrev pub HeededNext : {H R : Type 0} → Meaning H R → Kind → H → Client → Gathered R → Line → Line → H → Client → Gathered R → Bool → Answer Bool → Type 0
+HeededNext M k h c g old new handler info more broken (Ok Pending) = TookOne M k h c g old new handler info more × (broken ≡ false)
+HeededNext M k h c g old new handler info more broken (Ok (Ready suspended)) = Exchanged M k h c g old new (finish (Ok (more, suspended)) handler info broken new.buffer)
+HeededNext M k h c g old new handler info more broken (Err e) = Exchanged M k h c g old new (finish (Err e) handler info broken new.buffer)
+
+-- ---- a call
+
+-- the errors that can leave a usable client: the server's, and a refused opening
+abbrev pub may_stay : ClientError → Bool
+may_stay e = is_remote e || is_refusal e
+
+-- A request was asked and answered.
+pub record Called {H R : Type 0} (M : Meaning H R) (q : Request) (h : H) (c : Client) (old new : Line) (last : Finish H R) : Type 0 where
+  pub taken : List ℕ
+  pub sent : List ℕ
+  pub moved : Moved old new taken sent
+  pub requested : Requested M (Pause old.faults new) q h c (old.buffer ++ taken) sent last
+  pub flushed : IsFlushed old → last.broken ≡ false → IsFlushed new
+  pub halts : IsFlushed old → Halts last.info (length new.tape.wrote) old new
+  pub at_end : AtEnd old new (IsHalted is_remote last.answer last.broken)
+
+-- the answer made of what was gathered
+abbrev pub given : {R A : Type 0} → (Gathered R → Bool → A) → Result (Gathered R × Bool) ClientError → Result A ClientError
+given give (Ok x) = Ok (give x.0 x.1)
+given give (Err e) = Err e
+
+-- The same, for a call that makes its own answer of what was gathered.
+pub record Answered {H R A : Type 0} (M : Meaning H R) (q : Request) (give : Gathered R → Bool → A) (h : H) (c : Client) (old new : Line) (handler : H) (info : Client) (broken : Bool) (result : Result A ClientError) : Type 0 where
+  pub answer : Result (Gathered R × Bool) ClientError
+  pub gives : result ≡ given give answer
+  pub called : Called M q h c old new (finish answer handler info broken new.buffer)

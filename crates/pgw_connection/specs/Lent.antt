@@ -1,0 +1,61 @@
+-- What a call of extended queries leaves of the client and the handler that were lent for it.
+use Rattle.std.specs.Prelude.{◌≡◌, ◌≤◌, ℕ, Bool, true, false, List, Option, Result, Err}
+use Rattle.pgw_backend.specs.declared.client_error.PgWireClientError.{PgWireClientError as ClientError}
+use Rattle.pgw_backend.specs.declared.client_error.PgWireClientError.TheVariants as client
+use Rattle.pgw_link.specs.Tape.{Tape}
+use Rattle.pgw_link.specs.declared.link.Link as Link
+use Rattle.pgw_session.specs.declared.types.Request.{Request}
+use Rattle.pgw_session.specs.declared.types.PrepareResponse.{PrepareResponse}
+use Rattle.pgw_session.specs.declared.types.DescribeResponse.{DescribeResponse}
+use Rattle.pgw_session.specs.declared.types.ExecuteResult.{ExecuteResult}
+use Rattle.pgw_session.specs.declared.types.ExecuteResult.TheVariants.{Complete, Suspended}
+use Rattle.pgw_handlers.specs.Handling.{HasCause}
+use Rattle.pgw_connection.specs.declared.client.PgWireClient.{PgWireClient}
+use Rattle.pgw_connection.specs.declared.gathered.Gathered.{Gathered}
+use Rattle.pgw_connection.specs.Desk.{client_of}
+use Rattle.pgw_connection.specs.Line.{Line, line}
+use Rattle.pgw_connection.specs.Calls.{IsUsable}
+use Rattle.pgw_connection.specs.Extended.{Meaning}
+use Rattle.pgw_connection.specs.ExtendedSteps.{Answered, may_stay}
+
+-- ---- what each call makes of what was gathered
+
+abbrev pub both : {R : Type 0} → Gathered R → Bool → Gathered R × Bool
+both g suspended = (g, suspended)
+
+abbrev pub prepared : {R : Type 0} → Option (List ℕ) → Gathered R → Bool → PrepareResponse
+prepared name g suspended = record { name = name; param_types = g.types }
+
+abbrev pub no_answer : {R : Type 0} → Gathered R → Bool → Unit {0}
+no_answer g suspended = tt
+
+abbrev pub executed : {R : Type 0} → Gathered R → Bool → ExecuteResult (List R)
+executed g true = Suspended g.responses
+executed g false = Complete g.responses
+
+abbrev pub described : {R : Type 0} → Gathered R → Bool → DescribeResponse
+described g suspended = record { param_types = g.types; fields = g.columns }
+
+abbrev pub all_responses : {R : Type 0} → Gathered R → Bool → List R
+all_responses g suspended = g.responses
+
+-- ---- a call
+
+abbrev pub line_of : {X : Type 0} {L : Link.Ghosts X} → (X → Tape) → (X → ℕ) → PgWireClient X L → Line
+line_of tape faults c = line (tape c.link) (faults c.link) c.inbox c.read c.limit
+
+-- A request was asked by a client, with a handler, and this came of it.
+pub record Asks {X : Type 0} {L : Link.Ghosts X} {H R A : Type 0} (tells : Type 0) (tape : X → Tape) (faults : X → ℕ) (M : Meaning H R) (q : Request) (give : Gathered R → Bool → A) (h handler : H) (before after : PgWireClient X L) (result : Result A ClientError) : Type 0 where
+  -- a client that an earlier error left unusable stays as it is
+  pub broken : before.desk.broken ≡ true → (result ≡ Err client.Broken) × (after ≡ before) × (handler ≡ h)
+  -- else the request's messages are opened as the handler means it, and each message is heeded so up to the end of the
+  -- call, over the bytes that stood in the buffer and those that were read; what it sent is what was written
+  pub asked : tells → before.desk.broken ≡ false → Answered M q give h (client_of before.desk) (line_of tape faults before) (line_of tape faults after) handler (client_of after.desk) after.desk.broken result
+  -- IoError comes only where a call of the link failed, and Broken from no other client than the one above
+  pub cause : HasCause (faults before.link) (faults after.link) before.desk.broken result
+  -- behind an answer the client can be used; behind an error it can be where that is the server's, or where the opening
+  -- was refused, and behind no other
+  pub usable : before.desk.broken ≡ false → IsUsable may_stay result after.desk.broken
+  pub within : after.read ≤ after.limit
+  pub limit : after.limit ≡ before.limit
+  pub config : after.desk.config ≡ before.desk.config

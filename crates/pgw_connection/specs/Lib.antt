@@ -1,0 +1,10 @@
+pub mod Talk
+pub mod Desk
+pub mod Line
+pub mod Reading
+pub mod Calls
+pub mod Connecting
+pub mod Extended
+pub mod ExtendedSteps
+pub mod Targets
+pub mod Lent

@@ -1,0 +1,59 @@
+-- A client's bytes, and why no more of them came.
+use Rattle.std.specs.Prelude.{◌≡◌, ◌<◌, ℕ, ◌+◌, List, [], ◌++◌, length, Some, None}
+use Rattle.pgw_backend.specs.Front.{front, More}
+use Rattle.pgw_backend.specs.declared.client_error.PgWireClientError.{PgWireClientError as ClientError}
+use Rattle.pgw_backend.specs.declared.client_error.PgWireClientError.TheVariants as client
+use Rattle.pgw_link.specs.Tape.{Tape, Rose}
+use Rattle.pgw_handlers.specs.Client.{Client}
+
+-- what the link of a client tells, how many of its calls failed, the bytes that were read and not taken yet, how many
+-- were read, and how many may be
+pub record Line : Type 0 where
+  pub tape : Tape
+  pub faults : ℕ
+  pub buffer : List ℕ
+  pub read : ℕ
+  pub limit : ℕ
+
+abbrev pub line : Tape → ℕ → List ℕ → ℕ → ℕ → Line
+line tape faults buffer read limit = record { tape = tape; faults = faults; buffer = buffer; read = read; limit = limit }
+
+-- the link has ended: it was asked for more, and had none
+pub record IsAtEnd (now : Line) : Type 0 where
+  pub nothing_left : now.tape.left ≡ []
+  pub below : now.read < now.limit
+  pub asked : (n : ℕ) × (now.tape.ended ≡ Some n)
+
+-- Why no more bytes came, or bytes were not written: by the faults before a call, and what the call left.
+abbrev pub Pause : ℕ → Line → ClientError → Type 0
+Pause before now client.IoError = Rose before now.faults
+Pause before now client.ReadLimit = now.read ≡ now.limit
+Pause before now client.UnexpectedEOF = IsAtEnd now
+Pause before now e = ⊥
+
+-- all that was written is flushed
+abbrev pub IsFlushed : Line → Type 0
+IsFlushed now = now.tape.flushed ≡ length now.tape.wrote
+
+-- where the link's end was first answered, so many bytes had been flushed, and a message was still awaited
+abbrev pub Halts : Client → ℕ → Line → Line → Type 0
+Halts c flushed old new = old.tape.ended ≡ None → (n : ℕ) → new.tape.ended ≡ Some n → (n ≡ flushed) × (front c.protocol_version new.buffer ≡ More)
+
+-- a fact that holds where the link's end was first answered
+abbrev pub AtEnd : Line → Line → Type 0 → Type 0
+AtEnd old new fact = old.tape.ended ≡ None → (n : ℕ) → new.tape.ended ≡ Some n → fact
+
+-- these bytes were read, and nothing was written
+pub record Drew (old new : Line) (taken : List ℕ) : Type 0 where
+  pub left : old.tape.left ≡ taken ++ new.tape.left
+  pub wrote : new.tape.wrote ≡ old.tape.wrote
+  pub flushed : new.tape.flushed ≡ old.tape.flushed
+  pub read : new.read ≡ old.read + length taken
+  pub limit : new.limit ≡ old.limit
+
+-- these bytes were read, and those written
+pub record Moved (old new : Line) (taken sent : List ℕ) : Type 0 where
+  pub left : old.tape.left ≡ taken ++ new.tape.left
+  pub wrote : new.tape.wrote ≡ old.tape.wrote ++ sent
+  pub read : new.read ≡ old.read + length taken
+  pub limit : new.limit ≡ old.limit

@@ -1,0 +1,103 @@
+//! A client over a link.
+ghost use Rattle.std.specs.Prelude.{◌≡◌, ◌≤◌, ℕ, length};
+ghost use Rattle.pgw_connection.specs.Desk.{client_of};
+ghost use Rattle.pgw_connection.specs.Calls.{Kept, KeptRest, kept, kept_rest, link_sight};
+
+use crate::desk::Desk;
+use pgw_client::inbox::Inbox;
+use pgw_config::config::Config;
+use pgw_handlers::{ClientInfo, Seen};
+use pgw_link::link::Link;
+use pgw_query::response::TransactionStatus;
+use pgw_types::context::ProtocolVersion;
+use pgw_types::memory::OutOfMemory;
+use pgw_types::text::Text;
+use pgw_wire::params::Params;
+use pgw_wire::secret_key::SecretKey;
+
+/// A client over a link. It reads at most `limit` bytes.
+#[derive(Drop)]
+pub struct PgWireClient<L: Link> {
+    pub(crate) desk: Desk,
+    pub(crate) link: L,
+    pub(crate) inbox: Inbox,
+    pub(crate) read: u64,
+    pub(crate) limit: u64,
+    ghost within: { read ≤ limit },
+}
+
+impl<L: Link> PgWireClient<L> {
+    /// Whether an earlier error left the client unusable. It takes no memory.
+    pub fn is_broken(&self) -> bool
+        ensures { result ≡ self.now.desk.broken }
+    {
+        self.desk.broken
+    }
+
+    pub fn link(&self) -> &L
+        ensures { result.now ≡ self.now.link }
+    {
+        &self.link
+    }
+
+    /// How many bytes were read and not taken yet. It takes no memory.
+    pub fn buffered(&self) -> usize
+        ensures { result ≡ length self.now.inbox }
+    {
+        self.inbox.len()
+    }
+}
+
+impl<L: Link> Seen for PgWireClient<L> {
+    ghost tells = { L.tells };
+
+    ghost sight = { λ c. link_sight (client_of c.desk) (L.tape c.link) c.desk.broken };
+
+    ghost faults = { λ c. L.faults c.link };
+
+    ghost Own = { Kept };
+
+    ghost own = { λ c. kept c.desk.config c.inbox c.read c.limit };
+
+    ghost Rest = { KeptRest };
+
+    ghost rest = { λ c. kept_rest (L.tape c.link) };
+}
+
+impl<L: Link> ClientInfo for PgWireClient<L> {
+    fn config(&self) -> &Config {
+        &self.desk.config
+    }
+
+    fn server_parameters(&self) -> &Params {
+        &self.desk.parameters
+    }
+
+    fn set_server_parameter(&mut self, name: Text, value: Text) -> Result<(), OutOfMemory> {
+        self.desk.parameters.insert(name, value)
+    }
+
+    fn process_id(&self) -> i32 {
+        self.desk.process_id
+    }
+
+    fn secret_key(&self) -> &SecretKey {
+        &self.desk.secret_key
+    }
+
+    fn protocol_version(&self) -> ProtocolVersion {
+        self.desk.protocol_version
+    }
+
+    fn set_protocol_version(&mut self, version: ProtocolVersion) {
+        self.desk.protocol_version = version;
+    }
+
+    fn transaction_status(&self) -> TransactionStatus {
+        self.desk.transaction_status
+    }
+
+    fn set_transaction_status(&mut self, status: TransactionStatus) {
+        self.desk.transaction_status = status;
+    }
+}

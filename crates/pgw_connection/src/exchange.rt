@@ -1,0 +1,303 @@
+//! How a client asks a request of extended queries, and hands its answer to a handler.
+ghost use Rattle.std.specs.Prelude.{◌≡◌, ◌≢◌, ◌⊎◌, ◌<◌, ◌≤◌, ◌+◌, length, true, false, Ok, Err, IfOk};
+ghost use Rattle.pgw_backend.specs.declared.client_error.PgWireClientError.TheVariants as client;
+ghost use Rattle.pgw_session.specs.declared.types.Request.{Request as TheRequest};
+ghost use Rattle.pgw_handlers.specs.Handling.{HasCause, IsCaused};
+ghost use Rattle.pgw_handlers.specs.declared.client_info.ReadyState.TheVariants.{Pending};
+ghost use Rattle.pgw_connection.specs.Desk.{client_of};
+ghost use Rattle.pgw_connection.specs.Line.{line};
+ghost use Rattle.pgw_connection.specs.Calls.{IsUsable};
+ghost use Rattle.pgw_connection.specs.Talk.{is_remote};
+ghost use Rattle.pgw_connection.specs.Extended.{none_gathered, finish, is_suspended};
+ghost use Rattle.pgw_connection.specs.ExtendedSteps.{is_due, passed_answer, no_error, may_stay, Synced, Settled, HeededOne, HeededNext, Exchanged, Called};
+
+use crate::client::PgWireClient;
+use crate::gathered::{Gathered, hand_all, nothing_gathered, take};
+use crate::reading::first_of;
+use pgw_backend::backend::PgWireBackendMessage;
+use pgw_backend::client_error::{PgWireClientError, PgWireClientResult, unexpected};
+use pgw_client::requests::{kind_of, sends_of};
+use pgw_client::table::role;
+use pgw_ext::extendedquery::Sync;
+use pgw_handlers::{ExtendedQueryHandler, ReadyState};
+use pgw_link::link::Link;
+use pgw_session::stage::{Kind, Role};
+use pgw_session::types::Request;
+use pgw_types::memory::OutOfMemory;
+use std::alloc::Global;
+
+// Whether Sync is due behind the server's error.
+fn is_due(kind: Kind) -> bool
+    ensures { result ≡ is_due kind }
+{
+    match kind {
+        Kind::Bind | Kind::Execute | Kind::DescribePortal => true,
+        _ => false,
+    }
+}
+
+// Whether the message says that a portal was suspended.
+fn is_suspended(message: &PgWireBackendMessage) -> bool
+    ensures { result ≡ is_suspended message.now }
+{
+    matches!(message, PgWireBackendMessage::PortalSuspended(_))
+}
+
+// What messages that were passed over answer.
+fn passed_answer(error: PgWireClientError, broken: bool) -> PgWireClientResult<ReadyState<bool>>
+    ensures { result ≡ passed_answer error broken }
+{
+    match error {
+        PgWireClientError::UnexpectedEOF => {
+            if broken {
+                Err(PgWireClientError::UnexpectedEOF)
+            } else {
+                Ok(ReadyState::Ready(false))
+            }
+        }
+        other => Err(other),
+    }
+}
+
+impl<L: Link> PgWireClient<L> {
+    // Sends Sync, where it is due.
+    fn sync<H: ExtendedQueryHandler>(
+        &mut self,
+        alloc: Global,
+        handler: &mut H,
+        due: bool,
+    ) -> PgWireClientResult<()>
+        requires usable { self.old.desk.broken ≡ false }
+        ensures limit { self.new.limit ≡ self.old.limit }
+        ensures config { self.new.desk.config ≡ self.old.desk.config }
+        ensures cause { HasCause (L.faults self.old.link) (L.faults self.new.link) false result }
+        ensures usable { IsUsable no_error result self.new.desk.broken }
+        ensures synced { L.tells → Synced H.means handler.old (client_of self.old.desk)
+            (line (L.tape self.old.link) (L.faults self.old.link) self.old.inbox self.old.read self.old.limit)
+            (line (L.tape self.new.link) (L.faults self.new.link) self.new.inbox self.new.read self.new.limit)
+            handler.new (client_of self.new.desk) due result self.new.desk.broken }
+    {
+        if !due {
+            return Ok(());
+        }
+        self.desk.clear();
+        let synced = handler.sync(alloc, &mut self.desk, Sync::new());
+        match self.begin(synced) {
+            Ok(()) => Ok(()),
+            Err(error) => {
+                self.desk.broken = true;
+                Err(error)
+            }
+        }
+    }
+
+    // Behind the end of an answer: sends Sync, where it is due, and passes the messages over up to ReadyForQuery. The
+    // error is the answer then, where there is one (UnexpectedEOF: none yet).
+    fn settle<H: ExtendedQueryHandler>(
+        &mut self,
+        alloc: Global,
+        handler: &mut H,
+        due: bool,
+        error: PgWireClientError,
+    ) -> PgWireClientResult<ReadyState<bool>>
+        requires usable { self.old.desk.broken ≡ false }
+        requires own { IsCaused error 0 0 false }
+        requires starts { (error ≡ client.UnexpectedEOF) ⊎ (is_remote error ≡ true) }
+        ensures limit { self.new.limit ≡ self.old.limit }
+        ensures config { self.new.desk.config ≡ self.old.desk.config }
+        ensures ends { result ≢ Ok Pending }
+        ensures cause { HasCause (L.faults self.old.link) (L.faults self.new.link) false result }
+        ensures usable { IsUsable is_remote result self.new.desk.broken }
+        ensures settled { L.tells → Settled H.means due handler.old (client_of self.old.desk)
+            (line (L.tape self.old.link) (L.faults self.old.link) self.old.inbox self.old.read self.old.limit)
+            (line (L.tape self.new.link) (L.faults self.new.link) self.new.inbox self.new.read self.new.limit)
+            error handler.new (client_of self.new.desk) result self.new.desk.broken }
+    {
+        match self.sync(alloc, handler, due) {
+            Ok(()) => {
+                let passed = self.drain(alloc, error);
+                passed_answer(passed, self.desk.broken)
+            }
+            Err(error) => Err(error),
+        }
+    }
+
+    // Heeds a message by its role.
+    fn heed_one<H: ExtendedQueryHandler>(
+        &mut self,
+        alloc: Global,
+        handler: &mut H,
+        kind: Kind,
+        gathered: &mut Gathered<H::QueryResponse>,
+        message: PgWireBackendMessage,
+    ) -> PgWireClientResult<ReadyState<bool>>
+        requires usable { self.old.desk.broken ≡ false }
+        ensures limit { self.new.limit ≡ self.old.limit }
+        ensures config { self.new.desk.config ≡ self.old.desk.config }
+        ensures goes_on { result ≡ Ok Pending → (self.new.inbox ≡ self.old.inbox) × (self.new.read ≡ self.old.read) }
+        ensures cause { HasCause (L.faults self.old.link) (L.faults self.new.link) false result }
+        ensures usable { IsUsable is_remote result self.new.desk.broken }
+        ensures heeded { L.tells → HeededOne H.means kind handler.old (client_of self.old.desk) gathered.old message
+            (line (L.tape self.old.link) (L.faults self.old.link) self.old.inbox self.old.read self.old.limit)
+            (line (L.tape self.new.link) (L.faults self.new.link) self.new.inbox self.new.read self.new.limit)
+            handler.new (client_of self.new.desk) gathered.new result self.new.desk.broken }
+    {
+        match role(kind, false, &message) {
+            Role::Taken(_) => match take(alloc, handler, &mut self.desk, gathered, message) {
+                Ok(()) => Ok(ReadyState::Pending),
+                Err(error) => Err(error),
+            },
+            Role::Closing => {
+                let suspended = is_suspended(&message);
+                match take(alloc, handler, &mut self.desk, gathered, message) {
+                    Ok(()) => Ok(ReadyState::Ready(suspended)),
+                    Err(error) => Err(error),
+                }
+            }
+            Role::Completing => match take(alloc, handler, &mut self.desk, gathered, message) {
+                Ok(()) => self.settle(alloc, handler, true, PgWireClientError::UnexpectedEOF),
+                Err(error) => Err(error),
+            },
+            Role::Failing => {
+                let error = first_of(PgWireClientError::UnexpectedEOF, message);
+                self.settle(alloc, handler, is_due(kind), error)
+            }
+            Role::Misplaced => {
+                self.desk.broken = true;
+                Err(unexpected(alloc, message))
+            }
+        }
+    }
+
+    // The next message of a call. It says whether the call goes on, and else whether the portal was suspended.
+    fn heed_next<H: ExtendedQueryHandler>(
+        &mut self,
+        alloc: Global,
+        handler: &mut H,
+        kind: Kind,
+        gathered: &mut Gathered<H::QueryResponse>,
+    ) -> PgWireClientResult<ReadyState<bool>>
+        requires usable { self.old.desk.broken ≡ false }
+        ensures limit { self.new.limit ≡ self.old.limit }
+        ensures config { self.new.desk.config ≡ self.old.desk.config }
+        ensures shrinks { result ≡ Ok Pending → length self.new.inbox + self.old.read < length self.old.inbox + self.new.read }
+        ensures cause { HasCause (L.faults self.old.link) (L.faults self.new.link) false result }
+        ensures usable { IsUsable is_remote result self.new.desk.broken }
+        ensures heeded { L.tells → HeededNext H.means kind handler.old (client_of self.old.desk) gathered.old
+            (line (L.tape self.old.link) (L.faults self.old.link) self.old.inbox self.old.read self.old.limit)
+            (line (L.tape self.new.link) (L.faults self.new.link) self.new.inbox self.new.read self.new.limit)
+            handler.new (client_of self.new.desk) gathered.new self.new.desk.broken result }
+    {
+        match self.next_message(alloc) {
+            Ok(message) => self.heed_one(alloc, handler, kind, gathered, message),
+            Err(error) => {
+                self.desk.broken = true;
+                Err(error)
+            }
+        }
+    }
+
+    // The messages of a call, up to its end.
+    fn exchange<H: ExtendedQueryHandler>(
+        &mut self,
+        alloc: Global,
+        handler: &mut H,
+        kind: Kind,
+    ) -> PgWireClientResult<(Gathered<H::QueryResponse>, bool)>
+        requires usable { self.old.desk.broken ≡ false }
+        ensures limit { self.new.limit ≡ self.old.limit }
+        ensures config { self.new.desk.config ≡ self.old.desk.config }
+        ensures cause { HasCause (L.faults self.old.link) (L.faults self.new.link) false result }
+        ensures usable { IsUsable is_remote result self.new.desk.broken }
+        ensures exchanged { L.tells → Exchanged H.means kind handler.old (client_of self.old.desk) none_gathered
+            (line (L.tape self.old.link) (L.faults self.old.link) self.old.inbox self.old.read self.old.limit)
+            (line (L.tape self.new.link) (L.faults self.new.link) self.new.inbox self.new.read self.new.limit)
+            (finish result handler.new (client_of self.new.desk) self.new.desk.broken self.new.inbox) }
+    {
+        let mut gathered = nothing_gathered(alloc);
+        'messages: loop {
+            match self.heed_next(alloc, handler, kind, &mut gathered) {
+                Ok(ReadyState::Pending) => {}
+                Ok(ReadyState::Ready(suspended)) => return Ok((gathered, suspended)),
+                Err(error) => return Err(error),
+            }
+        }
+    }
+
+    // Asks a request.
+    fn request<H: ExtendedQueryHandler>(
+        &mut self,
+        alloc: Global,
+        handler: &mut H,
+        request: &Request,
+    ) -> PgWireClientResult<(Gathered<H::QueryResponse>, bool)>
+        requires usable { self.old.desk.broken ≡ false }
+        ensures limit { self.new.limit ≡ self.old.limit }
+        ensures config { self.new.desk.config ≡ self.old.desk.config }
+        ensures cause { HasCause (L.faults self.old.link) (L.faults self.new.link) false result }
+        ensures usable { IsUsable may_stay result self.new.desk.broken }
+        ensures called { L.tells → Called H.means request.now handler.old (client_of self.old.desk)
+            (line (L.tape self.old.link) (L.faults self.old.link) self.old.inbox self.old.read self.old.limit)
+            (line (L.tape self.new.link) (L.faults self.new.link) self.new.inbox self.new.read self.new.limit)
+            (finish result handler.new (client_of self.new.desk) self.new.desk.broken self.new.inbox) }
+    {
+        let messages = match sends_of(alloc, request) {
+            Ok(messages) => messages,
+            Err(_) => {
+                self.desk.broken = true;
+                return Err(PgWireClientError::OutOfMemory);
+            }
+        };
+        self.desk.clear();
+        let opened = hand_all(alloc, handler, &mut self.desk, messages);
+        match self.begin(opened) {
+            Ok(()) => self.exchange(alloc, handler, kind_of(request)),
+            Err(error) => Err(error),
+        }
+    }
+
+    // What becomes of a client for whose request memory was wanting.
+    pub(crate) fn starve(&mut self) -> PgWireClientError
+        ensures broken { self.old.desk.broken ≡ true → (result ≡ client.Broken) × (self.new ≡ self.old) }
+        ensures starved { self.old.desk.broken ≡ false → (result ≡ client.OutOfMemory) × (self.new.desk.broken ≡ true) }
+        ensures line { line (L.tape self.new.link) (L.faults self.new.link) self.new.inbox self.new.read self.new.limit ≡ line (L.tape self.old.link) (L.faults self.old.link) self.old.inbox self.old.read self.old.limit }
+        ensures within { self.new.read ≤ self.new.limit }
+        ensures config { self.new.desk.config ≡ self.old.desk.config }
+    {
+        if self.desk.broken {
+            return PgWireClientError::Broken;
+        }
+        self.desk.broken = true;
+        PgWireClientError::OutOfMemory
+    }
+
+    // The same of a client that may be broken, and a request that memory may have been wanting for.
+    pub(crate) fn ask<H: ExtendedQueryHandler>(
+        &mut self,
+        alloc: Global,
+        handler: &mut H,
+        request: Result<Request, OutOfMemory>,
+    ) -> PgWireClientResult<(Gathered<H::QueryResponse>, bool)>
+        ensures within { self.new.read ≤ self.new.limit }
+        ensures limit { self.new.limit ≡ self.old.limit }
+        ensures config { self.new.desk.config ≡ self.old.desk.config }
+        ensures cause { HasCause (L.faults self.old.link) (L.faults self.new.link) self.old.desk.broken result }
+        ensures broken { self.old.desk.broken ≡ true → (result ≡ Err client.Broken) × (self.new ≡ self.old) × (handler.new ≡ handler.old) }
+        ensures usable { self.old.desk.broken ≡ false → IsUsable may_stay result self.new.desk.broken }
+        ensures called { (q : TheRequest) → IfOk request (λ r. r ≡ q) → L.tells → self.old.desk.broken ≡ false → Called H.means q handler.old (client_of self.old.desk)
+            (line (L.tape self.old.link) (L.faults self.old.link) self.old.inbox self.old.read self.old.limit)
+            (line (L.tape self.new.link) (L.faults self.new.link) self.new.inbox self.new.read self.new.limit)
+            (finish result handler.new (client_of self.new.desk) self.new.desk.broken self.new.inbox) }
+    {
+        if self.desk.broken {
+            return Err(PgWireClientError::Broken);
+        }
+        match request {
+            Ok(request) => self.request(alloc, handler, &request),
+            Err(_) => {
+                self.desk.broken = true;
+                Err(PgWireClientError::OutOfMemory)
+            }
+        }
+    }
+}

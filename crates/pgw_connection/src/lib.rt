@@ -1,0 +1,29 @@
+//! A client of a PostgreSQL server, as a value that asks by handlers of the caller's own.
+//!
+//! To a caller it promises that each call is the handler's meaning over the bytes that were read and written for it, why
+//! each error came, which errors leave the client usable, and that where a call is the first to meet the link's end, it
+//! awaited a message, and all that was sent had been flushed, if it was flushed as the call began.
+#![tactic(auto)]
+
+pub mod client;
+mod connect;
+pub mod desk;
+mod exchange;
+pub mod extended;
+mod gathered;
+mod reading;
+mod requests;
+mod sending;
+mod simple;
+
+pub use crate::client::PgWireClient;
+pub use crate::desk::Desk;
+pub use crate::extended::{ExtendedQueryClient, ExtendedQueryState};
+pub use crate::requests::DescribeTarget;
+pub use pgw_frontend::frontend::PgWireFrontendMessage;
+pub use pgw_handlers::{
+    ClientInfo, ExtendedQueryHandler, Outgoing, ReadyState, ServerInformation, SimpleQueryHandler,
+    StartupHandler,
+};
+pub use pgw_opening::terminate::Terminate;
+pub use pgw_session::types::{DescribeResponse, ExecuteResult, PrepareResponse};

@@ -1,0 +1,111 @@
+//! Simple queries.
+ghost use Rattle.std.specs.Prelude.{◌≡◌, ◌≤◌, ◌<◌, ◌+◌, length, true, false, Err, OnOk};
+ghost use Rattle.pgw_backend.specs.declared.client_error.PgWireClientError.TheVariants as client;
+ghost use Rattle.pgw_handlers.specs.Handling.{HasCause};
+ghost use Rattle.pgw_handlers.specs.Simple.{simple_query, HeardInQuery};
+ghost use Rattle.pgw_connection.specs.Talk.{end, passes};
+ghost use Rattle.pgw_connection.specs.Desk.{client_of};
+ghost use Rattle.pgw_connection.specs.Line.{line};
+ghost use Rattle.pgw_connection.specs.Calls.{IsUsable, may_go_on, HeardNext, Talked, Call};
+
+use crate::client::PgWireClient;
+use pgw_backend::client_error::{PgWireClientError, PgWireClientResult};
+use pgw_client::table::is_ready;
+use pgw_handlers::{ReadyState, SimpleQueryHandler};
+use pgw_link::link::Link;
+use pgw_types::listed::Listed;
+use std::alloc::Global;
+
+impl<L: Link> PgWireClient<L> {
+    // Takes a message and has the handler hear it.
+    fn hear_in_query<H: SimpleQueryHandler>(
+        &mut self,
+        alloc: Global,
+        handler: &mut H,
+    ) -> PgWireClientResult<ReadyState<Listed<H::QueryResponse>>>
+        requires { self.old.desk.broken ≡ false }
+        ensures limit { self.new.limit ≡ self.old.limit }
+        ensures config { self.new.desk.config ≡ self.old.desk.config }
+        ensures shrinks { OnOk result (length self.new.inbox + self.old.read < length self.old.inbox + self.new.read) }
+        ensures cause { HasCause (L.faults self.old.link) (L.faults self.new.link) false result }
+        ensures usable { IsUsable passes result self.new.desk.broken }
+        ensures heard { L.tells → HeardNext (HeardInQuery H.means) passes handler.old (client_of self.old.desk)
+            (line (L.tape self.old.link) (L.faults self.old.link) self.old.inbox self.old.read self.old.limit)
+            (line (L.tape self.new.link) (L.faults self.new.link) self.new.inbox self.new.read self.new.limit)
+            handler.new (client_of self.new.desk) self.new.desk.broken result }
+    {
+        let message = match self.next_message(alloc) {
+            Ok(message) => message,
+            Err(error) => {
+                self.desk.broken = true;
+                return Err(error);
+            }
+        };
+        let closing = is_ready(&message);
+        self.desk.clear();
+        let answer = handler.on_message(alloc, &mut self.desk, message);
+        self.follow(alloc, true, closing, answer)
+    }
+
+    // Hands messages to the handler until the query ends.
+    fn talk_in_query<H: SimpleQueryHandler>(
+        &mut self,
+        alloc: Global,
+        handler: &mut H,
+    ) -> PgWireClientResult<Listed<H::QueryResponse>>
+        requires { self.old.desk.broken ≡ false }
+        ensures limit { self.new.limit ≡ self.old.limit }
+        ensures config { self.new.desk.config ≡ self.old.desk.config }
+        ensures cause { HasCause (L.faults self.old.link) (L.faults self.new.link) false result }
+        ensures usable { IsUsable passes result self.new.desk.broken }
+        ensures talked { L.tells → Talked (HeardInQuery H.means) passes handler.old (client_of self.old.desk)
+            (line (L.tape self.old.link) (L.faults self.old.link) self.old.inbox self.old.read self.old.limit)
+            (line (L.tape self.new.link) (L.faults self.new.link) self.new.inbox self.new.read self.new.limit)
+            (end result (client_of self.new.desk) self.new.desk.broken self.new.inbox) }
+    {
+        'messages: loop {
+            match self.hear_in_query(alloc, handler) {
+                Ok(ReadyState::Pending) => {}
+                Ok(ReadyState::Ready(responses)) => return Ok(responses),
+                Err(error) => return Err(error),
+            }
+        }
+    }
+
+    /// Asks a simple query, and answers what the handler makes of the messages.
+    pub fn simple_query<H: SimpleQueryHandler + Drop>(
+        &mut self,
+        alloc: Global,
+        mut handler: H,
+        query: &str,
+    ) -> PgWireClientResult<Listed<H::QueryResponse>>
+        // A client that an earlier error left unusable stays as it is.
+        ensures broken { self.old.desk.broken ≡ true → (result ≡ Err client.Broken) × (self.new ≡ self.old) }
+        // Else the query is opened as the handler means it, and each message is heard so up to the end of the call, over
+        // the bytes that stood in the buffer and those that were read; what it sent is what was written. It answers Ok at
+        // ReadyForQuery and at no other message.
+        ensures asked { L.tells → self.old.desk.broken ≡ false → Call (λ before after answer. H.means before (simple_query query.now) after answer) (HeardInQuery H.means) passes
+            handler (client_of self.old.desk)
+            (line (L.tape self.old.link) (L.faults self.old.link) self.old.inbox self.old.read self.old.limit)
+            (line (L.tape self.new.link) (L.faults self.new.link) self.new.inbox self.new.read self.new.limit)
+            (end result (client_of self.new.desk) self.new.desk.broken self.new.inbox) }
+        // IoError comes only where a call of the link failed, and Broken from no other client than the one above.
+        ensures cause { HasCause (L.faults self.old.link) (L.faults self.new.link) self.old.desk.broken result }
+        // Behind an answer the client can be used. Behind an error it can be where that is the server's or a message
+        // without place, or where the opening was refused; and behind no other.
+        ensures usable { self.old.desk.broken ≡ false → IsUsable may_go_on result self.new.desk.broken }
+        ensures within { self.new.read ≤ self.new.limit }
+        ensures limit { self.new.limit ≡ self.old.limit }
+        ensures config { self.new.desk.config ≡ self.old.desk.config }
+    {
+        if self.desk.broken {
+            return Err(PgWireClientError::Broken);
+        }
+        self.desk.clear();
+        let opened = handler.simple_query(alloc, &mut self.desk, query);
+        match self.begin(opened) {
+            Ok(()) => self.talk_in_query(alloc, &mut handler),
+            Err(error) => Err(error),
+        }
+    }
+}

@@ -1,0 +1,98 @@
+-- What the table says of an authentication request, and what it refuses.
+use Rattle.std.proofs.Common.{◌≡◌, ℕ, Bool, true, false, List, Option, Some, None, Result, Ok, Err, sym, subst}
+use Rattle.std.specs.Prelude.{codes, is_some}
+use Rattle.std.specs.List.{list_any}
+use Rattle.std.specs.Str.{bytes_eq, is_utf8}
+use Rattle.pgw_types.specs.declared.error.ScramMessageFault.{ScramMessageFault}
+use Rattle.pgw_startup.specs.declared.authentication.Authentication.{Authentication}
+use Rattle.pgw_startup.specs.declared.authentication.Authentication.TheVariants as authentication
+use Rattle.pgw_backend.specs.declared.backend.PgWireBackendMessage.TheVariants as backend
+use Rattle.pgw_backend.specs.declared.client_error.PgWireClientError.{PgWireClientError as ClientError}
+use Rattle.pgw_backend.specs.declared.client_error.PgWireClientError.TheVariants as client
+use Rattle.pgw_backend.specs.declared.client_error.ScramFault.TheVariants as scram_fault
+use Rattle.pgw_hash.specs.Saslprep.{prepared}
+use Rattle.pgw_scram.specs.declared.messages.ServerFirst.{ServerFirst}
+use Rattle.pgw_scram.specs.declared.messages.ServerFinal.{ServerFinal}
+use Rattle.pgw_scram.specs.declared.messages.ServerFinal.TheVariants.{Signature, Failed}
+use Rattle.pgw_scram.specs.Base64.{nonce_text, salt_of}
+use Rattle.pgw_scram.specs.Readers.{read_server_first, read_server_final}
+use Rattle.pgw_scram.specs.Answers.{unless_so, first_of}
+use Rattle.pgw_scram.specs.Refusals.{begins_with, parts_refusal, verifier_refusal}
+use Rattle.pgw_session.specs.declared.stage.Stage.{Stage}
+use Rattle.pgw_session.specs.declared.stage.Stage.TheVariants.{Starting, Challenged, Proving, Admitted, Answering, PassingOver}
+use Rattle.pgw_session.specs.declared.stage.Next.{Next}
+use Rattle.pgw_session.specs.declared.stage.Next.TheVariants.{Goes}
+use Rattle.pgw_session.specs.Input.{Input}
+use Rattle.pgw_session.specs.Requests.{passes_over}
+use Rattle.pgw_session.specs.Logins.{user_of, password_of, first_message, final_message, expected_of, methods_refusal, first_refusal, final_refusal}
+use Rattle.pgw_session.specs.Table.{unless, misplaced, after as table}
+use Rattle.pgw_client.specs.Machine.{IsAble}
+use Rattle.pgw_default_handlers.specs.Causes.{IsAlwaysCaused, RefusesCaused}
+use Rattle.pgw_default_handlers.specs.Startup.{is_able, login_next, next_if}
+
+pub able_now : (input : Input) (stage : Stage) → is_able input stage ≡ true → IsAble input stage
+able_now input Challenged is = is
+able_now input stage is = tt
+
+-- ---- what is refused
+
+abbrev AreCaused : Option ClientError → Type 0
+AreCaused None = Unit {0}
+AreCaused (Some e) = IsAlwaysCaused e
+
+so_caused : (b : Bool) (e : ClientError) → IsAlwaysCaused e → AreCaused (unless_so b e)
+so_caused true e caused = tt
+so_caused false e caused = caused
+
+both_caused : (a b : Option ClientError) → AreCaused a → AreCaused b → AreCaused (first_of a b)
+both_caused None b x y = y
+both_caused (Some e) b x y = x
+
+methods_caused : (input : Input) (methods : List (List ℕ)) → AreCaused (methods_refusal input methods)
+methods_caused input methods =
+    both_caused (unless_so (list_any (bytes_eq (codes "SCRAM-SHA-256")) methods) (client.UnsupportedSASLAuthMethods methods)) _ (so_caused (list_any (bytes_eq (codes "SCRAM-SHA-256")) methods) (client.UnsupportedSASLAuthMethods methods) (λ before now broken. tt))
+    (both_caused (unless_so (is_utf8 (password_of input)) (client.ScramError scram_fault.PasswordNotUtf8)) _ (so_caused (is_utf8 (password_of input)) (client.ScramError scram_fault.PasswordNotUtf8) (λ before now broken. tt))
+    (so_caused (is_some (prepared (user_of input))) (client.InvalidConfig (codes "user")) (λ before now broken. tt)))
+
+parts_caused : (nonce : List ℕ) (parts : Result ServerFirst ScramMessageFault) → AreCaused (parts_refusal nonce parts)
+parts_caused nonce (Err why) = λ before now broken. tt
+parts_caused nonce (Ok parts) =
+    both_caused (unless_so (begins_with parts.nonce nonce) (client.ScramError scram_fault.NonceMismatch)) _ (so_caused (begins_with parts.nonce nonce) (client.ScramError scram_fault.NonceMismatch) (λ before now broken. tt))
+    (so_caused (is_some (salt_of parts.salt)) (client.ScramError scram_fault.SaltNotBase64) (λ before now broken. tt))
+
+verifier_caused : (expected : List ℕ) (final : Result ServerFinal ScramMessageFault) → AreCaused (verifier_refusal expected final)
+verifier_caused expected (Err why) = λ before now broken. tt
+verifier_caused expected (Ok (Failed text)) = λ before now broken. tt
+verifier_caused expected (Ok (Signature text)) = so_caused (bytes_eq text expected) (client.ScramError scram_fault.SignatureMismatch) (λ before now broken. tt)
+
+unless_caused : (o : Option ClientError) (stage : Stage) (reply : _) → AreCaused o → RefusesCaused (unless o (Goes stage reply))
+unless_caused None stage reply caused = tt
+unless_caused (Some e) stage reply caused = caused
+
+misplaced_caused : (b : Bool) → RefusesCaused (misplaced b)
+misplaced_caused true = tt
+misplaced_caused false = tt
+
+table_caused : (input : Input) (stage : Stage) (request : Authentication) → RefusesCaused (table input stage (backend.Authentication request))
+table_caused input Starting (authentication.SASL methods) = unless_caused (methods_refusal input methods) Challenged (Some (first_message input)) (methods_caused input methods)
+table_caused input Starting authentication.Ok = tt
+table_caused input Starting authentication.CleartextPassword = tt
+table_caused input Starting (authentication.MD5Password salt) = tt
+table_caused input Starting request = tt
+table_caused input Challenged (authentication.SASLContinue first) =
+    unless_caused (first_refusal input first) (Proving (expected_of input first)) (Some (final_message input first)) (parts_caused (nonce_text input.nonce) (read_server_first first))
+table_caused input Challenged request = tt
+table_caused input (Proving expected) (authentication.SASLFinal final) = unless_caused (final_refusal expected final) Admitted None (verifier_caused expected (read_server_final final))
+table_caused input (Proving expected) request = tt
+table_caused input Admitted authentication.Ok = tt
+table_caused input Admitted request = tt
+table_caused input (Answering kind rows) request = misplaced_caused (passes_over kind)
+table_caused input PassingOver request = tt
+
+able_caused : (able : Bool) (input : Input) (stage : Stage) (request : Authentication) → RefusesCaused (next_if able input stage (backend.Authentication request))
+able_caused true input stage request = table_caused input stage request
+able_caused false input stage request = λ before now broken. tt
+
+-- an authentication request is refused for a cause of its own
+pub next_caused : (input : Input) (stage : Stage) (request : Authentication) (n : Next) → n ≡ login_next input stage (backend.Authentication request) → RefusesCaused n
+next_caused input stage request n is = subst RefusesCaused (sym is) (able_caused (is_able input stage) input stage request)

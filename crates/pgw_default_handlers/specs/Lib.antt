@@ -1,0 +1,4 @@
+pub mod Simple
+pub mod Startup
+pub mod Extended
+pub mod Causes

@@ -1,0 +1,132 @@
+-- What the default handler of a login means: it logs in by the table of a session's startup segment.
+use Rattle.std.specs.Prelude.{◌≡◌, ◌⊎◌, pos, negsuc, [], Bool, true, false, Option, Some, None, Ok, Err, Result}
+use Rattle.std.specs.Str.{is_utf8}
+use Rattle.pgw_wire.specs.declared.secret_key.SecretKey.TheVariants.{I32}
+use Rattle.pgw_startup.specs.declared.backend_key_data.BackendKeyData.{BackendKeyData}
+use Rattle.pgw_startup.specs.declared.negotiate.NegotiateProtocolVersion.{NegotiateProtocolVersion}
+use Rattle.pgw_startup.specs.declared.parameter_status.ParameterStatus.{ParameterStatus}
+use Rattle.pgw_backend.specs.ClientError.{IsUnexpected}
+use Rattle.pgw_backend.specs.declared.backend.PgWireBackendMessage.{PgWireBackendMessage as Backend}
+use Rattle.pgw_backend.specs.declared.backend.PgWireBackendMessage.TheVariants as backend
+use Rattle.pgw_backend.specs.declared.client_error.PgWireClientError.{PgWireClientError as ClientError}
+use Rattle.pgw_backend.specs.declared.client_error.PgWireClientError.TheVariants as client
+use Rattle.pgw_backend.specs.declared.client_error.ScramFault.TheVariants.{PasswordNotUtf8}
+use Rattle.pgw_frontend.specs.declared.frontend.PgWireFrontendMessage.{PgWireFrontendMessage as Frontend}
+use Rattle.pgw_frontend.specs.Frontend.{encoding}
+use Rattle.pgw_config.specs.declared.config.Config.{Config}
+use Rattle.pgw_session.specs.declared.stage.Stage.{Stage}
+use Rattle.pgw_session.specs.declared.stage.Stage.TheVariants.{Starting, Challenged, Proving}
+use Rattle.pgw_session.specs.declared.stage.Next.{Next}
+use Rattle.pgw_session.specs.declared.stage.Next.TheVariants as next
+use Rattle.pgw_session.specs.Input.{Input}
+use Rattle.pgw_session.specs.Logins.{password_of}
+use Rattle.pgw_session.specs.Segments.{startup_message}
+use Rattle.pgw_session.specs.Table.{after as table}
+use Rattle.pgw_handlers.specs.declared.client_info.ReadyState.TheVariants.{Pending, Ready}
+use Rattle.pgw_handlers.specs.declared.client_info.ServerInformation.{ServerInformation}
+use Rattle.pgw_handlers.specs.Client.{Client, Sight}
+use Rattle.pgw_handlers.specs.Sending.{Sent, NotSent}
+use Rattle.pgw_handlers.specs.Handling.{Standing, standing, Answer, Keeps, Refuses}
+use Rattle.pgw_handlers.specs.Startup.{StartupCall, startup, on_authentication, on_negotiate_protocol_version, on_parameter_status, on_backend_key, on_ready_for_query, Settles}
+use Rattle.pgw_default_handlers.specs.declared.startup.DefaultStartupHandler.{DefaultStartupHandler}
+
+-- what it logs in with: the client's configuration and the handler's nonce
+abbrev pub login_input : DefaultStartupHandler → Config → Input
+login_input h config = record { config = config; requests = []; nonce = h.nonce }
+
+-- within a SCRAM login a server says nothing else
+abbrev pub is_exchange : Stage → Bool
+is_exchange Challenged = true
+is_exchange (Proving expected) = true
+is_exchange stage = false
+
+abbrev pub exchanges : DefaultStartupHandler → Bool
+exchanges h = is_exchange h.stage
+
+-- ---- the handler's parts
+
+abbrev pub with_stage : Stage → DefaultStartupHandler → DefaultStartupHandler
+with_stage stage h = record h { stage = stage }
+
+abbrev pub with_key : BackendKeyData → DefaultStartupHandler → DefaultStartupHandler
+with_key m h = record h { process_id = m.pid; secret_key = m.secret_key }
+
+-- a login that has not begun
+abbrev pub begun : DefaultStartupHandler → DefaultStartupHandler
+begun h = record h { stage = Starting; process_id = negsuc 0; secret_key = I32 (pos 0) }
+
+-- ---- an authentication request
+
+-- where server-first is awaited the password is to be UTF-8
+abbrev pub is_able : Input → Stage → Bool
+is_able input Challenged = is_utf8 (password_of input)
+is_able input stage = true
+
+abbrev pub next_if : Bool → Input → Stage → Backend → Next
+next_if true input stage m = table input stage m
+next_if false input stage m = next.Refuses (client.ScramError PasswordNotUtf8)
+
+-- what the table says of a message; a password that is not UTF-8 is refused
+abbrev pub login_next : Input → Stage → Backend → Next
+login_next input stage m = next_if (is_able input stage) input stage m
+
+-- one message is sent, or none
+abbrev pub SendsReply : Option Frontend → Sight → Sight → Result (Unit {0}) ClientError → Type 0
+SendsReply None old new (Ok done) = new ≡ old
+SendsReply None old new (Err e) = ⊥
+SendsReply (Some m) old new (Ok done) = Sent (encoding m) old new
+SendsReply (Some m) old new (Err e) = NotSent (encoding m) old new e
+
+-- A reply is sent and the stage is the next one; where it is not sent the handler stays as it is. What does not go on is
+-- refused.
+abbrev pub Follows : Next → Backend → Standing DefaultStartupHandler → Standing DefaultStartupHandler → Answer ServerInformation → Type 0
+Follows (next.Goes stage reply) m before after (Ok answer) = (after.handler ≡ with_stage stage before.handler) × SendsReply reply before.sight after.sight (Ok tt) × (answer ≡ Pending)
+Follows (next.Goes stage reply) m before after (Err e) = (after.handler ≡ before.handler) × SendsReply reply before.sight after.sight (Err e)
+Follows (next.Refuses x) m before after answer = Refuses (λ e. e ≡ x) before after answer
+Follows other m before after answer = Refuses (IsUnexpected m) before after answer
+
+-- memory was wanting, and nothing is done
+abbrev pub Starves : Standing DefaultStartupHandler → Standing DefaultStartupHandler → Answer ServerInformation → Type 0
+Starves before after answer = Refuses (λ e. e ≡ client.OutOfMemory) before after answer
+
+abbrev pub LogsIn : Backend → Standing DefaultStartupHandler → Standing DefaultStartupHandler → Answer ServerInformation → Type 0
+LogsIn m before after answer =
+    Follows (login_next (login_input before.handler before.sight.client.config) before.handler.stage m) m before after answer ⊎ Starves before after answer
+
+-- ---- the others
+
+-- the startup message is sent, and a login begins anew
+abbrev pub Begins : Standing DefaultStartupHandler → Standing DefaultStartupHandler → Answer ServerInformation → Type 0
+Begins before after (Ok answer) =
+    (after.handler ≡ begun before.handler) × Sent (encoding (startup_message (login_input before.handler before.sight.client.config))) before.sight after.sight × (answer ≡ Pending)
+Begins before after (Err e) =
+    (after.handler ≡ begun before.handler)
+    × (NotSent (encoding (startup_message (login_input before.handler before.sight.client.config))) before.sight after.sight e ⊎ ((after.sight ≡ before.sight) × (e ≡ client.OutOfMemory)))
+
+-- the handler keeps the process number and the key
+abbrev pub KeepsKey : BackendKeyData → Standing DefaultStartupHandler → Standing DefaultStartupHandler → Answer ServerInformation → Type 0
+KeepsKey m before after answer = (after ≡ standing (with_key m before.handler) before.sight) × (answer ≡ Ok Pending)
+
+-- the client's parameters, and the process number and key that came last
+abbrev pub information : DefaultStartupHandler → Client → ServerInformation
+information h c = record { parameters = c.parameters; process_id = h.process_id; secret_key = h.secret_key }
+
+abbrev pub GivesInformation : Standing DefaultStartupHandler → Standing DefaultStartupHandler → Answer ServerInformation → Type 0
+GivesInformation before after (Ok answer) = (after ≡ before) × (answer ≡ Ready (information before.handler before.sight.client))
+GivesInformation before after (Err e) = (after ≡ before) × (e ≡ client.OutOfMemory)
+
+abbrev pub StartupMeans : Standing DefaultStartupHandler → StartupCall → Standing DefaultStartupHandler → Answer ServerInformation → Type 0
+StartupMeans before startup after answer = Begins before after answer
+StartupMeans before (on_authentication m) after answer = LogsIn (backend.Authentication m) before after answer
+StartupMeans before (on_negotiate_protocol_version m) after answer = Settles m before after answer
+StartupMeans before (on_parameter_status m) after answer = Keeps m before after answer
+StartupMeans before (on_backend_key m) after answer = KeepsKey m before after answer
+StartupMeans before (on_ready_for_query m) after answer = GivesInformation before after answer
+
+-- ---- the trait's own bodies
+
+abbrev pub settles_version : (before after : Standing DefaultStartupHandler) → (m : NegotiateProtocolVersion) → (answer : Answer ServerInformation) → Settles m before after answer → StartupMeans before (on_negotiate_protocol_version m) after answer
+settles_version before after m answer settled = settled
+
+abbrev pub keeps_parameters : (before after : Standing DefaultStartupHandler) → (m : ParameterStatus) → (answer : Answer ServerInformation) → Keeps m before after answer → StartupMeans before (on_parameter_status m) after answer
+keeps_parameters before after m answer kept = kept

@@ -1,0 +1,218 @@
+//! The default handler of a login.
+ghost use Rattle.std.specs.Prelude.{◌≡◌, pos, negsuc, IfOk};
+ghost use Rattle.pgw_wire.specs.declared.secret_key.SecretKey.TheVariants.{I32};
+ghost use Rattle.pgw_session.specs.declared.stage.Stage.TheVariants.{Starting};
+ghost use Rattle.pgw_session.specs.Segments.{startup_message};
+ghost use Rattle.pgw_client.specs.Input.{input_of};
+ghost use Rattle.pgw_handlers.specs.Handling.{standing, pending, HasCause};
+ghost use Rattle.pgw_default_handlers.specs.Causes.{RefusesCaused};
+ghost use Rattle.pgw_default_handlers.specs.Startup.{Follows, SendsReply, is_able, login_input, login_next};
+
+use pgw_backend::backend::PgWireBackendMessage;
+use pgw_backend::client_error::{PgWireClientError, PgWireClientResult, ScramFault};
+use pgw_client::input::Input;
+use pgw_client::logins::{is_utf8, password_of};
+use pgw_client::machine::startup_message;
+use pgw_client::table::after;
+use pgw_config::config::Config;
+use pgw_frontend::frontend::PgWireFrontendMessage;
+use pgw_handlers::causes::misplaced;
+use pgw_handlers::{ClientInfo, Outgoing, ServerInformation, StartupHandler};
+use pgw_query::response::ReadyForQuery;
+use pgw_session::stage::{Next, Stage};
+use pgw_startup::authentication::Authentication;
+use pgw_startup::backend_key_data::BackendKeyData;
+use pgw_types::listed::Duplicate;
+use pgw_types::memory::OutOfMemory;
+use pgw_wire::secret_key::SecretKey;
+use std::alloc::Global;
+
+/// It logs in with the client's configuration, by no password, one in clear text, one under MD5, or SCRAM-SHA-256.
+#[derive(Drop)]
+pub struct DefaultStartupHandler {
+    nonce: [u8; 18],
+    stage: Stage,
+    process_id: i32,
+    secret_key: SecretKey,
+}
+
+// Where server-first is awaited the password is to be UTF-8.
+fn is_able(input: &Input<'_>, stage: &Stage) -> bool
+    ensures { result ≡ is_able (input_of input.now) stage.now }
+{
+    match stage {
+        Stage::Challenged => is_utf8(password_of(input)),
+        _ => true,
+    }
+}
+
+// What the table says of a message. A password that is not UTF-8 is refused.
+#[tactic(auto, using(crate::proofs::StartupLaws::able_now))]
+fn table_next(
+    alloc: Global,
+    input: &Input<'_>,
+    stage: &Stage,
+    message: &PgWireBackendMessage,
+) -> Result<Next, OutOfMemory>
+    ensures { IfOk result (λ n. n ≡ login_next (input_of input.now) stage.now message.now) }
+{
+    if !is_able(input, stage) {
+        let fault = ScramFault::PasswordNotUtf8;
+        return Ok(Next::Refuses(PgWireClientError::ScramError(fault)));
+    }
+    after(alloc, input, stage, message)
+}
+
+// Sends a message, if there is one.
+fn send_reply<C: Outgoing>(
+    client: &mut C,
+    reply: Option<PgWireFrontendMessage>,
+) -> PgWireClientResult<()>
+    ensures sends { C.tells → SendsReply reply (C.sight client.old) (C.sight client.new) result }
+    ensures own { C.own client.new ≡ C.own client.old }
+    ensures rest { C.tells → C.rest client.new ≡ C.rest client.old }
+    ensures cause { HasCause (C.faults client.old) (C.faults client.new) (C.sight client.new).broken result }
+{
+    match reply {
+        Some(message) => client.send(message),
+        None => Ok(()),
+    }
+}
+
+impl DefaultStartupHandler {
+    /// A handler of one login. The nonce is to be random and used for no other.
+    pub fn new(nonce: [u8; 18]) -> DefaultStartupHandler
+        ensures { result ≡ record { nonce = nonce; stage = Starting; process_id = negsuc 0; secret_key = I32 (pos 0) } }
+    {
+        DefaultStartupHandler {
+            nonce,
+            stage: Stage::Starting,
+            process_id: -1,
+            secret_key: SecretKey::I32(0),
+        }
+    }
+
+    // What the table says of a message at the handler's stage.
+    fn next(
+        &self,
+        alloc: Global,
+        config: &Config,
+        message: &PgWireBackendMessage,
+    ) -> Result<Next, OutOfMemory>
+        ensures { IfOk result (λ n. n ≡ login_next (login_input self.now config.now) self.now.stage message.now) }
+    {
+        let input = Input {
+            config,
+            requests: &[],
+            nonce: &self.nonce,
+        };
+        table_next(alloc, &input, &self.stage, message)
+    }
+
+    // The message that begins the connection.
+    fn opening(&self, alloc: Global, config: &Config) -> Result<PgWireFrontendMessage, OutOfMemory>
+        ensures { IfOk result (λ m. m ≡ startup_message (login_input self.now config.now)) }
+    {
+        let input = Input {
+            config,
+            requests: &[],
+            nonce: &self.nonce,
+        };
+        startup_message(alloc, &input)
+    }
+
+    // Does what the table says: sends the reply and goes on to the stage, or refuses the message.
+    fn follow<C: ClientInfo + Outgoing>(
+        &mut self,
+        alloc: Global,
+        client: &mut C,
+        message: PgWireBackendMessage,
+        next: Next,
+    ) -> PgWireClientResult<()>
+        requires { RefusesCaused next }
+        ensures follows { C.tells → Follows next message (standing self.old (C.sight client.old)) (standing self.new (C.sight client.new)) (pending result) }
+        ensures own { C.own client.new ≡ C.own client.old }
+        ensures rest { C.tells → C.rest client.new ≡ C.rest client.old }
+        ensures cause { HasCause (C.faults client.old) (C.faults client.new) (C.sight client.new).broken result }
+    {
+        match next {
+            Next::Goes(stage, reply) => {
+                send_reply(client, reply)?;
+                self.stage = stage;
+                Ok(())
+            }
+            Next::Refuses(error) => Err(error),
+            Next::Closes | Next::Wrong | Next::PassesOver => Err(misplaced(alloc, message)),
+        }
+    }
+}
+
+impl StartupHandler for DefaultStartupHandler {
+    ghost use Rattle.std.specs.Prelude.{Ok, Err};
+    ghost use Rattle.pgw_default_handlers.specs.Startup.{StartupMeans, exchanges, keeps_parameters, settles_version};
+
+    ghost means = { StartupMeans };
+
+    ghost exchanges = { exchanges };
+
+    ghost settles = { settles_version };
+
+    ghost keeps = { keeps_parameters };
+
+    fn in_exchange(&self) -> bool {
+        match self.stage {
+            Stage::Challenged | Stage::Proving(_) => true,
+            _ => false,
+        }
+    }
+
+    fn startup<C: ClientInfo + Outgoing>(
+        &mut self,
+        alloc: Global,
+        client: &mut C,
+    ) -> PgWireClientResult<()> {
+        self.stage = Stage::Starting;
+        self.process_id = -1;
+        self.secret_key = SecretKey::I32(0);
+        let opening = self.opening(alloc, client.config())?;
+        client.send(opening)
+    }
+
+    fn on_authentication<C: ClientInfo + Outgoing>(
+        &mut self,
+        alloc: Global,
+        client: &mut C,
+        message: Authentication,
+    ) -> PgWireClientResult<()> {
+        let message = PgWireBackendMessage::Authentication(message);
+        let next = self.next(alloc, client.config(), &message)?;
+        self.follow(alloc, client, message, next)
+    }
+
+    fn on_backend_key<C: ClientInfo + Outgoing>(
+        &mut self,
+        _alloc: Global,
+        _client: &mut C,
+        message: BackendKeyData,
+    ) -> PgWireClientResult<()> {
+        let BackendKeyData { pid, secret_key } = message;
+        self.process_id = pid;
+        self.secret_key = secret_key;
+        Ok(())
+    }
+
+    fn on_ready_for_query<C: ClientInfo + Outgoing>(
+        &mut self,
+        _alloc: Global,
+        client: &mut C,
+        _message: ReadyForQuery,
+    ) -> PgWireClientResult<ServerInformation> {
+        let parameters = client.server_parameters().duplicate()?;
+        let secret_key = self.secret_key.duplicate()?;
+        Ok(ServerInformation {
+            parameters,
+            process_id: self.process_id,
+            secret_key,
+        })
+    }
+}
