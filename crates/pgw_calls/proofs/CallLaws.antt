@@ -19,7 +19,7 @@ use Rattle.pgw_default_handlers.specs.Startup.{StartupMeans, exchanges}
 use Rattle.pgw_connection.specs.Talk.{End, end, passes}
 use Rattle.pgw_connection.specs.Desk.{first_client, with_information}
 use Rattle.pgw_connection.specs.Line.{Line, Drew, Moved, Pause, IsFlushed}
-use Rattle.pgw_connection.specs.Reading.{Grew}
+use Rattle.pgw_connection.specs.Reading.{Grew, Ended}
 use Rattle.pgw_connection.specs.Calls.{Call}
 use Rattle.pgw_connection.specs.Extended.{Finish}
 use Rattle.pgw_connection.specs.ExtendedSteps.{Called}
@@ -69,3 +69,9 @@ filled_stands config nonce ts read wrote c old now stands grew =
     let d = grew.drew in
     let s = stands_more config nonce ts read wrote grew.piece c old.buffer stands in
     (grew.piece, d, λ flushed. d.flushed ∙ flushed ∙ ap length (sym d.wrote), subst (Stands config nonce ts (read ++ grew.piece) wrote c) (sym grew.buffer) s)
+
+pub ended_stands : (config : Config) (nonce : List ℕ) (ts : List Made) (read wrote : List ℕ) (c : Client) (old now : Line) → Stands config nonce ts read wrote c old.buffer → Ended old now →
+    Drew old now [] × (IsFlushed old → IsFlushed now) × Stands config nonce ts read wrote c now.buffer
+ended_stands config nonce ts read wrote c old now stands ended =
+    let d = ended.drew in
+    (d, λ flushed. d.flushed ∙ flushed ∙ ap length (sym d.wrote), subst (Stands config nonce ts read wrote c) (sym ended.buffer) stands)

@@ -15,6 +15,7 @@ use Rattle.pgw_session.specs.Segments.{sends}
 use Rattle.pgw_session.specs.Answers.{no_tally, answer_by, answer_of, tally_of, tally_at}
 use Rattle.pgw_session.proofs.Events.{encodings_append}
 use Rattle.pgw_handlers.specs.Client.{Client}
+use Rattle.pgw_connection.specs.Line.{Reasons}
 use Rattle.pgw_calls.specs.Turns.{standing_of_client, Exchanged, IsAnswered, IsPassedSegment, IsFrontOf, IsOpenFor, Opened}
 use Rattle.pgw_calls.specs.Calls.{Answers, Misplaces, Breaks, Comes, IsUnwritten, IsStarved}
 use Rattle.pgw_calls.proofs.Exchanges.{exchanged_none, exchanged_sent}
@@ -54,7 +55,7 @@ opened_onto q c out bytes is = record {
   exchanged = λ sent es info rest x. exchanged_sent c.config (standing_of_client c) (sends_of q) out bytes sent es info rest is x;
 }
 
-module _ {A : Type 0} (give : A → Answer) (P : ClientError → Type 0) (q : Request) (c : Client) (bytes sent : List ℕ) (info : Client) (rest : List ℕ) where
+module _ {A : Type 0} (give : A → Answer) (P : Reasons) (q : Request) (c : Client) (bytes sent : List ℕ) (info : Client) (rest : List ℕ) where
   answers : (result : Result A ClientError) → CameOn (whole q) give c bytes sent info rest result → Answers give q c bytes sent info rest result
   answers (Ok x) y = y
   answers (Err (client.RemoteError e)) y = y
@@ -81,15 +82,16 @@ module _ {A : Type 0} (give : A → Answer) (P : ClientError → Type 0) (q : Re
   comes result true y = breaks result y
 
 -- what comes behind the opening makes the call
-pub called : {A : Type 0} (give : A → Answer) (P : ClientError → Type 0) (q : Request) (c : Client) (out bytes sent : List ℕ) (info : Client) (rest : List ℕ) (result : Result A ClientError) (broken : Bool) → encodings (sends_of q) ≡ Ok out →
+pub called : {A : Type 0} (give : A → Answer) (P : Reasons) (q : Request) (c : Client) (out bytes sent : List ℕ) (info : Client) (rest : List ℕ) (result : Result A ClientError) (broken : Bool) → encodings (sends_of q) ≡ Ok out →
     Came (within q false no_tally) give P c bytes sent info rest result broken → Comes give P q c bytes (out ++ sent) info rest result broken
 called give P q c out bytes sent info rest result broken is y =
     comes give P q c bytes (out ++ sent) info rest result broken (came_onto (within q false no_tally) (whole q) c c bytes bytes out sent info rest (opened_onto q c out bytes is) give P result broken y)
 
--- the opening was not written whole
-pub cut_opening : (q : Request) (c : Client) (bytes part lost : List ℕ) (info : Client) → encodings (sends_of q) ≡ Ok (part ++ lost) → info ≡ c → IsUnwritten q c bytes part info bytes
-cut_opening q c bytes part lost info is same = (
+-- the opening was not written whole, or not flushed
+pub cut_opening : (P : Reasons) (q : Request) (c : Client) (bytes part lost : List ℕ) (info : Client) → P.unsent lost → encodings (sends_of q) ≡ Ok (part ++ lost) → info ≡ c → IsUnwritten P q c bytes part info bytes
+cut_opening P q c bytes part lost info why is same = (
   lost,
+  why,
   client.UnexpectedEOF,
   (
     map Sent (sends_of q) ++ [],

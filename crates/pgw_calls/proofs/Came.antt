@@ -19,9 +19,10 @@ use Rattle.pgw_session.specs.Requests.{kind_of, passes_over, role, behind_error}
 use Rattle.pgw_session.specs.Segments.{IsAnswer, IsQuiet, IsPassedOver, is_ready, is_other, sends}
 use Rattle.pgw_session.specs.Answers.{tally_at, tally_after, answer_by}
 use Rattle.pgw_handlers.specs.Client.{Client}
-use Rattle.pgw_connection.specs.Talk.{Lack, Next, told, in_place_of, first_of, passes, Drained}
+use Rattle.pgw_connection.specs.Talk.{Lack, Next, told, in_place_of, first_of, passes, Passing}
 use Rattle.pgw_calls.specs.Turns.{standing_of_client, Exchanged, Does, IsMisplaced, IsFront, IsOpenFor}
-use Rattle.pgw_calls.specs.Calls.{IsLinkEnd}
+use Rattle.pgw_connection.specs.Line.{Reasons}
+use Rattle.pgw_calls.proofs.Openings.{IsLinkEnd}
 use Rattle.pgw_calls.proofs.Exchanges.{exchanged_none, got_one, got_last}
 
 -- How the events go from where a call stands: by its answer, by the message that had no place, by the error at their
@@ -44,21 +45,21 @@ CameOn S give c bytes sent info rest (Err (client.RemoteError e)) = Does (S.answ
 CameOn S give c bytes sent info rest (Err (client.UnexpectedMessage m)) = Does (S.passed m) c bytes sent info rest
 CameOn S give c bytes sent info rest (Err e) = ⊥
 
-abbrev pub Meets : Bool → Shape → (ClientError → Type 0) → Client → List ℕ → List ℕ → Backend → Client → List ℕ → Type 0
-Meets true S P c bytes sent m info rest = P client.UnexpectedEOF × CutOff S c bytes sent (client.UnexpectedMessage m) info rest More
+abbrev pub Meets : Bool → Shape → Reasons → Client → List ℕ → List ℕ → Backend → Client → List ℕ → Type 0
+Meets true S P c bytes sent m info rest = P.halts client.UnexpectedEOF × CutOff S c bytes sent (client.UnexpectedMessage m) info rest More
 Meets false S P c bytes sent m info rest = (left : List ℕ) × Does (S.meets m) c bytes sent info left × Next info left m rest
 
-abbrev pub Broke : {A : Type 0} → Shape → (ClientError → Type 0) → Client → List ℕ → List ℕ → Client → List ℕ → Result A ClientError → Type 0
+abbrev pub Broke : {A : Type 0} → Shape → Reasons → Client → List ℕ → List ℕ → Client → List ℕ → Result A ClientError → Type 0
 Broke S P c bytes sent info rest (Err client.OutOfMemory) = S.starves sent
 Broke S P c bytes sent info rest (Err (client.PgWireError why)) = (e : ClientError) × CutOff S c bytes sent e info rest (Bad why)
-Broke S P c bytes sent info rest (Err client.ReadLimit) = P client.ReadLimit × (e : ClientError) × CutOff S c bytes sent e info rest More
-Broke S P c bytes sent info rest (Err client.IoError) = P client.IoError × (((e : ClientError) × CutOff S c bytes sent e info rest More) ⊎ ((lost : List ℕ) × (e : ClientError) × Does (S.stops e) c bytes (sent ++ lost) info rest))
-Broke S P c bytes sent info rest (Err client.UnexpectedEOF) = P client.UnexpectedEOF × CutOff S c bytes sent client.UnexpectedEOF info rest More
-Broke S P c bytes sent info rest (Err (client.RemoteError e)) = P client.UnexpectedEOF × CutOff S c bytes sent (client.RemoteError e) info rest More
+Broke S P c bytes sent info rest (Err client.ReadLimit) = P.halts client.ReadLimit × (e : ClientError) × CutOff S c bytes sent e info rest More
+Broke S P c bytes sent info rest (Err client.IoError) = (P.halts client.IoError × (e : ClientError) × CutOff S c bytes sent e info rest More) ⊎ ((lost : List ℕ) × P.unsent lost × (e : ClientError) × Does (S.stops e) c bytes (sent ++ lost) info rest)
+Broke S P c bytes sent info rest (Err client.UnexpectedEOF) = P.halts client.UnexpectedEOF × CutOff S c bytes sent client.UnexpectedEOF info rest More
+Broke S P c bytes sent info rest (Err (client.RemoteError e)) = P.halts client.UnexpectedEOF × CutOff S c bytes sent (client.RemoteError e) info rest More
 Broke S P c bytes sent info rest (Err (client.UnexpectedMessage m)) = Meets S.passes S P c bytes sent m info rest
 Broke S P c bytes sent info rest result = ⊥
 
-abbrev pub Came : {A : Type 0} → Shape → (A → Answer) → (ClientError → Type 0) → Client → List ℕ → List ℕ → Client → List ℕ → Result A ClientError → Bool → Type 0
+abbrev pub Came : {A : Type 0} → Shape → (A → Answer) → Reasons → Client → List ℕ → List ℕ → Client → List ℕ → Result A ClientError → Bool → Type 0
 Came S give P c bytes sent info rest result false = CameOn S give c bytes sent info rest result
 Came S give P c bytes sent info rest result true = Broke S P c bytes sent info rest result
 
@@ -88,26 +89,26 @@ module _ (S T : Shape) (c d : Client) (bytes more wrote sent : List ℕ) (info :
   on_onto give (Err (client.UnexpectedMessage m)) y = (o.before y.0, o.passed m y.0 y.1, o.exchanged sent y.0 info rest y.2)
   on_onto give (Err e) y = absurd y
 
-  meets_onto : (P : ClientError → Type 0) (m : Backend) (b : Bool) → Meets b S P c bytes sent m info rest → Meets b T P d more (wrote ++ sent) m info rest
+  meets_onto : (P : Reasons) (m : Backend) (b : Bool) → Meets b S P c bytes sent m info rest → Meets b T P d more (wrote ++ sent) m info rest
   meets_onto P m true y = (y.0, cut_onto (client.UnexpectedMessage m) More y.1)
   meets_onto P m false y = let x = y.1 in (y.0, (o.before x.0, o.meets m x.0 x.1, o.exchanged sent x.0 info y.0 x.2), y.2)
 
   lost_onto : (lost : List ℕ) (e : ClientError) → Does (S.stops e) c bytes (sent ++ lost) info rest → Does (T.stops e) d more ((wrote ++ sent) ++ lost) info rest
   lost_onto lost e x = (o.before x.0, o.stops e x.0 x.1, subst (λ (w : List ℕ). Exchanged d.config (standing_of_client d) more w (o.before x.0) info rest) (sym (append_assoc wrote sent lost)) (o.exchanged (sent ++ lost) x.0 info rest x.2))
 
-  broke_onto : {A : Type 0} (P : ClientError → Type 0) (result : Result A ClientError) → Broke S P c bytes sent info rest result → Broke T P d more (wrote ++ sent) info rest result
+  broke_onto : {A : Type 0} (P : Reasons) (result : Result A ClientError) → Broke S P c bytes sent info rest result → Broke T P d more (wrote ++ sent) info rest result
   broke_onto P (Ok x) y = absurd y
   broke_onto P (Err client.OutOfMemory) y = o.starves sent y
   broke_onto P (Err (client.PgWireError why)) y = (y.0, cut_onto y.0 (Bad why) y.1)
   broke_onto P (Err client.ReadLimit) y = (y.0, y.1, cut_onto y.1 More y.2)
-  broke_onto P (Err client.IoError) (p, inl y) = (p, inl (y.0, cut_onto y.0 More y.1))
-  broke_onto P (Err client.IoError) (p, inr y) = (p, inr (y.0, y.1, lost_onto y.0 y.1 y.2))
+  broke_onto P (Err client.IoError) (inl y) = inl (y.0, y.1, cut_onto y.1 More y.2)
+  broke_onto P (Err client.IoError) (inr y) = inr (y.0, y.1, y.2, lost_onto y.0 y.2 y.3)
   broke_onto P (Err client.UnexpectedEOF) y = (y.0, cut_onto client.UnexpectedEOF More y.1)
   broke_onto P (Err (client.RemoteError e)) y = (y.0, cut_onto (client.RemoteError e) More y.1)
   broke_onto P (Err (client.UnexpectedMessage m)) y = subst (λ (b : Bool). Meets b T P d more (wrote ++ sent) m info rest) o.passes (meets_onto P m S.passes y)
   broke_onto P (Err e) y = absurd y
 
-  pub came_onto : {A : Type 0} (give : A → Answer) (P : ClientError → Type 0) (result : Result A ClientError) (broken : Bool) → Came S give P c bytes sent info rest result broken → Came T give P d more (wrote ++ sent) info rest result broken
+  pub came_onto : {A : Type 0} (give : A → Answer) (P : Reasons) (result : Result A ClientError) (broken : Bool) → Came S give P c bytes sent info rest result broken → Came T give P d more (wrote ++ sent) info rest result broken
   came_onto give P result false y = on_onto give result y
   came_onto give P result true y = broke_onto P result y
 
@@ -151,10 +152,10 @@ taken_onto q rows next t c d m bytes left is whole behind = record {
 
 -- ---- where no message comes
 
-abbrev pub Lacking : (ClientError → Type 0) → Client → List ℕ → ClientError → Type 0
-Lacking P info rest y = ((why : PgWireError) × (y ≡ client.PgWireError why) × (front info.protocol_version rest ≡ Bad why)) ⊎ (P y × (front info.protocol_version rest ≡ More))
+abbrev pub Lacking : Reasons → Client → List ℕ → ClientError → Type 0
+Lacking P info rest y = ((why : PgWireError) × (y ≡ client.PgWireError why) × (front info.protocol_version rest ≡ Bad why)) ⊎ (P.halts y × (front info.protocol_version rest ≡ More))
 
-pub lacking : (P : ClientError → Type 0) (c : Client) (bytes rest : List ℕ) (y : ClientError) → Lack P c bytes rest y → (y ≡ client.OutOfMemory) ⊎ (Lacking P c rest y × (rest ≡ bytes))
+pub lacking : (P : Reasons) (c : Client) (bytes rest : List ℕ) (y : ClientError) → Lack P c bytes rest y → (y ≡ client.OutOfMemory) ⊎ (Lacking P c rest y × (rest ≡ bytes))
 lacking P c bytes _ _ (Lack.unread why bad) = inr (inl (why, refl, bad), refl)
 lacking P c bytes _ _ (Lack.halts e more p) = inr (inr (p, more), refl)
 lacking P c bytes _ _ (Lack.starves rest) = inl refl
@@ -170,14 +171,14 @@ IsOpenEnd S (client.RemoteError e) = Unit {0}
 IsOpenEnd S (client.UnexpectedMessage m) = S.passes ≡ true
 IsOpenEnd S e = ⊥
 
-module _ (A : Type 0) (S : Shape) (P : ClientError → Type 0) (ends : (x : ClientError) → P x → IsLinkEnd x) (c : Client) (bytes sent : List ℕ) (info : Client) (rest : List ℕ) where
-  halted : (e y : ClientError) → IsOpenEnd S e → P y → IsLinkEnd y → CutOff S c bytes sent e info rest More → Broke {A = A} S P c bytes sent info rest (Err (in_place_of e y))
+module _ (A : Type 0) (S : Shape) (P : Reasons) (ends : (x : ClientError) → P.halts x → IsLinkEnd x) (c : Client) (bytes sent : List ℕ) (info : Client) (rest : List ℕ) where
+  halted : (e y : ClientError) → IsOpenEnd S e → P.halts y → IsLinkEnd y → CutOff S c bytes sent e info rest More → Broke {A = A} S P c bytes sent info rest (Err (in_place_of e y))
   halted client.UnexpectedEOF client.UnexpectedEOF is p l x = (p, x)
   halted (client.RemoteError e) client.UnexpectedEOF is p l x = (p, x)
   halted (client.UnexpectedMessage m) client.UnexpectedEOF is p l x = subst (λ (b : Bool). Meets b S P c bytes sent m info rest) (sym is) (p, x)
   halted e client.UnexpectedEOF is p l x = absurd is
   halted e client.ReadLimit is p l x = (p, e, x)
-  halted e client.IoError is p l x = (p, inl (e, x))
+  halted e client.IoError is p l x = inl (p, e, x)
   halted e y is p l x = absurd l
 
   pub lacked : (e y : ClientError) → IsOpenEnd S e → Lacking P info rest y → Does (S.stops e) c bytes sent info rest → Broke {A = A} S P c bytes sent info rest (Err (in_place_of e y))
@@ -194,9 +195,9 @@ abbrev pub kept : ClientError → List Backend → ClientError
 kept e [] = e
 kept e (m ∷ ms) = kept (first_of e m) ms
 
-abbrev pub DrainedTo : (ClientError → Type 0) → ClientError → Client → List ℕ → ClientError → Client → List ℕ → Bool → Type 0
-DrainedTo P e c bytes x last left false = (q : Does IsPassedOver c bytes [] last left) × (x ≡ kept e (q.1).ms)
-DrainedTo P e c bytes x last left true = (x ≡ client.OutOfMemory) ⊎ ((q : Does AreQuiet c bytes [] last left) × (y : ClientError) × (x ≡ in_place_of (kept e (q.1).0) y) × Lacking P last left y)
+abbrev pub PassingTo : Reasons → ClientError → Client → List ℕ → ClientError → Client → List ℕ → Bool → Type 0
+PassingTo P e c bytes x last left false = (q : Does IsPassedOver c bytes [] last left) × (x ≡ kept e (q.1).ms)
+PassingTo P e c bytes x last left true = (x ≡ client.OutOfMemory) ⊎ ((q : Does AreQuiet c bytes [] last left) × (y : ClientError) × (x ≡ in_place_of (kept e (q.1).0) y) × Lacking P last left y)
 
 pub kept_stays : (e : ClientError) (ms : List Backend) → passes e ≡ true → kept e ms ≡ e
 kept_stays e [] is = refl
@@ -225,20 +226,20 @@ does_more : (p r : List Event → Type 0) (c : Client) (m : Backend) (bytes rest
     Does p (told m c) rest sent info left → Does r c bytes sent info left
 does_more p r c m bytes rest sent info left next f y = (Got m ∷ y.0, f y.0 y.1, got_one c (told m c) m bytes rest sent y.0 info left next refl y.2)
 
-goes_to : (P : ClientError → Type 0) (e : ClientError) (c : Client) (m : Backend) (bytes rest : List ℕ) (x : ClientError) (last : Client) (left : List ℕ) (broken : Bool) → Next c bytes m rest → is_ready m ≡ false →
-    DrainedTo P (first_of e m) (told m c) rest x last left broken → DrainedTo P e c bytes x last left broken
+goes_to : (P : Reasons) (e : ClientError) (c : Client) (m : Backend) (bytes rest : List ℕ) (x : ClientError) (last : Client) (left : List ℕ) (broken : Bool) → Next c bytes m rest → is_ready m ≡ false →
+    PassingTo P (first_of e m) (told m c) rest x last left broken → PassingTo P e c bytes x last left broken
 unfolding does_more passed_more quiet_more
 goes_to P e c m bytes rest x last left false next is y = (does_more IsPassedOver IsPassedOver c m bytes rest [] last left next (λ es q. passed_more m es is q) y.0, y.1)
 goes_to P e c m bytes rest x last left true next is (inl y) = inl y
 goes_to P e c m bytes rest x last left true next is (inr y) = inr (does_more AreQuiet AreQuiet c m bytes rest [] last left next (λ es q. quiet_more m es is q) y.0, y.1, y.2, y.3)
 
-lacks_to : (P : ClientError → Type 0) (e : ClientError) (c : Client) (bytes rest : List ℕ) (y : ClientError) → (y ≡ client.OutOfMemory) ⊎ (Lacking P c rest y × (rest ≡ bytes)) → DrainedTo P e c bytes (in_place_of e y) c rest true
+lacks_to : (P : Reasons) (e : ClientError) (c : Client) (bytes rest : List ℕ) (y : ClientError) → (y ≡ client.OutOfMemory) ⊎ (Lacking P c rest y × (rest ≡ bytes)) → PassingTo P e c bytes (in_place_of e y) c rest true
 lacks_to P e c bytes rest y (inl starved) = inl (ap (in_place_of e) starved)
 lacks_to P e c bytes rest y (inr l) = inr (([], ([], refl, tt), subst (λ (b : List ℕ). Exchanged c.config (standing_of_client c) b [] [] c rest) l.1 (exchanged_none c.config (standing_of_client c) rest)), y, refl, l.0)
 
-pub drained_to : (P : ClientError → Type 0) (e : ClientError) (c : Client) (bytes : List ℕ) (x : ClientError) (last : Client) (left : List ℕ) (broken : Bool) → Drained P e c bytes x last left broken → DrainedTo P e c bytes x last left broken
+pub passing_to : (P : Reasons) (e : ClientError) (c : Client) (bytes : List ℕ) (x : ClientError) (last : Client) (left : List ℕ) (broken : Bool) → Passing P e c bytes x last left broken → PassingTo P e c bytes x last left broken
 unfolding passed_last
-drained_to P _ _ _ _ _ _ _ (Drained.lacks e c bytes rest y l) = lacks_to P e c bytes rest y (lacking P c bytes rest y l)
-drained_to P _ _ _ _ _ _ _ (Drained.closes e c bytes m rest next is) = ((Got m ∷ [], passed_last m is, got_last c m bytes rest next), refl)
-drained_to P _ _ _ _ _ _ _ (Drained.goes e c bytes m rest x last left broken next is d) = goes_to P e c m bytes rest x last left broken next is (drained_to P (first_of e m) (told m c) rest x last left broken d)
-drained_to P _ _ _ _ _ _ _ (Drained.starves e c bytes rest) = inl refl
+passing_to P _ _ _ _ _ _ _ (Passing.lacks e c bytes rest y l) = lacks_to P e c bytes rest y (lacking P c bytes rest y l)
+passing_to P _ _ _ _ _ _ _ (Passing.closes e c bytes m rest next is) = ((Got m ∷ [], passed_last m is, got_last c m bytes rest next), refl)
+passing_to P _ _ _ _ _ _ _ (Passing.goes e c bytes m rest x last left broken next is d) = goes_to P e c m bytes rest x last left broken next is (passing_to P (first_of e m) (told m c) rest x last left broken d)
+passing_to P _ _ _ _ _ _ _ (Passing.starves e c bytes rest) = inl refl

@@ -36,15 +36,14 @@ use Rattle.pgw_handlers.specs.Extended.{ExtendedCall as Call, nothing}
 use Rattle.pgw_default_handlers.specs.declared.extended.DefaultExtendedQueryHandler.{DefaultExtendedQueryHandler}
 use Rattle.pgw_default_handlers.specs.Extended.{ExtendedMeans}
 use Rattle.pgw_connection.specs.Talk.{fresh, Next, told, is_refusal, IsCut}
-use Rattle.pgw_connection.specs.Line.{Line, Pause}
+use Rattle.pgw_connection.specs.Line.{Line, Reasons, Pause}
 use Rattle.pgw_connection.specs.declared.gathered.Gathered.{Gathered}
 use Rattle.pgw_connection.specs.Extended.{none_gathered, with_gift, Heeds, RefusesBy, call_for, Finish, finish, is_suspended, Syncs, outcome_behind, EndsAnswer, Exchange, calls_for, Opens, Requested}
 use Rattle.pgw_calls.specs.Turns.{standing_of_client, Exchanged, Does, IsPassing, error_behind}
-use Rattle.pgw_calls.specs.Calls.{IsLinkEnd}
 use Rattle.pgw_calls.specs.Extended.{IsExtended, given, ExtendedCall}
-use Rattle.pgw_calls.proofs.Openings.{one_encoding, never_rose, paused_ends}
+use Rattle.pgw_calls.proofs.Openings.{IsLinkEnd, one_encoding, never_rose, paused_ends}
 use Rattle.pgw_calls.proofs.Exchanges.{exchanged_none, exchanged_sent, got_one, got_last}
-use Rattle.pgw_calls.proofs.Came.{in_place_of_none, Shape, Meets, Came, within, taken_onto, came_onto, lacking, lacked, Lacking, IsOpenEnd, DrainedTo, drained_to, kept, kept_stays}
+use Rattle.pgw_calls.proofs.Came.{in_place_of_none, Shape, Meets, Came, within, taken_onto, came_onto, lacking, lacked, Lacking, IsOpenEnd, PassingTo, passing_to, kept, kept_stays}
 use Rattle.pgw_calls.proofs.Called.{tally_opened, called, cut_opening}
 use Rattle.pgw_calls.proofs.Tallies.{fold_remote, error_remote, fold_executed, fold_kept, fold_ready, kept_first}
 use Rattle.pgw_calls.proofs.Gathers.{asked, Gathers, gathers_none, gathers, taken_false, closing_answer, fits, Fits, IsCompleter}
@@ -56,7 +55,7 @@ Handler = DefaultExtendedQueryHandler
 abbrev from : Request → Tally → Shape
 from q t = within q false t
 
-abbrev To : Request → (ClientError → Type 0) → Tally → Client → List ℕ → List ℕ → Finish Handler DataRow → Type 0
+abbrev To : Request → Reasons → Tally → Client → List ℕ → List ℕ → Finish Handler DataRow → Type 0
 To q P t c bytes sent end = Came (from q t) (given q) P c bytes sent end.info end.rest end.answer end.broken
 
 pub extended_breaks : (q : Request) → IsExtended q → passes_over (kind_of q) ≡ false
@@ -182,7 +181,7 @@ open_end : (S : Shape) (r : Option ErrorResponse) → IsOpenEnd S (end_with None
 open_end S None = tt
 open_end S (Some e) = tt
 
-module _ (q : Request) (P : ClientError → Type 0) (ends : (x : ClientError) → P x → IsLinkEnd x) (c : Client) (t : Tally) (bytes : List ℕ) (m : Backend) (rest : List ℕ) (next : Next c bytes m rest) (due : Option Frontend) (e : ClientError) (more : Gathered DataRow) (n : Ending q c t m due e more) where
+module _ (q : Request) (P : Reasons) (ends : (x : ClientError) → P.halts x → IsLinkEnd x) (c : Client) (t : Tally) (bytes : List ℕ) (m : Backend) (rest : List ℕ) (next : Next c bytes m rest) (due : Option Frontend) (e : ClientError) (more : Gathered DataRow) (n : Ending q c t m due e more) where
   -- the events behind m, with what was sent between
   behind : (s : Standing Handler) (es : List Event) (last : Client) (left : List ℕ) → Synced due c s → Exchanged (s.sight.client).config (standing_of_client s.sight.client) rest [] es last left →
       Exchanged c.config (standing_of_client c) bytes s.sight.wrote (Got m ∷ (map Sent (sends due) ++ es)) last left
@@ -212,7 +211,7 @@ module _ (q : Request) (P : ClientError → Type 0) (ends : (x : ClientError) �
       subst (λ (z : ClientError). To q P t c bytes s.sight.wrote (finish (outcome_behind more z false) s.handler last false left)) (sym is)
       (Got m ∷ (map Sent (sends due) ++ d.0), (ends_answer d.0 d.1, ap (answer_by q) (tally_is d.0) ∙ ap (λ o. answer_with o (result_of q (fold tally_at (tally_after t m) d.0))) some), behind s d.0 last left y d.2)
 
-  pub ends_on : (s : Standing Handler) (y : Synced due c s) (x : ClientError) (last : Client) (left : List ℕ) (broken : Bool) → DrainedTo P e s.sight.client rest x last left broken →
+  pub ends_on : (s : Standing Handler) (y : Synced due c s) (x : ClientError) (last : Client) (left : List ℕ) (broken : Bool) → PassingTo P e s.sight.client rest x last left broken →
       To q P t c bytes s.sight.wrote (finish (outcome_behind more x broken) s.handler last broken left)
   ends_on s y x last left false d =
       let passed = (d.0).1 in
@@ -232,24 +231,23 @@ module _ (q : Request) (P : ClientError → Type 0) (ends : (x : ClientError) �
       (lacked (Gathered DataRow × Bool) (from q t) P ends c bytes s.sight.wrote last left (kept e quiet.0) d.1 open_at d.3
       (Got m ∷ (map Sent (sends due) ++ (d.0).0), stops quiet.0 (d.0).0 quiet.1 quiet.2, behind s (d.0).0 last left y (d.0).2)))
 
-  pub unwritten_on : (s : Standing Handler) (y : Synced due c s) (part : List ℕ) → IsCut s.sight.wrote part → P client.IoError → To q P t c bytes part (finish (Err client.IoError) s.handler s.sight.client true rest)
-  unwritten_on s y part cut p = (
-    p,
-    inr (
-      cut.1,
-      kept e [],
-      (
-        Got m ∷ (map Sent (sends due) ++ []),
-        stops [] [] refl tt,
-        subst (λ (w : List ℕ). Exchanged c.config (standing_of_client c) bytes w (Got m ∷ (map Sent (sends due) ++ [])) s.sight.client rest) cut.2
-            (behind s [] s.sight.client rest y (exchanged_none (s.sight.client).config (standing_of_client s.sight.client) rest)),
-      ),
-    ),
-  )
+  pub unwritten_on : (s : Standing Handler) (y : Synced due c s) (part : List ℕ) → IsCut P s.sight.wrote part → To q P t c bytes part (finish (Err client.IoError) s.handler s.sight.client true rest)
+  unwritten_on s y part cut =
+      inr (
+        cut.1,
+        cut.3,
+        kept e [],
+        (
+          Got m ∷ (map Sent (sends due) ++ []),
+          stops [] [] refl tt,
+          subst (λ (w : List ℕ). Exchanged c.config (standing_of_client c) bytes w (Got m ∷ (map Sent (sends due) ++ [])) s.sight.client rest) cut.2
+              (behind s [] s.sight.client rest y (exchanged_none (s.sight.client).config (standing_of_client s.sight.client) rest)),
+        ),
+      )
 
 -- ---- the messages of a call
 
-not_synced : (q : Request) (P : ClientError → Type 0) (t : Tally) (c : Client) (bytes : List ℕ) (before after : Standing Handler) (x : ClientError) (rest : List ℕ) → before.sight ≡ fresh c → ExtendedMeans before call.sync after (Err x) → IsCaused x 0 0 after.sight.broken →
+not_synced : (q : Request) (P : Reasons) (t : Tally) (c : Client) (bytes : List ℕ) (before after : Standing Handler) (x : ClientError) (rest : List ℕ) → before.sight ≡ fresh c → ExtendedMeans before call.sync after (Err x) → IsCaused x 0 0 after.sight.broken →
     To q P t c bytes [] (finish (Err x) after.handler after.sight.client true rest)
 not_synced q P t c bytes before after client.OutOfMemory rest same n caused = inl refl
 not_synced q P t c bytes before after client.Broken rest same n caused = absurd (let broken = n.0 in let whole : before.sight.broken ≡ false = ap (λ (s : Sight). s.broken) same in cc)
@@ -265,7 +263,7 @@ refuses_memory (backend.CommandComplete m) h after c e r = r.1
 refuses_memory (backend.PortalSuspended m) h after c e r = absurd (let is = r.1 in cc)
 refuses_memory m h after c e r = absurd r
 
-misplaced_on : (q : Request) (e : IsExtended q) (P : ClientError → Type 0) (t : Tally) (h : Handler) (c : Client) (bytes : List ℕ) (m : Backend) (rest : List ℕ) (x : ClientError) → Next c bytes m rest → role (kind_of q) false m ≡ Misplaced → IsUnexpected m x →
+misplaced_on : (q : Request) (e : IsExtended q) (P : Reasons) (t : Tally) (h : Handler) (c : Client) (bytes : List ℕ) (m : Backend) (rest : List ℕ) (x : ClientError) → Next c bytes m rest → role (kind_of q) false m ≡ Misplaced → IsUnexpected m x →
     To q P t c bytes [] (finish (Err x) h c true rest)
 misplaced_on q e P t h c bytes m rest client.OutOfMemory next is u = inl refl
 misplaced_on q e P t h c bytes m rest (client.UnexpectedMessage y) next is u =
@@ -274,17 +272,17 @@ misplaced_on q e P t h c bytes m rest (client.UnexpectedMessage y) next is u =
     (bytes, ([], record { ms = []; behind = false; are = refl; taken = refl; misplaced = is }, exchanged_none c.config (standing_of_client c) bytes), next))
 misplaced_on q e P t h c bytes m rest x next is u = absurd u
 
-takes_on : (q : Request) (P : ClientError → Type 0) (t : Tally) (c : Client) (bytes : List ℕ) (m : Backend) (rest sent : List ℕ) (last : Finish Handler DataRow) → Next c bytes m rest → role (kind_of q) false m ≡ Taken false → To q P (tally_after t m) (told m c) rest sent last →
+takes_on : (q : Request) (P : Reasons) (t : Tally) (c : Client) (bytes : List ℕ) (m : Backend) (rest sent : List ℕ) (last : Finish Handler DataRow) → Next c bytes m rest → role (kind_of q) false m ≡ Taken false → To q P (tally_after t m) (told m c) rest sent last →
     To q P t c bytes sent last
 takes_on q P t c bytes m rest sent last next is x =
     came_onto (from q (tally_after t m)) (from q t) (told m c) c rest bytes [] sent last.info last.rest (taken_onto q false false t c (told m c) m bytes rest is next refl) (given q) P last.answer last.broken x
 
-closes_on : (q : Request) (P : ClientError → Type 0) (t : Tally) (h : Handler) (c : Client) (bytes : List ℕ) (m : Backend) (rest : List ℕ) (more : Gathered DataRow) → Next c bytes m rest → role (kind_of q) false m ≡ Closing → answer_by q (tally_after t m) ≡ given q (more, is_suspended m) →
+closes_on : (q : Request) (P : Reasons) (t : Tally) (h : Handler) (c : Client) (bytes : List ℕ) (m : Backend) (rest : List ℕ) (more : Gathered DataRow) → Next c bytes m rest → role (kind_of q) false m ≡ Closing → answer_by q (tally_after t m) ≡ given q (more, is_suspended m) →
     To q P t c bytes [] (finish (Ok (more, is_suspended m)) h (told m c) false rest)
 closes_on q P t h c bytes m rest more next is given_is =
     (Got m ∷ [], (record { ms = []; behind = false; last = m; rest = []; are = refl; taken = refl; ends = subst (λ (r : Role). IsEnd (kind_of q) r []) (sym is) refl }, given_is), got_last c m bytes rest next)
 
-lacks_on : (q : Request) (P : ClientError → Type 0) (ends : (x : ClientError) → P x → IsLinkEnd x) (t : Tally) (h : Handler) (c : Client) (bytes rest : List ℕ) (e : ClientError) → (e ≡ client.OutOfMemory) ⊎ (Lacking P c rest e × (rest ≡ bytes)) →
+lacks_on : (q : Request) (P : Reasons) (ends : (x : ClientError) → P.halts x → IsLinkEnd x) (t : Tally) (h : Handler) (c : Client) (bytes rest : List ℕ) (e : ClientError) → (e ≡ client.OutOfMemory) ⊎ (Lacking P c rest e × (rest ≡ bytes)) →
     To q P t c bytes [] (finish (Err e) h c true rest)
 lacks_on q P ends t h c bytes rest e (inl starved) = subst (λ (z : ClientError). To q P t c bytes [] (finish (Err z) h c true rest)) (sym starved) (inl refl)
 lacks_on q P ends t h c bytes rest e (inr l) =
@@ -292,21 +290,21 @@ lacks_on q P ends t h c bytes rest e (inr l) =
     (lacked (Gathered DataRow × Bool) (from q t) P ends c bytes [] c rest client.UnexpectedEOF e tt l.0
     ([], record { ms = []; behind = false; rest = []; are = refl; taken = refl; ends = inl (refl, refl) }, subst (λ (b : List ℕ). Exchanged c.config (standing_of_client c) b [] [] c rest) l.1 (exchanged_none c.config (standing_of_client c) rest)))
 
-pub exchange_to : (q : Request) (e : IsExtended q) (P : ClientError → Type 0) (ends : (x : ClientError) → P x → IsLinkEnd x) (h : Handler) (c : Client) (g : Gathered DataRow) (bytes sent : List ℕ) (last : Finish Handler DataRow) → Exchange ExtendedMeans P (kind_of q) h c g bytes sent last →
+pub exchange_to : (q : Request) (e : IsExtended q) (P : Reasons) (ends : (x : ClientError) → P.halts x → IsLinkEnd x) (h : Handler) (c : Client) (g : Gathered DataRow) (bytes sent : List ℕ) (last : Finish Handler DataRow) → Exchange ExtendedMeans P (kind_of q) h c g bytes sent last →
     (t : Tally) → Gathers (kind_of q) g t → To q P t c bytes sent last
 exchange_to q e P ends _ _ _ _ _ _ (Exchange.lacks h c g bytes rest x l) t s = lacks_on q P ends t h c bytes rest x (lacking P c bytes rest x l)
 exchange_to q e P ends _ _ _ _ _ _ (Exchange.takes h c g bytes m rest rows after more sent last next is heeds exchange) t s =
     let taken : role (kind_of q) false m ≡ Taken false = is ∙ ap Taken (taken_false (kind_of q) m rows (asked q e) is) in
     takes_on q P t c bytes m rest sent last next taken (exchange_to q e P ends after (told m c) more rest sent last exchange (tally_after t m) (gathers (kind_of q) h after c g more t (asked q e) s m rows is heeds))
 exchange_to q e P ends _ _ _ _ _ _ (Exchange.closes h c g bytes m rest after more next is heeds) t s = closes_on q P t after c bytes m rest more next is (closing_answer q e h after c g more t s m is heeds)
-exchange_to q e P ends _ _ _ _ _ _ (Exchange.ends h c g bytes m rest due before s1 x more y last left broken next answer syncs drained) t s =
+exchange_to q e P ends _ _ _ _ _ _ (Exchange.ends h c g bytes m rest due before s1 x more y last left broken next answer syncs passing) t s =
     let n = ending q e h c g t s m due before x more answer in
-    ends_on q P ends c t bytes m rest next due x more n.0 s1 (synced due c before s1 (n.0).syncs n.1 syncs) y last left broken (drained_to P x s1.sight.client rest y last left broken drained)
-exchange_to q e P ends _ _ _ _ _ _ (Exchange.unsynced h c g bytes m rest due before after x y more next answer means caused) t s =
+    ends_on q P ends c t bytes m rest next due x more n.0 s1 (synced due c before s1 (n.0).syncs n.1 syncs) y last left broken (passing_to P x s1.sight.client rest y last left broken passing)
+exchange_to q e P ends _ _ _ _ _ _ (Exchange.unsynced h c g bytes m rest due before after x y more next answer means caused usable) t s =
     not_synced q P t c bytes before after y rest (ending q e h c g t s m (Some due) before x more answer).1 means caused
-exchange_to q e P ends _ _ _ _ _ _ (Exchange.unwritten h c g bytes m rest due before after x more part next answer means cut p) t s =
+exchange_to q e P ends _ _ _ _ _ _ (Exchange.unwritten h c g bytes m rest due before after x more part next answer means usable cut) t s =
     let n = ending q e h c g t s m (Some due) before x more answer in
-    unwritten_on q P ends c t bytes m rest next (Some due) x more n.0 after (synced_by due c before after (n.0).syncs n.1 means) part cut p
+    unwritten_on q P ends c t bytes m rest next (Some due) x more n.0 after (synced_by due c before after (n.0).syncs n.1 means) part cut
 exchange_to q e P ends _ _ _ _ _ _ (Exchange.refuses h c g bytes m rest after x next placed refuses caused) t s =
     subst (λ (z : ClientError). To q P t c bytes [] (finish (Err z) after c true rest)) (sym (refuses_memory m h after c x refuses)) (inl refl)
 exchange_to q e P ends _ _ _ _ _ _ (Exchange.misplaced h c g bytes m rest x next is u) t s = misplaced_on q e P t h c bytes m rest x next is u
@@ -417,7 +415,7 @@ puts (f ∷ fs) s last result a whole o = absurd a
 
 -- ---- a call
 
-module _ (q : Request) (e : IsExtended q) (P : ClientError → Type 0) (ends : (x : ClientError) → P x → IsLinkEnd x) (h : Handler) (c : Client) (bytes : List ℕ) where
+module _ (q : Request) (e : IsExtended q) (P : Reasons) (ends : (x : ClientError) → P.halts x → IsLinkEnd x) (h : Handler) (c : Client) (bytes : List ℕ) where
   put : (after : Standing Handler) (result : Result (Unit {0}) ClientError) → Opens ExtendedMeans (calls_for (sends_of q)) (standing h (fresh c)) after result → PutBy (sends_of q) (fresh c) after.sight result
   put after result opens = puts (sends_of q) (standing h (fresh c)) after result (are_calls q e) refl (opens_to (calls_for (sends_of q)) (standing h (fresh c)) after result opens)
 
@@ -440,11 +438,11 @@ module _ (q : Request) (e : IsExtended q) (P : ClientError → Type 0) (ends : (
 
   pub requested_to : (sent : List ℕ) (last : Finish Handler DataRow) → Requested ExtendedMeans P q h c bytes sent last → ExtendedCall q c bytes sent P last
   requested_to _ _ (Requested.opened after sent last opens usable exchange) = opened_to after sent last (put after (Ok tt) opens) exchange
-  requested_to _ _ (Requested.unwritten after part opens cut p) =
+  requested_to _ _ (Requested.unwritten after part opens usable cut) =
       let x = put after (Ok tt) opens in
-      (p, inr (cut_opening q c bytes part cut.1 after.sight.client (x.encodes ∙ ap Ok (sym x.wrote ∙ cut.2)) x.client))
+      inr (cut_opening P q c bytes part cut.1 after.sight.client cut.3 (x.encodes ∙ ap Ok (sym x.wrote ∙ cut.2)) x.client)
   requested_to _ _ (Requested.refused after x opens is usable) = refused_to after x (put after (Err x) opens) is
-  requested_to _ _ (Requested.breaks after x opens is caused) = breaks_to after x (put after (Err x) opens) is caused
+  requested_to _ _ (Requested.breaks after x opens is caused usable) = breaks_to after x (put after (Err x) opens) is caused
   requested_to _ _ (Requested.starves after last rest) = inl refl
 
 pub extended_call : (q : Request) (before : ℕ) (now : Line) (h : Handler) (c : Client) (bytes sent : List ℕ) (last : Finish Handler DataRow) → IsExtended q → Requested ExtendedMeans (Pause before now) q h c bytes sent last → ExtendedCall q c bytes sent (Pause before now) last

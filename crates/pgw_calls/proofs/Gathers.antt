@@ -34,7 +34,7 @@ use Rattle.pgw_default_handlers.specs.declared.extended.DefaultExtendedQueryHand
 use Rattle.pgw_default_handlers.specs.Extended.{ExtendedMeans}
 use Rattle.pgw_connection.specs.declared.gathered.Gathered.{Gathered}
 use Rattle.pgw_connection.specs.Extended.{none_gathered, with_gift, Heeds, is_suspended}
-use Rattle.pgw_handlers.specs.Extended.{Gift, Reply, response, nothing}
+use Rattle.pgw_handlers.specs.Extended.{Gift, Given, response, nothing}
 use Rattle.pgw_calls.specs.Extended.{IsExtended, given}
 
 -- a row of the table of extended queries
@@ -100,7 +100,7 @@ suspended_kind : (k : Kind) (m : PortalSuspended) (r : Bool) → role k false (b
 suspended_kind kind.Execute m r is = cc
 suspended_kind k m r is = cc
 
-abbrev ok : Gift DataRow → Reply DataRow
+abbrev ok : Gift DataRow → Given DataRow
 ok gift = Ok gift
 
 -- ---- one message more

@@ -42,13 +42,12 @@ use Rattle.pgw_handlers.specs.Startup.{HeardAtStartup, startup}
 use Rattle.pgw_default_handlers.specs.Startup.{begun, exchanges, Begins, StartupMeans}
 use Rattle.pgw_connection.specs.Talk.{fresh, Next as NextIs, IsCut, is_refusal, End, end, Talk, Asked}
 use Rattle.pgw_calls.specs.Turns.{knowing, Exchanged}
-use Rattle.pgw_calls.specs.Calls.{IsLinkEnd}
 use Rattle.pgw_calls.specs.Stands.{login}
 use Rattle.pgw_calls.specs.Startup.{IsRefused, LoginFails, LoginEnds, LoginCall}
 use Rattle.pgw_calls.proofs.Exchanges.{exchanged_none, exchanged_got, exchanged_sent}
 use Rattle.pgw_connection.specs.Desk.{first_client}
-use Rattle.pgw_connection.specs.Line.{Line, Pause}
-use Rattle.pgw_calls.proofs.Openings.{one_encoding, never_rose, paused_ends}
+use Rattle.pgw_connection.specs.Line.{Line, Reasons, Pause}
+use Rattle.pgw_calls.proofs.Openings.{IsLinkEnd, one_encoding, never_rose, paused_ends}
 use Rattle.pgw_calls.proofs.Came.{lacking, Lacking}
 use Rattle.pgw_calls.proofs.Logins.{informed, informed_is, Handler, login_standing, IsAt, Welcomed, Informed, FailsBy, welcomed, informs, fails_by}
 
@@ -96,12 +95,12 @@ at es s = record { closed = []; open_events = es; stage = s; passed = [] }
 
 -- Why it ended with this error: memory was wanting; or the conversation has it; or that waits, and P says why; or bytes
 -- that it put out were not written.
-abbrev Led : (ClientError → Type 0) → ClientError → Course Session Ending → List ℕ → Type 0
+abbrev Led : Reasons → ClientError → Course Session Ending → List ℕ → Type 0
 Led P e course sent =
     (e ≡ client.OutOfMemory)
     ⊎ ((ending : Ending) × (course ≡ Over ending sent) × (error_of ending.outcome ≡ Some e))
-    ⊎ (P e × (es : List Event) × (s : Stage) × (pending : List ℕ) × (course ≡ Waits (at es s) sent pending) × ((tally_of es).remote ≡ None))
-    ⊎ ((e ≡ client.IoError) × P client.IoError × (unsent : List ℕ) × (sent_of course ≡ sent ++ unsent))
+    ⊎ (P.halts e × (es : List Event) × (s : Stage) × (pending : List ℕ) × (course ≡ Waits (at es s) sent pending) × ((tally_of es).remote ≡ None))
+    ⊎ ((e ≡ client.IoError) × (lost : List ℕ) × P.unsent lost × (more : List ℕ) × (sent_of course ≡ sent ++ (lost ++ more)))
 
 -- where the conversation stands as a login does
 pub record Alike (input : Input) (h : Handler) (c : Client) (es : List Event) : Type 0 where
@@ -139,27 +138,28 @@ module _ (input : Input) (h : Handler) (c : Client) (es : List Event) (alike : A
   stops m wrote bytes rest n notes outcome next is moves =
       run_ends (talk_rules input) (steady_by (talk_book input) input) (at es h.stage) wrote bytes m next.0 (record { notes = notes; outcome = outcome }) (read_whole bytes m rest next) (step_is m n is ∙ moves)
 
-  pub led_fails : (P : ClientError → Type 0) (m : Backend) (wrote bytes rest : List ℕ) (e : ClientError) → NextIs c bytes m rest → FailsBy input h.stage m e → Led P e (from input h es wrote bytes) wrote
+  pub led_fails : (P : Reasons) (m : Backend) (wrote bytes rest : List ℕ) (e : ClientError) → NextIs c bytes m rest → FailsBy input h.stage m e → Led P e (from input h es wrote bytes) wrote
   led_fails P m wrote bytes rest e taken (inl starved) = inl starved
   led_fails P m wrote bytes rest e taken (inr (inl refused)) = inr (inl (_, stops m wrote bytes rest (next.Refuses e) (at es h.stage) (Refused e) taken refused refl, refl))
   led_fails P m wrote bytes rest e taken (inr (inr (inl wrong))) = inr (inl (_, stops m wrote bytes rest Wrong (at es h.stage) (Unexpected m) taken wrong.0 refl, ap Some (sym wrong.1)))
   led_fails P m wrote bytes rest e taken (inr (inr (inr x))) =
       inr (inl (_, stops m wrote bytes rest (Goes x.0 x.1) (at (es ++ Got m ∷ []) x.0) (Unencoded x.2) taken x.3 (ap (sending (at (es ++ Got m ∷ []) x.0) (at (es ++ Got m ∷ map Sent (sends x.1)) x.0)) x.4), ap Some (sym x.5)))
 
-  pub led_lacks : (P : ClientError → Type 0) (wrote bytes rest : List ℕ) (e : ClientError) → (e ≡ client.OutOfMemory) ⊎ (Lacking P c rest e × (rest ≡ bytes)) → Led P e (from input h es wrote bytes) wrote
+  pub led_lacks : (P : Reasons) (wrote bytes rest : List ℕ) (e : ClientError) → (e ≡ client.OutOfMemory) ⊎ (Lacking P c rest e × (rest ≡ bytes)) → Led P e (from input h es wrote bytes) wrote
   led_lacks P wrote bytes rest e (inl starved) = inl starved
   led_lacks P wrote bytes rest e (inr (inl bad, are)) =
       inr (inl (_, run_bad (talk_rules input) (steady_by (talk_book input) input) (at es h.stage) wrote bytes bad.0 (read_is bytes ∙ reads_bad c.protocol_version bytes bad.0 (ap (message.front c.protocol_version) (sym are) ∙ bad.2)), ap Some (sym bad.1)))
   led_lacks P wrote bytes rest e (inr (inr more, are)) =
       inr (inr (inl (more.0, es, h.stage, bytes, run_more (talk_rules input) (steady_by (talk_book input) input) (at es h.stage) wrote bytes (read_is bytes ∙ reads_more c.protocol_version bytes (ap (message.front c.protocol_version) (sym are) ∙ more.1)), alike.plain)))
 
-  pub led_unwritten : (P : ClientError → Type 0) (m : Backend) (after : Standing Handler) (wrote part bytes rest : List ℕ) → NextIs c bytes m rest → Welcomed input h c m after → IsCut after.sight.wrote part → P client.IoError → Led P client.IoError (from input h es wrote bytes) (wrote ++ part)
-  led_unwritten P m after wrote part bytes rest taken w cut p =
+  pub led_unwritten : (P : Reasons) (m : Backend) (after : Standing Handler) (wrote part bytes rest : List ℕ) → NextIs c bytes m rest → Welcomed input h c m after → IsCut P after.sight.wrote part → Led P client.IoError (from input h es wrote bytes) (wrote ++ part)
+  led_unwritten P m after wrote part bytes rest taken w cut =
       let more = sent_grows (talk_rules input) (Waits (at (es ++ Got m ∷ map Sent (sends w.reply)) after.handler.stage) (wrote ++ after.sight.wrote) []) rest in
       inr (inr (inr (
         refl,
-        p,
-        cut.1 ++ more.0,
+        cut.1,
+        cut.3,
+        more.0,
         ap sent_of (goes m after wrote bytes rest taken w) ∙ more.1 ∙ ap (λ (l : List ℕ). (wrote ++ l) ++ more.0) cut.2 ∙ ap (λ (l : List ℕ). l ++ more.0) (sym (append_assoc wrote part cut.1)) ∙ append_assoc (wrote ++ part) cut.1 more.0,
       )))
 
@@ -169,12 +169,12 @@ abbrev never : ClientError → Bool
 never e = false
 
 -- what a login comes to from where it stands
-abbrev To : Input → (ClientError → Type 0) → Handler → Client → List ℕ → List ℕ → Client → List ℕ → Result ServerInformation ClientError → Bool → Type 0
+abbrev To : Input → Reasons → Handler → Client → List ℕ → List ℕ → Client → List ℕ → Result ServerInformation ClientError → Bool → Type 0
 To input P h c bytes sent info rest (Ok x) false = LedTo input h c bytes sent x info rest
 To input P h c bytes sent info rest (Err e) true = (es : List Event) (wrote : List ℕ) → Alike input h c es → Led P e (from input h es wrote bytes) (wrote ++ sent)
 To input P h c bytes sent info rest result broken = ⊥
 
-hears_on : (input : Input) (P : ClientError → Type 0) (h : Handler) (c : Client) (bytes : List ℕ) (m : Backend) (rest : List ℕ) (after : Standing Handler) (sent : List ℕ) (info : Client) (left : List ℕ) (result : Result ServerInformation ClientError) (broken : Bool) →
+hears_on : (input : Input) (P : Reasons) (h : Handler) (c : Client) (bytes : List ℕ) (m : Backend) (rest : List ℕ) (after : Standing Handler) (sent : List ℕ) (info : Client) (left : List ℕ) (result : Result ServerInformation ClientError) (broken : Bool) →
     NextIs c bytes m rest → Welcomed input h c m after → To input P after.handler after.sight.client rest sent info left result broken → To input P h c bytes (after.sight.wrote ++ sent) info left result broken
 hears_on input P h c bytes m rest after sent info left (Ok x) false taken w l = led_on input h c bytes m rest after sent x info left taken w l
 hears_on input P h c bytes m rest after sent info left (Ok x) true taken w l = absurd l
@@ -185,26 +185,26 @@ hears_on input P h c bytes m rest after sent info left (Err e) true taken w l = 
     (l (es ++ Got m ∷ map Sent (sends w.reply)) (wrote ++ after.sight.wrote) (alike_on input h c es alike m after w)))
 
 -- nothing was sent since
-still : (P : ClientError → Type 0) (e : ClientError) (course : Course Session Ending) (wrote : List ℕ) → Led P e course wrote → Led P e course (wrote ++ [])
+still : (P : Reasons) (e : ClientError) (course : Course Session Ending) (wrote : List ℕ) → Led P e course wrote → Led P e course (wrote ++ [])
 still P e course wrote l = subst (Led P e course) (sym (append-nil wrote)) l
 
-unwritten_on : (input : Input) (P : ClientError → Type 0) (h : Handler) (c : Client) (bytes : List ℕ) (m : Backend) (rest : List ℕ) (after : Standing Handler) (answer : ReadyState ServerInformation) (part : List ℕ) → IsAt input h c → NextIs c bytes m rest →
-    HeardAtStartup exchanges StartupMeans (standing h (fresh c)) m after (Ok answer) → IsCut after.sight.wrote part → P client.IoError → To input P h c bytes part after.sight.client rest (Err client.IoError) true
-unwritten_on input P h c bytes m rest after Pending part is taken heard cut p = λ es wrote alike. led_unwritten input h c es alike P m after wrote part bytes rest taken (welcomed input h c is m after heard) cut p
-unwritten_on input P h c bytes m rest after (Ready x) part is taken heard cut p = absurd (cut.0 (informs input h c is m after x heard).wrote)
+unwritten_on : (input : Input) (P : Reasons) (h : Handler) (c : Client) (bytes : List ℕ) (m : Backend) (rest : List ℕ) (after : Standing Handler) (answer : ReadyState ServerInformation) (part : List ℕ) → IsAt input h c → NextIs c bytes m rest →
+    HeardAtStartup exchanges StartupMeans (standing h (fresh c)) m after (Ok answer) → IsCut P after.sight.wrote part → To input P h c bytes part after.sight.client rest (Err client.IoError) true
+unwritten_on input P h c bytes m rest after Pending part is taken heard cut = λ es wrote alike. led_unwritten input h c es alike P m after wrote part bytes rest taken (welcomed input h c is m after heard) cut
+unwritten_on input P h c bytes m rest after (Ready x) part is taken heard cut = absurd (cut.0 (informs input h c is m after x heard).wrote)
 
-pub talk_to : (input : Input) (P : ClientError → Type 0) (h : Handler) (c : Client) (bytes sent : List ℕ) (last : End ServerInformation) → Talk (HeardAtStartup exchanges StartupMeans) P never h c bytes sent last → IsAt input h c →
+pub talk_to : (input : Input) (P : Reasons) (h : Handler) (c : Client) (bytes sent : List ℕ) (last : End ServerInformation) → Talk (HeardAtStartup exchanges StartupMeans) P never h c bytes sent last → IsAt input h c →
     To input P h c bytes sent last.info last.rest last.answer last.broken
 talk_to input P _ _ _ _ _ (Talk.lacks h c bytes rest e l) is = λ es wrote alike. still P e (from input h es wrote bytes) wrote (led_lacks input h c es alike P wrote bytes rest e (lacking P c bytes rest e l))
 talk_to input P _ _ _ _ _ (Talk.hears h c bytes m rest after sent last taken heard usable quiet talk) is =
     let w = welcomed input h c is m after heard in
     hears_on input P h c bytes m rest after sent last.info last.rest last.answer last.broken taken w (talk_to input P after.handler after.sight.client rest sent last talk w.at)
 talk_to input P _ _ _ _ _ (Talk.closes h c bytes m rest after x taken heard usable ready) is = led_last input h c bytes m rest after x is taken (informs input h c is m after x heard)
-talk_to input P _ _ _ _ _ (Talk.unwritten h c bytes m rest after answer part taken heard cut p) is = unwritten_on input P h c bytes m rest after answer part is taken heard cut p
-talk_to input P _ _ _ _ _ (Talk.breaks h c bytes m rest after e taken heard caused why) is = λ es wrote alike.
+talk_to input P _ _ _ _ _ (Talk.unwritten h c bytes m rest after answer part taken heard usable cut) is = unwritten_on input P h c bytes m rest after answer part is taken heard cut
+talk_to input P _ _ _ _ _ (Talk.breaks h c bytes m rest after e taken heard caused why usable) is = λ es wrote alike.
     still P e (from input h es wrote bytes) wrote (led_fails input h c es alike P m wrote bytes rest e taken (fails_by input h c is m after e heard caused))
 talk_to input P _ _ _ _ _ (Talk.fails h c bytes m rest after e taken heard goes usable ready) is = let no_error : false ≡ true = goes in absurd (cc)
-talk_to input P _ _ _ _ _ (Talk.drains h c bytes m rest after e x last left broken taken heard goes usable other drained) is = let no_error : false ≡ true = goes in absurd (cc)
+talk_to input P _ _ _ _ _ (Talk.passes_over h c bytes m rest after e x last left broken taken heard goes usable other passing) is = let no_error : false ≡ true = goes in absurd (cc)
 talk_to input P _ _ _ _ _ (Talk.starves h c bytes last rest) is = λ es wrote alike. inl refl
 
 -- ---- a login
@@ -213,7 +213,7 @@ some_is : {x y : ClientError} → Some x ≡ Some y → x ≡ y
 some_is {x} {y} is = cc
 
 -- what is refused at startup
-refused_at : (P : ClientError → Type 0) (input : Input) (bytes sent : List ℕ) (ending : Ending) (e x : ClientError) → conversation input bytes ≡ Over ending sent → ending.outcome ≡ Refused x → x ≡ e → LoginFails P input bytes sent e
+refused_at : (P : Reasons) (input : Input) (bytes sent : List ℕ) (ending : Ending) (e x : ClientError) → conversation input bytes ≡ Over ending sent → ending.outcome ≡ Refused x → x ≡ e → LoginFails P input bytes sent e
 refused_at P input bytes sent ending e x is why same =
     let f = ended_refused input bytes sent ending x is why in
     subst (LoginFails P input bytes sent) same (go x f (startup_error input bytes sent x f.0))
@@ -226,7 +226,7 @@ refused_at P input bytes sent ending e x is why same =
     go (client.PgWireError why) f s = inr f
     go x f s = absurd s
 
-ended_at : (P : ClientError → Type 0) (input : Input) (bytes sent : List ℕ) (ending : Ending) (e : ClientError) (o : Outcome) → conversation input bytes ≡ Over ending sent → ending.outcome ≡ o → error_of o ≡ Some e → LoginFails P input bytes sent e
+ended_at : (P : Reasons) (input : Input) (bytes sent : List ℕ) (ending : Ending) (e : ClientError) (o : Outcome) → conversation input bytes ≡ Over ending sent → ending.outcome ≡ o → error_of o ≡ Some e → LoginFails P input bytes sent e
 ended_at P input bytes sent ending e Complete is why error = absurd (cc)
 ended_at P input bytes sent ending e (Unencoded x) is why error =
     let u = unencoded input bytes sent ending x is why in
@@ -237,18 +237,18 @@ ended_at P input bytes sent ending e (Unread x) is why error =
     subst (LoginFails P input bytes sent) (some_is error) (inl (inl u.0, u.1))
 ended_at P input bytes sent ending e (Refused x) is why error = refused_at P input bytes sent ending e x is why (some_is error)
 
-waits_for : (P : ClientError → Type 0) (input : Input) (bytes sent : List ℕ) (e : ClientError) (es : List Event) (s : Stage) (pending : List ℕ) → IsLinkEnd e → P e → conversation input bytes ≡ Waits (at es s) sent pending → (tally_of es).remote ≡ None → LoginFails P input bytes sent e
+waits_for : (P : Reasons) (input : Input) (bytes sent : List ℕ) (e : ClientError) (es : List Event) (s : Stage) (pending : List ℕ) → IsLinkEnd e → P.halts e → conversation input bytes ≡ Waits (at es s) sent pending → (tally_of es).remote ≡ None → LoginFails P input bytes sent e
 waits_for P input bytes sent client.UnexpectedEOF es s pending l p is none = (p, subst (LeftWith input bytes sent) none (left_with input bytes sent pending (at es s) is refl), unfinished input bytes sent pending (at es s) is)
 waits_for P input bytes sent client.ReadLimit es s pending l p is none = (p, waits_still input bytes sent pending (at es s) is)
-waits_for P input bytes sent client.IoError es s pending l p is none = (p, inl (waits_still input bytes sent pending (at es s) is))
+waits_for P input bytes sent client.IoError es s pending l p is none = inl (p, waits_still input bytes sent pending (at es s) is)
 waits_for P input bytes sent e es s pending l p is none = absurd l
 
-cause_of : (P : ClientError → Type 0) (ends : (x : ClientError) → P x → IsLinkEnd x) (input : Input) (bytes sent : List ℕ) (e : ClientError) → Led P e (conversation input bytes) sent → LoginFails P input bytes sent e
+cause_of : (P : Reasons) (ends : (x : ClientError) → P.halts x → IsLinkEnd x) (input : Input) (bytes sent : List ℕ) (e : ClientError) → Led P e (conversation input bytes) sent → LoginFails P input bytes sent e
 cause_of P ends input bytes sent e (inl starved) = subst (LoginFails P input bytes sent) (sym starved) tt
 cause_of P ends input bytes sent e (inr (inl x)) = ended_at P input bytes sent x.0 e (x.0).outcome x.1 refl x.2
 cause_of P ends input bytes sent e (inr (inr (inl x))) = waits_for P input bytes sent e x.1 x.2 x.3 (ends e x.0) x.0 x.4 x.5
 cause_of P ends input bytes sent e (inr (inr (inr x))) =
-    subst (LoginFails P input bytes sent) (sym x.0) (x.1, inr (x.2, subst (Tells input bytes) x.3 (told_of input bytes)))
+    subst (LoginFails P input bytes sent) (sym x.0) (inr (x.1, x.2, x.3, subst (Tells input bytes) x.4 (told_of input bytes)))
 
 -- the conversation begins so
 begins : (input : Input) (out bytes : List ℕ) → encodings (startup_message input ∷ []) ≡ Ok out → conversation input bytes ≡ run (talk_rules input) (Waits (at (Sent (startup_message input) ∷ []) Starting) out []) bytes
@@ -260,7 +260,7 @@ unfolding tally_of
 first_alike input h c is = record { stands = first_sends input.config (startup_message input ∷ []) ∙ sym is; plain = refl }
 
 -- what a login comes to behind its startup message
-ends_on : (P : ClientError → Type 0) (ends : (x : ClientError) → P x → IsLinkEnd x) (config : Config) (h : Handler) (out bytes sent : List ℕ) (info : Client) (rest : List ℕ) (result : Result ServerInformation ClientError) (broken : Bool) → encodings (startup_message (login config h.nonce) ∷ []) ≡ Ok out →
+ends_on : (P : Reasons) (ends : (x : ClientError) → P.halts x → IsLinkEnd x) (config : Config) (h : Handler) (out bytes sent : List ℕ) (info : Client) (rest : List ℕ) (result : Result ServerInformation ClientError) (broken : Bool) → encodings (startup_message (login config h.nonce) ∷ []) ≡ Ok out →
     To (login config h.nonce) P (begun h) (first_client config) bytes sent info rest result broken → LoginEnds P config h.nonce bytes (out ++ sent) info rest result broken
 ends_on P ends config h out bytes sent info rest (Ok x) true is l = absurd l
 ends_on P ends config h out bytes sent info rest (Ok x) false is l = record {
@@ -279,7 +279,7 @@ ends_on P ends config h out bytes sent info rest (Err e) true is l =
 begins_at : (config : Config) (h : Handler) → IsAt (login config h.nonce) (begun h) (first_client config)
 begins_at config h = record { input_is = refl; login = tt; able = refl }
 
-opened_to : (P : ClientError → Type 0) (ends : (x : ClientError) → P x → IsLinkEnd x) (config : Config) (h : Handler) (bytes sent : List ℕ) (last : End ServerInformation) (after : Standing Handler) → Begins (standing h (fresh (first_client config))) after (Ok Pending) →
+opened_to : (P : Reasons) (ends : (x : ClientError) → P.halts x → IsLinkEnd x) (config : Config) (h : Handler) (bytes sent : List ℕ) (last : End ServerInformation) (after : Standing Handler) → Begins (standing h (fresh (first_client config))) after (Ok Pending) →
     Talk (HeardAtStartup exchanges StartupMeans) P never after.handler after.sight.client bytes sent last → LoginCall config h.nonce bytes (after.sight.wrote ++ sent) P last
 opened_to P ends config h bytes sent last after opens talk =
     let s = opens.1 in
@@ -291,18 +291,18 @@ opened_to P ends config h bytes sent last after opens talk =
     (ends_on P ends config h s.bytes bytes sent last.info last.rest last.answer last.broken (one_encoding (startup_message (login config h.nonce)) s.bytes s.spells)
     (talk_to (login config h.nonce) P (begun h) (first_client config) bytes sent last same (begins_at config h)))
 
-cut_to : (P : ClientError → Type 0) (config : Config) (h : Handler) (bytes part : List ℕ) (after : Standing Handler) → Begins (standing h (fresh (first_client config))) after (Ok Pending) → IsCut after.sight.wrote part → P client.IoError →
+cut_to : (P : Reasons) (config : Config) (h : Handler) (bytes part : List ℕ) (after : Standing Handler) → Begins (standing h (fresh (first_client config))) after (Ok Pending) → IsCut P after.sight.wrote part →
     LoginCall config h.nonce bytes part P (end (Err client.IoError) after.sight.client true bytes)
-cut_to P config h bytes part after opens cut p =
+cut_to P config h bytes part after opens cut =
     let input = login config h.nonce in
     let s = opens.1 in
     let wrote : after.sight.wrote ≡ s.bytes = ap (λ (x : Sight). x.wrote) s.after in
     let more = sent_grows (talk_rules input) (Waits (at (Sent (startup_message input) ∷ []) Starting) s.bytes []) bytes in
     let all : sent_of (conversation input bytes) ≡ part ++ (cut.1 ++ more.0) =
     ap sent_of (begins input s.bytes bytes (one_encoding (startup_message input) s.bytes s.spells)) ∙ more.1 ∙ ap (λ (l : List ℕ). l ++ more.0) (sym wrote ∙ cut.2) ∙ append_assoc part cut.1 more.0 in
-    (p, inr (cut.1 ++ more.0, subst (Tells input bytes) all (told_of input bytes)))
+    inr (cut.1, cut.3, more.0, subst (Tells input bytes) all (told_of input bytes))
 
-refused_to : (P : ClientError → Type 0) (config : Config) (h : Handler) (bytes : List ℕ) (after : Standing Handler) (e : ClientError) → Begins (standing h (fresh (first_client config))) after (Err e) → is_refusal e ≡ true →
+refused_to : (P : Reasons) (config : Config) (h : Handler) (bytes : List ℕ) (after : Standing Handler) (e : ClientError) → Begins (standing h (fresh (first_client config))) after (Err e) → is_refusal e ≡ true →
     LoginCall config h.nonce bytes [] P (end (Err e) after.sight.client false bytes)
 refused_to P config h bytes after (client.PgWireError why) opens is = go opens.1
   where
@@ -312,29 +312,28 @@ refused_to P config h bytes after (client.PgWireError why) opens is = go opens.1
     go (inr n) = let other = n.1 in absurd (cc)
 refused_to P config h bytes after e opens is = let not_one : false ≡ true = is in absurd (cc)
 
-unsent_to : (P : ClientError → Type 0) (config : Config) (h : Handler) (bytes : List ℕ) (after : Standing Handler) (e : ClientError) → NotSent (encoding (startup_message (login config h.nonce))) (fresh (first_client config)) after.sight e → IsCaused e 0 0 after.sight.broken →
-    (is_refusal e ≡ false) ⊎ (after.sight.broken ≡ true) → LoginCall config h.nonce bytes [] P (end (Err e) after.sight.client true bytes)
+unsent_to : (P : Reasons) (config : Config) (h : Handler) (bytes : List ℕ) (after : Standing Handler) (e : ClientError) → NotSent (encoding (startup_message (login config h.nonce))) (fresh (first_client config)) after.sight e → IsCaused e 0 0 after.sight.broken →
+    is_refusal e ≡ false → LoginCall config h.nonce bytes [] P (end (Err e) after.sight.client true bytes)
 unsent_to P config h bytes after client.OutOfMemory n caused why = tt
 unsent_to P config h bytes after client.Broken n caused why = let broken : false ≡ true = n.0 in absurd (cc)
 unsent_to P config h bytes after client.IoError n caused why = absurd (never_rose caused)
-unsent_to P config h bytes after (client.PgWireError x) n caused (inl why) = let refusal : true ≡ false = why in absurd (cc)
-unsent_to P config h bytes after (client.PgWireError x) n caused (inr why) = let whole : after.sight.broken ≡ false = ap (λ (s : Sight). s.broken) n.2 in absurd (cc)
+unsent_to P config h bytes after (client.PgWireError x) n caused why = let refusal : true ≡ false = why in absurd (cc)
 unsent_to P config h bytes after e n caused why = absurd n
 
-breaks_to : (P : ClientError → Type 0) (config : Config) (h : Handler) (bytes : List ℕ) (after : Standing Handler) (e : ClientError) → Begins (standing h (fresh (first_client config))) after (Err e) → IsCaused e 0 0 after.sight.broken →
-    (is_refusal e ≡ false) ⊎ (after.sight.broken ≡ true) → LoginCall config h.nonce bytes [] P (end (Err e) after.sight.client true bytes)
+breaks_to : (P : Reasons) (config : Config) (h : Handler) (bytes : List ℕ) (after : Standing Handler) (e : ClientError) → Begins (standing h (fresh (first_client config))) after (Err e) → IsCaused e 0 0 after.sight.broken →
+    is_refusal e ≡ false → LoginCall config h.nonce bytes [] P (end (Err e) after.sight.client true bytes)
 breaks_to P config h bytes after e opens caused why = go opens.1
   where
     go : NotSent (encoding (startup_message (login config h.nonce))) (fresh (first_client config)) after.sight e ⊎ ((after.sight ≡ fresh (first_client config)) × (e ≡ client.OutOfMemory)) → LoginCall config h.nonce bytes [] P (end (Err e) after.sight.client true bytes)
     go (inl n) = unsent_to P config h bytes after e n caused why
     go (inr n) = subst (λ (z : ClientError). LoginCall config h.nonce bytes [] P (end (Err z) after.sight.client true bytes)) (sym n.1) tt
 
-pub asked_to : (P : ClientError → Type 0) (ends : (x : ClientError) → P x → IsLinkEnd x) (config : Config) (h : Handler) (bytes sent : List ℕ) (last : End ServerInformation) →
+pub asked_to : (P : Reasons) (ends : (x : ClientError) → P.halts x → IsLinkEnd x) (config : Config) (h : Handler) (bytes sent : List ℕ) (last : End ServerInformation) →
     Asked (λ old new answer. StartupMeans old startup new answer) (HeardAtStartup exchanges StartupMeans) P never h (first_client config) bytes sent last → LoginCall config h.nonce bytes sent P last
 asked_to P ends config h bytes _ _ (Asked.opened after sent last opens usable talk) = opened_to P ends config h bytes sent last after opens talk
-asked_to P ends config h bytes _ _ (Asked.unwritten after part opens cut p) = cut_to P config h bytes part after opens cut p
+asked_to P ends config h bytes _ _ (Asked.unwritten after part opens usable cut) = cut_to P config h bytes part after opens cut
 asked_to P ends config h bytes _ _ (Asked.refused after e opens is usable) = refused_to P config h bytes after e opens is
-asked_to P ends config h bytes _ _ (Asked.breaks after e opens caused why) = breaks_to P config h bytes after e opens caused why
+asked_to P ends config h bytes _ _ (Asked.breaks after e opens caused why usable) = breaks_to P config h bytes after e opens caused why
 asked_to P ends config h bytes _ _ (Asked.starves last rest) = tt
 
 pub login_call : (before : ℕ) (now : Line) (config : Config) (h : Handler) (bytes sent : List ℕ) (last : End ServerInformation) →

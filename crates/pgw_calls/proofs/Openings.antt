@@ -7,8 +7,7 @@ use Rattle.pgw_backend.specs.declared.client_error.PgWireClientError.{PgWireClie
 use Rattle.pgw_backend.specs.declared.client_error.PgWireClientError.TheVariants as client
 use Rattle.pgw_frontend.specs.declared.frontend.PgWireFrontendMessage.{PgWireFrontendMessage as Frontend}
 use Rattle.pgw_frontend.specs.Frontend.{encoding, encodings, both}
-use Rattle.pgw_connection.specs.Line.{Line, Pause}
-use Rattle.pgw_calls.specs.Calls.{IsLinkEnd}
+use Rattle.pgw_connection.specs.Line.{Line, HaltsBy}
 
 pub one_encoding : (m : Frontend) (out : List ℕ) → encoding m ≡ Ok out → encodings (m ∷ []) ≡ Ok out
 one_encoding m out is = ap (λ o. both o (Ok [])) is ∙ ap Ok (append-nil out)
@@ -19,7 +18,14 @@ one_refused m why is = ap (λ o. both o (Ok [])) is
 pub never_rose : Rose 0 0 → ⊥
 never_rose r = omega arith
 
-pub paused_ends : (before : ℕ) (now : Line) (x : ClientError) → Pause before now x → IsLinkEnd x
+-- why a link gives no more bytes, or takes none
+abbrev pub IsLinkEnd : ClientError → Type 0
+IsLinkEnd client.UnexpectedEOF = Unit {0}
+IsLinkEnd client.IoError = Unit {0}
+IsLinkEnd client.ReadLimit = Unit {0}
+IsLinkEnd e = ⊥
+
+pub paused_ends : (before : ℕ) (now : Line) (x : ClientError) → HaltsBy before now x → IsLinkEnd x
 paused_ends before now client.IoError p = tt
 paused_ends before now client.ReadLimit p = tt
 paused_ends before now client.UnexpectedEOF p = tt

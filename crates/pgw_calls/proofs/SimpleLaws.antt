@@ -25,22 +25,22 @@ use Rattle.pgw_session.specs.Segments.{IsAnswer, IsPassedOver, is_ready}
 use Rattle.pgw_session.specs.Answers.{tally_after, no_tally, answer_by, tally_at}
 use Rattle.pgw_handlers.specs.declared.client_info.ReadyState.TheVariants.{Pending, Ready}
 use Rattle.pgw_handlers.specs.Client.{Client, Sight}
-use Rattle.pgw_handlers.specs.Handling.{Standing, standing, Answer as Reply, IsCaused}
+use Rattle.pgw_handlers.specs.Handling.{Standing, standing, Answer as HandlerAnswer, IsCaused}
 use Rattle.pgw_handlers.specs.Sending.{NotSent}
 use Rattle.pgw_handlers.specs.Simple.{HeardInQuery, simple_query}
 use Rattle.pgw_default_handlers.specs.declared.simple.DefaultSimpleQueryHandler.{DefaultSimpleQueryHandler}
 use Rattle.pgw_default_handlers.specs.Simple.{with_tally, role_of, is_misplaced, NotesUnless, query_bytes, Asks, QueryMeans}
 use Rattle.pgw_connection.specs.Talk.{fresh, Next, told, in_place_of, passes, is_refusal, IsCut, End, end, Talk, Asked}
-use Rattle.pgw_connection.specs.Line.{Line, Pause}
+use Rattle.pgw_connection.specs.Line.{Line, Reasons, Pause}
 use Rattle.pgw_handlers.specs.declared.client_info.ReadyState.{ReadyState}
-use Rattle.pgw_calls.proofs.Openings.{one_encoding, one_refused, never_rose, paused_ends}
+use Rattle.pgw_calls.proofs.Openings.{IsLinkEnd, one_encoding, one_refused, never_rose, paused_ends}
 use Rattle.pgw_calls.specs.Turns.{standing_of_client, Exchanged, Does}
 use Rattle.pgw_calls.specs.Turns.{IsPassing, error_behind}
-use Rattle.pgw_calls.specs.Calls.{IsLinkEnd, SimpleCall}
+use Rattle.pgw_calls.specs.Calls.{IsUnwritten, SimpleCall}
 use Rattle.pgw_calls.proofs.Tallies.{fold_remote, error_remote}
 use Rattle.pgw_calls.proofs.Called.{called, cut_opening}
 use Rattle.pgw_calls.proofs.Exchanges.{exchanged_none, got_one, got_last}
-use Rattle.pgw_calls.proofs.Came.{in_place_of_none, Shape, Came, within, taken_onto, came_onto, lacking, lacked, Lacking, AreQuiet, DrainedTo, drained_to, kept_stays}
+use Rattle.pgw_calls.proofs.Came.{in_place_of_none, Shape, Came, within, taken_onto, came_onto, lacking, lacked, Lacking, AreQuiet, PassingTo, passing_to, kept_stays}
 
 -- ---- what a message does to the tally
 
@@ -118,7 +118,7 @@ pub record Closed (h : DefaultSimpleQueryHandler) (c : Client) (m : Backend) (af
 ready_is : {x y : List Response} → Ready x ≡ Ready y → x ≡ y
 ready_is {x} {y} e = cc
 
-abbrev ok : ReadyState (List Response) → Reply (List Response)
+abbrev ok : ReadyState (List Response) → HandlerAnswer (List Response)
 ok r = Ok r
 
 ok_ready_is : {x y : List Response} → ok (Ready x) ≡ ok (Ready y) → x ≡ y
@@ -201,13 +201,13 @@ Handler = DefaultSimpleQueryHandler
 abbrev from : List ℕ → Tally → Shape
 from q t = within (request.Simple q) (is_some t.opened) t
 
-abbrev To : List ℕ → (ClientError → Type 0) → Tally → Client → List ℕ → List ℕ → End (List Response) → Type 0
+abbrev To : List ℕ → Reasons → Tally → Client → List ℕ → List ℕ → End (List Response) → Type 0
 To q P t c bytes sent end = Came (from q t) answer.Responses P c bytes sent end.info end.rest end.answer end.broken
 
 pub answered_none : (q : List ℕ) (t : Tally) (ready : ReadyForQuery) → t.remote ≡ None → answer_by (request.Simple q) (tally_after t (backend.ReadyForQuery ready)) ≡ answer.Responses t.responses
 answered_none q t ready none = rw none refl
 
-hears_on : (q : List ℕ) (P : ClientError → Type 0) (h : Handler) (c : Client) (bytes : List ℕ) (m : Backend) (rest : List ℕ) (after : Standing Handler) (sent : List ℕ) (last : End (List Response)) → h.tally.remote ≡ None →
+hears_on : (q : List ℕ) (P : Reasons) (h : Handler) (c : Client) (bytes : List ℕ) (m : Backend) (rest : List ℕ) (after : Standing Handler) (sent : List ℕ) (last : End (List Response)) → h.tally.remote ≡ None →
     Next c bytes m rest → Heeded h c m after → To q P after.handler.tally after.sight.client rest sent last → To q P h.tally c bytes (after.sight.wrote ++ sent) last
 hears_on q P h c bytes m rest after sent last none next heeds x =
     let t = tally_after h.tally m in
@@ -217,7 +217,7 @@ hears_on q P h c bytes m rest after sent last none next heeds x =
     came_onto (from q t) (from q h.tally) after.sight.client c rest bytes [] sent last.info last.rest (taken_onto (request.Simple q) (is_some h.tally.opened) (is_some t.opened) h.tally c after.sight.client m bytes rest taken next heeds.info) answer.Responses P last.answer last.broken y in
     subst (λ (w : List ℕ). To q P h.tally c bytes (w ++ sent) last) (sym heeds.wrote) z
 
-closes_on : (q : List ℕ) (P : ClientError → Type 0) (h : Handler) (c : Client) (bytes : List ℕ) (m : Backend) (rest : List ℕ) (after : Standing Handler) (x : List Response) → h.tally.remote ≡ None →
+closes_on : (q : List ℕ) (P : Reasons) (h : Handler) (c : Client) (bytes : List ℕ) (m : Backend) (rest : List ℕ) (after : Standing Handler) (x : List Response) → h.tally.remote ≡ None →
     Next c bytes m rest → Closed h c m after x → To q P h.tally c bytes after.sight.wrote (end (Ok x) after.sight.client false rest)
 closes_on q P h c bytes m rest after x none next closed =
     let segment : IsAnswer kind.Simple (is_some h.tally.opened) (Got m ∷ []) = rw closed.message (record { ms = []; behind = is_some h.tally.opened; last = backend.ReadyForQuery closed.ready; rest = []; are = refl; taken = refl; ends = refl }) in
@@ -260,52 +260,50 @@ pub not_misplaced : (rows : Bool) (m : Backend) → is_ready m ≡ true → role
 not_misplaced rows (backend.ReadyForQuery m) ready is = cc
 not_misplaced rows m ready is = cc
 
-module _ (q : List ℕ) (P : ClientError → Type 0) (ends : (x : ClientError) → P x → IsLinkEnd x) (h : Handler) (none : h.tally.remote ≡ None) (c : Client) (bytes : List ℕ) (m : Backend) (rest : List ℕ) (next : Next c bytes m rest) (after : Standing Handler) (same : after.sight ≡ fresh c) where
+module _ (q : List ℕ) (P : Reasons) (ends : (x : ClientError) → P.halts x → IsLinkEnd x) (h : Handler) (none : h.tally.remote ≡ None) (c : Client) (bytes : List ℕ) (m : Backend) (rest : List ℕ) (next : Next c bytes m rest) (after : Standing Handler) (same : after.sight ≡ fresh c) where
   known : after.sight.client ≡ c
   known = ap (λ (s : Sight). s.client) same
 
-  error_drains : (e : ErrorResponse) (x : ClientError) (last : Client) (left : List ℕ) (broken : Bool) → m ≡ backend.ErrorResponse e → DrainedTo P (client.RemoteError e) after.sight.client rest x last left broken →
+  error_passes_over : (e : ErrorResponse) (x : ClientError) (last : Client) (left : List ℕ) (broken : Bool) → m ≡ backend.ErrorResponse e → PassingTo P (client.RemoteError e) after.sight.client rest x last left broken →
       To q P h.tally c bytes [] (end (Err x) last broken left)
-  error_drains e x last left false is d =
+  error_passes_over e x last left false is d =
       let y = d.0 in
       let kept_is : x ≡ client.RemoteError e = d.1 ∙ kept_stays (client.RemoteError e) (y.1).ms refl in
       subst (λ (z : ClientError). To q P h.tally c bytes [] (end (Err z) last false left)) (sym kept_is)
       (Got m ∷ y.0, subst (λ (z : Backend). (from q h.tally).answered (answer.Remote e) (Got z ∷ y.0)) (sym is) (error_answered q h.tally e y.0 none y.1), behind c after.sight.client m bytes rest y.0 last left next (ap (λ (z : Backend). told z c) is) known y.2)
-  error_drains e x last left true is (inl starved) = subst (λ (z : ClientError). To q P h.tally c bytes [] (end (Err z) last true left)) (sym starved) (inl refl)
-  error_drains e x last left true is (inr d) =
+  error_passes_over e x last left true is (inl starved) = subst (λ (z : ClientError). To q P h.tally c bytes [] (end (Err z) last true left)) (sym starved) (inl refl)
+  error_passes_over e x last left true is (inr d) =
       let y = d.0 in
       let kept_is : x ≡ in_place_of (client.RemoteError e) d.1 = d.2 ∙ ap (λ (z : ClientError). in_place_of z d.1) (kept_stays (client.RemoteError e) (y.1).0 refl) in
       subst (λ (z : ClientError). To q P h.tally c bytes [] (end (Err z) last true left)) (sym kept_is)
       (lacked (List Response) (from q h.tally) P ends c bytes [] last left (client.RemoteError e) d.1 tt d.3
       (Got m ∷ y.0, subst (λ (z : Backend). (from q h.tally).stops (client.RemoteError e) (Got z ∷ y.0)) (sym is) (error_stops q h.tally e y.0 y.1), behind c after.sight.client m bytes rest y.0 last left next (ap (λ (z : Backend). told z c) is) known y.2))
 
-  message_drains : (x : ClientError) (last : Client) (left : List ℕ) (broken : Bool) → role kind.Simple (is_some h.tally.opened) m ≡ Misplaced → DrainedTo P (client.UnexpectedMessage m) after.sight.client rest x last left broken →
+  message_passes_over : (x : ClientError) (last : Client) (left : List ℕ) (broken : Bool) → role kind.Simple (is_some h.tally.opened) m ≡ Misplaced → PassingTo P (client.UnexpectedMessage m) after.sight.client rest x last left broken →
       To q P h.tally c bytes [] (end (Err x) last broken left)
-  message_drains x last left false is d =
+  message_passes_over x last left false is d =
       let y = d.0 in
       let kept_is : x ≡ client.UnexpectedMessage m = d.1 ∙ kept_stays (client.UnexpectedMessage m) (y.1).ms refl in
       subst (λ (z : ClientError). To q P h.tally c bytes [] (end (Err z) last false left)) (sym kept_is)
       (Got m ∷ y.0, message_passed q h.tally m y.0 is y.1, behind c after.sight.client m bytes rest y.0 last left next (told_misplaced c (is_some h.tally.opened) m is) known y.2)
-  message_drains x last left true is (inl starved) = subst (λ (z : ClientError). To q P h.tally c bytes [] (end (Err z) last true left)) (sym starved) (inl refl)
-  message_drains x last left true is (inr d) =
+  message_passes_over x last left true is (inl starved) = subst (λ (z : ClientError). To q P h.tally c bytes [] (end (Err z) last true left)) (sym starved) (inl refl)
+  message_passes_over x last left true is (inr d) =
       let y = d.0 in
       let kept_is : x ≡ in_place_of (client.UnexpectedMessage m) d.1 = d.2 ∙ ap (λ (z : ClientError). in_place_of z d.1) (kept_stays (client.UnexpectedMessage m) (y.1).0 refl) in
       subst (λ (z : ClientError). To q P h.tally c bytes [] (end (Err z) last true left)) (sym kept_is)
       (lacked (List Response) (from q h.tally) P ends c bytes [] last left (client.UnexpectedMessage m) d.1 refl d.3
       (Got m ∷ y.0, message_stops q h.tally m y.0 is y.1, behind c after.sight.client m bytes rest y.0 last left next (told_misplaced c (is_some h.tally.opened) m is) known y.2))
 
-  drains_on : (e x : ClientError) (last : Client) (left : List ℕ) (broken : Bool) → IsErrorOf h.tally m e → passes e ≡ true → DrainedTo P e after.sight.client rest x last left broken → To q P h.tally c bytes [] (end (Err x) last broken left)
-  drains_on (client.RemoteError e) x last left broken is passed d = error_drains e x last left broken is d
-  drains_on (client.UnexpectedMessage n) x last left broken is passed d =
-      message_drains x last left broken is.1 (subst (λ (z : Backend). DrainedTo P (client.UnexpectedMessage z) after.sight.client rest x last left broken) is.0 d)
-  drains_on e x last left broken is passed d = let no_error : false ≡ true = passed in absurd (cc)
+  passes_over_on : (e x : ClientError) (last : Client) (left : List ℕ) (broken : Bool) → IsErrorOf h.tally m e → passes e ≡ true → PassingTo P e after.sight.client rest x last left broken → To q P h.tally c bytes [] (end (Err x) last broken left)
+  passes_over_on (client.RemoteError e) x last left broken is passed d = error_passes_over e x last left broken is d
+  passes_over_on (client.UnexpectedMessage n) x last left broken is passed d =
+      message_passes_over x last left broken is.1 (subst (λ (z : Backend). PassingTo P (client.UnexpectedMessage z) after.sight.client rest x last left broken) is.0 d)
+  passes_over_on e x last left broken is passed d = let no_error : false ≡ true = passed in absurd (cc)
 
-  breaks_on : (e : ClientError) → IsErrorOf h.tally m e → (passes e ≡ false) ⊎ (after.sight.broken ≡ true) → To q P h.tally c bytes [] (end (Err e) after.sight.client true rest)
+  breaks_on : (e : ClientError) → IsErrorOf h.tally m e → passes e ≡ false → To q P h.tally c bytes [] (end (Err e) after.sight.client true rest)
   breaks_on client.OutOfMemory is why = inl refl
-  breaks_on (client.RemoteError e) is (inl why) = absurd (cc)
-  breaks_on (client.UnexpectedMessage e) is (inl why) = absurd (cc)
-  breaks_on (client.RemoteError e) is (inr why) = let whole : after.sight.broken ≡ false = ap (λ (s : Sight). s.broken) same in absurd (cc)
-  breaks_on (client.UnexpectedMessage e) is (inr why) = let whole : after.sight.broken ≡ false = ap (λ (s : Sight). s.broken) same in absurd (cc)
+  breaks_on (client.RemoteError e) is why = absurd (cc)
+  breaks_on (client.UnexpectedMessage e) is why = absurd (cc)
   breaks_on e is why = absurd is
 
   fails_on : (e : ClientError) → IsErrorOf h.tally m e → passes e ≡ true → is_ready m ≡ true → To q P h.tally c bytes [] (end (Err e) after.sight.client false rest)
@@ -315,7 +313,7 @@ module _ (q : List ℕ) (P : ClientError → Type 0) (ends : (x : ClientError) �
 
 -- ---- the messages of a query
 
-lacks_on : (q : List ℕ) (P : ClientError → Type 0) (ends : (x : ClientError) → P x → IsLinkEnd x) (h : Handler) (c : Client) (bytes rest : List ℕ) (e : ClientError) → (e ≡ client.OutOfMemory) ⊎ (Lacking P c rest e × (rest ≡ bytes)) →
+lacks_on : (q : List ℕ) (P : Reasons) (ends : (x : ClientError) → P.halts x → IsLinkEnd x) (h : Handler) (c : Client) (bytes rest : List ℕ) (e : ClientError) → (e ≡ client.OutOfMemory) ⊎ (Lacking P c rest e × (rest ≡ bytes)) →
     To q P h.tally c bytes [] (end (Err e) c true rest)
 lacks_on q P ends h c bytes rest e (inl starved) = subst (λ (z : ClientError). To q P h.tally c bytes [] (end (Err z) c true rest)) (sym starved) (inl refl)
 lacks_on q P ends h c bytes rest e (inr l) =
@@ -323,33 +321,33 @@ lacks_on q P ends h c bytes rest e (inr l) =
     (lacked (List Response) (from q h.tally) P ends c bytes [] c rest client.UnexpectedEOF e tt l.0
     ([], record { ms = []; behind = is_some h.tally.opened; rest = []; are = refl; taken = refl; ends = inl (refl, refl) }, subst (λ (b : List ℕ). Exchanged c.config (standing_of_client c) b [] [] c rest) l.1 (exchanged_none c.config (standing_of_client c) rest)))
 
-pub unwritten_not : (h : Handler) (c : Client) (m : Backend) (after : Standing Handler) (answer : ReadyState (List Response)) (part : List ℕ) → h.tally.remote ≡ None → HeardInQuery QueryMeans (standing h (fresh c)) m after (Ok answer) → IsCut after.sight.wrote part → ⊥
-unwritten_not h c m after Pending part none heard cut = cut.0 (heeded h c m after none heard).wrote
-unwritten_not h c m after (Ready x) part none heard cut = cut.0 (closed h c m after x heard).wrote
+pub unwritten_not : (P : Reasons) (h : Handler) (c : Client) (m : Backend) (after : Standing Handler) (answer : ReadyState (List Response)) (part : List ℕ) → h.tally.remote ≡ None → HeardInQuery QueryMeans (standing h (fresh c)) m after (Ok answer) → IsCut P after.sight.wrote part → ⊥
+unwritten_not P h c m after Pending part none heard cut = cut.0 (heeded h c m after none heard).wrote
+unwritten_not P h c m after (Ready x) part none heard cut = cut.0 (closed h c m after x heard).wrote
 
-pub talk_to : (q : List ℕ) (P : ClientError → Type 0) (ends : (x : ClientError) → P x → IsLinkEnd x) (h : Handler) (c : Client) (bytes sent : List ℕ) (last : End (List Response)) → Talk (HeardInQuery QueryMeans) P passes h c bytes sent last →
+pub talk_to : (q : List ℕ) (P : Reasons) (ends : (x : ClientError) → P.halts x → IsLinkEnd x) (h : Handler) (c : Client) (bytes sent : List ℕ) (last : End (List Response)) → Talk (HeardInQuery QueryMeans) P passes h c bytes sent last →
     h.tally.remote ≡ None → To q P h.tally c bytes sent last
 talk_to q P ends _ _ _ _ _ (Talk.lacks h c bytes rest e l) none = lacks_on q P ends h c bytes rest e (lacking P c bytes rest e l)
 talk_to q P ends _ _ _ _ _ (Talk.hears h c bytes m rest after sent last next heard usable quiet talk) none =
     let heeds = heeded h c m after none heard in
     hears_on q P h c bytes m rest after sent last none next heeds (talk_to q P ends after.handler after.sight.client rest sent last talk (ap (λ (t : Tally). t.remote) heeds.tally ∙ heeds.follows.2))
 talk_to q P ends _ _ _ _ _ (Talk.closes h c bytes m rest after x next heard usable ready) none = closes_on q P h c bytes m rest after x none next (closed h c m after x heard)
-talk_to q P ends _ _ _ _ _ (Talk.unwritten h c bytes m rest after answer part next heard cut p) none = absurd (unwritten_not h c m after answer part none heard cut)
-talk_to q P ends _ _ _ _ _ (Talk.breaks h c bytes m rest after e next heard caused why) none =
+talk_to q P ends _ _ _ _ _ (Talk.unwritten h c bytes m rest after answer part next heard usable cut) none = absurd (unwritten_not P h c m after answer part none heard cut)
+talk_to q P ends _ _ _ _ _ (Talk.breaks h c bytes m rest after e next heard caused why usable) none =
     let f = failed h c m after e heard in
     breaks_on q P ends h none c bytes m rest next after f.0 e f.1 why
 talk_to q P ends _ _ _ _ _ (Talk.fails h c bytes m rest after e next heard goes usable ready) none =
     let f = failed h c m after e heard in
     fails_on q P ends h none c bytes m rest next after f.0 e f.1 goes ready
-talk_to q P ends _ _ _ _ _ (Talk.drains h c bytes m rest after e x last left broken next heard goes usable other drained) none =
+talk_to q P ends _ _ _ _ _ (Talk.passes_over h c bytes m rest after e x last left broken next heard goes usable other passing) none =
     let f = failed h c m after e heard in
-    drains_on q P ends h none c bytes m rest next after f.0 e x last left broken f.1 goes (drained_to P e after.sight.client rest x last left broken drained)
+    passes_over_on q P ends h none c bytes m rest next after f.0 e x last left broken f.1 goes (passing_to P e after.sight.client rest x last left broken passing)
 talk_to q P ends _ _ _ _ _ (Talk.starves h c bytes last rest) none = inl refl
 
 -- ---- a query
 
 -- the opening of a query
-opened_to : (q : List ℕ) (P : ClientError → Type 0) (ends : (x : ClientError) → P x → IsLinkEnd x) (h : Handler) (c : Client) (bytes sent : List ℕ) (last : End (List Response)) (after : Standing Handler) → Asks q (standing h (fresh c)) after (Ok Pending) →
+opened_to : (q : List ℕ) (P : Reasons) (ends : (x : ClientError) → P.halts x → IsLinkEnd x) (h : Handler) (c : Client) (bytes sent : List ℕ) (last : End (List Response)) (after : Standing Handler) → Asks q (standing h (fresh c)) after (Ok Pending) →
     Talk (HeardInQuery QueryMeans) P passes after.handler after.sight.client bytes sent last → SimpleCall q c bytes (after.sight.wrote ++ sent) P last
 opened_to q P ends h c bytes sent last after asks talk =
     let s = asks.1 in
@@ -360,14 +358,15 @@ opened_to q P ends h c bytes sent last after asks talk =
     subst (λ (w : List ℕ). SimpleCall q c bytes (w ++ sent) P last) (sym wrote)
     (called answer.Responses P (request.Simple q) c s.bytes bytes sent last.info last.rest last.answer last.broken (one_encoding _ s.bytes s.spells) y)
 
-cut_to : (q : List ℕ) (P : ClientError → Type 0) (h : Handler) (c : Client) (bytes part : List ℕ) (after : Standing Handler) → Asks q (standing h (fresh c)) after (Ok Pending) → IsCut after.sight.wrote part → P client.IoError →
-    SimpleCall q c bytes part P (end (Err client.IoError) after.sight.client true bytes)
-cut_to q P h c bytes part after asks cut p =
+-- the opening was not written whole, or not flushed
+pub unwritten_opening : (q : List ℕ) (P : Reasons) (h : Handler) (c : Client) (bytes part : List ℕ) (after : Standing Handler) → Asks q (standing h (fresh c)) after (Ok Pending) → IsCut P after.sight.wrote part →
+    IsUnwritten P (request.Simple q) c bytes part after.sight.client bytes
+unwritten_opening q P h c bytes part after asks cut =
     let s = asks.1 in
     let wrote : after.sight.wrote ≡ s.bytes = ap (λ (x : Sight). x.wrote) s.after in
-    (p, inr (cut_opening (request.Simple q) c bytes part cut.1 after.sight.client (one_encoding _ _ (s.spells ∙ ap Ok (sym wrote ∙ cut.2))) (ap (λ (x : Sight). x.client) s.after)))
+    cut_opening P (request.Simple q) c bytes part cut.1 after.sight.client cut.3 (one_encoding _ _ (s.spells ∙ ap Ok (sym wrote ∙ cut.2))) (ap (λ (x : Sight). x.client) s.after)
 
-refused_to : (q : List ℕ) (P : ClientError → Type 0) (h : Handler) (c : Client) (bytes : List ℕ) (after : Standing Handler) (e : ClientError) → Asks q (standing h (fresh c)) after (Err e) → is_refusal e ≡ true →
+refused_to : (q : List ℕ) (P : Reasons) (h : Handler) (c : Client) (bytes : List ℕ) (after : Standing Handler) (e : ClientError) → Asks q (standing h (fresh c)) after (Err e) → is_refusal e ≡ true →
     SimpleCall q c bytes [] P (end (Err e) after.sight.client false bytes)
 refused_to q P h c bytes after (client.PgWireError why) asks is = go asks.1
   where
@@ -376,16 +375,15 @@ refused_to q P h c bytes after (client.PgWireError why) asks is = go asks.1
     go (inr n) = let other = n.1 in absurd (cc)
 refused_to q P h c bytes after e asks is = let not_one : false ≡ true = is in absurd (cc)
 
-unsent_to : (q : List ℕ) (P : ClientError → Type 0) (h : Handler) (c : Client) (bytes : List ℕ) (after : Standing Handler) (e : ClientError) → NotSent (query_bytes q) (fresh c) after.sight e → IsCaused e 0 0 after.sight.broken → (is_refusal e ≡ false) ⊎ (after.sight.broken ≡ true) →
+unsent_to : (q : List ℕ) (P : Reasons) (h : Handler) (c : Client) (bytes : List ℕ) (after : Standing Handler) (e : ClientError) → NotSent (query_bytes q) (fresh c) after.sight e → IsCaused e 0 0 after.sight.broken → is_refusal e ≡ false →
     SimpleCall q c bytes [] P (end (Err e) after.sight.client true bytes)
 unsent_to q P h c bytes after client.OutOfMemory n caused why = inl refl
 unsent_to q P h c bytes after client.Broken n caused why = let broken : false ≡ true = n.0 in absurd (cc)
 unsent_to q P h c bytes after client.IoError n caused why = absurd (never_rose caused)
-unsent_to q P h c bytes after (client.PgWireError x) n caused (inl why) = let refusal : true ≡ false = why in absurd (cc)
-unsent_to q P h c bytes after (client.PgWireError x) n caused (inr why) = let whole : after.sight.broken ≡ false = ap (λ (s : Sight). s.broken) n.2 in absurd (cc)
+unsent_to q P h c bytes after (client.PgWireError x) n caused why = let refusal : true ≡ false = why in absurd (cc)
 unsent_to q P h c bytes after e n caused why = absurd n
 
-breaks_to : (q : List ℕ) (P : ClientError → Type 0) (h : Handler) (c : Client) (bytes : List ℕ) (after : Standing Handler) (e : ClientError) → Asks q (standing h (fresh c)) after (Err e) → IsCaused e 0 0 after.sight.broken → (is_refusal e ≡ false) ⊎ (after.sight.broken ≡ true) →
+breaks_to : (q : List ℕ) (P : Reasons) (h : Handler) (c : Client) (bytes : List ℕ) (after : Standing Handler) (e : ClientError) → Asks q (standing h (fresh c)) after (Err e) → IsCaused e 0 0 after.sight.broken → is_refusal e ≡ false →
     SimpleCall q c bytes [] P (end (Err e) after.sight.client true bytes)
 breaks_to q P h c bytes after e asks caused why = go asks.1
   where
@@ -393,12 +391,12 @@ breaks_to q P h c bytes after e asks caused why = go asks.1
     go (inl n) = unsent_to q P h c bytes after e n caused why
     go (inr n) = subst (λ (z : ClientError). SimpleCall q c bytes [] P (end (Err z) after.sight.client true bytes)) (sym n.1) (inl refl)
 
-pub asked_to : (q : List ℕ) (P : ClientError → Type 0) (ends : (x : ClientError) → P x → IsLinkEnd x) (h : Handler) (c : Client) (bytes sent : List ℕ) (last : End (List Response)) →
+pub asked_to : (q : List ℕ) (P : Reasons) (ends : (x : ClientError) → P.halts x → IsLinkEnd x) (h : Handler) (c : Client) (bytes sent : List ℕ) (last : End (List Response)) →
     Asked (λ old new answer. QueryMeans old (simple_query q) new answer) (HeardInQuery QueryMeans) P passes h c bytes sent last → SimpleCall q c bytes sent P last
 asked_to q P ends h c bytes _ _ (Asked.opened after sent last asks usable talk) = opened_to q P ends h c bytes sent last after asks talk
-asked_to q P ends h c bytes _ _ (Asked.unwritten after part asks cut p) = cut_to q P h c bytes part after asks cut p
+asked_to q P ends h c bytes _ _ (Asked.unwritten after part asks usable cut) = inr (unwritten_opening q P h c bytes part after asks cut)
 asked_to q P ends h c bytes _ _ (Asked.refused after e asks is usable) = refused_to q P h c bytes after e asks is
-asked_to q P ends h c bytes _ _ (Asked.breaks after e asks caused why) = breaks_to q P h c bytes after e asks caused why
+asked_to q P ends h c bytes _ _ (Asked.breaks after e asks caused why usable) = breaks_to q P h c bytes after e asks caused why
 asked_to q P ends h c bytes _ _ (Asked.starves last rest) = inl refl
 
 pub simple_call : (q : List ℕ) (before : ℕ) (now : Line) (h : Handler) (c : Client) (bytes sent : List ℕ) (last : End (List Response)) →

@@ -27,6 +27,7 @@ use Rattle.pgw_calls.specs.Turns.{knowing, standing_of_client, Exchanged, Does, 
 use Rattle.pgw_handlers.specs.declared.client_info.ServerInformation.{ServerInformation}
 use Rattle.pgw_calls.specs.Startup.{LoggedIn}
 use Rattle.pgw_connection.specs.Desk.{with_information}
+use Rattle.pgw_connection.specs.Line.{Reasons}
 use Rattle.pgw_calls.specs.Calls.{Comes}
 use Rattle.pgw_calls.specs.Stands.{login, Made, made, IsMade, AreMade, events_of, Stands, OneMore, StandsBehind, requests_of, segments_of, AreAnswered, IsSession}
 
@@ -129,7 +130,7 @@ stands_more config nonce ts read wrote more c buffer s = record {
   exchanged = exchanged_more config (first_standing config) read wrote more (s.startup ++ events_of ts) c buffer s.exchanged;
 }
 
-module _ {A : Type 0} (give : A → Answer) (P : ClientError → Type 0) (config : Config) (nonce : List ℕ) (ts : List Made) (q : Request) (read wrote more out : List ℕ) (c info : Client) (buffer rest : List ℕ) (s : Stands config nonce ts read wrote c buffer) where
+module _ {A : Type 0} (give : A → Answer) (P : Reasons) (config : Config) (nonce : List ℕ) (ts : List Made) (q : Request) (read wrote more out : List ℕ) (c info : Client) (buffer rest : List ℕ) (s : Stands config nonce ts read wrote c buffer) where
   answered_behind : (a : Answer) → Does (IsAnswered q a) c (buffer ++ more) out info rest → OneMore config nonce ts q (IsAnswered q a) (read ++ more) (wrote ++ out) info rest
   answered_behind a x = (x.0, x.1, one_more config nonce ts q read wrote more out c info buffer rest x.0 s (inl (x.1).0) x.2)
 

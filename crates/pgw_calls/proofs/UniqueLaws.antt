@@ -23,6 +23,7 @@ use Rattle.pgw_session.specs.Segments.{AreTaken, IsAnswer, IsEnd, IsQuiet, IsPas
 use Rattle.pgw_session.specs.Answers.{answer_of}
 use Rattle.pgw_session.specs.Transcript.{SpellsGot}
 use Rattle.pgw_handlers.specs.Client.{Client}
+use Rattle.pgw_connection.specs.Line.{Reasons}
 use Rattle.pgw_calls.specs.Turns.{standing_of_client, Exchanged, Does, IsAnswered, IsPassing, IsCutOff}
 use Rattle.pgw_calls.specs.Calls.{Answers, Stops, Misplaces, Breaks, Comes, Reports}
 use Rattle.pgw_calls.proofs.Exchanges.{fold_sends}
@@ -235,7 +236,7 @@ no_open k (x ∷ ms) rows behind m len es s bytes left taken is a b l whole =
 
 -- ---- a call
 
-module _ {A : Type 0} (give : A → Answer) (P : ClientError → Type 0) (q : Request) (breaks : passes_over (kind_of q) ≡ false) (c : Client) (bytes sent : List ℕ) (info : Client) (rest : List ℕ) (es : List Event) (spelled more : List ℕ) (segment : IsRequestSegment q es)
+module _ {A : Type 0} (give : A → Answer) (P : Reasons) (q : Request) (breaks : passes_over (kind_of q) ≡ false) (c : Client) (bytes sent : List ℕ) (info : Client) (rest : List ℕ) (es : List Event) (spelled more : List ℕ) (segment : IsRequestSegment q es)
     (got : SpellsGot (standing_of_client c) es spelled) (are : bytes ≡ spelled ++ more) where
   abbrev from : Standing
   from = standing_of_client c
@@ -277,23 +278,24 @@ module _ {A : Type 0} (give : A → Answer) (P : ClientError → Type 0) (q : Re
       no_open (kind_of q) a.ms false a.behind m (x.2).0 segment.0 from bytes left a.taken a.misplaced segment.2 begins (subst (λ (z : List Event). Leaves from z bytes left) a.are l)
       (ap (λ v. front v left) (sym at ∙ sym (ap (λ (k : Client). k.protocol_version) y.knows)) ∙ (x.2).1)
 
-  reports_broken : (result : Result A ClientError) → Breaks P q c bytes sent info rest result → Reports give P q (answer_of q es) result
+  reports_broken : (result : Result A ClientError) → Breaks P q c bytes sent info rest result → Reports give P q (answer_of q es) c bytes sent info rest result
   reports_broken (Err client.OutOfMemory) x = tt
   reports_broken (Err (client.PgWireError why)) x = absurd (stops x.0 (Bad why) (λ m len is. cc) x.1)
   reports_broken (Err client.ReadLimit) x = absurd (stops x.1 More more_not x.2)
-  reports_broken (Err client.IoError) x = x.0
+  reports_broken (Err client.IoError) (inl x) = absurd (stops x.1 More more_not x.2)
+  reports_broken (Err client.IoError) (inr x) = x
   reports_broken (Err client.UnexpectedEOF) x = absurd (stops client.UnexpectedEOF More more_not x.1)
   reports_broken (Err (client.RemoteError e)) x = absurd (stops (client.RemoteError e) More more_not x.1)
   reports_broken (Err (client.UnexpectedMessage m)) x = absurd (opens m (subst (λ (b : Bool). Misplaces b P q c bytes sent m info rest) breaks x))
   reports_broken result x = absurd x
 
-  reports_usable : (result : Result A ClientError) → Answers give q c bytes sent info rest result → Reports give P q (answer_of q es) result
+  reports_usable : (result : Result A ClientError) → Answers give q c bytes sent info rest result → Reports give P q (answer_of q es) c bytes sent info rest result
   reports_usable (Ok x) y = answered (give x) y
   reports_usable (Err (client.RemoteError e)) y = answered (answer.Remote e) y
   reports_usable (Err (client.UnexpectedMessage m)) y = absurd (let passes = ((y.1).2).passes in cc)
   reports_usable (Err (client.PgWireError why)) y = y.0
   reports_usable (Err e) y = absurd y
 
-  pub reports : (result : Result A ClientError) (broken : Bool) → Comes give P q c bytes sent info rest result broken → Reports give P q (answer_of q es) result
+  pub reports : (result : Result A ClientError) (broken : Bool) → Comes give P q c bytes sent info rest result broken → Reports give P q (answer_of q es) c bytes sent info rest result
   reports result false y = reports_usable result y
   reports result true y = reports_broken result y

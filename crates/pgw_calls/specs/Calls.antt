@@ -14,15 +14,9 @@ use Rattle.pgw_session.specs.declared.types.Answer.TheVariants as answer
 use Rattle.pgw_session.specs.Requests.{kind_of, sends_of, passes_over, behind_error}
 use Rattle.pgw_session.specs.Segments.{sends}
 use Rattle.pgw_handlers.specs.Client.{Client}
+use Rattle.pgw_connection.specs.Line.{Reasons}
 use Rattle.pgw_connection.specs.Talk.{Next, End}
 use Rattle.pgw_calls.specs.Turns.{Does, IsAnswered, IsPassedSegment, IsFrontOf, IsOpenFor, Opened}
-
--- why a link gives no more bytes, or takes none
-abbrev pub IsLinkEnd : ClientError → Type 0
-IsLinkEnd client.UnexpectedEOF = Unit {0}
-IsLinkEnd client.IoError = Unit {0}
-IsLinkEnd client.ReadLimit = Unit {0}
-IsLinkEnd e = ⊥
 
 -- the request has no encoding, and nothing was done
 abbrev pub IsRefused : Request → Client → List ℕ → List ℕ → PgWireError → Client → List ℕ → Type 0
@@ -40,13 +34,13 @@ Answers give q c bytes sent info rest (Err e) = ⊥
 abbrev pub Stops : Request → Client → List ℕ → List ℕ → ClientError → Client → List ℕ → Front → Type 0
 Stops q c bytes sent e info rest next = Does (IsFrontOf q e) c bytes sent info rest × (front info.protocol_version rest ≡ next)
 
--- of what is due in a front of the segment not all was written and flushed
-abbrev pub IsUnwritten : Request → Client → List ℕ → List ℕ → Client → List ℕ → Type 0
-IsUnwritten q c bytes sent info rest = (lost : List ℕ) × (e : ClientError) × Does (IsFrontOf q e) c bytes (sent ++ lost) info rest
+-- of what is due in a front of the segment not all was written and flushed, which P says why
+abbrev pub IsUnwritten : Reasons → Request → Client → List ℕ → List ℕ → Client → List ℕ → Type 0
+IsUnwritten P q c bytes sent info rest = (lost : List ℕ) × P.unsent lost × (e : ClientError) × Does (IsFrontOf q e) c bytes (sent ++ lost) info rest
 
 -- A message has no place: where others are passed over behind it, the bytes end before ReadyForQuery; or it is next.
-abbrev pub Misplaces : Bool → (ClientError → Type 0) → Request → Client → List ℕ → List ℕ → Backend → Client → List ℕ → Type 0
-Misplaces true P q c bytes sent m info rest = P client.UnexpectedEOF × Stops q c bytes sent (client.UnexpectedMessage m) info rest More
+abbrev pub Misplaces : Bool → Reasons → Request → Client → List ℕ → List ℕ → Backend → Client → List ℕ → Type 0
+Misplaces true P q c bytes sent m info rest = P.halts client.UnexpectedEOF × Stops q c bytes sent (client.UnexpectedMessage m) info rest More
 Misplaces false P q c bytes sent m info rest = (left : List ℕ) × Does (Opened q (IsOpenFor (kind_of q) false m)) c bytes sent info left × Next info left m rest
 
 -- Memory was wanting. What was written is whole messages: none, or the opening, or that and Sync where the request has one.
@@ -54,33 +48,34 @@ abbrev pub IsStarved : Request → List ℕ → Type 0
 IsStarved q sent = (sent ≡ []) ⊎ ((encodings (sends_of q) ≡ Ok sent) ⊎ (encodings (sends_of q ++ sends (behind_error (kind_of q))) ≡ Ok sent))
 
 -- Its error leaves the client unusable: memory was wanting; the bytes left cannot be read; or they end within a message,
--- and no more came; or not all was written; or a message has no place. P says why no more bytes came, or why bytes were
+-- and no more came; or not all was written and flushed; or a message has no place. P says why no more bytes came, and why bytes were
 -- not written. No other error does.
-abbrev pub Breaks : {A : Type 0} → (ClientError → Type 0) → Request → Client → List ℕ → List ℕ → Client → List ℕ → Result A ClientError → Type 0
+abbrev pub Breaks : {A : Type 0} → Reasons → Request → Client → List ℕ → List ℕ → Client → List ℕ → Result A ClientError → Type 0
 Breaks P q c bytes sent info rest (Err client.OutOfMemory) = IsStarved q sent
 Breaks P q c bytes sent info rest (Err (client.PgWireError why)) = (e : ClientError) × Stops q c bytes sent e info rest (Bad why)
-Breaks P q c bytes sent info rest (Err client.ReadLimit) = P client.ReadLimit × (e : ClientError) × Stops q c bytes sent e info rest More
-Breaks P q c bytes sent info rest (Err client.IoError) = P client.IoError × (((e : ClientError) × Stops q c bytes sent e info rest More) ⊎ IsUnwritten q c bytes sent info rest)
-Breaks P q c bytes sent info rest (Err client.UnexpectedEOF) = P client.UnexpectedEOF × Stops q c bytes sent client.UnexpectedEOF info rest More
-Breaks P q c bytes sent info rest (Err (client.RemoteError e)) = P client.UnexpectedEOF × Stops q c bytes sent (client.RemoteError e) info rest More
+Breaks P q c bytes sent info rest (Err client.ReadLimit) = P.halts client.ReadLimit × (e : ClientError) × Stops q c bytes sent e info rest More
+Breaks P q c bytes sent info rest (Err client.IoError) = (P.halts client.IoError × (e : ClientError) × Stops q c bytes sent e info rest More) ⊎ IsUnwritten P q c bytes sent info rest
+Breaks P q c bytes sent info rest (Err client.UnexpectedEOF) = P.halts client.UnexpectedEOF × Stops q c bytes sent client.UnexpectedEOF info rest More
+Breaks P q c bytes sent info rest (Err (client.RemoteError e)) = P.halts client.UnexpectedEOF × Stops q c bytes sent (client.RemoteError e) info rest More
 Breaks P q c bytes sent info rest (Err (client.UnexpectedMessage m)) = Misplaces (passes_over (kind_of q)) P q c bytes sent m info rest
 Breaks P q c bytes sent info rest result = ⊥
 
-abbrev pub Comes : {A : Type 0} → (A → Answer) → (ClientError → Type 0) → Request → Client → List ℕ → List ℕ → Client → List ℕ → Result A ClientError → Bool → Type 0
+abbrev pub Comes : {A : Type 0} → (A → Answer) → Reasons → Request → Client → List ℕ → List ℕ → Client → List ℕ → Result A ClientError → Bool → Type 0
 Comes give P q c bytes sent info rest result false = Answers give q c bytes sent info rest result
 Comes give P q c bytes sent info rest result true = Breaks P q c bytes sent info rest result
 
 -- a simple query came to this end
-abbrev pub SimpleCall : List ℕ → Client → List ℕ → List ℕ → (ClientError → Type 0) → End (List Response) → Type 0
+abbrev pub SimpleCall : List ℕ → Client → List ℕ → List ℕ → Reasons → End (List Response) → Type 0
 SimpleCall q c bytes sent P end = Comes answer.Responses P (request.Simple q) c bytes sent end.info end.rest end.answer end.broken
 
 -- ---- where a whole segment comes
 
--- The call gives the segment's answer, or memory was wanting, or the opening could not be sent.
-abbrev pub Reports : {A : Type 0} → (A → Answer) → (ClientError → Type 0) → Request → Answer → Result A ClientError → Type 0
-Reports give P q a (Ok x) = give x ≡ a
-Reports give P q a (Err (client.RemoteError e)) = answer.Remote e ≡ a
-Reports give P q a (Err client.OutOfMemory) = Unit {0}
-Reports give P q a (Err client.IoError) = P client.IoError
-Reports give P q a (Err (client.PgWireError why)) = encodings (sends_of q) ≡ Err why
-Reports give P q a (Err e) = ⊥
+-- The call gives the segment's answer; or memory was wanting; or what it sends was not written and flushed whole, or has
+-- no encoding.
+abbrev pub Reports : {A : Type 0} → (A → Answer) → Reasons → Request → Answer → Client → List ℕ → List ℕ → Client → List ℕ → Result A ClientError → Type 0
+Reports give P q a c bytes sent info rest (Ok x) = give x ≡ a
+Reports give P q a c bytes sent info rest (Err (client.RemoteError e)) = answer.Remote e ≡ a
+Reports give P q a c bytes sent info rest (Err client.OutOfMemory) = Unit {0}
+Reports give P q a c bytes sent info rest (Err client.IoError) = IsUnwritten P q c bytes sent info rest
+Reports give P q a c bytes sent info rest (Err (client.PgWireError why)) = encodings (sends_of q) ≡ Err why
+Reports give P q a c bytes sent info rest (Err e) = ⊥

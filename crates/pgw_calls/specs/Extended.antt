@@ -1,7 +1,6 @@
 -- A client's call of extended queries, by its answer.
 use Rattle.std.specs.Prelude.{ℕ, Bool, true, false, List, []}
 use Rattle.pgw_query.specs.declared.data.DataRow.{DataRow}
-use Rattle.pgw_backend.specs.declared.client_error.PgWireClientError.{PgWireClientError as ClientError}
 use Rattle.pgw_session.specs.declared.types.Request.{Request}
 use Rattle.pgw_session.specs.declared.types.Request.TheVariants as request
 use Rattle.pgw_session.specs.declared.types.ExecuteResult.{ExecuteResult}
@@ -11,6 +10,7 @@ use Rattle.pgw_session.specs.declared.types.Answer.TheVariants as answer
 use Rattle.pgw_handlers.specs.Client.{Client}
 use Rattle.pgw_default_handlers.specs.declared.extended.DefaultExtendedQueryHandler.{DefaultExtendedQueryHandler}
 use Rattle.pgw_connection.specs.declared.gathered.Gathered.{Gathered}
+use Rattle.pgw_connection.specs.Line.{Reasons}
 use Rattle.pgw_connection.specs.Extended.{Finish}
 use Rattle.pgw_calls.specs.Calls.{Comes}
 
@@ -35,5 +35,5 @@ given (request.Close target) x = answer.Closed
 given (request.Query query types parameters) x = answer.Rows (x.0).responses
 
 -- the call came to this end
-abbrev pub ExtendedCall : Request → Client → List ℕ → List ℕ → (ClientError → Type 0) → Finish DefaultExtendedQueryHandler DataRow → Type 0
+abbrev pub ExtendedCall : Request → Client → List ℕ → List ℕ → Reasons → Finish DefaultExtendedQueryHandler DataRow → Type 0
 ExtendedCall q c bytes sent P end = Comes (given q) P q c bytes sent end.info end.rest end.answer end.broken

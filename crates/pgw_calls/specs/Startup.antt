@@ -12,6 +12,7 @@ use Rattle.pgw_session.specs.Segments.{IsStartupSegment, startup_message}
 use Rattle.pgw_session.specs.Failures.{HasNoPlace, FailsAtStartup, Unreadable, Unsendable, LeftWith, WaitsStill, IsHopeless, IsUnfinished, Told}
 use Rattle.pgw_handlers.specs.declared.client_info.ServerInformation.{ServerInformation}
 use Rattle.pgw_handlers.specs.Client.{Client}
+use Rattle.pgw_connection.specs.Line.{Reasons}
 use Rattle.pgw_connection.specs.Talk.{End}
 use Rattle.pgw_connection.specs.Desk.{first_client, with_information}
 use Rattle.pgw_calls.specs.Turns.{Exchanged}
@@ -33,22 +34,26 @@ IsUnopened config nonce bytes sent why info rest = (encodings (startup_message (
 abbrev pub IsRefused : Input → List ℕ → List ℕ → ClientError → Type 0
 IsRefused input bytes sent e = FailsAtStartup input bytes sent e × IsHopeless input bytes
 
--- The cause of each error, where these bytes came and these were written. P says why no more came, or why some were not
+-- of what the login tells over these bytes, some was not written and flushed, which P says why, and what would follow it
+abbrev pub IsUnsent : Reasons → Input → List ℕ → List ℕ → Type 0
+IsUnsent P input bytes sent = (lost : List ℕ) × P.unsent lost × (more : List ℕ) × Told input bytes (sent ++ (lost ++ more))
+
+-- The cause of each error, where these bytes came and these were written. P says why no more came, and why some were not
 -- written. No other error comes.
-abbrev pub LoginFails : (ClientError → Type 0) → Input → List ℕ → List ℕ → ClientError → Type 0
+abbrev pub LoginFails : Reasons → Input → List ℕ → List ℕ → ClientError → Type 0
 LoginFails P input bytes sent client.OutOfMemory = Unit {0}
 LoginFails P input bytes sent (client.PgWireError why) = ((Unreadable input bytes sent why ⊎ Unsendable input bytes sent why) × IsHopeless input bytes) ⊎ IsRefused input bytes sent (client.PgWireError why)
 LoginFails P input bytes sent (client.UnexpectedMessage m) = HasNoPlace input ⊥ bytes sent m × IsHopeless input bytes
-LoginFails P input bytes sent client.UnexpectedEOF = P client.UnexpectedEOF × LeftWith input bytes sent None × IsUnfinished input bytes
-LoginFails P input bytes sent client.ReadLimit = P client.ReadLimit × WaitsStill input bytes sent
-LoginFails P input bytes sent client.IoError = P client.IoError × (WaitsStill input bytes sent ⊎ ((unsent : List ℕ) × Told input bytes (sent ++ unsent)))
+LoginFails P input bytes sent client.UnexpectedEOF = P.halts client.UnexpectedEOF × LeftWith input bytes sent None × IsUnfinished input bytes
+LoginFails P input bytes sent client.ReadLimit = P.halts client.ReadLimit × WaitsStill input bytes sent
+LoginFails P input bytes sent client.IoError = (P.halts client.IoError × WaitsStill input bytes sent) ⊎ IsUnsent P input bytes sent
 LoginFails P input bytes sent (client.RemoteError e) = IsRefused input bytes sent (client.RemoteError e)
 LoginFails P input bytes sent (client.ScramError fault) = IsRefused input bytes sent (client.ScramError fault)
 LoginFails P input bytes sent (client.UnsupportedSASLAuthMethods methods) = IsRefused input bytes sent (client.UnsupportedSASLAuthMethods methods)
 LoginFails P input bytes sent (client.InvalidConfig key) = IsRefused input bytes sent (client.InvalidConfig key)
 LoginFails P input bytes sent e = ⊥
 
-abbrev pub LoginEnds : (ClientError → Type 0) → Config → List ℕ → List ℕ → List ℕ → Client → List ℕ → Result ServerInformation ClientError → Bool → Type 0
+abbrev pub LoginEnds : Reasons → Config → List ℕ → List ℕ → List ℕ → Client → List ℕ → Result ServerInformation ClientError → Bool → Type 0
 LoginEnds P config nonce bytes sent info rest (Ok information) false = LoggedIn config nonce bytes sent information info rest
 LoginEnds P config nonce bytes sent info rest (Ok information) true = ⊥
 LoginEnds P config nonce bytes sent info rest (Err e) true = LoginFails P (login config nonce) bytes sent e
@@ -56,5 +61,5 @@ LoginEnds P config nonce bytes sent info rest (Err (client.PgWireError why)) fal
 LoginEnds P config nonce bytes sent info rest (Err e) false = ⊥
 
 -- a login came to this end
-abbrev pub LoginCall : Config → List ℕ → List ℕ → List ℕ → (ClientError → Type 0) → End ServerInformation → Type 0
+abbrev pub LoginCall : Config → List ℕ → List ℕ → List ℕ → Reasons → End ServerInformation → Type 0
 LoginCall config nonce bytes sent P end = LoginEnds P config nonce bytes sent end.info end.rest end.answer end.broken

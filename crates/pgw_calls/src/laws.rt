@@ -26,7 +26,7 @@ ghost use Rattle.pgw_query.specs.declared.data.DataRow.{DataRow as TheRow};
 ghost use Rattle.pgw_default_handlers.specs.declared.extended.DefaultExtendedQueryHandler.{DefaultExtendedQueryHandler as TheExtended};
 ghost use Rattle.pgw_default_handlers.specs.Extended.{ExtendedMeans};
 ghost use Rattle.pgw_connection.specs.Calls.{Call};
-ghost use Rattle.pgw_connection.specs.Reading.{Grew};
+ghost use Rattle.pgw_connection.specs.Reading.{Grew, Ended};
 ghost use Rattle.pgw_connection.specs.Extended.{Finish, Requested};
 ghost use Rattle.pgw_connection.specs.ExtendedSteps.{Called};
 ghost use Rattle.pgw_calls.specs.Calls.{SimpleCall, Reports};
@@ -48,12 +48,13 @@ pub fn logins_are_startup_segments()
         Asked (λ old new answer. StartupMeans old startup new answer) (HeardAtStartup exchanges StartupMeans) (Pause before now) (λ e. false) h (first_client config) bytes sent end → LoginCall config h.nonce bytes sent (Pause before now) end }
 {}
 
-/// Where the bytes to come begin with spellings of a segment of a simple query, the call gives that segment's answer.
+/// Where the bytes that stood in the buffer and were read begin with spellings of a segment of a simple query, the call
+/// gives that segment's answer.
 pub fn whole_segments_are_reported()
     ensures { (q : List ℕ) (before : ℕ) (now : Line) (h : TheHandler) (c : Client) (bytes sent : List ℕ) (end : End (List TheResponse)) (es : List Event) (spelled more : List ℕ) →
         Asked (λ old new answer. QueryMeans old (simple_query q) new answer) (HeardInQuery QueryMeans) (Pause before now) passes h c bytes sent end →
         IsRequestSegment (request.Simple q) es → SpellsGot (standing_of_client c) es spelled → bytes ≡ spelled ++ more →
-        Reports answer.Responses (Pause before now) (request.Simple q) (answer_of (request.Simple q) es) end.answer }
+        Reports answer.Responses (Pause before now) (request.Simple q) (answer_of (request.Simple q) es) c bytes sent end.info end.rest end.answer }
 {}
 
 /// A call of extended queries is one segment, and its answer is that of its own segment.
@@ -62,11 +63,11 @@ pub fn extended_queries_are_segments()
         Requested ExtendedMeans (Pause before now) q h c bytes sent end → ExtendedCall q c bytes sent (Pause before now) end }
 {}
 
-/// Where the bytes to come begin with spellings of a segment of such a request, the call gives that segment's answer.
+/// Where those bytes begin with spellings of a segment of such a request, the call gives that segment's answer.
 pub fn whole_extended_segments_are_reported()
     ensures { (q : TheRequest) (before : ℕ) (now : Line) (h : TheExtended) (c : Client) (bytes sent : List ℕ) (end : Finish TheExtended TheRow) (es : List Event) (spelled more : List ℕ) → IsExtended q →
         Requested ExtendedMeans (Pause before now) q h c bytes sent end → IsRequestSegment q es → SpellsGot (standing_of_client c) es spelled → bytes ≡ spelled ++ more →
-        Reports (given q) (Pause before now) q (answer_of q es) end.answer }
+        Reports (given q) (Pause before now) q (answer_of q es) c bytes sent end.info end.rest end.answer }
 {}
 
 /// No segment of a request begins with a message that has no place behind those that are taken.
@@ -101,6 +102,13 @@ pub fn filled_clients_stand()
     ensures { (config : TheConfig) (nonce : List ℕ) (ts : List Made) (read wrote : List ℕ) (c : Client) (old now : Line) → Stands config nonce ts read wrote c old.buffer →
         Grew old now →
         (more : List ℕ) × Drew old now more × (IsFlushed old → IsFlushed now) × Stands config nonce ts (read ++ more) wrote c now.buffer }
+{}
+
+/// So does one that is told that nothing is left to read.
+pub fn ended_clients_stand()
+    ensures { (config : TheConfig) (nonce : List ℕ) (ts : List Made) (read wrote : List ℕ) (c : Client) (old now : Line) → Stands config nonce ts read wrote c old.buffer →
+        Ended old now →
+        Drew old now [] × (IsFlushed old → IsFlushed now) × Stands config nonce ts read wrote c now.buffer }
 {}
 
 /// A client that stands for requests, each answered by its own segment, is a session of them.

@@ -22,7 +22,8 @@ use Rattle.pgw_session.proofs.Events.{clean_heard}
 use Rattle.pgw_session.proofs.Complete.{prefix_split}
 use Rattle.pgw_session.proofs.Sound.{SoundAt, Cause, conversation_sound}
 use Rattle.pgw_session.proofs.NotesLaws.{notes_tell}
-use Rattle.pgw_client.specs.Machine.{NotesCourse, Started, behind, notes_end, report_at, runs}
+use Rattle.pgw_course.specs.Play.{behind}
+use Rattle.pgw_client.specs.Machine.{NotesCourse, Started, notes_end, report_at, runs}
 use Rattle.pgw_client.specs.SessionSteps.{Wrote, WroteSome, Waiting, Paused, Because, Conversed, Session, Stopping, Reason, memory, unsent, stopped, failed, unread, at_limit, at_end, talk_end}
 use Rattle.pgw_client.proofs.SessionTakingLaws.{memory_or}
 

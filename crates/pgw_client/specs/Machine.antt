@@ -42,11 +42,6 @@ notes_end notes = end_with notes.first_passed notes.tally.remote
 abbrev pub runs : Input → Notes → List ℕ → List ℕ → NotesCourse
 runs input notes wrote bytes = run (rules_by notes_book input) (Waits notes wrote []) bytes
 
--- a course behind what was written before
-abbrev pub behind : {S R : Type 0} → List ℕ → Course S R → Course S R
-behind before (Waits state sent pending) = Waits state (before ++ sent) pending
-behind before (Over end sent) = Over end (before ++ sent)
-
 -- the machine ends with this error, or whole, with this report
 abbrev pub StopsBy : NotesMove → ClientError → Type 0
 StopsBy move e = (end : End Notes) × (move ≡ Ends end []) × (error_of end.outcome ≡ Some e)

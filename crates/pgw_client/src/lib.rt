@@ -49,7 +49,7 @@ pub use pgw_session::types::{
 };
 pub use pgw_types::boxed::Boxed;
 pub use pgw_types::context::ProtocolVersion;
-pub use pgw_types::error::{PgWireError, ScramMessageFault};
+pub use pgw_types::error::{OauthFault, OauthRefusal, PgWireError, ScramMessageFault};
 pub use pgw_types::error_info::ErrorInfo;
 pub use pgw_types::listed::Listed;
 pub use pgw_types::memory::OutOfMemory;

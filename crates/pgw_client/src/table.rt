@@ -114,7 +114,8 @@ pub fn role(kind: Kind, rows: bool, message: &PgWireBackendMessage) -> Role
     }
 }
 
-fn behind_error(kind: Kind) -> Option<PgWireFrontendMessage>
+/// What is due to the server behind its error.
+pub fn behind_error(kind: Kind) -> Option<PgWireFrontendMessage>
     ensures { result ≡ behind_error kind }
 {
     match kind {

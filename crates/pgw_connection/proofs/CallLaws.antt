@@ -1,6 +1,6 @@
 -- What a client's calls leave.
-use Rattle.std.proofs.Common.{◌≡◌, ◌≢◌, ℕ, Bool, true, false, not, List, [], ◌++◌, length, take, drop, Result, Ok, Err, refl, sym, ap, subst, ◌∙◌, arith, inl, append_assoc, length-append, ◌⊎◌, inr}
-use Rattle.std.proofs.lemmas.List.{append-nil, take-append-drop}
+use Rattle.std.proofs.Common.{◌≡◌, ◌≢◌, ℕ, Bool, true, false, not, List, [], ◌++◌, ◌+◌, ◌≤◌, length, take, drop, Result, Ok, Err, refl, sym, ap, subst, ◌∙◌, arith, inl, append_assoc, length-append, ◌⊎◌, inr}
+use Rattle.std.proofs.lemmas.List.{append-nil, take-append-drop, nil_from_length}
 use Rattle.pgw_backend.specs.declared.backend.PgWireBackendMessage.{PgWireBackendMessage as Backend}
 use Rattle.pgw_backend.specs.declared.backend.PgWireBackendMessage.TheVariants as backend
 use Rattle.pgw_backend.specs.declared.client_error.PgWireClientError.{PgWireClientError as ClientError}
@@ -10,17 +10,17 @@ use Rattle.pgw_client.specs.SessionSteps.{Wrote, WroteSome}
 use Rattle.pgw_session.specs.Segments.{is_ready}
 use Rattle.pgw_handlers.specs.Client.{Client, Sight}
 use Rattle.pgw_handlers.specs.Handling.{Standing, standing, Answer, pending, IsCaused, OfError, EndsAtReady}
-use Rattle.pgw_handlers.specs.Sending.{Sent, NotSent, bytes_or_none, WroteSome as SentSome}
+use Rattle.pgw_handlers.specs.Sending.{Sent, NotSent, IsSpelled, bytes_or_none, WroteSome as SentSome}
 use Rattle.pgw_types.specs.declared.error.PgWireError.{PgWireError}
 use Rattle.std.specs.Result.{OnOk, OnErr, IfOk, IfErr}
 use Rattle.pgw_handlers.specs.declared.client_info.ReadyState.{ReadyState}
 use Rattle.pgw_handlers.specs.declared.client_info.ReadyState.TheVariants.{Pending, Ready}
 use Rattle.pgw_connection.specs.Talk as talk
-use Rattle.pgw_connection.specs.Talk.{fresh, Next, Lack, End, end, Hearing, Talk, Drained, IsCut, Asked, passes, is_remote, is_refusal}
-use Rattle.pgw_connection.specs.Line.{Line, Pause, IsFlushed, Halts, Drew, Moved}
+use Rattle.pgw_connection.specs.Talk.{fresh, Next, Lack, End, end, Hearing, Talk, Passing, IsCut, Asked, passes, is_remote, is_refusal}
+use Rattle.pgw_connection.specs.Line.{Line, Reasons, Pause, IsFlushed, WentWell, Halts, Drew, Moved}
 use Rattle.pgw_connection.specs.Reading.{Came, PassedOver}
-use Rattle.pgw_connection.specs.Calls.{link_sight, PutAll, PutSome, Puts, Opens, starved, wrote, cut, refused, GivesUp, breaks, fails, drains, Follows, starves, writes, cuts, gives_up, HeardOne, Talked, HeardNext, IsHalted, Call}
-use Rattle.pgw_connection.proofs.ReadingLaws.{next_more, drew_on, not_halted, not_at_end}
+use Rattle.pgw_connection.specs.Calls.{link_sight, PutAll, PutSome, Puts, Opens, starved, wrote, cut, refused, GivesUp, breaks, fails, passes_over, Follows, starves, writes, cuts, gives_up, HeardOne, Talked, HeardNext, IsHalted, Call}
+use Rattle.pgw_connection.proofs.ReadingLaws.{next_more, drew_on, not_halted, not_at_end, still_flushed, drew_well, well_still, well_on, went_on, failed, io_of, io_answer}
 
 -- ---- writing
 
@@ -40,22 +40,31 @@ put_all old new bytes w faults buffer read limit = record {
   goes_on = (w.reads_nothing.ended, faults);
 }
 
-pub put_some : (old new : Line) (bytes : List ℕ) → bytes ≢ [] → WroteSome old.tape new.tape bytes → Rose old.faults new.faults → new.buffer ≡ old.buffer → new.read ≡ old.read → new.limit ≡ old.limit → PutSome bytes old new
-put_some old new bytes some w rose buffer read limit = record {
+-- a piece that was written whole and not flushed
+unflushed : (old new : Line) (bytes : List ℕ) → bytes ≢ [] → (w : WroteSome old.tape new.tape bytes) → old.tape.flushed ≤ length old.tape.wrote → drop w.count bytes ≡ [] → IsFlushed new → ⊥
+unflushed old new bytes some w within none flushed =
+    let wrote : length new.tape.wrote ≡ length old.tape.wrote + length (take w.count bytes) = ap length w.wrote ∙ length-append old.tape.wrote (take w.count bytes) in
+    let whole : length bytes ≡ length (take w.count bytes) + 0 = ap length (sym (take-append-drop w.count bytes)) ∙ length-append (take w.count bytes) (drop w.count bytes) ∙ ap (λ (l : List ℕ). length (take w.count bytes) + length l) none in
+    some (nil_from_length bytes (omega (arith, wrote, whole, flushed, w.flushed, within)))
+
+pub put_well : (old new : Line) (bytes : List ℕ) → PutAll bytes old new → WentWell old new
+put_well old new bytes put = (put.goes_on.1, put.flushed)
+
+pub put_some : (old new : Line) (bytes : List ℕ) → bytes ≢ [] → WroteSome old.tape new.tape bytes → old.tape.flushed ≤ length old.tape.wrote → Rose old.faults new.faults → new.buffer ≡ old.buffer → new.read ≡ old.read → new.limit ≡ old.limit → PutSome bytes old new
+put_some old new bytes some w within rose buffer read limit = record {
   part = take w.count bytes;
-  cut = (some, drop w.count bytes, sym (take-append-drop w.count bytes));
+  cut = (some, drop w.count bytes, sym (take-append-drop w.count bytes), (rose, λ none flushed. unflushed old new bytes some w within none flushed));
   moved = record { left = sym w.reads_nothing.left; wrote = w.wrote; read = omega (arith, read); limit = limit };
   buffer = buffer;
   ended = w.reads_nothing.ended;
-  rose = rose;
 }
 
 -- what writing answered
-pub puts_of : (old new : Line) (bytes : List ℕ) (r : Result (Unit {0}) ClientError) → bytes ≢ [] → OnOk r (Wrote old.tape new.tape bytes) → OnErr r (WroteSome old.tape new.tape bytes) → OnOk r (new.faults ≡ old.faults)
+pub puts_of : (old new : Line) (bytes : List ℕ) (r : Result (Unit {0}) ClientError) → bytes ≢ [] → OnOk r (Wrote old.tape new.tape bytes) → OnErr r (WroteSome old.tape new.tape bytes) → old.tape.flushed ≤ length old.tape.wrote → OnOk r (new.faults ≡ old.faults)
     → IfErr r (λ e. e ≡ client.IoError) → OfError r old.faults new.faults false → new.buffer ≡ old.buffer → new.read ≡ old.read → new.limit ≡ old.limit → Puts bytes old new r
-puts_of old new bytes (Ok done) some w f clean io cause buffer read limit = put_all old new bytes w clean buffer read limit
-puts_of old new bytes (Err e) some w f clean io cause buffer read limit =
-    (io, put_some old new bytes some f (subst (λ (x : ClientError). IsCaused x old.faults new.faults false) io cause) buffer read limit)
+puts_of old new bytes (Ok done) some w f within clean io cause buffer read limit = put_all old new bytes w clean buffer read limit
+puts_of old new bytes (Err e) some w f within clean io cause buffer read limit =
+    (io, put_some old new bytes some f within (subst (λ (x : ClientError). IsCaused x old.faults new.faults false) io cause) buffer read limit)
 
 -- ---- the opening of a call
 
@@ -75,6 +84,10 @@ began_refused was refusal out old opened e usable is tells =
     subst (λ (b : Bool). Opens was out old old opened (Err e) (not b)) (sym tells) (subst (λ (o : Result (Unit {0}) ClientError). Opens was out old old o (Err e) (not (is_refusal e))) (sym is) (refused e usable refl))
 
 -- ---- a message of a caller's own
+
+pub spelled_so : (spelled : Result (List ℕ) PgWireError) (r : Result (Unit {0}) ClientError) → IsSpelled spelled (Ok tt) → IfErr r (λ e. e ≡ client.IoError) → IsSpelled spelled r
+spelled_so spelled (Ok done) is io = is
+spelled_so spelled (Err e) is io = subst (λ (x : ClientError). IsSpelled spelled (Err x)) (sym io) is
 
 -- it was not written whole
 pub send_cut : (spelled : Result (List ℕ) PgWireError) (s0 s1 : Sight) (t0 t1 : Tape) (c0 c1 : Client) (was broken : Bool) (r : Result (Unit {0}) ClientError) → s0.wrote ≡ [] → Sent spelled s0 s1 → was ≡ false → c1 ≡ c0
@@ -101,8 +114,8 @@ gave_up goes_on closing may c old e is ends = breaks e (sym is ∙ ends) refl
 pub gave_back : (goes_on : ClientError → Bool) (closing may broken : Bool) (c : Client) (old : Line) (e : ClientError) → may ≡ goes_on e → may ≡ true → closing ≡ true → broken ≡ false → GivesUp goes_on closing c old old e e c broken
 gave_back goes_on closing may broken c old e is goes ready usable = subst (λ (b : Bool). GivesUp goes_on closing c old old e e c b) (sym usable) (fails e (sym is ∙ goes) ready refl)
 
-pub drained : (goes_on : ClientError → Bool) (closing may broken : Bool) (c last : Client) (old new : Line) (e x : ClientError) → may ≡ goes_on e → may ≡ true → closing ≡ false → PassedOver e c old new x last broken → GivesUp goes_on closing c old new e x last broken
-drained goes_on closing may broken c last old new e x is goes quiet p = drains e x last broken (sym is ∙ goes) quiet p
+pub passing : (goes_on : ClientError → Bool) (closing may broken : Bool) (c last : Client) (old new : Line) (e x : ClientError) → may ≡ goes_on e → may ≡ true → closing ≡ false → PassedOver e c old new x last broken → GivesUp goes_on closing c old new e x last broken
+passing goes_on closing may broken c last old new e x is goes quiet p = passes_over e x last broken (sym is ∙ goes) quiet p
 
 module _ {T : Type 0} (goes_on : ClientError → Bool) (closing was : Bool) (out : List ℕ) (c : Client) (old : Line) (answer : Answer T) where
   pub followed_starved : was ≡ true → Follows goes_on closing was out c old old answer (Err client.OutOfMemory) c was
@@ -149,9 +162,6 @@ moved_by old mid new taken sent d m = record {
 pub moved_none : (old new : Line) (taken : List ℕ) → Drew old new taken → Moved old new taken []
 moved_none old new taken d = record { left = d.left; wrote = d.wrote ∙ sym (append-nil old.tape.wrote); read = d.read; limit = d.limit }
 
-pub still_flushed : (old new : Line) (taken : List ℕ) → Drew old new taken → IsFlushed old → IsFlushed new
-still_flushed old new taken d f = d.flushed ∙ f ∙ ap length (sym d.wrote)
-
 -- where all was flushed, the end found all written flushed
 pub flushed_at : (c : Client) (old new : Line) (taken : List ℕ) → Drew old new taken → IsFlushed old → Halts c old.tape.flushed old new → Halts c (length new.tape.wrote) old new
 flushed_at c old new taken d f h none n some = let x = h none n some in (x.0 ∙ f ∙ ap length (sym d.wrote), x.1)
@@ -165,8 +175,8 @@ moved_on old mid new taken more sent also a b = record {
   limit = b.limit ∙ a.limit;
 }
 
-pub rose_from : (before was now : ℕ) → before ≡ was → Rose before now → Rose was now
-rose_from before was now same r = subst (λ (n : ℕ). Rose n now) same r
+pub cut_from : (before was : ℕ) (now : Line) (bytes part : List ℕ) → before ≡ was → IsCut (Pause before now) bytes part → IsCut (Pause was now) bytes part
+cut_from before was now bytes part same is = subst (λ (n : ℕ). IsCut (Pause n now) bytes part) same is
 
 module _ {H A : Type 0} (M : Hearing H A) (goes_on : ClientError → Bool) where
   talk_as : (before was : ℕ) (new : Line) (h other : H) (c also : Client) (bytes sent : List ℕ) (last : End A) → before ≡ was → h ≡ other → c ≡ also
@@ -197,9 +207,13 @@ module _ {H A : Type 0} (M : Hearing H A) (goes_on : ClientError → Bool) where
     at_end = λ none n some.
         let is : e ≡ client.UnexpectedEOF = (let same = came.at_end none n some in cc) in
         subst (λ (y : ClientError). IsHalted {A = A} goes_on (Err y) true) (sym is) refl;
+    well = io_answer A (WentWell old new) e (io_of Backend (WentWell old new) e came.well);
   }
 
   module _ (h handler : H) (c : Client) (s : Sight) (old mid : Line) (m : Backend) (came : Came c old mid (Ok m)) where
+    came_well : WentWell old mid
+    came_well = drew_well old mid came.taken came.drew came.goes_on.1
+
     -- memory was wanting
     heard_starved : (last : Client) → Talked M goes_on h c old mid (end (Err client.OutOfMemory) last true mid.buffer)
     heard_starved last = record {
@@ -210,6 +224,7 @@ module _ {H A : Type 0} (M : Hearing H A) (goes_on : ClientError → Bool) where
       flushed = λ f usable. absurd (let no : true ≡ false = usable in cc);
       halts = λ f. not_halted last (length mid.tape.wrote) old mid came.goes_on.0;
       at_end = not_at_end _ old mid came.goes_on.0;
+      well = inl came_well;
     }
 
     next_in : (new : Line) → new.buffer ≡ mid.buffer → Next c (old.buffer ++ came.taken) m new.buffer
@@ -240,28 +255,31 @@ module _ {H A : Type 0} (M : Hearing H A) (goes_on : ClientError → Bool) where
       flushed = λ f _. put.flushed (still_flushed old mid came.taken came.drew f);
       halts = λ f. not_halted s.client (length new.tape.wrote) old new (put.goes_on.0 ∙ came.goes_on.0);
       at_end = not_at_end _ old new (put.goes_on.0 ∙ came.goes_on.0);
+      well = inl (well_on old mid new came_well (put_well mid new s.wrote put));
     }
 
-    heard_cut : (new : Line) (answer : ReadyState A) → M (standing h (fresh c)) m (standing handler s) (Ok answer) → PutSome s.wrote mid new → Talked M goes_on h c old new (end (Err client.IoError) s.client true new.buffer)
-    heard_cut new answer heard put = record {
+    heard_cut : (new : Line) (answer : ReadyState A) → M (standing h (fresh c)) m (standing handler s) (Ok answer) → s.broken ≡ false → PutSome s.wrote mid new → Talked M goes_on h c old new (end (Err client.IoError) s.client true new.buffer)
+    heard_cut new answer heard usable put = record {
       taken = came.taken;
       sent = put.part;
       moved = moved_by old mid new came.taken put.part came.drew put.moved;
-      talk = talk.unwritten h c (old.buffer ++ came.taken) m new.buffer (standing handler s) answer put.part (next_in new put.buffer) heard put.cut (rose_from mid.faults old.faults new.faults came.goes_on.1 put.rose);
+      talk = talk.unwritten h c (old.buffer ++ came.taken) m new.buffer (standing handler s) answer put.part (next_in new put.buffer) heard usable (cut_from mid.faults old.faults new s.wrote put.part came.goes_on.1 put.cut);
       flushed = λ f usable. absurd (let no : true ≡ false = usable in cc);
       halts = λ f. not_halted s.client (length new.tape.wrote) old new (put.ended ∙ came.goes_on.0);
       at_end = not_at_end _ old new (put.ended ∙ came.goes_on.0);
+      well = inr refl;
     }
 
-    heard_error : (e : ClientError) → M (standing h (fresh c)) m (standing handler s) (Err e) → IsCaused e 0 0 s.broken → goes_on e ≡ false → Talked M goes_on h c old mid (end (Err e) s.client true mid.buffer)
-    heard_error e heard caused ends = record {
+    heard_error : (e : ClientError) → M (standing h (fresh c)) m (standing handler s) (Err e) → IsCaused e 0 0 s.broken → goes_on e ≡ false → s.broken ≡ false → Talked M goes_on h c old mid (end (Err e) s.client true mid.buffer)
+    heard_error e heard caused ends usable = record {
       taken = came.taken;
       sent = [];
       moved = moved_none old mid came.taken came.drew;
-      talk = talk.breaks h c (old.buffer ++ came.taken) m mid.buffer (standing handler s) e came.found heard caused (inl ends);
-      flushed = λ f usable. absurd (let no : true ≡ false = usable in cc);
+      talk = talk.breaks h c (old.buffer ++ came.taken) m mid.buffer (standing handler s) e came.found heard caused ends usable;
+      flushed = λ f good. absurd (let no : true ≡ false = good in cc);
       halts = λ f. not_halted s.client (length mid.tape.wrote) old mid came.goes_on.0;
       at_end = not_at_end _ old mid came.goes_on.0;
+      well = inl came_well;
     }
 
     heard_failure : (e : ClientError) → M (standing h (fresh c)) m (standing handler s) (Err e) → s.broken ≡ false → goes_on e ≡ true → is_ready m ≡ true → Talked M goes_on h c old mid (end (Err e) s.client false mid.buffer)
@@ -273,34 +291,36 @@ module _ {H A : Type 0} (M : Hearing H A) (goes_on : ClientError → Bool) where
       flushed = λ f _. still_flushed old mid came.taken came.drew f;
       halts = λ f. not_halted s.client (length mid.tape.wrote) old mid came.goes_on.0;
       at_end = not_at_end _ old mid came.goes_on.0;
+      well = inl came_well;
     }
 
-    heard_drained : (eof : goes_on client.UnexpectedEOF ≡ false) (new : Line) (e x : ClientError) (last : Client) (broken : Bool) → M (standing h (fresh c)) m (standing handler s) (Err e) → s.broken ≡ false → goes_on e ≡ true → is_ready m ≡ false
+    heard_passing : (eof : goes_on client.UnexpectedEOF ≡ false) (new : Line) (e x : ClientError) (last : Client) (broken : Bool) → M (standing h (fresh c)) m (standing handler s) (Err e) → s.broken ≡ false → goes_on e ≡ true → is_ready m ≡ false
         → PassedOver e s.client mid new x last broken → Talked M goes_on h c old new (end (Err x) last broken new.buffer)
-    heard_drained eof new e x last broken heard usable goes quiet p =
+    heard_passing eof new e x last broken heard usable goes quiet p =
         let drew = drew_on old mid new came.taken p.taken came.drew p.drew in
         let more = next_more c (old.buffer ++ came.taken) mid.buffer p.taken m came.found in
         let next = subst (λ (b : List ℕ). Next c b m (mid.buffer ++ p.taken)) (append_assoc old.buffer came.taken p.taken) more in
-        let drained = subst (λ (n : ℕ). Drained (Pause n new) e s.client (mid.buffer ++ p.taken) x last new.buffer broken) came.goes_on.1 p.drained in
+        let passing = subst (λ (n : ℕ). Passing (Pause n new) e s.client (mid.buffer ++ p.taken) x last new.buffer broken) came.goes_on.1 p.passing in
         record {
           taken = came.taken ++ p.taken;
           sent = [];
           moved = moved_none old new (came.taken ++ p.taken) drew;
-          talk = talk.drains h c (old.buffer ++ (came.taken ++ p.taken)) m (mid.buffer ++ p.taken) (standing handler s) e x last new.buffer broken next heard goes usable quiet drained;
+          talk = talk.passes_over h c (old.buffer ++ (came.taken ++ p.taken)) m (mid.buffer ++ p.taken) (standing handler s) e x last new.buffer broken next heard goes usable quiet passing;
           flushed = λ f _. still_flushed old new (came.taken ++ p.taken) drew f;
           halts = λ f none n some.
               let at = p.halts (came.goes_on.0 ∙ none) n some in
               (at.0 ∙ came.drew.flushed ∙ f ∙ ap length (sym drew.wrote), at.1);
           at_end = λ none n some. let h = p.at_end (came.goes_on.0 ∙ none) n some in halted_behind e x broken eof goes h.0 h.1;
+          well = went_on (failed A x ≡ Err client.IoError) old mid new came_well (io_answer A (WentWell mid new) x p.well);
         }
 
     given_up : (eof : goes_on client.UnexpectedEOF ≡ false) (new : Line) (e x : ClientError) (last : Client) (broken : Bool) → M (standing h (fresh c)) m (standing handler s) (Err e) → IsCaused e 0 0 s.broken → s.broken ≡ false
         → GivesUp goes_on (is_ready m) s.client mid new e x last broken → Talked M goes_on h c old new (end (Err x) last broken new.buffer)
     given_up eof new e x last broken heard caused usable (breaks e2 ends same) =
-        subst (λ (l : Line). Talked M goes_on h c old l (end (Err e2) s.client true l.buffer)) (sym same) (heard_error e2 heard caused ends)
+        subst (λ (l : Line). Talked M goes_on h c old l (end (Err e2) s.client true l.buffer)) (sym same) (heard_error e2 heard caused ends usable)
     given_up eof new e x last broken heard caused usable (fails e2 goes ready same) =
         subst (λ (l : Line). Talked M goes_on h c old l (end (Err e2) s.client false l.buffer)) (sym same) (heard_failure e2 heard usable goes ready)
-    given_up eof new e x last broken heard caused usable (drains e2 x2 last2 broken2 goes quiet p) = heard_drained eof new e2 x2 last2 broken2 heard usable goes quiet p
+    given_up eof new e x last broken heard caused usable (passes_over e2 x2 last2 broken2 goes quiet p) = heard_passing eof new e2 x2 last2 broken2 heard usable goes quiet p
 
     -- a message was heard, and its answer followed
     pub heard_next : (eof : goes_on client.UnexpectedEOF ≡ false) (new : Line) (answer result : Answer A) (last : Client) (broken : Bool) → M (standing h (fresh c)) m (standing handler s) answer → OfError answer 0 0 s.broken → IfOk answer (EndsAtReady m)
@@ -309,7 +329,7 @@ module _ {H A : Type 0} (M : Hearing H A) (goes_on : ClientError → Bool) where
         subst (λ (l : Line). Talked M goes_on h c old l (end (Err client.OutOfMemory) s.client true l.buffer)) (sym same) (heard_starved s.client)
     heard_next eof new answer result last broken heard caused closes (writes Pending usable put) = (heard_on new heard usable (goes_quiet A m closes) put, refl)
     heard_next eof new answer result last broken heard caused closes (writes (Ready x) usable put) = heard_last new x heard usable (ends_ready m x closes) put
-    heard_next eof new answer result last broken heard caused closes (cuts state usable put) = heard_cut new state heard put
+    heard_next eof new answer result last broken heard caused closes (cuts state usable put) = heard_cut new state heard usable put
     heard_next eof new answer result last broken heard caused closes (gives_up e x last2 broken2 usable g) = given_up eof new e x last2 broken2 heard caused usable g
 
   -- no message came, for a client that is as it was
@@ -339,6 +359,7 @@ module _ {H A : Type 0} (M : Hearing H A) (goes_on : ClientError → Bool) where
         flushed = λ f usable. t.flushed (one.flushed f) usable;
         halts = λ f none n some. t.halts (one.flushed f) (one.goes_on.0 ∙ none) n some;
         at_end = λ none n some. t.at_end (one.goes_on.0 ∙ none) n some;
+        well = went_on (last.answer ≡ Err client.IoError) old mid new (one.goes_on.1, one.flushed) t.well;
       }
 
 -- ---- a call
@@ -357,6 +378,7 @@ module _ {H A : Type 0} (opens : Standing H → Standing H → Answer A → Type
         flushed = λ f good. t.flushed (put.flushed f) good;
         halts = λ f none n some. t.halts (put.flushed f) (put.goes_on.0 ∙ none) n some;
         at_end = λ none n some. t.at_end (put.goes_on.0 ∙ none) n some;
+        well = went_on (last.answer ≡ Err client.IoError) old mid new (put_well old mid s.wrote put) t.well;
       }
 
   moved_still : Moved old old [] []
@@ -371,23 +393,25 @@ module _ {H A : Type 0} (opens : Standing H → Standing H → Answer A → Type
     flushed = λ f good. f;
     halts = λ f. not_halted last (length old.tape.wrote) old old refl;
     at_end = not_at_end _ old old refl;
+    well = inl (well_still old);
   }
 
-  bytes_are : (sent : List ℕ) (P : ClientError → Type 0) (answer : Result A ClientError) (info : Client) (broken : Bool) (rest : List ℕ) → rest ≡ old.buffer
+  bytes_are : (sent : List ℕ) (P : Reasons) (answer : Result A ClientError) (info : Client) (broken : Bool) (rest : List ℕ) → rest ≡ old.buffer
       → Asked opens M P goes_on h c old.buffer sent (end answer info broken old.buffer) → Asked opens M P goes_on h c (old.buffer ++ []) sent (end answer info broken rest)
   bytes_are sent P answer info broken rest same a =
       subst (λ (b : List ℕ). Asked opens M P goes_on h c b sent (end answer info broken rest)) (sym (append-nil old.buffer))
       (subst (λ (b : List ℕ). Asked opens M P goes_on h c old.buffer sent (end answer info broken b)) (sym same) a)
 
-  call_cut : (new : Line) → opens (standing h (fresh c)) (standing handler s) (Ok Pending) → PutSome s.wrote old new → Call opens M goes_on h c old new (end (Err client.IoError) s.client true new.buffer)
-  call_cut new opened put = record {
+  call_cut : (new : Line) → opens (standing h (fresh c)) (standing handler s) (Ok Pending) → s.broken ≡ false → PutSome s.wrote old new → Call opens M goes_on h c old new (end (Err client.IoError) s.client true new.buffer)
+  call_cut new opened usable put = record {
     taken = [];
     sent = put.part;
     moved = put.moved;
-    asked = bytes_are put.part (Pause old.faults new) (Err client.IoError) s.client true new.buffer put.buffer (talk.unwritten (standing handler s) put.part opened put.cut put.rose);
+    asked = bytes_are put.part (Pause old.faults new) (Err client.IoError) s.client true new.buffer put.buffer (talk.unwritten (standing handler s) put.part opened usable put.cut);
     flushed = λ f good. absurd (let no : true ≡ false = good in cc);
     halts = λ f. not_halted s.client (length new.tape.wrote) old new put.ended;
     at_end = not_at_end _ old new put.ended;
+    well = inr refl;
   }
 
   call_refused : (e : ClientError) → opens (standing h (fresh c)) (standing handler s) (Err e) → s.broken ≡ false → IsCaused e 0 0 s.broken → (b : Bool) → is_refusal e ≡ b → Call opens M goes_on h c old old (end (Err e) s.client (not b) old.buffer)
@@ -399,15 +423,17 @@ module _ {H A : Type 0} (opens : Standing H → Standing H → Answer A → Type
     flushed = λ f good. f;
     halts = λ f. not_halted s.client (length old.tape.wrote) old old refl;
     at_end = not_at_end _ old old refl;
+    well = inl (well_still old);
   }
   call_refused e opened usable caused false is = record {
     taken = [];
     sent = [];
     moved = moved_still;
-    asked = bytes_are [] (Pause old.faults old) (Err e) s.client true old.buffer refl (talk.breaks (standing handler s) e opened caused (inl is));
+    asked = bytes_are [] (Pause old.faults old) (Err e) s.client true old.buffer refl (talk.breaks (standing handler s) e opened caused is usable);
     flushed = λ f good. f;
     halts = λ f. not_halted s.client (length old.tape.wrote) old old refl;
     at_end = not_at_end _ old old refl;
+    well = inl (well_still old);
   }
 
   -- what the handler answered as it opened the call, in one of its results
@@ -424,7 +450,7 @@ module _ {H A : Type 0} (opens : Standing H → Standing H → Answer A → Type
   call_ended new opened result e broken o caused (wrote usable put) is = absurd cc
   call_ended new opened result e broken o caused (cut usable put) is =
       let x : client.IoError ≡ e = cc in
-      subst (λ (y : ClientError). Call opens M goes_on h c old new (end (Err y) s.client true new.buffer)) x (call_cut new o put)
+      subst (λ (y : ClientError). Call opens M goes_on h c old new (end (Err y) s.client true new.buffer)) x (call_cut new o usable put)
   call_ended new opened result e broken o caused (refused e2 usable same) is =
       let x : e2 ≡ e = cc in
       subst (λ (y : ClientError). Call opens M goes_on h c old new (end (Err y) s.client (not (is_refusal e2)) new.buffer)) x

@@ -1,5 +1,5 @@
 -- The messages of a call of extended queries.
-use Rattle.std.proofs.Common.{◌≡◌, ◌⊎◌, inl, inr, ℕ, Bool, true, false, List, [], ◌++◌, length, Option, Some, None, Result, Ok, Err, refl, sym, ap, subst, ◌∙◌, append_assoc}
+use Rattle.std.proofs.Common.{◌≡◌, ◌⊎◌, inl, inr, ℕ, Bool, true, false, List, [], ◌++◌, length, Option, Some, None, is_some, Result, Ok, Err, refl, sym, ap, subst, ◌∙◌, append_assoc}
 use Rattle.std.proofs.lemmas.List.{append-nil}
 use Rattle.pgw_frontend.specs.declared.frontend.PgWireFrontendMessage.{PgWireFrontendMessage as Frontend}
 use Rattle.pgw_backend.specs.declared.client_error.PgWireClientError.{PgWireClientError as ClientError}
@@ -17,16 +17,16 @@ use Rattle.pgw_handlers.specs.Handling.{Standing, standing, Answer, IsCaused}
 use Rattle.pgw_handlers.specs.Extended.{sync, nothing}
 use Rattle.pgw_handlers.specs.declared.client_info.ReadyState.TheVariants.{Pending, Ready}
 use Rattle.pgw_connection.specs.declared.gathered.Gathered.{Gathered}
-use Rattle.pgw_connection.specs.Talk.{fresh, told, Next, Drained, first_of, is_remote}
-use Rattle.pgw_connection.specs.Line.{Line, Pause, IsFlushed, Moved}
+use Rattle.pgw_connection.specs.Talk.{fresh, told, Next, Passing, first_of, is_remote}
+use Rattle.pgw_connection.specs.Line.{Line, Pause, IsFlushed, WentWell, Moved}
 use Rattle.pgw_connection.specs.Reading.{Came, PassedOver}
 use Rattle.pgw_connection.specs.Calls.{IsHalted, PutAll, PutSome}
 use Rattle.pgw_connection.specs.Extended.{Meaning, call_for, Heeds, RefusesBy, Finish, finish, is_suspended, outcome_behind, IsPlaced, Syncs, EndsAnswer, Exchange}
 use Rattle.pgw_connection.specs.Extended as extended
 use Rattle.pgw_connection.specs.ExtendedSteps as steps
-use Rattle.pgw_connection.specs.ExtendedSteps.{Took, Synced, Settled, passed_answer, is_due, is_some_due, answer_with, HeededOne, TookOne, Exchanged, HeededNext}
-use Rattle.pgw_connection.proofs.ReadingLaws.{next_more, not_halted, not_at_end}
-use Rattle.pgw_connection.proofs.CallLaws.{put_none, moved_by, moved_none, moved_on, still_flushed, flushed_at, rose_from}
+use Rattle.pgw_connection.specs.ExtendedSteps.{Took, Synced, Settled, passed_answer, is_due, answer_with, HeededOne, TookOne, Exchanged, HeededNext}
+use Rattle.pgw_connection.proofs.ReadingLaws.{next_more, not_halted, not_at_end, still_flushed, drew_well, well_on, went_on, io_of, io_answer}
+use Rattle.pgw_connection.proofs.CallLaws.{put_none, put_well, moved_by, moved_none, moved_on, flushed_at, cut_from}
 
 -- ---- the table
 
@@ -90,6 +90,10 @@ ends_with e x (inl same) (inl none) = inl (same ∙ none)
 ends_with e x (inl same) (inr some) = inr (ap is_remote same ∙ some)
 ends_with e x (inr other) why = inr other.1
 
+io_outcome : {R : Type 0} (more : Gathered R) (x : ClientError) (broken : Bool) (W : Type 0) → W ⊎ (x ≡ client.IoError) → W ⊎ (outcome_behind more x broken ≡ Err client.IoError)
+io_outcome more x broken W (inl w) = inl w
+io_outcome more x broken W (inr is) = inr (ap (λ (y : ClientError). outcome_behind more y broken) is)
+
 -- ---- one message
 
 module _ {H R : Type 0} (M : Meaning H R) (k : Kind) (h : H) (c : Client) (g : Gathered R) (old : Line) where
@@ -105,11 +109,15 @@ module _ {H R : Type 0} (M : Meaning H R) (k : Kind) (h : H) (c : Client) (g : G
         flushed = λ f usable. no_more usable (IsFlushed new);
         halts = λ f. flushed_at c old new came.taken came.drew f came.halts;
         at_end = λ none n some. halted_by (Gathered R × Bool) e true refl (inl (let same = came.at_end none n some in cc));
+        well = io_answer (Gathered R × Bool) (WentWell old new) e (io_of Backend (WentWell old new) e came.well);
       }
 
   module _ (mid : Line) (m : Backend) (came : Came c old mid (Ok m)) where
     abbrev bytes : List ℕ
     bytes = old.buffer ++ came.taken
+
+    came_well : WentWell old mid
+    came_well = drew_well old mid came.taken came.drew came.goes_on.1
 
     -- the call has ended with this message, and nothing was written
     ended : (last : Finish H R) → last.rest ≡ mid.buffer → Exchange M (Pause old.faults mid) k h c g bytes [] last → Exchanged M k h c g old mid last
@@ -121,6 +129,7 @@ module _ {H R : Type 0} (M : Meaning H R) (k : Kind) (h : H) (c : Client) (g : G
       flushed = λ f _. still_flushed old mid came.taken came.drew f;
       halts = λ f. not_halted last.info (length mid.tape.wrote) old mid came.goes_on.0;
       at_end = not_at_end _ old mid came.goes_on.0;
+      well = inl came_well;
     }
 
     ended_starved : (handler : H) (info : Client) → Exchanged M k h c g old mid (finish (Err client.OutOfMemory) handler info true mid.buffer)
@@ -170,13 +179,13 @@ module _ {H R : Type 0} (M : Meaning H R) (k : Kind) (h : H) (c : Client) (g : G
         let whole = moved_on old high new came.taken p.taken sent [] (moved_by old mid high came.taken sent came.drew put.moved) (moved_none high new p.taken p.drew) in
         let next = subst (λ (b : List ℕ). Next c b m (mid.buffer ++ p.taken)) (append_assoc old.buffer came.taken p.taken) (next_more c bytes mid.buffer p.taken m came.found) in
         let calm = put.goes_on.1 ∙ came.goes_on.1 in
-        let rest = subst (λ (b : List ℕ). Drained (Pause high.faults new) e between (b ++ p.taken) x info new.buffer broken) put.buffer p.drained in
-        let drained = subst (λ (n : ℕ). Drained (Pause n new) e s.sight.client (mid.buffer ++ p.taken) x info new.buffer broken) calm (subst (λ (y : Client). Drained (Pause high.faults new) e y (mid.buffer ++ p.taken) x info new.buffer broken) same rest) in
+        let rest = subst (λ (b : List ℕ). Passing (Pause high.faults new) e between (b ++ p.taken) x info new.buffer broken) put.buffer p.passing in
+        let passing = subst (λ (n : ℕ). Passing (Pause n new) e s.sight.client (mid.buffer ++ p.taken) x info new.buffer broken) calm (subst (λ (y : Client). Passing (Pause high.faults new) e y (mid.buffer ++ p.taken) x info new.buffer broken) same rest) in
         record {
           taken = came.taken ++ p.taken;
           sent = sent;
           moved = subst (λ (l : List ℕ). Moved old new (came.taken ++ p.taken) l) (append-nil sent) whole;
-          exchange = extended.ends h c g (old.buffer ++ (came.taken ++ p.taken)) m (mid.buffer ++ p.taken) due (standing after (fresh c)) s e more x info new.buffer broken next ending syncs drained;
+          exchange = extended.ends h c g (old.buffer ++ (came.taken ++ p.taken)) m (mid.buffer ++ p.taken) due (standing after (fresh c)) s e more x info new.buffer broken next ending syncs passing;
           flushed = λ f _. still_flushed high new p.taken p.drew (mid_flushed f);
           halts = λ f none n some.
               let at = p.halts (put.goes_on.0 ∙ came.goes_on.0 ∙ none) n some in
@@ -184,25 +193,27 @@ module _ {H R : Type 0} (M : Meaning H R) (k : Kind) (h : H) (c : Client) (g : G
           at_end = λ none n some.
               let at = p.at_end (put.goes_on.0 ∙ came.goes_on.0 ∙ none) n some in
               halted_outcome more x broken at.0 (ends_with e x at.1 (ends_error M k h c g m due (standing after (fresh c)) e more ending));
+          well = went_on (outcome_behind more x broken ≡ Err client.IoError) old high new (well_on old mid high came_well (put_well mid high sent put)) (io_outcome more x broken (WentWell high new) p.well);
         }
 
     -- Sync was not sent
-    unsynced : (due : Frontend) (after : H) (s : Standing H) (more : Gathered R) (e x : ClientError) → EndsAnswer M k h c g m (Some due) (standing after (fresh c)) e more → M (standing after (fresh c)) sync s (Err x) → IsCaused x 0 0 s.sight.broken
+    unsynced : (due : Frontend) (after : H) (s : Standing H) (more : Gathered R) (e x : ClientError) → EndsAnswer M k h c g m (Some due) (standing after (fresh c)) e more → M (standing after (fresh c)) sync s (Err x) → IsCaused x 0 0 s.sight.broken → s.sight.broken ≡ false
         → Exchanged M k h c g old mid (finish (Err x) s.handler s.sight.client true mid.buffer)
-    unsynced due after s more e x ending heard caused =
-        ended (finish (Err x) s.handler s.sight.client true mid.buffer) refl (extended.unsynced h c g bytes m mid.buffer due (standing after (fresh c)) s e x more came.found ending heard caused)
+    unsynced due after s more e x ending heard caused usable =
+        ended (finish (Err x) s.handler s.sight.client true mid.buffer) refl (extended.unsynced h c g bytes m mid.buffer due (standing after (fresh c)) s e x more came.found ending heard caused usable)
 
-    unwritten : (new : Line) (due : Frontend) (after : H) (s : Standing H) (more : Gathered R) (e : ClientError) → EndsAnswer M k h c g m (Some due) (standing after (fresh c)) e more → M (standing after (fresh c)) sync s (Ok nothing) → PutSome s.sight.wrote mid new
+    unwritten : (new : Line) (due : Frontend) (after : H) (s : Standing H) (more : Gathered R) (e : ClientError) → EndsAnswer M k h c g m (Some due) (standing after (fresh c)) e more → M (standing after (fresh c)) sync s (Ok nothing) → s.sight.broken ≡ false → PutSome s.sight.wrote mid new
         → Exchanged M k h c g old new (finish (Err client.IoError) s.handler s.sight.client true new.buffer)
-    unwritten new due after s more e ending heard put = record {
+    unwritten new due after s more e ending heard usable put = record {
       taken = came.taken;
       sent = put.part;
       moved = moved_by old mid new came.taken put.part came.drew put.moved;
       exchange = subst (λ (b : List ℕ). Exchange M (Pause old.faults new) k h c g bytes put.part (finish (Err client.IoError) s.handler s.sight.client true b)) (sym put.buffer)
-          (extended.unwritten h c g bytes m mid.buffer due (standing after (fresh c)) s e more put.part came.found ending heard put.cut (rose_from mid.faults old.faults new.faults came.goes_on.1 put.rose));
-      flushed = λ f usable. no_more usable (IsFlushed new);
+          (extended.unwritten h c g bytes m mid.buffer due (standing after (fresh c)) s e more put.part came.found ending heard usable (cut_from mid.faults old.faults new s.sight.wrote put.part came.goes_on.1 put.cut));
+      flushed = λ f good. no_more good (IsFlushed new);
       halts = λ f. not_halted s.sight.client (length new.tape.wrote) old new (put.ended ∙ came.goes_on.0);
       at_end = not_at_end _ old new (put.ended ∙ came.goes_on.0);
+      well = inr refl;
     }
 
     -- Sync was due, and not sent
@@ -210,22 +221,22 @@ module _ {H R : Type 0} (M : Meaning H R) (k : Kind) (h : H) (c : Client) (g : G
         → Exchanged M k h c g old new (finish (Err x) handler info true new.buffer)
     unsent new due after handler info more e x r asked broken ending (steps.spares same stays info_is) is = absurd cc
     unsent new due after handler info more e x r asked broken ending (steps.sends s heard usable put info_is) is = absurd cc
-    unsent new due after handler info more e x r asked broken ending (steps.cuts s heard put info_is) is =
+    unsent new due after handler info more e x r asked broken ending (steps.cuts s heard usable put info_is) is =
         let i : client.IoError ≡ x = cc in
         subst (λ (y : ClientError). Exchanged M k h c g old new (finish (Err y) handler info true new.buffer)) i
-        (subst (λ (y : Client). Exchanged M k h c g old new (finish (Err client.IoError) handler y true new.buffer)) (sym info_is) (unwritten new due after (standing handler s) more e ending heard put))
-    unsent new due after handler info more e x r asked broken ending (steps.refuses s e2 heard caused same info_is) is =
+        (subst (λ (y : Client). Exchanged M k h c g old new (finish (Err client.IoError) handler y true new.buffer)) (sym info_is) (unwritten new due after (standing handler s) more e ending heard usable put))
+    unsent new due after handler info more e x r asked broken ending (steps.refuses s e2 heard caused usable same info_is) is =
         let i : e2 ≡ x = cc in
         subst (λ (y : ClientError). Exchanged M k h c g old new (finish (Err y) handler info true new.buffer)) i
         (subst (λ (y : Client). Exchanged M k h c g old new (finish (Err e2) handler y true new.buffer)) (sym info_is)
-        (subst (λ (l : Line). Exchanged M k h c g old l (finish (Err e2) handler s.client true l.buffer)) (sym same) (unsynced due after (standing handler s) more e e2 ending heard caused)))
+        (subst (λ (l : Line). Exchanged M k h c g old l (finish (Err e2) handler s.client true l.buffer)) (sym same) (unsynced due after (standing handler s) more e e2 ending heard caused usable)))
     unsent new due after handler info more e x r asked broken ending (steps.wants same) is =
         let i : client.OutOfMemory ≡ x = cc in
         subst (λ (y : ClientError). Exchanged M k h c g old new (finish (Err y) handler info true new.buffer)) i
         (subst (λ (l : Line). Exchanged M k h c g old l (finish (Err client.OutOfMemory) handler info true l.buffer)) (sym same) (ended_starved handler info))
 
     -- Sync was sent, where it was due
-    synced_passed : (high new : Line) (due : Option Frontend) (after handler : H) (between info : Client) (more : Gathered R) (e x : ClientError) (r : Result (Unit {0}) ClientError) (asked was broken : Bool) → asked ≡ is_some_due due → EndsAnswer M k h c g m due (standing after (fresh c)) e more
+    synced_passed : (high new : Line) (due : Option Frontend) (after handler : H) (between info : Client) (more : Gathered R) (e x : ClientError) (r : Result (Unit {0}) ClientError) (asked was broken : Bool) → asked ≡ is_some due → EndsAnswer M k h c g m due (standing after (fresh c)) e more
         → Synced M after c mid high handler between asked r was → r ≡ Ok tt → PassedOver e between high new x info broken → Exchanged M k h c g old new (finish (outcome_behind more x broken) handler info broken new.buffer)
     synced_passed high new None after handler between info more e x r asked was broken due_is ending (steps.spares same stays info_is) is p =
         let q = subst (λ (l : Line). PassedOver e between l new x info broken) same p in
@@ -235,21 +246,21 @@ module _ {H R : Type 0} (M : Meaning H R) (k : Kind) (h : H) (c : Client) (g : G
     synced_passed high new (Some due) after handler between info more e x r asked was broken due_is ending (steps.sends s heard usable put info_is) is p =
         ended_passed high new (Some due) after (standing handler s) between info more e x broken ending (heard, usable) put info_is p
     synced_passed high new None after handler between info more e x r asked was broken due_is ending (steps.sends s heard usable put info_is) is p = absurd cc
-    synced_passed high new due after handler between info more e x r asked was broken due_is ending (steps.cuts s heard put info_is) is p = absurd cc
-    synced_passed high new due after handler between info more e x r asked was broken due_is ending (steps.refuses s e2 heard caused same info_is) is p = absurd cc
+    synced_passed high new due after handler between info more e x r asked was broken due_is ending (steps.cuts s heard usable put info_is) is p = absurd cc
+    synced_passed high new due after handler between info more e x r asked was broken due_is ending (steps.refuses s e2 heard caused usable same info_is) is p = absurd cc
     synced_passed high new due after handler between info more e x r asked was broken due_is ending (steps.wants same) is p = absurd cc
 
     -- Sync not being due is no error
-    unsent_any : (new : Line) (due : Option Frontend) (after handler : H) (info : Client) (more : Gathered R) (e x : ClientError) (r : Result (Unit {0}) ClientError) (asked broken : Bool) → asked ≡ is_some_due due → EndsAnswer M k h c g m due (standing after (fresh c)) e more
+    unsent_any : (new : Line) (due : Option Frontend) (after handler : H) (info : Client) (more : Gathered R) (e x : ClientError) (r : Result (Unit {0}) ClientError) (asked broken : Bool) → asked ≡ is_some due → EndsAnswer M k h c g m due (standing after (fresh c)) e more
         → Synced M after c mid new handler info asked r broken → r ≡ Err x → Exchanged M k h c g old new (finish (Err x) handler info true new.buffer)
     unsent_any new (Some due) after handler info more e x r asked broken due_is ending synced is = unsent new due after handler info more e x r asked broken ending synced is
     unsent_any new None after handler info more e x r asked broken due_is ending (steps.spares same stays info_is) is = absurd cc
     unsent_any new None after handler info more e x r asked broken due_is ending (steps.sends s heard usable put info_is) is = absurd cc
-    unsent_any new None after handler info more e x r asked broken due_is ending (steps.cuts s heard put info_is) is = absurd cc
-    unsent_any new None after handler info more e x r asked broken due_is ending (steps.refuses s e2 heard caused same info_is) is = absurd cc
+    unsent_any new None after handler info more e x r asked broken due_is ending (steps.cuts s heard usable put info_is) is = absurd cc
+    unsent_any new None after handler info more e x r asked broken due_is ending (steps.refuses s e2 heard caused usable same info_is) is = absurd cc
     unsent_any new None after handler info more e x r asked broken due_is ending (steps.wants same) is = absurd cc
 
-    settled : (new : Line) (due : Option Frontend) (after handler : H) (info : Client) (more : Gathered R) (e : ClientError) (asked : Bool) (answer : Answer Bool) (broken : Bool) → asked ≡ is_some_due due → EndsAnswer M k h c g m due (standing after (fresh c)) e more
+    settled : (new : Line) (due : Option Frontend) (after handler : H) (info : Client) (more : Gathered R) (e : ClientError) (asked : Bool) (answer : Answer Bool) (broken : Bool) → asked ≡ is_some due → EndsAnswer M k h c g m due (standing after (fresh c)) e more
         → Settled M asked after c mid new e handler info answer broken → HeededNext M k h c g old new handler info more broken answer
     settled new due after handler info more e asked answer broken due_is ending (steps.stops x synced) = unsent_any new due after handler info more e x (Err x) asked true due_is ending synced refl
     settled new due after handler info more e asked answer broken due_is ending (steps.passes high between x broken2 was synced p) =
@@ -308,6 +319,7 @@ module _ {H R : Type 0} (M : Meaning H R) (k : Kind) where
         flushed = λ f usable. t.flushed (still_flushed old mid one.taken one.drew f) usable;
         halts = λ f none n some. t.halts (still_flushed old mid one.taken one.drew f) (one.goes_on.0 ∙ none) n some;
         at_end = λ none n some. t.at_end (one.goes_on.0 ∙ none) n some;
+        well = went_on (last.answer ≡ Err client.IoError) old mid new (drew_well old mid one.taken one.drew one.goes_on.1) t.well;
       }
 
 -- a message came, and what became of it followed

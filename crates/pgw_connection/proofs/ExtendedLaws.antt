@@ -31,7 +31,7 @@ use Rattle.pgw_connection.specs.Reading.{PassedOver}
 use Rattle.pgw_connection.specs.Calls.{Opens as Begins, starved, wrote, cut, refused}
 use Rattle.pgw_connection.specs.Extended.{Meaning, calls_for, call_for, RefusesBy, Opens, opened, goes, stops}
 use Rattle.pgw_connection.specs.ExtendedSteps as steps
-use Rattle.pgw_connection.specs.ExtendedSteps.{Heeded, heeds, refuses, wants, Took, Synced, spares, sends, cuts, Settled, passed_answer, is_due, is_some_due, answer_with, HeededOne, TookOne, Exchanged, HeededNext, Called, Answered, given}
+use Rattle.pgw_connection.specs.ExtendedSteps.{Heeded, heeds, refuses, wants, Took, Synced, spares, sends, cuts, Settled, passed_answer, is_due, answer_with, HeededOne, TookOne, Exchanged, HeededNext, Called, Answered, given}
 use Rattle.pgw_connection.proofs.CallLaws.{opened_well}
 
 -- ---- openings
@@ -131,10 +131,10 @@ synced_by M h handler c info s old new synced result e broken heard caused (star
 synced_by M h handler c info s old new synced result e broken heard caused (wrote usable put) is info_is = absurd cc
 synced_by M h handler c info s old new synced result e broken heard caused (cut usable put) is info_is =
     let x : client.IoError ≡ e = cc in
-    subst (λ (y : ClientError). Synced M h c old new handler info true (Err y) true) x (cuts s heard put info_is)
+    subst (λ (y : ClientError). Synced M h c old new handler info true (Err y) true) x (cuts s heard usable put info_is)
 synced_by M h handler c info s old new synced result e broken heard caused (refused e2 usable same) is info_is =
     let x : e2 ≡ e = cc in
-    subst (λ (y : ClientError). Synced M h c old new handler info true (Err y) true) x (steps.refuses s e2 heard caused same info_is)
+    subst (λ (y : ClientError). Synced M h c old new handler info true (Err y) true) x (steps.refuses s e2 heard caused usable same info_is)
 
 pub sync_ill : {H R : Type 0} (M : Meaning H R) (h handler : H) (c info : Client) (s0 s : Sight) (old new : Line) (due : Bool) (synced : Result (Unit {0}) ClientError) (e : ClientError) (broken : Bool) → due ≡ true → s0 ≡ fresh c → M (standing h s0) sync (standing handler s) (done synced)
     → OfError synced 0 0 s.broken → Begins s.broken s.wrote old new synced (Err e) broken → info ≡ s.client → Synced M h c old new handler info due (Err e) true

@@ -9,13 +9,13 @@ use Rattle.pgw_backend.specs.declared.backend.PgWireBackendMessage.{PgWireBacken
 use Rattle.pgw_backend.specs.declared.backend.PgWireBackendMessage.TheVariants as backend
 use Rattle.pgw_backend.specs.declared.client_error.PgWireClientError.{PgWireClientError as ClientError}
 use Rattle.pgw_backend.specs.declared.client_error.PgWireClientError.TheVariants as client
-use Rattle.pgw_link.specs.Tape.{Tape, Rose, Failed as LinkFailed, end_of, counted}
+use Rattle.pgw_link.specs.Tape.{Tape, end_of}
 use Rattle.pgw_client.specs.Wire.{Decoded}
 use Rattle.pgw_session.specs.Segments.{is_ready}
 use Rattle.pgw_handlers.specs.Client.{Client}
 use Rattle.pgw_handlers.specs.Handling.{IsCaused}
-use Rattle.pgw_connection.specs.Talk.{Next, Lack, unread, halts, starves as lack_starves, passes, is_remote, told, in_place_of, first_of, Drained, lacks, closes, goes, starves}
-use Rattle.pgw_connection.specs.Line.{Line, line, Pause, Halts, AtEnd, Drew}
+use Rattle.pgw_connection.specs.Talk.{Next, Lack, unread, halts, starves as lack_starves, passes, is_remote, told, in_place_of, first_of, Passing, lacks, closes, goes, starves}
+use Rattle.pgw_connection.specs.Line.{Line, line, Reasons, Pause, IsFlushed, WentWell, Halts, AtEnd, Drew}
 use Rattle.pgw_connection.specs.Reading.{GoesOn, Grew, Ended, Failed, Lost, ReadOnce, Found, Came, PassedOver}
 
 -- ---- bytes behind others
@@ -51,19 +51,37 @@ not_halted c flushed old new same none n some = absurd (let e : None ≡ Some n 
 pub not_at_end : (fact : Type 0) (old new : Line) → new.tape.ended ≡ old.tape.ended → AtEnd old new fact
 not_at_end fact old new same none n some = absurd (let e : None ≡ Some n = sym none ∙ sym same ∙ some in cc)
 
--- ---- one read
+-- ---- the link's calls went well
 
--- a failed read
-pub read_failed : (old new : Line) → LinkFailed old.tape new.tape (counted old.tape.reads) old.tape.writes → Rose old.faults new.faults → new.buffer ≡ old.buffer → new.read ≡ old.read → new.limit ≡ old.limit → Failed old new client.IoError
-read_failed old new f rose buffer read limit = record {
-  drew = record { left = sym f.left; wrote = f.wrote; flushed = f.flushed; read = omega (arith, read); limit = limit };
-  buffer = buffer;
-  ended = f.ended;
-  pause = rose;
-}
+pub still_flushed : (old new : Line) (taken : List ℕ) → Drew old new taken → IsFlushed old → IsFlushed new
+still_flushed old new taken d f = d.flushed ∙ f ∙ ap length (sym d.wrote)
 
-pub read_at_limit : (old : Line) → old.read ≡ old.limit → Failed old old client.ReadLimit
-read_at_limit old is = record { drew = record { left = refl; wrote = refl; flushed = refl; read = omega arith; limit = refl }; buffer = refl; ended = refl; pause = is }
+pub drew_well : (old new : Line) (taken : List ℕ) → Drew old new taken → new.faults ≡ old.faults → WentWell old new
+drew_well old new taken d calm = (calm, λ f. still_flushed old new taken d f)
+
+pub well_still : (old : Line) → WentWell old old
+well_still old = (refl, λ f. f)
+
+pub well_on : (old mid new : Line) → WentWell old mid → WentWell mid new → WentWell old new
+well_on old mid new a b = (b.0 ∙ a.0, λ f. b.1 (a.1 f))
+
+-- up to there, and from there on, but for an answer
+pub went_on : (A : Type 0) (old mid new : Line) → WentWell old mid → WentWell mid new ⊎ A → WentWell old new ⊎ A
+went_on A old mid new a (inl b) = inl (well_on old mid new a b)
+went_on A old mid new a (inr x) = inr x
+
+-- an answer that is an error
+abbrev pub failed : (A : Type 0) → ClientError → Result A ClientError
+failed A e = Err e
+
+-- it is IoError exactly where the error is
+pub io_of : (A W : Type 0) (e : ClientError) → W ⊎ (failed A e ≡ Err client.IoError) → W ⊎ (e ≡ client.IoError)
+io_of A W e (inl w) = inl w
+io_of A W e (inr is) = inr cc
+
+pub io_answer : (A W : Type 0) (e : ClientError) → W ⊎ (e ≡ client.IoError) → W ⊎ (failed A e ≡ Err client.IoError)
+io_answer A W e (inl w) = inl w
+io_answer A W e (inr is) = inr (ap (failed A) is)
 
 -- ---- the message at the front
 
@@ -80,6 +98,7 @@ came_on c old mid new r grew came = record {
   halts = λ none n some. let h = came.halts (grew.goes_on.0 ∙ none) n some in (h.0 ∙ grew.drew.flushed, h.1);
   at_end = λ none n some. came.at_end (grew.goes_on.0 ∙ none) n some;
   goes_on = on_ok_weaker r (λ (g : GoesOn mid new). (g.0 ∙ grew.goes_on.0, g.1 ∙ grew.goes_on.1)) came.goes_on;
+  well = went_on (r ≡ Err client.IoError) old mid new (drew_well old mid grew.piece grew.drew grew.goes_on.1) came.well;
 }
 
 -- it stands in the buffer
@@ -91,13 +110,10 @@ came_whole c t faults was now read limit m d = record {
   halts = not_halted c t.flushed (line t faults was read limit) (line t faults now read limit) refl;
   at_end = not_at_end (Ok m ≡ Err client.UnexpectedEOF) (line t faults was read limit) (line t faults now read limit) refl;
   goes_on = (refl, refl);
+  well = inl (refl, λ f. f);
 }
 
--- an answer that is no message
-abbrev failed : ClientError → Result Backend ClientError
-failed e = Err e
-
-lack_of : (P : ClientError → Type 0) (c : Client) (bytes rest : List ℕ) (e : ClientError) → Decoded c.protocol_version bytes rest (Err e) → Lack P c bytes rest e
+lack_of : (P : Reasons) (c : Client) (bytes rest : List ℕ) (e : ClientError) → Decoded c.protocol_version bytes rest (Err e) → Lack P c bytes rest e
 lack_of P c bytes rest client.OutOfMemory d = lack_starves rest
 lack_of P c bytes rest e d =
     let bad = d.1 (λ is. cc) in
@@ -112,12 +128,13 @@ came_refused c t faults was now read limit e d =
       drew = drew_none t faults was now read limit;
       found = subst (λ (b : List ℕ). Lack (Pause faults new) c b now e) (sym (append-nil was)) (lack_of (Pause faults new) c was now e d);
       halts = not_halted c t.flushed (line t faults was read limit) new refl;
-      at_end = not_at_end (failed e ≡ Err client.UnexpectedEOF) (line t faults was read limit) new refl;
+      at_end = not_at_end (failed Backend e ≡ Err client.UnexpectedEOF) (line t faults was read limit) new refl;
       goes_on = tt;
+      well = inl (refl, λ f. f);
     }
 
 -- no more bytes came
-lack_more : (P : ClientError → Type 0) (c : Client) (was now : List ℕ) (e : ClientError) → front c.protocol_version was ≡ More → now ≡ was → P e → Lack P c (was ++ []) now e
+lack_more : (P : Reasons) (c : Client) (was now : List ℕ) (e : ClientError) → front c.protocol_version was ≡ More → now ≡ was → P.halts e → Lack P c (was ++ []) now e
 lack_more P c was now e more same why =
     subst (λ (b : List ℕ). Lack P c b now e) (sym (append-nil was)) (subst (λ (b : List ℕ). Lack P c was b e) (sym same) (halts e more why))
 
@@ -132,6 +149,7 @@ came_ended c old new more e = record {
   );
   at_end = λ none n some. refl;
   goes_on = tt;
+  well = inl (drew_well old new [] e.drew e.faults);
 }
 
 came_lost : (c : Client) (old new : Line) → Lost old new → Came c old new (Err client.OutOfMemory)
@@ -140,31 +158,44 @@ came_lost c old new l = record {
   drew = l.drew;
   found = lack_starves new.buffer;
   halts = not_halted c old.tape.flushed old new l.ended;
-  at_end = not_at_end (failed client.OutOfMemory ≡ Err client.UnexpectedEOF) old new l.ended;
+  at_end = not_at_end (failed Backend client.OutOfMemory ≡ Err client.UnexpectedEOF) old new l.ended;
   goes_on = tt;
+  well = inl (drew_well old new l.piece l.drew l.faults);
 }
 
-came_failed : (c : Client) (old new : Line) (e : ClientError) → front c.protocol_version old.buffer ≡ More → Failed old new e → Came c old new (Err e)
-came_failed c old new e more f = record {
+came_failed : (c : Client) (old new : Line) → front c.protocol_version old.buffer ≡ More → Failed old new → Came c old new (Err client.IoError)
+came_failed c old new more f = record {
   taken = [];
   drew = f.drew;
-  found = lack_more (Pause old.faults new) c old.buffer new.buffer e more f.buffer f.pause;
+  found = lack_more (Pause old.faults new) c old.buffer new.buffer client.IoError more f.buffer f.rose;
   halts = not_halted c old.tape.flushed old new f.ended;
-  at_end = not_at_end (failed e ≡ Err client.UnexpectedEOF) old new f.ended;
+  at_end = not_at_end (failed Backend client.IoError ≡ Err client.UnexpectedEOF) old new f.ended;
   goes_on = tt;
+  well = inr refl;
+}
+
+came_limited : (c : Client) (old : Line) → front c.protocol_version old.buffer ≡ More → old.read ≡ old.limit → Came c old old (Err client.ReadLimit)
+came_limited c old more at = record {
+  taken = [];
+  drew = drew_none old.tape old.faults old.buffer old.buffer old.read old.limit;
+  found = lack_more (Pause old.faults old) c old.buffer old.buffer client.ReadLimit more refl at;
+  halts = not_halted c old.tape.flushed old old refl;
+  at_end = not_at_end (failed Backend client.ReadLimit ≡ Err client.UnexpectedEOF) old old refl;
+  goes_on = tt;
+  well = inl (well_still old);
 }
 
 pub came_unread : (c : Client) (old new : Line) (e : ClientError) → front c.protocol_version old.buffer ≡ More → ReadOnce old new (Err e) → Came c old new (Err e)
 came_unread c old new client.OutOfMemory more r = came_lost c old new r
-came_unread c old new client.IoError more r = came_failed c old new client.IoError more r
-came_unread c old new client.ReadLimit more r = came_failed c old new client.ReadLimit more r
-came_unread c old new e more r = came_failed c old new e more r
+came_unread c old new client.IoError more r = came_failed c old new more r
+came_unread c old new client.ReadLimit more r = subst (λ (l : Line). Came c old l (Err client.ReadLimit)) (sym r.0) (came_limited c old more r.1)
+came_unread c old new e more r = absurd r
 
 -- ---- messages passed over
 
-passed_as : (e x : ClientError) (c last : Client) (before was : ℕ) (now : Line) (bytes other left : List ℕ) (broken : Bool) → before ≡ was → bytes ≡ other → Drained (Pause before now) e c bytes x last left broken → Drained (Pause was now) e c other x last left broken
+passed_as : (e x : ClientError) (c last : Client) (before was : ℕ) (now : Line) (bytes other left : List ℕ) (broken : Bool) → before ≡ was → bytes ≡ other → Passing (Pause before now) e c bytes x last left broken → Passing (Pause was now) e c other x last left broken
 passed_as e x c last before was now bytes other left broken faults same d =
-    subst (λ (n : ℕ). Drained (Pause n now) e c other x last left broken) faults (subst (λ (b : List ℕ). Drained (Pause before now) e c b x last left broken) same d)
+    subst (λ (n : ℕ). Passing (Pause n now) e c other x last left broken) faults (subst (λ (b : List ℕ). Passing (Pause before now) e c b x last left broken) same d)
 
 abbrev PassedEnd : ClientError → ClientError → Bool → Type 0
 PassedEnd e x broken = (broken ≡ true) × ((x ≡ e) ⊎ ((e ≡ client.UnexpectedEOF) × (is_remote x ≡ true)))
@@ -198,37 +229,46 @@ passed_on e x c last old mid new m broken came quiet p =
     record {
       taken = came.taken ++ p.taken;
       drew = drew_on old mid new came.taken p.taken came.drew p.drew;
-      drained = goes e c (old.buffer ++ (came.taken ++ p.taken)) m (mid.buffer ++ p.taken) x last new.buffer broken next quiet
-          (passed_as (first_of e m) x (told m c) last mid.faults old.faults new (mid.buffer ++ p.taken) (mid.buffer ++ p.taken) new.buffer broken came.goes_on.1 refl p.drained);
+      passing = goes e c (old.buffer ++ (came.taken ++ p.taken)) m (mid.buffer ++ p.taken) x last new.buffer broken next quiet
+          (passed_as (first_of e m) x (told m c) last mid.faults old.faults new (mid.buffer ++ p.taken) (mid.buffer ++ p.taken) new.buffer broken came.goes_on.1 refl p.passing);
       halts = λ none n some. let h = p.halts (came.goes_on.0 ∙ none) n some in (h.0 ∙ came.drew.flushed, h.1);
       at_end = λ none n some. let h = p.at_end (came.goes_on.0 ∙ none) n some in (h.0, first_stays e x m h.1);
+      well = went_on (x ≡ client.IoError) old mid new (drew_well old mid came.taken came.drew came.goes_on.1) p.well;
     }
 
 pub passed_all : (e : ClientError) (c : Client) (old new : Line) (m : Backend) → Came c old new (Ok m) → is_ready m ≡ true → PassedOver e c old new e (told m c) false
 passed_all e c old new m came ready = record {
   taken = came.taken;
   drew = came.drew;
-  drained = closes e c (old.buffer ++ came.taken) m new.buffer came.found ready;
+  passing = closes e c (old.buffer ++ came.taken) m new.buffer came.found ready;
   halts = not_halted (told m c) old.tape.flushed old new came.goes_on.0;
   at_end = not_at_end (PassedEnd e e false) old new came.goes_on.0;
+  well = inl (drew_well old new came.taken came.drew came.goes_on.1);
 }
+
+-- a failure that is answered in an error's place
+io_in_place : (W : Type 0) (e x : ClientError) → W ⊎ (x ≡ client.IoError) → W ⊎ (in_place_of e x ≡ client.IoError)
+io_in_place W e x (inl w) = inl w
+io_in_place W e x (inr is) = inr (ap (in_place_of e) is)
 
 pub passed_none : (e x : ClientError) (c : Client) (old new : Line) → Came c old new (Err x) → PassedOver e c old new (in_place_of e x) c true
 passed_none e x c old new came = record {
   taken = came.taken;
   drew = came.drew;
-  drained = lacks e c (old.buffer ++ came.taken) new.buffer x came.found;
+  passing = lacks e c (old.buffer ++ came.taken) new.buffer x came.found;
   halts = came.halts;
   at_end = λ none n some. (refl, inl (let is : x ≡ client.UnexpectedEOF = (let same = came.at_end none n some in cc) in ap (in_place_of e) is));
+  well = io_in_place (WentWell old new) e x (io_of Backend (WentWell old new) x came.well);
 }
 
 pub passed_starved : (e : ClientError) (c : Client) (old new : Line) (m : Backend) → Came c old new (Ok m) → PassedOver e c old new client.OutOfMemory c true
 passed_starved e c old new m came = record {
   taken = came.taken;
   drew = came.drew;
-  drained = starves e c (old.buffer ++ came.taken) new.buffer;
+  passing = starves e c (old.buffer ++ came.taken) new.buffer;
   halts = not_halted c old.tape.flushed old new came.goes_on.0;
   at_end = not_at_end (PassedEnd e client.OutOfMemory true) old new came.goes_on.0;
+  well = inl (drew_well old new came.taken came.drew came.goes_on.1);
 }
 
 -- what is taken is gone from the buffer

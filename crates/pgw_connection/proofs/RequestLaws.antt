@@ -1,5 +1,5 @@
 -- A request of extended queries, and its answer.
-use Rattle.std.proofs.Common.{◌≡◌, ℕ, Bool, true, false, not, List, [], ◌++◌, length, Result, Ok, Err, refl, sym, subst, ◌∙◌, arith}
+use Rattle.std.proofs.Common.{◌≡◌, ℕ, Bool, true, false, not, List, [], ◌++◌, length, Result, Ok, Err, refl, sym, subst, ◌∙◌, arith, inl, inr}
 use Rattle.std.proofs.lemmas.List.{append-nil}
 use Rattle.pgw_frontend.specs.declared.frontend.PgWireFrontendMessage.{PgWireFrontendMessage as Frontend}
 use Rattle.pgw_backend.specs.declared.client_error.PgWireClientError.{PgWireClientError as ClientError}
@@ -11,13 +11,13 @@ use Rattle.pgw_handlers.specs.Client.{Client, Sight}
 use Rattle.pgw_handlers.specs.Handling.{standing, IsCaused, OfError}
 use Rattle.pgw_connection.specs.declared.gathered.Gathered.{Gathered}
 use Rattle.pgw_connection.specs.Talk.{fresh, is_refusal}
-use Rattle.pgw_connection.specs.Line.{Line, Pause, Moved}
+use Rattle.pgw_connection.specs.Line.{Line, Reasons, Pause, Moved}
 use Rattle.pgw_connection.specs.Calls.{PutAll, PutSome, Opens as Begins, starved, wrote, cut, refused}
 use Rattle.pgw_connection.specs.Extended.{Meaning, calls_for, Opens, none_gathered, Finish, finish, Exchange, Requested}
 use Rattle.pgw_connection.specs.Extended as extended
 use Rattle.pgw_connection.specs.ExtendedSteps.{Exchanged, Called, Answered, given}
-use Rattle.pgw_connection.proofs.ReadingLaws.{not_halted, not_at_end}
-use Rattle.pgw_connection.proofs.CallLaws.{moved_on, opened_well}
+use Rattle.pgw_connection.proofs.ReadingLaws.{not_halted, not_at_end, well_still, went_on}
+use Rattle.pgw_connection.proofs.CallLaws.{put_well, moved_on, opened_well}
 use Rattle.pgw_connection.proofs.ExchangeLaws.{exchange_as}
 
 moved_still : (old : Line) → Moved old old [] []
@@ -33,6 +33,7 @@ called_starved M q h handler c info old = record {
   flushed = λ f good. f;
   halts = λ f. not_halted info (length old.tape.wrote) old old refl;
   at_end = not_at_end _ old old refl;
+  well = inl (well_still old);
 }
 
 module _ {H R : Type 0} (M : Meaning H R) (q : Request) (h handler : H) (c : Client) (s : Sight) (old : Line) where
@@ -49,23 +50,25 @@ module _ {H R : Type 0} (M : Meaning H R) (q : Request) (h handler : H) (c : Cli
         flushed = λ f good. t.flushed (put.flushed f) good;
         halts = λ f none n some. t.halts (put.flushed f) (put.goes_on.0 ∙ none) n some;
         at_end = λ none n some. t.at_end (put.goes_on.0 ∙ none) n some;
+        well = went_on (last.answer ≡ Err client.IoError) old mid new (put_well old mid s.wrote put) t.well;
       }
 
-  bytes_are : (sent : List ℕ) (P : ClientError → Type 0) (e : ClientError) (info : Client) (broken : Bool) (rest : List ℕ) → rest ≡ old.buffer
+  bytes_are : (sent : List ℕ) (P : Reasons) (e : ClientError) (info : Client) (broken : Bool) (rest : List ℕ) → rest ≡ old.buffer
       → Requested M P q h c old.buffer sent (finish (Err e) handler info broken old.buffer) → Requested M P q h c (old.buffer ++ []) sent (finish (Err e) handler info broken rest)
   bytes_are sent P e info broken rest same a =
       subst (λ (b : List ℕ). Requested M P q h c b sent (finish (Err e) handler info broken rest)) (sym (append-nil old.buffer))
       (subst (λ (b : List ℕ). Requested M P q h c old.buffer sent (finish (Err e) handler info broken b)) (sym same) a)
 
-  called_cut : (new : Line) → Opens M (calls_for (sends_of q)) (standing h (fresh c)) (standing handler s) (Ok tt) → PutSome s.wrote old new → Called M q h c old new (finish (Err client.IoError) handler s.client true new.buffer)
-  called_cut new o put = record {
+  called_cut : (new : Line) → Opens M (calls_for (sends_of q)) (standing h (fresh c)) (standing handler s) (Ok tt) → s.broken ≡ false → PutSome s.wrote old new → Called M q h c old new (finish (Err client.IoError) handler s.client true new.buffer)
+  called_cut new o usable put = record {
     taken = [];
     sent = put.part;
     moved = put.moved;
-    requested = bytes_are put.part (Pause old.faults new) client.IoError s.client true new.buffer put.buffer (extended.unwritten (standing handler s) put.part o put.cut put.rose);
+    requested = bytes_are put.part (Pause old.faults new) client.IoError s.client true new.buffer put.buffer (extended.unwritten (standing handler s) put.part o usable put.cut);
     flushed = λ f good. absurd (let no : true ≡ false = good in cc);
     halts = λ f. not_halted s.client (length new.tape.wrote) old new put.ended;
     at_end = not_at_end _ old new put.ended;
+    well = inr refl;
   }
 
   called_refused : (e : ClientError) → Opens M (calls_for (sends_of q)) (standing h (fresh c)) (standing handler s) (Err e) → s.broken ≡ false → IsCaused e 0 0 s.broken → (b : Bool) → is_refusal e ≡ b → Called M q h c old old (finish (Err e) handler s.client (not b) old.buffer)
@@ -77,15 +80,17 @@ module _ {H R : Type 0} (M : Meaning H R) (q : Request) (h handler : H) (c : Cli
     flushed = λ f good. f;
     halts = λ f. not_halted s.client (length old.tape.wrote) old old refl;
     at_end = not_at_end _ old old refl;
+    well = inl (well_still old);
   }
   called_refused e o usable caused false is = record {
     taken = [];
     sent = [];
     moved = moved_still old;
-    requested = bytes_are [] (Pause old.faults old) e s.client true old.buffer refl (extended.breaks (standing handler s) e o is caused);
+    requested = bytes_are [] (Pause old.faults old) e s.client true old.buffer refl (extended.breaks (standing handler s) e o is caused usable);
     flushed = λ f good. f;
     halts = λ f. not_halted s.client (length old.tape.wrote) old old refl;
     at_end = not_at_end _ old old refl;
+    well = inl (well_still old);
   }
 
   called_ended : (new : Line) (opened result : Result (Unit {0}) ClientError) (e : ClientError) (broken : Bool) → Opens M (calls_for (sends_of q)) (standing h (fresh c)) (standing handler s) opened → OfError opened 0 0 s.broken
@@ -97,7 +102,7 @@ module _ {H R : Type 0} (M : Meaning H R) (q : Request) (h handler : H) (c : Cli
   called_ended new opened result e broken o caused (wrote usable put) is = absurd cc
   called_ended new opened result e broken o caused (cut usable put) is =
       let x : client.IoError ≡ e = cc in
-      subst (λ (y : ClientError). Called M q h c old new (finish (Err y) handler s.client true new.buffer)) x (called_cut new o put)
+      subst (λ (y : ClientError). Called M q h c old new (finish (Err y) handler s.client true new.buffer)) x (called_cut new o usable put)
   called_ended new opened result e broken o caused (refused e2 usable same) is =
       let x : e2 ≡ e = cc in
       subst (λ (y : ClientError). Called M q h c old new (finish (Err y) handler s.client (not (is_refusal e2)) new.buffer)) x

@@ -8,14 +8,14 @@ use Rattle.pgw_backend.specs.declared.client_error.PgWireClientError.{PgWireClie
 use Rattle.pgw_backend.specs.declared.client_error.PgWireClientError.TheVariants as client
 use Rattle.pgw_backend.specs.declared.backend.PgWireBackendMessage.{PgWireBackendMessage as Backend}
 use Rattle.pgw_config.specs.declared.config.Config.{Config}
-use Rattle.pgw_link.specs.Tape.{Tape, Rose}
+use Rattle.pgw_link.specs.Tape.{Tape}
 use Rattle.pgw_session.specs.Segments.{is_ready}
 use Rattle.pgw_handlers.specs.Client.{Client, Sight}
 use Rattle.pgw_handlers.specs.Handling.{Standing, standing, Answer}
 use Rattle.pgw_handlers.specs.declared.client_info.ReadyState.{ReadyState}
 use Rattle.pgw_handlers.specs.declared.client_info.ReadyState.TheVariants.{Pending, Ready}
 use Rattle.pgw_connection.specs.Talk.{fresh, Next, End, end, Hearing, Talk, Asked, IsCut, passes, is_refusal}
-use Rattle.pgw_connection.specs.Line.{Line, Pause, IsFlushed, Halts, AtEnd, Moved}
+use Rattle.pgw_connection.specs.Line.{Line, Pause, IsFlushed, WentWell, Halts, AtEnd, Moved}
 use Rattle.pgw_connection.specs.Reading.{GoesOn, PassedOver}
 
 -- ---- what no handler changes
@@ -66,14 +66,13 @@ pub record PutAll (bytes : List ℕ) (old new : Line) : Type 0 where
   pub flushed : IsFlushed old → IsFlushed new
   pub goes_on : GoesOn old new
 
--- a part of it was written
+-- a part of it was written, or it was not flushed
 pub record PutSome (bytes : List ℕ) (old new : Line) : Type 0 where
   pub part : List ℕ
-  pub cut : IsCut bytes part
+  pub cut : IsCut (Pause old.faults new) bytes part
   pub moved : Moved old new [] part
   pub buffer : new.buffer ≡ old.buffer
   pub ended : new.tape.ended ≡ old.tape.ended
-  pub rose : Rose old.faults new.faults
 
 abbrev pub Puts : List ℕ → Line → Line → Result (Unit {0}) ClientError → Type 0
 Puts bytes old new (Ok done) = PutAll bytes old new
@@ -94,7 +93,7 @@ pub data Opens (was : Bool) (out : List ℕ) (old new : Line) : Result (Unit {0}
 pub data GivesUp (goes_on : ClientError → Bool) (closing : Bool) (c : Client) (old new : Line) : ClientError → ClientError → Client → Bool → Type 0 where
   breaks : (e : ClientError) → goes_on e ≡ false → new ≡ old → GivesUp goes_on closing c old new e e c true
   fails : (e : ClientError) → goes_on e ≡ true → closing ≡ true → new ≡ old → GivesUp goes_on closing c old new e e c false
-  drains : (e x : ClientError) (last : Client) (broken : Bool) → goes_on e ≡ true → closing ≡ false → PassedOver e c old new x last broken → GivesUp goes_on closing c old new e x last broken
+  passes_over : (e x : ClientError) (last : Client) (broken : Bool) → goes_on e ≡ true → closing ≡ false → PassedOver e c old new x last broken → GivesUp goes_on closing c old new e x last broken
 
 -- What becomes of its answer.
 pub data Follows {T : Type 0} (goes_on : ClientError → Bool) (closing was : Bool) (out : List ℕ) (c : Client) (old new : Line) : Answer T → Answer T → Client → Bool → Type 0 where
@@ -133,6 +132,7 @@ pub record Talked {H A : Type 0} (M : Hearing H A) (goes_on : ClientError → Bo
   pub moved : Moved old new taken sent
   pub talk : Talk M (Pause old.faults new) goes_on h c (old.buffer ++ taken) sent last
   pub flushed : IsFlushed old → last.broken ≡ false → IsFlushed new
+  pub well : WentWell old new ⊎ (last.answer ≡ Err client.IoError)
   pub halts : IsFlushed old → Halts last.info (length new.tape.wrote) old new
   pub at_end : AtEnd old new (IsHalted goes_on last.answer last.broken)
 
@@ -145,7 +145,8 @@ HeardNext M goes_on h c old new handler info broken (Err e) = Talked M goes_on h
 -- ---- a call
 
 -- A call of a client, as its handler means it: what it read and wrote, that what it read is counted, that a usable client
--- has flushed all that it wrote, and that the link's end, where it was first answered in this call, was asked for a message
+-- has flushed all that it wrote, that behind any answer but IoError no call of the link failed and all that was written is
+-- flushed, if all was before, and that the link's end, where it was first answered in this call, was asked for a message
 -- that was awaited, with all flushed, and is what the call answers, or the error behind which it passed messages over.
 pub record Call {H A : Type 0} (opens : Standing H → Standing H → Answer A → Type 0) (M : Hearing H A) (goes_on : ClientError → Bool) (h : H) (c : Client) (old new : Line) (last : End A) : Type 0 where
   pub taken : List ℕ
@@ -153,6 +154,7 @@ pub record Call {H A : Type 0} (opens : Standing H → Standing H → Answer A �
   pub moved : Moved old new taken sent
   pub asked : Asked opens M (Pause old.faults new) goes_on h c (old.buffer ++ taken) sent last
   pub flushed : IsFlushed old → last.broken ≡ false → IsFlushed new
+  pub well : WentWell old new ⊎ (last.answer ≡ Err client.IoError)
   pub halts : IsFlushed old → Halts last.info (length new.tape.wrote) old new
   pub at_end : AtEnd old new (IsHalted goes_on last.answer last.broken)
 

@@ -15,12 +15,13 @@ use Rattle.pgw_frontend.specs.declared.frontend.PgWireFrontendMessage.TheVariant
 use Rattle.pgw_session.specs.declared.types.Request.{Request}
 use Rattle.pgw_handlers.specs.Client.{Client}
 use Rattle.pgw_handlers.specs.Handling.{Standing, standing, IsCaused}
-use Rattle.pgw_handlers.specs.Extended.{ExtendedCall, parse, bind, execute, describe, close, sync, flush, on_parameter_description, on_row_description, on_data_row, on_command_complete, on_portal_suspended, Reply, Gift, nothing, types, columns, response, tag}
-use Rattle.pgw_connection.specs.Talk.{fresh, Next, Lack, Drained, told, IsCut, is_refusal}
+use Rattle.pgw_handlers.specs.Extended.{ExtendedCall, parse, bind, execute, describe, close, sync, flush, on_parameter_description, on_row_description, on_data_row, on_command_complete, on_portal_suspended, Given, Gift, nothing, types, columns, response, tag}
+use Rattle.pgw_connection.specs.Line.{Reasons}
+use Rattle.pgw_connection.specs.Talk.{fresh, Next, Lack, Passing, told, IsCut, is_refusal}
 use Rattle.pgw_connection.specs.declared.gathered.Gathered.{Gathered}
 
 abbrev pub Meaning : Type 0 → Type 0 → Type 1
-Meaning H R = Standing H → ExtendedCall → Standing H → Reply R → Type 0
+Meaning H R = Standing H → ExtendedCall → Standing H → Given R → Type 0
 
 -- of no message
 abbrev pub none_gathered : {R : Type 0} → Gathered R
@@ -96,9 +97,9 @@ pub data EndsAnswer {H R : Type 0} (M : Meaning H R) (k : Kind) (h : H) (c : Cli
   failing : (m : ErrorResponse) → EndsAnswer M k h c g (backend.ErrorResponse m) (behind_error k) (standing h (fresh c)) (client.RemoteError m) g
 
 -- From a handler, what the client knows and what was gathered, over the bytes to come, to the bytes written and the end:
--- the messages of one call, by the table of requests (`role`). P says why no more bytes came, or why bytes were not
+-- the messages of one call, by the table of requests (`role`). P says why no more bytes came, and why bytes were not
 -- written.
-pub data Exchange {H R : Type 0} (M : Meaning H R) (P : ClientError → Type 0) (k : Kind) : H → Client → Gathered R → List ℕ → List ℕ → Finish H R → Type 0 where
+pub data Exchange {H R : Type 0} (M : Meaning H R) (P : Reasons) (k : Kind) : H → Client → Gathered R → List ℕ → List ℕ → Finish H R → Type 0 where
   lacks : (h : H) (c : Client) (g : Gathered R) (bytes rest : List ℕ) (e : ClientError) → Lack P c bytes rest e → Exchange M P k h c g bytes [] (finish (Err e) h c true rest)
   -- a message is taken
   takes : (h : H) (c : Client) (g : Gathered R) (bytes : List ℕ) (m : Backend) (rest : List ℕ) (rows : Bool) (after : H) (more : Gathered R) (sent : List ℕ) (last : Finish H R) →
@@ -108,13 +109,14 @@ pub data Exchange {H R : Type 0} (M : Meaning H R) (P : ClientError → Type 0) 
       Next c bytes m rest → role k false m ≡ Closing → Heeds M h c g m after more → Exchange M P k h c g bytes [] (finish (Ok (more, is_suspended m)) after (told m c) false rest)
   -- it ends the answer: Sync is sent where one is due, and what comes is passed over up to ReadyForQuery
   ends : (h : H) (c : Client) (g : Gathered R) (bytes : List ℕ) (m : Backend) (rest : List ℕ) (due : Option Frontend) (before s : Standing H) (e : ClientError) (more : Gathered R) (x : ClientError) (last : Client) (left : List ℕ) (broken : Bool) →
-      Next c bytes m rest → EndsAnswer M k h c g m due before e more → Syncs M due before s → Drained P e s.sight.client rest x last left broken →
+      Next c bytes m rest → EndsAnswer M k h c g m due before e more → Syncs M due before s → Passing P e s.sight.client rest x last left broken →
       Exchange M P k h c g bytes s.sight.wrote (finish (outcome_behind more x broken) s.handler last broken left)
-  -- Sync is not sent: the handler answers an error, and what it put is dropped; or it is not written whole
+  -- Sync is not sent: the handler answers an error, and what it put is dropped; or it is not written whole,
+  -- or not flushed
   unsynced : (h : H) (c : Client) (g : Gathered R) (bytes : List ℕ) (m : Backend) (rest : List ℕ) (due : Frontend) (before after : Standing H) (e x : ClientError) (more : Gathered R) →
-      Next c bytes m rest → EndsAnswer M k h c g m (Some due) before e more → M before sync after (Err x) → IsCaused x 0 0 after.sight.broken → Exchange M P k h c g bytes [] (finish (Err x) after.handler after.sight.client true rest)
+      Next c bytes m rest → EndsAnswer M k h c g m (Some due) before e more → M before sync after (Err x) → IsCaused x 0 0 after.sight.broken → after.sight.broken ≡ false → Exchange M P k h c g bytes [] (finish (Err x) after.handler after.sight.client true rest)
   unwritten : (h : H) (c : Client) (g : Gathered R) (bytes : List ℕ) (m : Backend) (rest : List ℕ) (due : Frontend) (before after : Standing H) (e : ClientError) (more : Gathered R) (part : List ℕ) →
-      Next c bytes m rest → EndsAnswer M k h c g m (Some due) before e more → M before sync after (Ok nothing) → IsCut after.sight.wrote part → P client.IoError →
+      Next c bytes m rest → EndsAnswer M k h c g m (Some due) before e more → M before sync after (Ok nothing) → after.sight.broken ≡ false → IsCut P after.sight.wrote part →
       Exchange M P k h c g bytes part (finish (Err client.IoError) after.handler after.sight.client true rest)
   -- the handler refuses a message that has a place
   refuses : (h : H) (c : Client) (g : Gathered R) (bytes : List ℕ) (m : Backend) (rest : List ℕ) (after : H) (e : ClientError) →
@@ -145,14 +147,14 @@ pub data Opens {H R : Type 0} (M : Meaning H R) : List ExtendedCall → Standing
   stops : (call : ExtendedCall) (calls : List ExtendedCall) (s s1 : Standing H) (e : ClientError) → M s call s1 (Err e) → Opens M (call ∷ calls) s s1 (Err e)
 
 -- The request's messages are opened by the handler and written as one piece before the first message is heard.
-pub data Requested {H R : Type 0} (M : Meaning H R) (P : ClientError → Type 0) (q : Request) (h : H) (c : Client) (bytes : List ℕ) : List ℕ → Finish H R → Type 0 where
+pub data Requested {H R : Type 0} (M : Meaning H R) (P : Reasons) (q : Request) (h : H) (c : Client) (bytes : List ℕ) : List ℕ → Finish H R → Type 0 where
   opened : (after : Standing H) (sent : List ℕ) (last : Finish H R) → Opens M (calls_for (sends_of q)) (standing h (fresh c)) after (Ok tt) → after.sight.broken ≡ false →
       Exchange M P (kind_of q) after.handler after.sight.client none_gathered bytes sent last → Requested M P q h c bytes (after.sight.wrote ++ sent) last
-  unwritten : (after : Standing H) (part : List ℕ) → Opens M (calls_for (sends_of q)) (standing h (fresh c)) after (Ok tt) → IsCut after.sight.wrote part → P client.IoError →
+  unwritten : (after : Standing H) (part : List ℕ) → Opens M (calls_for (sends_of q)) (standing h (fresh c)) after (Ok tt) → after.sight.broken ≡ false → IsCut P after.sight.wrote part →
       Requested M P q h c bytes part (finish (Err client.IoError) after.handler after.sight.client true bytes)
   -- nothing is written; where the encoder refuses a message, the client stays usable
   refused : (after : Standing H) (e : ClientError) → Opens M (calls_for (sends_of q)) (standing h (fresh c)) after (Err e) → is_refusal e ≡ true → after.sight.broken ≡ false →
       Requested M P q h c bytes [] (finish (Err e) after.handler after.sight.client false bytes)
-  breaks : (after : Standing H) (e : ClientError) → Opens M (calls_for (sends_of q)) (standing h (fresh c)) after (Err e) → is_refusal e ≡ false → IsCaused e 0 0 after.sight.broken →
+  breaks : (after : Standing H) (e : ClientError) → Opens M (calls_for (sends_of q)) (standing h (fresh c)) after (Err e) → is_refusal e ≡ false → IsCaused e 0 0 after.sight.broken → after.sight.broken ≡ false →
       Requested M P q h c bytes [] (finish (Err e) after.handler after.sight.client true bytes)
   starves : (after : H) (last : Client) (rest : List ℕ) → Requested M P q h c bytes [] (finish (Err client.OutOfMemory) after last true rest)

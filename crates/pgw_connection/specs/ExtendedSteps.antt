@@ -1,5 +1,5 @@
 -- What the steps of a call of extended queries leave.
-use Rattle.std.specs.Prelude.{◌≡◌, ℕ, Bool, true, false, ◌||◌, List, ◌++◌, length, Option, Some, None, Result, Ok, Err}
+use Rattle.std.specs.Prelude.{◌≡◌, ◌⊎◌, ℕ, Bool, true, false, ◌||◌, List, ◌++◌, length, is_some, Result, Ok, Err}
 use Rattle.pgw_backend.specs.declared.backend.PgWireBackendMessage.{PgWireBackendMessage as Backend}
 use Rattle.pgw_backend.specs.ClientError.{IsUnexpected}
 use Rattle.pgw_backend.specs.declared.client_error.PgWireClientError.{PgWireClientError as ClientError}
@@ -8,7 +8,6 @@ use Rattle.pgw_session.specs.declared.stage.Kind.{Kind}
 use Rattle.pgw_session.specs.declared.stage.Role.TheVariants.{Taken, Closing, Completing, Failing, Misplaced}
 use Rattle.pgw_session.specs.declared.types.Request.{Request}
 use Rattle.pgw_session.specs.Requests.{role, behind_error}
-use Rattle.pgw_frontend.specs.declared.frontend.PgWireFrontendMessage.{PgWireFrontendMessage as Frontend}
 use Rattle.pgw_handlers.specs.Client.{Client, Sight}
 use Rattle.pgw_handlers.specs.Handling.{standing, Answer, IsCaused}
 use Rattle.pgw_handlers.specs.Extended.{sync, nothing}
@@ -16,7 +15,7 @@ use Rattle.pgw_handlers.specs.declared.client_info.ReadyState.{ReadyState}
 use Rattle.pgw_handlers.specs.declared.client_info.ReadyState.TheVariants.{Pending, Ready}
 use Rattle.pgw_connection.specs.declared.gathered.Gathered.{Gathered}
 use Rattle.pgw_connection.specs.Talk.{fresh, Next, told, first_of, is_remote, is_refusal}
-use Rattle.pgw_connection.specs.Line.{Line, Pause, IsFlushed, Halts, AtEnd, Drew, Moved}
+use Rattle.pgw_connection.specs.Line.{Line, Pause, IsFlushed, WentWell, Halts, AtEnd, Drew, Moved}
 use Rattle.pgw_connection.specs.Reading.{GoesOn, PassedOver}
 use Rattle.pgw_connection.specs.Calls.{IsHalted, PutAll, PutSome}
 use Rattle.pgw_connection.specs.Extended.{Meaning, call_for, Heeds, RefusesBy, Finish, finish, is_suspended, Exchange, Requested}
@@ -38,12 +37,8 @@ pub data Took {H R : Type 0} (M : Meaning H R) (h : H) (c : Client) (g : Gathere
 -- ---- behind the end of an answer
 
 -- whether Sync is due behind the server's error
-abbrev pub is_some_due : Option Frontend → Bool
-is_some_due None = false
-is_some_due (Some m) = true
-
 abbrev pub is_due : Kind → Bool
-is_due k = is_some_due (behind_error k)
+is_due k = is_some (behind_error k)
 
 -- no error leaves a usable client
 abbrev pub no_error : ClientError → Bool
@@ -53,8 +48,8 @@ no_error e = false
 pub data Synced {H R : Type 0} (M : Meaning H R) (h : H) (c : Client) (old new : Line) (after : H) (info : Client) : Bool → Result (Unit {0}) ClientError → Bool → Type 0 where
   spares : new ≡ old → after ≡ h → info ≡ c → Synced M h c old new after info false (Ok tt) false
   sends : (s : Sight) → M (standing h (fresh c)) sync (standing after s) (Ok nothing) → s.broken ≡ false → PutAll s.wrote old new → info ≡ s.client → Synced M h c old new after info true (Ok tt) false
-  cuts : (s : Sight) → M (standing h (fresh c)) sync (standing after s) (Ok nothing) → PutSome s.wrote old new → info ≡ s.client → Synced M h c old new after info true (Err client.IoError) true
-  refuses : (s : Sight) (e : ClientError) → M (standing h (fresh c)) sync (standing after s) (Err e) → IsCaused e 0 0 s.broken → new ≡ old → info ≡ s.client → Synced M h c old new after info true (Err e) true
+  cuts : (s : Sight) → M (standing h (fresh c)) sync (standing after s) (Ok nothing) → s.broken ≡ false → PutSome s.wrote old new → info ≡ s.client → Synced M h c old new after info true (Err client.IoError) true
+  refuses : (s : Sight) (e : ClientError) → M (standing h (fresh c)) sync (standing after s) (Err e) → IsCaused e 0 0 s.broken → s.broken ≡ false → new ≡ old → info ≡ s.client → Synced M h c old new after info true (Err e) true
   wants : new ≡ old → Synced M h c old new after info true (Err client.OutOfMemory) true
 
 -- the answer of messages that were passed over
@@ -107,6 +102,7 @@ pub record Exchanged {H R : Type 0} (M : Meaning H R) (k : Kind) (h : H) (c : Cl
   pub moved : Moved old new taken sent
   pub exchange : Exchange M (Pause old.faults new) k h c g (old.buffer ++ taken) sent last
   pub flushed : IsFlushed old → last.broken ≡ false → IsFlushed new
+  pub well : WentWell old new ⊎ (last.answer ≡ Err client.IoError)
   pub halts : IsFlushed old → Halts last.info (length new.tape.wrote) old new
   pub at_end : AtEnd old new (IsHalted is_remote last.answer last.broken)
 
@@ -129,6 +125,7 @@ pub record Called {H R : Type 0} (M : Meaning H R) (q : Request) (h : H) (c : Cl
   pub moved : Moved old new taken sent
   pub requested : Requested M (Pause old.faults new) q h c (old.buffer ++ taken) sent last
   pub flushed : IsFlushed old → last.broken ≡ false → IsFlushed new
+  pub well : WentWell old new ⊎ (last.answer ≡ Err client.IoError)
   pub halts : IsFlushed old → Halts last.info (length new.tape.wrote) old new
   pub at_end : AtEnd old new (IsHalted is_remote last.answer last.broken)
 

@@ -24,16 +24,32 @@ pub record IsAtEnd (now : Line) : Type 0 where
   pub below : now.read < now.limit
   pub asked : (n : ℕ) × (now.tape.ended ≡ Some n)
 
--- Why no more bytes came, or bytes were not written: by the faults before a call, and what the call left.
-abbrev pub Pause : ℕ → Line → ClientError → Type 0
-Pause before now client.IoError = Rose before now.faults
-Pause before now client.ReadLimit = now.read ≡ now.limit
-Pause before now client.UnexpectedEOF = IsAtEnd now
-Pause before now e = ⊥
-
 -- all that was written is flushed
 abbrev pub IsFlushed : Line → Type 0
 IsFlushed now = now.tape.flushed ≡ length now.tape.wrote
+
+-- the link's calls went well, and all that was written is flushed, if all was before
+abbrev pub WentWell : Line → Line → Type 0
+WentWell old new = (new.faults ≡ old.faults) × (IsFlushed old → IsFlushed new)
+
+-- Why a call does not go on: why no more bytes came, by the error that is answered; and why these last bytes of a piece
+-- were not written, or, where there are none, the piece was not flushed.
+pub record Reasons : Type 1 where
+  pub halts : ClientError → Type 0
+  pub unsent : List ℕ → Type 0
+
+-- by the faults before a call, and what the call left
+abbrev pub HaltsBy : ℕ → Line → ClientError → Type 0
+HaltsBy before now client.IoError = Rose before now.faults
+HaltsBy before now client.ReadLimit = now.read ≡ now.limit
+HaltsBy before now client.UnexpectedEOF = IsAtEnd now
+HaltsBy before now e = ⊥
+
+abbrev pub IsUnsent : ℕ → Line → List ℕ → Type 0
+IsUnsent before now lost = Rose before now.faults × (lost ≡ [] → IsFlushed now → ⊥)
+
+abbrev pub Pause : ℕ → Line → Reasons
+Pause before now = record { halts = HaltsBy before now; unsent = IsUnsent before now }
 
 -- where the link's end was first answered, so many bytes had been flushed, and a message was still awaited
 abbrev pub Halts : Client → ℕ → Line → Line → Type 0

@@ -4,10 +4,10 @@ use Rattle.std.specs.Prelude.{◌≡◌, ◌⊎◌, ◌<◌, ℕ, ◌+◌, lengt
 use Rattle.pgw_backend.specs.declared.backend.PgWireBackendMessage.{PgWireBackendMessage as Backend}
 use Rattle.pgw_backend.specs.declared.client_error.PgWireClientError.{PgWireClientError as ClientError}
 use Rattle.pgw_backend.specs.declared.client_error.PgWireClientError.TheVariants as client
-use Rattle.pgw_link.specs.Tape.{end_of}
+use Rattle.pgw_link.specs.Tape.{Rose, counted, end_of}
 use Rattle.pgw_handlers.specs.Client.{Client}
-use Rattle.pgw_connection.specs.Talk.{Next, Lack, Drained, is_remote}
-use Rattle.pgw_connection.specs.Line.{Line, IsAtEnd, Pause, Halts, AtEnd, Drew}
+use Rattle.pgw_connection.specs.Talk.{Next, Lack, Passing, is_remote}
+use Rattle.pgw_connection.specs.Line.{Line, IsAtEnd, Reasons, Pause, WentWell, Halts, AtEnd, Drew}
 
 -- the link's calls went well, and its end was not answered
 abbrev pub GoesOn : Line → Line → Type 0
@@ -20,6 +20,7 @@ pub record Grew (old new : Line) : Type 0 where
   pub drew : Drew old new piece
   pub buffer : new.buffer ≡ old.buffer ++ piece
   pub goes_on : GoesOn old new
+  pub reads : new.tape.reads ≡ counted old.tape.reads
 
 -- the link's end was answered
 pub record Ended (old new : Line) : Type 0 where
@@ -28,13 +29,15 @@ pub record Ended (old new : Line) : Type 0 where
   pub ended : new.tape.ended ≡ end_of old.tape.ended old.tape.flushed
   pub at_end : IsAtEnd new
   pub faults : new.faults ≡ old.faults
+  pub reads : new.tape.reads ≡ counted old.tape.reads
 
--- no bytes came
-pub record Failed (old new : Line) (e : ClientError) : Type 0 where
+-- the link's read failed
+pub record Failed (old new : Line) : Type 0 where
   pub drew : Drew old new []
   pub buffer : new.buffer ≡ old.buffer
   pub ended : new.tape.ended ≡ old.tape.ended
-  pub pause : Pause old.faults new e
+  pub rose : Rose old.faults new.faults
+  pub reads : new.tape.reads ≡ counted old.tape.reads
 
 -- bytes came that could not be kept
 pub record Lost (old new : Line) : Type 0 where
@@ -42,20 +45,24 @@ pub record Lost (old new : Line) : Type 0 where
   pub drew : Drew old new piece
   pub buffer : new.buffer ≡ old.buffer
   pub ended : new.tape.ended ≡ old.tape.ended
+  pub faults : new.faults ≡ old.faults
+  pub reads : new.tape.reads ≡ counted old.tape.reads
 
--- one read
+-- one read, or none where the limit is reached
 abbrev pub ReadOnce : Line → Line → Result Bool ClientError → Type 0
 ReadOnce old new (Ok true) = Grew old new
 ReadOnce old new (Ok false) = Ended old new
 ReadOnce old new (Err client.OutOfMemory) = Lost old new
-ReadOnce old new (Err e) = Failed old new e
+ReadOnce old new (Err client.IoError) = Failed old new
+ReadOnce old new (Err client.ReadLimit) = (new ≡ old) × (old.read ≡ old.limit)
+ReadOnce old new (Err e) = ⊥
 
 -- how many bytes the message at the front has, by its length field; or those up to that field's end, where it is not whole
 abbrev pub awaited : List ℕ → ℕ
 awaited bytes = if nat_lt (length bytes) 5 then 5 else 1 + stated_length 1 bytes
 
 -- a message, or why there is none
-abbrev pub Found : (ClientError → Type 0) → Client → List ℕ → Result Backend ClientError → List ℕ → Type 0
+abbrev pub Found : Reasons → Client → List ℕ → Result Backend ClientError → List ℕ → Type 0
 Found P c bytes (Ok m) rest = Next c bytes m rest
 Found P c bytes (Err e) rest = Lack P c bytes rest e
 
@@ -67,11 +74,13 @@ pub record Came (c : Client) (old new : Line) (result : Result Backend ClientErr
   pub halts : Halts c old.tape.flushed old new
   pub at_end : AtEnd old new (result ≡ Err client.UnexpectedEOF)
   pub goes_on : OnOk result (GoesOn old new)
+  pub well : WentWell old new ⊎ (result ≡ Err client.IoError)
 
 -- behind an error the messages were passed over
 pub record PassedOver (e : ClientError) (c : Client) (old new : Line) (x : ClientError) (last : Client) (broken : Bool) : Type 0 where
   pub taken : List ℕ
   pub drew : Drew old new taken
-  pub drained : Drained (Pause old.faults new) e c (old.buffer ++ taken) x last new.buffer broken
+  pub passing : Passing (Pause old.faults new) e c (old.buffer ++ taken) x last new.buffer broken
   pub halts : Halts last old.tape.flushed old new
   pub at_end : AtEnd old new ((broken ≡ true) × ((x ≡ e) ⊎ ((e ≡ client.UnexpectedEOF) × (is_remote x ≡ true))))
+  pub well : WentWell old new ⊎ (x ≡ client.IoError)

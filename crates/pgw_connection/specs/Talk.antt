@@ -1,6 +1,6 @@
 -- What a call of a client comes to, by the meaning of its handler: over the bytes that stood in the client's buffer and
 -- those that were read, and the bytes written.
-use Rattle.std.specs.Prelude.{◌≡◌, ◌≢◌, ◌⊎◌, ℕ, Bool, true, false, List, [], ◌++◌, drop, Result, Ok, Err}
+use Rattle.std.specs.Prelude.{◌≡◌, ◌≢◌, ℕ, Bool, true, false, List, [], ◌++◌, drop, Result, Ok, Err}
 use Rattle.std.specs.FinMap as map
 use Rattle.pgw_backend.specs.Front.{front, More, Bad, Whole}
 use Rattle.pgw_types.specs.declared.error.PgWireError.{PgWireError}
@@ -13,6 +13,7 @@ use Rattle.pgw_handlers.specs.Client.{Client, Sight}
 use Rattle.pgw_handlers.specs.Handling.{Standing, standing, Answer, IsCaused}
 use Rattle.pgw_handlers.specs.declared.client_info.ReadyState.{ReadyState}
 use Rattle.pgw_handlers.specs.declared.client_info.ReadyState.TheVariants.{Pending, Ready}
+use Rattle.pgw_connection.specs.Line.{Reasons}
 
 -- What a handler sees of a client as one of its functions is called: nothing sent yet, and a client that can be used.
 abbrev pub fresh : Client → Sight
@@ -34,9 +35,9 @@ Next c bytes m rest = (len : ℕ) × (front c.protocol_version bytes ≡ Whole m
 
 -- Why no message was taken: the bytes cannot be read; or they end within a message, and no more came, of which P says
 -- why; or memory was wanting, and then the bytes left are not told.
-pub data Lack (P : ClientError → Type 0) (c : Client) (bytes : List ℕ) : List ℕ → ClientError → Type 0 where
+pub data Lack (P : Reasons) (c : Client) (bytes : List ℕ) : List ℕ → ClientError → Type 0 where
   unread : (why : PgWireError) → front c.protocol_version bytes ≡ Bad why → Lack P c bytes bytes (client.PgWireError why)
-  halts : (e : ClientError) → front c.protocol_version bytes ≡ More → P e → Lack P c bytes bytes e
+  halts : (e : ClientError) → front c.protocol_version bytes ≡ More → P.halts e → Lack P c bytes bytes e
   starves : (rest : List ℕ) → Lack P c bytes rest client.OutOfMemory
 
 -- ---- behind an error the messages are passed over up to ReadyForQuery
@@ -59,12 +60,12 @@ first_of e m = e
 
 -- From an error (UnexpectedEOF: none yet), what the client knows and the bytes to come, to the error behind them, what the
 -- client knows then, the bytes left, and whether it cannot be used any more.
-pub data Drained (P : ClientError → Type 0) : ClientError → Client → List ℕ → ClientError → Client → List ℕ → Bool → Type 0 where
-  lacks : (e : ClientError) (c : Client) (bytes rest : List ℕ) (x : ClientError) → Lack P c bytes rest x → Drained P e c bytes (in_place_of e x) c rest true
-  closes : (e : ClientError) (c : Client) (bytes : List ℕ) (m : Backend) (rest : List ℕ) → Next c bytes m rest → is_ready m ≡ true → Drained P e c bytes e (told m c) rest false
+pub data Passing (P : Reasons) : ClientError → Client → List ℕ → ClientError → Client → List ℕ → Bool → Type 0 where
+  lacks : (e : ClientError) (c : Client) (bytes rest : List ℕ) (x : ClientError) → Lack P c bytes rest x → Passing P e c bytes (in_place_of e x) c rest true
+  closes : (e : ClientError) (c : Client) (bytes : List ℕ) (m : Backend) (rest : List ℕ) → Next c bytes m rest → is_ready m ≡ true → Passing P e c bytes e (told m c) rest false
   goes : (e : ClientError) (c : Client) (bytes : List ℕ) (m : Backend) (rest : List ℕ) (x : ClientError) (last : Client) (left : List ℕ) (broken : Bool) →
-      Next c bytes m rest → is_ready m ≡ false → Drained P (first_of e m) (told m c) rest x last left broken → Drained P e c bytes x last left broken
-  starves : (e : ClientError) (c : Client) (bytes rest : List ℕ) → Drained P e c bytes client.OutOfMemory c rest true
+      Next c bytes m rest → is_ready m ≡ false → Passing P (first_of e m) (told m c) rest x last left broken → Passing P e c bytes x last left broken
+  starves : (e : ClientError) (c : Client) (bytes rest : List ℕ) → Passing P e c bytes client.OutOfMemory c rest true
 
 -- an error behind which a client goes on, once ReadyForQuery has come
 abbrev pub passes : ClientError → Bool
@@ -83,13 +84,14 @@ is_remote e = false
 abbrev pub Hearing : Type 0 → Type 0 → Type 1
 Hearing H A = Standing H → Backend → Standing H → Answer A → Type 0
 
--- a piece of which this part was written (an empty one is neither written nor flushed)
-abbrev pub IsCut : List ℕ → List ℕ → Type 0
-IsCut bytes part = (bytes ≢ []) × (lost : List ℕ) × (bytes ≡ part ++ lost)
+-- A piece of which this part was written, which P says why. It may be all of it, where it was not flushed. (An empty
+-- piece is neither written nor flushed.)
+abbrev pub IsCut : Reasons → List ℕ → List ℕ → Type 0
+IsCut P bytes part = (bytes ≢ []) × (lost : List ℕ) × (bytes ≡ part ++ lost) × P.unsent lost
 
 -- From a handler and what the client knows, over the bytes to come, to the bytes written and the end. P says why no more
--- bytes came, or why bytes were not written; `goes_on` behind which errors a client goes on.
-pub data Talk {H A : Type 0} (M : Hearing H A) (P : ClientError → Type 0) (goes_on : ClientError → Bool) : H → Client → List ℕ → List ℕ → End A → Type 0 where
+-- bytes came, and why bytes were not written; `goes_on` behind which errors a client goes on.
+pub data Talk {H A : Type 0} (M : Hearing H A) (P : Reasons) (goes_on : ClientError → Bool) : H → Client → List ℕ → List ℕ → End A → Type 0 where
   lacks : (h : H) (c : Client) (bytes rest : List ℕ) (e : ClientError) → Lack P c bytes rest e → Talk M P goes_on h c bytes [] (end (Err e) c true rest)
   -- a message is heard, what the handler sent is written, and the call goes on; that is no ReadyForQuery
   hears : (h : H) (c : Client) (bytes : List ℕ) (m : Backend) (rest : List ℕ) (after : Standing H) (sent : List ℕ) (last : End A) →
@@ -99,23 +101,23 @@ pub data Talk {H A : Type 0} (M : Hearing H A) (P : ClientError → Type 0) (goe
   closes : (h : H) (c : Client) (bytes : List ℕ) (m : Backend) (rest : List ℕ) (after : Standing H) (x : A) →
       Next c bytes m rest → M (standing h (fresh c)) m after (Ok (Ready x)) → after.sight.broken ≡ false → is_ready m ≡ true →
       Talk M P goes_on h c bytes after.sight.wrote (end (Ok x) after.sight.client false rest)
-  -- what the handler sent was not written whole
+  -- what the handler sent was not written whole, or not flushed
   unwritten : (h : H) (c : Client) (bytes : List ℕ) (m : Backend) (rest : List ℕ) (after : Standing H) (answer : ReadyState A) (part : List ℕ) →
-      Next c bytes m rest → M (standing h (fresh c)) m after (Ok answer) → IsCut after.sight.wrote part → P client.IoError →
+      Next c bytes m rest → M (standing h (fresh c)) m after (Ok answer) → after.sight.broken ≡ false → IsCut P after.sight.wrote part →
       Talk M P goes_on h c bytes part (end (Err client.IoError) after.sight.client true rest)
   -- the handler's error ends the client; what it sent is not written. By itself it makes no IoError, since a desk's faults
   -- stay 0.
   breaks : (h : H) (c : Client) (bytes : List ℕ) (m : Backend) (rest : List ℕ) (after : Standing H) (e : ClientError) →
-      Next c bytes m rest → M (standing h (fresh c)) m after (Err e) → IsCaused e 0 0 after.sight.broken → (goes_on e ≡ false) ⊎ (after.sight.broken ≡ true) →
+      Next c bytes m rest → M (standing h (fresh c)) m after (Err e) → IsCaused e 0 0 after.sight.broken → goes_on e ≡ false → after.sight.broken ≡ false →
       Talk M P goes_on h c bytes [] (end (Err e) after.sight.client true rest)
   -- it ends the call alone: behind ReadyForQuery at once,
   fails : (h : H) (c : Client) (bytes : List ℕ) (m : Backend) (rest : List ℕ) (after : Standing H) (e : ClientError) →
       Next c bytes m rest → M (standing h (fresh c)) m after (Err e) → goes_on e ≡ true → after.sight.broken ≡ false → is_ready m ≡ true →
       Talk M P goes_on h c bytes [] (end (Err e) after.sight.client false rest)
   -- else once that has come
-  drains : (h : H) (c : Client) (bytes : List ℕ) (m : Backend) (rest : List ℕ) (after : Standing H) (e x : ClientError) (last : Client) (left : List ℕ) (broken : Bool) →
+  passes_over : (h : H) (c : Client) (bytes : List ℕ) (m : Backend) (rest : List ℕ) (after : Standing H) (e x : ClientError) (last : Client) (left : List ℕ) (broken : Bool) →
       Next c bytes m rest → M (standing h (fresh c)) m after (Err e) → goes_on e ≡ true → after.sight.broken ≡ false → is_ready m ≡ false →
-      Drained P e after.sight.client rest x last left broken → Talk M P goes_on h c bytes [] (end (Err x) last broken left)
+      Passing P e after.sight.client rest x last left broken → Talk M P goes_on h c bytes [] (end (Err x) last broken left)
   -- memory was wanting, in the client or in what the handler sent
   starves : (h : H) (c : Client) (bytes : List ℕ) (last : Client) (rest : List ℕ) → Talk M P goes_on h c bytes [] (end (Err client.OutOfMemory) last true rest)
 
@@ -128,14 +130,14 @@ is_refusal e = false
 
 -- The handler opens a call, and its opening is written as one piece before the first message is heard. `opens` is the
 -- handler's meaning of the opening function.
-pub data Asked {H A : Type 0} (opens : Standing H → Standing H → Answer A → Type 0) (M : Hearing H A) (P : ClientError → Type 0) (goes_on : ClientError → Bool) (h : H) (c : Client) (bytes : List ℕ) : List ℕ → End A → Type 0 where
+pub data Asked {H A : Type 0} (opens : Standing H → Standing H → Answer A → Type 0) (M : Hearing H A) (P : Reasons) (goes_on : ClientError → Bool) (h : H) (c : Client) (bytes : List ℕ) : List ℕ → End A → Type 0 where
   opened : (after : Standing H) (sent : List ℕ) (last : End A) → opens (standing h (fresh c)) after (Ok Pending) → after.sight.broken ≡ false →
       Talk M P goes_on after.handler after.sight.client bytes sent last → Asked opens M P goes_on h c bytes (after.sight.wrote ++ sent) last
-  unwritten : (after : Standing H) (part : List ℕ) → opens (standing h (fresh c)) after (Ok Pending) → IsCut after.sight.wrote part → P client.IoError →
+  unwritten : (after : Standing H) (part : List ℕ) → opens (standing h (fresh c)) after (Ok Pending) → after.sight.broken ≡ false → IsCut P after.sight.wrote part →
       Asked opens M P goes_on h c bytes part (end (Err client.IoError) after.sight.client true bytes)
   -- nothing is written; where the encoder refuses a message, the client stays usable
   refused : (after : Standing H) (e : ClientError) → opens (standing h (fresh c)) after (Err e) → is_refusal e ≡ true → after.sight.broken ≡ false →
       Asked opens M P goes_on h c bytes [] (end (Err e) after.sight.client false bytes)
-  breaks : (after : Standing H) (e : ClientError) → opens (standing h (fresh c)) after (Err e) → IsCaused e 0 0 after.sight.broken → (is_refusal e ≡ false) ⊎ (after.sight.broken ≡ true) →
+  breaks : (after : Standing H) (e : ClientError) → opens (standing h (fresh c)) after (Err e) → IsCaused e 0 0 after.sight.broken → is_refusal e ≡ false → after.sight.broken ≡ false →
       Asked opens M P goes_on h c bytes [] (end (Err e) after.sight.client true bytes)
   starves : (last : Client) (rest : List ℕ) → Asked opens M P goes_on h c bytes [] (end (Err client.OutOfMemory) last true rest)

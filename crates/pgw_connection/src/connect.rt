@@ -244,7 +244,8 @@ fn send_once<D: Dialer>(bytes: &[u8], address: &Address, dialer: &mut D) -> PgWi
 
 impl<L: Link> PgWireClient<L> {
     /// Connects to the server at the address of a configuration, and logs in as the handler does. At most `limit` bytes
-    /// are read over the link. It dials once at most, and the link is closed where the login fails.
+    /// are read over the link. It dials once at most, and the link is closed where the login fails; of a dialer that does
+    /// not tell, as one over sockets, no clause says these two.
     pub fn connect<D: Dialer<Link = L>, S: StartupHandler + Drop>(
         alloc: Global,
         config: Config,
@@ -271,8 +272,8 @@ impl<L: Link> PgWireClient<L> {
         }
     }
 
-    /// Asks the server to cancel what it does for this client: over a link of its own, which is closed behind that. It
-    /// dials once at most, and the client's own link stays as it is.
+    /// Asks the server to cancel what it does for this client: over a link of its own, which is closed behind that (where
+    /// the dialer tells). It dials once at most, and the client's own link stays as it is.
     pub fn cancel<D: Dialer>(&self, alloc: Global, dialer: &mut D) -> PgWireClientResult<()>
         ensures broken { self.now.desk.broken ≡ true → (result ≡ Err client.Broken) × (dialer.new ≡ dialer.old) }
         // One request was written to a link to the client's address and flushed; or why not.

@@ -17,7 +17,7 @@ use crate::reading::first_of;
 use pgw_backend::backend::PgWireBackendMessage;
 use pgw_backend::client_error::{PgWireClientError, PgWireClientResult, unexpected};
 use pgw_client::requests::{kind_of, sends_of};
-use pgw_client::table::role;
+use pgw_client::table::{behind_error, role};
 use pgw_ext::extendedquery::Sync;
 use pgw_handlers::{ExtendedQueryHandler, ReadyState};
 use pgw_link::link::Link;
@@ -30,10 +30,7 @@ use std::alloc::Global;
 fn is_due(kind: Kind) -> bool
     ensures { result ≡ is_due kind }
 {
-    match kind {
-        Kind::Bind | Kind::Execute | Kind::DescribePortal => true,
-        _ => false,
-    }
+    behind_error(kind).is_some()
 }
 
 // Whether the message says that a portal was suspended.
@@ -115,7 +112,7 @@ impl<L: Link> PgWireClient<L> {
     {
         match self.sync(alloc, handler, due) {
             Ok(()) => {
-                let passed = self.drain(alloc, error);
+                let passed = self.pass_over(alloc, error);
                 passed_answer(passed, self.desk.broken)
             }
             Err(error) => Err(error),

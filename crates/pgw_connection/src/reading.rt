@@ -87,8 +87,8 @@ impl<L: Link> PgWireClient<L> {
         ensures below { IsErrOf result client.ReadLimit → self.old.read ≡ self.old.limit }
         // It reads once: true comes only where bytes came.
         ensures grows { result ≡ Ok true → self.old.read < self.new.read }
-        // What was read stands behind what stood in the buffer; where the end is answered first, what it finds flushed is
-        // what was flushed before.
+        // The link is read once, or not at all where the limit is reached. What was read stands behind what stood in the
+        // buffer; where the end is answered first, what it finds flushed is what was flushed before.
         ensures reads { L.tells → self.old.desk.broken ≡ false → ReadOnce
             (line (L.tape self.old.link) (L.faults self.old.link) self.old.inbox self.old.read self.old.limit)
             (line (L.tape self.new.link) (L.faults self.new.link) self.new.inbox self.new.read self.new.limit) result }
@@ -173,7 +173,11 @@ impl<L: Link> PgWireClient<L> {
 
     // Passes messages over up to ReadyForQuery, and gives the error that is answered then. UnexpectedEOF stands for none
     // yet.
-    pub(crate) fn drain(&mut self, alloc: Global, mut error: PgWireClientError) -> PgWireClientError
+    pub(crate) fn pass_over(
+        &mut self,
+        alloc: Global,
+        mut error: PgWireClientError,
+    ) -> PgWireClientError
         requires usable { self.old.desk.broken ≡ false }
         requires own { IsCaused error 0 0 false }
         ensures limit { self.new.limit ≡ self.old.limit }

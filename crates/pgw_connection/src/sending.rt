@@ -54,6 +54,7 @@ impl<L: Link> PgWireClient<L> {
         ensures clean { L.tells → OnOk result (L.faults self.new.link ≡ L.faults self.old.link) }
         ensures wrote { L.tells → OnOk result (Wrote (L.tape self.old.link) (L.tape self.new.link) self.old.desk.out.items) }
         ensures failed { L.tells → OnErr result (WroteSome (L.tape self.old.link) (L.tape self.new.link) self.old.desk.out.items) }
+        ensures within { L.tells → (L.tape self.old.link).flushed ≤ length (L.tape self.old.link).wrote }
     {
         match send(&mut self.link, self.desk.out.as_slice()) {
             Ok(()) => Ok(()),
@@ -136,7 +137,7 @@ impl<L: Link> PgWireClient<L> {
         if closing {
             return error;
         }
-        self.drain(alloc, error)
+        self.pass_over(alloc, error)
     }
 
     // What becomes of a handler's answer: what it sent is written, or it gives up.

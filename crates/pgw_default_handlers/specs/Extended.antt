@@ -10,20 +10,20 @@ use Rattle.pgw_frontend.specs.Frontend.{encoding}
 use Rattle.pgw_handlers.specs.Sending.{Sent, NotSent}
 use Rattle.pgw_handlers.specs.Handling.{Standing}
 use Rattle.pgw_handlers.specs.Extended as call
-use Rattle.pgw_handlers.specs.Extended.{ExtendedCall, Gift, Reply, nothing, types, columns, response, tag}
+use Rattle.pgw_handlers.specs.Extended.{ExtendedCall, Gift, Given, nothing, types, columns, response, tag}
 use Rattle.pgw_default_handlers.specs.declared.extended.DefaultExtendedQueryHandler.{DefaultExtendedQueryHandler}
 
 -- a message is sent
-abbrev pub Sends : Frontend → Standing DefaultExtendedQueryHandler → Standing DefaultExtendedQueryHandler → Reply DataRow → Type 0
+abbrev pub Sends : Frontend → Standing DefaultExtendedQueryHandler → Standing DefaultExtendedQueryHandler → Given DataRow → Type 0
 Sends m before after (Ok gift) = Sent (encoding m) before.sight after.sight × (gift ≡ nothing)
 Sends m before after (Err e) = NotSent (encoding m) before.sight after.sight e
 
 -- this is given, unless memory runs out
-abbrev pub Gives : Gift DataRow → Standing DefaultExtendedQueryHandler → Standing DefaultExtendedQueryHandler → Reply DataRow → Type 0
+abbrev pub Gives : Gift DataRow → Standing DefaultExtendedQueryHandler → Standing DefaultExtendedQueryHandler → Given DataRow → Type 0
 Gives told before after (Ok gift) = (after ≡ before) × (gift ≡ told)
 Gives told before after (Err e) = (after ≡ before) × (e ≡ OutOfMemory)
 
-abbrev pub ExtendedMeans : Standing DefaultExtendedQueryHandler → ExtendedCall → Standing DefaultExtendedQueryHandler → Reply DataRow → Type 0
+abbrev pub ExtendedMeans : Standing DefaultExtendedQueryHandler → ExtendedCall → Standing DefaultExtendedQueryHandler → Given DataRow → Type 0
 ExtendedMeans before (call.parse m) after reply = Sends (frontend.Parse m) before after reply
 ExtendedMeans before (call.bind m) after reply = Sends (frontend.Bind m) before after reply
 ExtendedMeans before (call.execute m) after reply = Sends (frontend.Execute m) before after reply

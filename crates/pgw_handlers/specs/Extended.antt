@@ -37,25 +37,25 @@ pub data Gift (R : Type 0) : Type 0 where
   response : R → Gift R
   tag : Tag → Gift R
 
-abbrev pub Reply : Type 0 → Type 0
-Reply R = Result (Gift R) ClientError
+abbrev pub Given : Type 0 → Type 0
+Given R = Result (Gift R) ClientError
 
-abbrev pub done : {R : Type 0} → Result (Unit {0}) ClientError → Reply R
+abbrev pub done : {R : Type 0} → Result (Unit {0}) ClientError → Given R
 done (Ok x) = Ok nothing
 done (Err e) = Err e
 
-abbrev pub of_types : {R : Type 0} → Result (List PgType) ClientError → Reply R
+abbrev pub of_types : {R : Type 0} → Result (List PgType) ClientError → Given R
 of_types (Ok ts) = Ok (types ts)
 of_types (Err e) = Err e
 
-abbrev pub of_columns : {R : Type 0} → Result (List FieldInfo) ClientError → Reply R
+abbrev pub of_columns : {R : Type 0} → Result (List FieldInfo) ClientError → Given R
 of_columns (Ok fs) = Ok (columns fs)
 of_columns (Err e) = Err e
 
-abbrev pub of_response : {R : Type 0} → Result R ClientError → Reply R
+abbrev pub of_response : {R : Type 0} → Result R ClientError → Given R
 of_response (Ok r) = Ok (response r)
 of_response (Err e) = Err e
 
-abbrev pub of_tag : {R : Type 0} → Result Tag ClientError → Reply R
+abbrev pub of_tag : {R : Type 0} → Result Tag ClientError → Given R
 of_tag (Ok t) = Ok (tag t)
 of_tag (Err e) = Err e

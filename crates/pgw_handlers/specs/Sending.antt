@@ -46,8 +46,9 @@ IsUsable (Err client.OutOfMemory) was is = (was ≡ false) × (is ≡ true)
 IsUsable (Err (client.PgWireError why)) was is = (was ≡ false) × (is ≡ false)
 IsUsable (Err e) was is = ⊥
 
--- told or not: what was sent has a spelling, and a message is refused as its spelling is
+-- told or not: what was sent, or not sent whole, has a spelling, and a message is refused as its spelling is
 abbrev pub IsSpelled : Result (List ℕ) PgWireError → Result (Unit {0}) ClientError → Type 0
 IsSpelled spelled (Ok done) = (bytes : List ℕ) × (spelled ≡ Ok bytes)
+IsSpelled spelled (Err client.IoError) = (bytes : List ℕ) × (spelled ≡ Ok bytes)
 IsSpelled spelled (Err (client.PgWireError why)) = spelled ≡ Err why
 IsSpelled spelled (Err e) = Unit {0}

@@ -2,7 +2,7 @@
 ghost use Rattle.std.specs.Prelude.{◌≡◌, ℕ, false};
 ghost use Rattle.pgw_handlers.specs.Client.{Sight};
 ghost use Rattle.pgw_handlers.specs.Handling.{Standing, standing, HasCause};
-ghost use Rattle.pgw_handlers.specs.Extended.{ExtendedCall, parse, bind, execute, describe, close, sync, flush, on_parameter_description, on_row_description, on_data_row, on_command_complete, on_portal_suspended, Reply, done, of_types, of_columns, of_response, of_tag};
+ghost use Rattle.pgw_handlers.specs.Extended.{ExtendedCall, parse, bind, execute, describe, close, sync, flush, on_parameter_description, on_row_description, on_data_row, on_command_complete, on_portal_suspended, Given, done, of_types, of_columns, of_response, of_tag};
 
 use crate::client_info::ClientInfo;
 use crate::outgoing::Outgoing;
@@ -22,7 +22,7 @@ pub trait ExtendedQueryHandler {
     type QueryResponse: Drop;
 
     /// What the handler does: a call leads from one standing to another, and gives the reply.
-    ghost means: { Standing Self → ExtendedCall → Standing Self → Reply Self.QueryResponse → Type 0 };
+    ghost means: { Standing Self → ExtendedCall → Standing Self → Given Self.QueryResponse → Type 0 };
 
     fn parse<C: ClientInfo + Outgoing>(
         &mut self,

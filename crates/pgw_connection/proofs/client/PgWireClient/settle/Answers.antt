@@ -3,7 +3,7 @@ use Rattle.pgw_connection.proofs.client.PgWireClient.settle.Goals as goal
 
 pub returns-in-Ok-clause-settled : goal.returns-in-Ok-clause-settled
 returns-in-Ok-clause-settled g c = λ t.
-    settled_well g.H.ExtendedQueryHandler.means c.args.due _ _ _ _ _ _ _ c.args.error c.drain-passed.result _ _ _ _ (c.in-Ok.ensures.synced t) (c.drain-passed.ensures.passed t) c.passed_answer.ensures
+    settled_well g.H.ExtendedQueryHandler.means c.args.due _ _ _ _ _ _ _ c.args.error c.pass_over-passed.result _ _ _ _ (c.in-Ok.ensures.synced t) (c.pass_over-passed.ensures.passed t) c.passed_answer.ensures
 
 pub returns-in-Err-clause-settled : goal.returns-in-Err-clause-settled
 returns-in-Err-clause-settled g c = λ t.

@@ -6,7 +6,7 @@ use Rattle.pgw_connection.specs.Talk.{passes, is_remote}
 use Rattle.pgw_connection.specs.Desk.{client_of}
 use Rattle.pgw_connection.specs.Line.{Line, line}
 use Rattle.pgw_connection.specs.Reading.{PassedOver}
-use Rattle.pgw_connection.proofs.client.PgWireClient.drain.Given as goal
+use Rattle.pgw_connection.proofs.client.PgWireClient.pass_over.Given as goal
 
 -- what is passed over from here on is passed over from the beginning
 abbrev pub invariant-messages : goal.invariant-messages

@@ -1,7 +1,7 @@
 use Rattle.std.proofs.Common.{arith, ◌∙◌, ap, sym}
 use Rattle.pgw_connection.specs.Desk.{client_of}
 use Rattle.pgw_connection.proofs.ReadingLaws.{first_caused, first_same, first_remote, passed_failed, passed_ready, passed_wanting, passed_after}
-use Rattle.pgw_connection.proofs.client.PgWireClient.drain.Goals as goal
+use Rattle.pgw_connection.proofs.client.PgWireClient.pass_over.Goals as goal
 
 pub returns-in-Err-clause-passed : goal.returns-in-Err-clause-passed
 returns-in-Err-clause-passed g c = λ t.
