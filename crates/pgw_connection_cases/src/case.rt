@@ -1,6 +1,7 @@
 //! What stands before a case's calls.
 ghost use Rattle.std.specs.Prelude.{◌<◌};
 
+use crate::link::CaseDialer;
 use crate::pieces::Pieces;
 use anyhow::Result;
 use pgw_link::memory::MemoryLink;
@@ -19,6 +20,8 @@ pub struct Case {
     fail_reads: Vec<u64>,
     fail_writes: Vec<u64>,
     fail_dials: Vec<u64>,
+    fail_second_writes: Vec<u64>,
+    fail_flush: u64,
     pub limit: u64,
     pub config: String,
 }
@@ -32,6 +35,8 @@ impl Case {
             fail_reads: Vec::new(alloc),
             fail_writes: Vec::new(alloc),
             fail_dials: Vec::new(alloc),
+            fail_second_writes: Vec::new(alloc),
+            fail_flush: 0,
             limit: 100_000,
             config: String::from_str(alloc, "user=bob host=a")?,
         })
@@ -58,7 +63,9 @@ impl Case {
             "cut" => self.cut = Some(value.parse::<NonZeroUsize>()?),
             "fail-read" => self.fail_reads.push(value.parse::<u64>()?)?,
             "fail-write" => self.fail_writes.push(value.parse::<u64>()?)?,
+            "fail-flush" => self.fail_flush = value.parse::<u64>()?,
             "fail-dial" => self.fail_dials.push(value.parse::<u64>()?)?,
+            "fail-second-write" => self.fail_second_writes.push(value.parse::<u64>()?)?,
             _ => {
                 self.config.push_str(" ")?;
                 self.config.push_str(key)?;
@@ -70,7 +77,11 @@ impl Case {
     }
 
     /// A dialer with a link to the server, and one to a server that says nothing.
-    pub fn dialer(&self, alloc: Global) -> Result<MemoryDialer> {
+    pub fn dialer(&self, alloc: Global) -> Result<CaseDialer> {
+        Ok(CaseDialer::new(self.links(alloc)?, self.fail_flush))
+    }
+
+    fn links(&self, alloc: Global) -> Result<MemoryDialer> {
         let mut links = Listed::new(alloc);
         let server = Octets::from_slice(alloc, &self.server)?;
         let cut = cut_of(self.cut);
@@ -82,7 +93,13 @@ impl Case {
             numbers(alloc, &self.fail_writes)?,
         ))?;
         let silent = Octets::from_slice(alloc, &[])?;
-        links.push(MemoryLink::new(alloc, silent, cut, Listed::new(alloc), Listed::new(alloc)))?;
+        links.push(MemoryLink::new(
+            alloc,
+            silent,
+            cut,
+            Listed::new(alloc),
+            numbers(alloc, &self.fail_second_writes)?,
+        ))?;
         Ok(MemoryDialer::new(links, numbers(alloc, &self.fail_dials)?))
     }
 }

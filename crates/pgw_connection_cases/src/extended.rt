@@ -1,14 +1,15 @@
 //! Calls of extended queries.
 
+use crate::link::CaseLink;
 use crate::run::said;
 use crate::shown::{described_shown, error_name, rows_shown};
 use anyhow::{Context, Result, bail};
-use pgw_client::{ExecuteResult, Listed, MemoryLink, Octets};
+use pgw_client::{ExecuteResult, Listed, Octets};
 use pgw_connection::{DescribeTarget, ExtendedQueryClient, PgWireClient};
 use pgw_default_handlers::DefaultExtendedQueryHandler;
 use std::alloc::Global;
 
-type Lent<'a> = ExtendedQueryClient<'a, MemoryLink, DefaultExtendedQueryHandler>;
+type Lent<'a> = ExtendedQueryClient<'a, CaseLink, DefaultExtendedQueryHandler>;
 
 // The name of a portal or a statement; `-` is none.
 fn name_of(word: &str) -> Option<&str> {
@@ -93,7 +94,7 @@ fn query(alloc: Global, lent: &mut Lent<'_>, sql: &str) -> Result<String> {
 /// An extended call on a client, and what came of it.
 pub fn extended(
     alloc: Global,
-    client: &mut PgWireClient<MemoryLink>,
+    client: &mut PgWireClient<CaseLink>,
     word: &str,
     text: &str,
 ) -> Result<String> {

@@ -4,6 +4,8 @@
 
 mod case;
 mod extended;
+mod link;
+mod own;
 mod pieces;
 mod run;
 mod shown;

@@ -2,16 +2,17 @@
 
 use crate::case::Case;
 use crate::extended::extended;
+use crate::link::{CaseDialer, CaseLink};
+use crate::own::{fill, poll, send};
 use crate::shown::{error_name, responses_shown, status_shown};
 use anyhow::Result;
-use pgw_client::{Config, MemoryDialer, MemoryLink, PgWireClientError, PgWireClientResult};
+use pgw_client::{Config, PgWireClientError, PgWireClientResult};
 use pgw_connection::PgWireClient;
 use pgw_default_handlers::{DefaultSimpleQueryHandler, DefaultStartupHandler};
-use pgw_handlers::ReadyState;
 use pgw_row_counter::RowCounter;
 use std::alloc::Global;
 
-type Client = PgWireClient<MemoryLink>;
+type Client = PgWireClient<CaseLink>;
 
 /// What came of a call, or the name of its error.
 pub fn said<T: Drop>(alloc: Global, came: PgWireClientResult<T>, shown: &str) -> Result<String> {
@@ -37,40 +38,61 @@ fn count(alloc: Global, client: &mut Client, sql: &str) -> Result<String> {
     }
 }
 
-fn poll(alloc: Global, client: &mut Client) -> Result<String> {
-    match client.poll_next(alloc) {
-        Ok(ReadyState::Pending) => Ok(String::from_str(alloc, "pending")?),
-        Ok(ReadyState::Ready(_message)) => Ok(String::from_str(alloc, "a message")?),
-        Err(e) => Ok(String::from_str(alloc, error_name(&e))?),
+// A call that asks nothing of the server, or one of extended queries.
+fn other(alloc: Global, client: &mut Client, word: &str, rest: &str) -> Result<String> {
+    match word {
+        "poll" => poll(alloc, client),
+        "fill" => fill(alloc, client),
+        "send" => send(alloc, client, rest),
+        "buffered" => Ok(format!(in alloc; "{}", client.buffered())?),
+        "sent" => Ok(hex::encode(alloc, client.link().written())?),
+        _ => extended(alloc, client, word, rest),
     }
 }
 
-fn fill(alloc: Global, client: &mut Client) -> Result<String> {
-    match client.fill() {
-        Ok(more) => Ok(format!(in alloc; "{more}")?),
-        Err(e) => Ok(String::from_str(alloc, error_name(&e))?),
-    }
-}
-
-/// One call on a client, and what came of it.
-fn call(
-    alloc: Global,
-    client: &mut Client,
-    dialer: &mut MemoryDialer,
-    text: &str,
-) -> Result<String> {
+// One call on a client, and what came of it.
+fn call(alloc: Global, client: &mut Client, dialer: &mut CaseDialer, text: &str) -> Result<String> {
     let (word, rest) = text.split_once(' ').unwrap_or((text, ""));
     match word {
         "simple" => simple(alloc, client, rest),
         "count" => count(alloc, client, rest),
-        "poll" => poll(alloc, client),
-        "fill" => fill(alloc, client),
         "cancel" => said(alloc, client.cancel(alloc, dialer), "ok"),
-        "buffered" => Ok(format!(in alloc; "{}", client.buffered())?),
-        "sent" => Ok(hex::encode(alloc, client.link().written())?),
         "closed" => closed(alloc, dialer),
-        _ => extended(alloc, client, word, rest),
+        _ => other(alloc, client, word, rest),
     }
+}
+
+// A word of a call. Two stand for what no line holds, or holds badly: a zero byte, and 10000 letters.
+fn spell(alloc: Global, word: &str, spelled: &mut String) -> Result<()> {
+    match word {
+        "\\0" => spelled.push_str("\0")?,
+        "\\long" => spelled.push_str("a".repeat(alloc, 10_000)?.as_str())?,
+        _ => spelled.push_str(word)?,
+    }
+    Ok(())
+}
+
+// The text of a call, with what its words stand for.
+fn spelled(alloc: Global, text: &str) -> Result<String> {
+    let mut spelled = String::new(alloc);
+    for word in text.split(' ') {
+        if !spelled.is_empty() {
+            spelled.push_str(" ")?;
+        }
+        spell(alloc, word, &mut spelled)?;
+    }
+    Ok(spelled)
+}
+
+// The call of a text.
+fn call_by(
+    alloc: Global,
+    client: &mut Client,
+    dialer: &mut CaseDialer,
+    text: &str,
+) -> Result<String> {
+    let spelled = spelled(alloc, text)?;
+    call(alloc, client, dialer, spelled.as_str())
 }
 
 // What a client was told, behind a call.
@@ -84,7 +106,7 @@ fn state(alloc: Global, client: &Client) -> Result<String> {
 fn connect(
     alloc: Global,
     case: &Case,
-    dialer: &mut MemoryDialer,
+    dialer: &mut CaseDialer,
 ) -> Result<PgWireClientResult<Client>> {
     let config = match Config::parse(alloc, case.config.as_str()) {
         Ok(config) => config,
@@ -95,7 +117,7 @@ fn connect(
 }
 
 // The bytes that were sent over the link that was closed last.
-fn closed(alloc: Global, dialer: &MemoryDialer) -> Result<String> {
+fn closed(alloc: Global, dialer: &CaseDialer) -> Result<String> {
     match dialer.closed() {
         Some(link) if link.written().is_empty() => Ok(String::from_str(alloc, "nothing")?),
         Some(link) => Ok(hex::encode(alloc, link.written())?),
@@ -115,7 +137,7 @@ pub fn answers(alloc: Global, case: &Case, calls: &str) -> Result<String> {
     };
     let mut answers = format!(in alloc; "connected {}", status_shown(&client))?;
     for text in calls.split(" ; ") {
-        let came = call(alloc, &mut client, &mut dialer, text)?;
+        let came = call_by(alloc, &mut client, &mut dialer, text)?;
         let state = state(alloc, &client)?;
         answers.push_str(format!(in alloc; "; {text} -> {came}, {state}")?.as_str())?;
     }

@@ -1,9 +1,9 @@
 //! What is printed of answers and errors.
 
+use crate::link::CaseLink;
 use anyhow::Result;
 use pgw_client::{
-    DataRow, FieldInfo, Listed, MemoryLink, PgType, PgWireClientError, PgWireError, Response,
-    TransactionStatus,
+    DataRow, FieldInfo, Listed, PgType, PgWireClientError, PgWireError, Response, TransactionStatus,
 };
 use pgw_connection::PgWireClient;
 use pgw_handlers::ClientInfo;
@@ -38,7 +38,7 @@ pub fn error_name(error: &PgWireClientError) -> &'static str {
     }
 }
 
-pub fn status_shown(client: &PgWireClient<MemoryLink>) -> &'static str {
+pub fn status_shown(client: &PgWireClient<CaseLink>) -> &'static str {
     match client.transaction_status() {
         TransactionStatus::Idle => "I",
         TransactionStatus::Transaction => "T",
