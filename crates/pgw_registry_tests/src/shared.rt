@@ -1,11 +1,12 @@
 //! Threads on one registry.
-ghost use Rattle.std.specs.Prelude.{◌≡◌, IfSome};
+ghost use Rattle.std.specs.Prelude.{◌≡◌, IfOk, IfSome};
 ghost use Rattle.std.specs.Arc.{arc_value};
 
 use pgw_registry::error::{LookError, RegistryError};
 use pgw_registry::manager::{
     CancelToken, ConnectionGuard, ConnectionHandle, ConnectionManager, Pass,
 };
+use pgw_types::memory::OutOfMemory;
 use pgw_wire::secret_key::SecretKey;
 use std::alloc::Global;
 use std::sync::atomic::{AtomicBool, Ordering};
@@ -63,6 +64,34 @@ fn release<R: Wait>(rt: &R, pass: &mut Pass, guard: ConnectionGuard) -> u64
     }
 }
 
+fn registered<R: Wait>(
+    rt: &R,
+    alloc: Global,
+    manager: &Arc<ConnectionManager>,
+    pass: &mut Pass,
+    pid: i32,
+    key: i32,
+) -> Result<(ConnectionHandle, ConnectionGuard), RegistryError>
+    requires { pass.old.of ≡ arc_value manager.now }
+    ensures kept { pass.new.of ≡ pass.old.of }
+    ensures guarded { IfOk result (λ r. arc_value r.1.manager ≡ arc_value manager.now) }
+{
+    ConnectionManager::register(rt, alloc, manager, pass, pid, SecretKey::I32(key))
+}
+
+fn cancel<R: Wait>(
+    rt: &R,
+    manager: &ConnectionManager,
+    pass: &mut Pass,
+    pid: i32,
+    key: i32,
+) -> Canceled
+    requires { pass.old.of ≡ manager.now }
+    ensures { pass.new.of ≡ pass.old.of }
+{
+    manager.cancel(rt, pass, pid, &SecretKey::I32(key))
+}
+
 // A query that is started, canceled and finished.
 fn query<R: Wait>(
     rt: &R,
@@ -96,14 +125,7 @@ fn connection<R: Wait>(
     requires { pass.old.of ≡ arc_value manager.now }
     ensures { pass.new.of ≡ pass.old.of }
 {
-    let Ok((handle, guard)) = ConnectionManager::register(
-        rt,
-        alloc,
-        manager,
-        pass,
-        pid,
-        SecretKey::I32(1),
-    ) else {
+    let Ok((handle, guard)) = registered(rt, alloc, manager, pass, pid, 1) else {
         return 0;
     };
     let answered = query(rt, manager, pass, &handle);
@@ -203,24 +225,66 @@ fn four_threads_count_each_call(rt: HostRuntime) -> Result<(), Fail> {
     Ok(())
 }
 
+// How many calls of a query on a new handle were answered.
+fn queried<R: Wait>(rt: &R, manager: &ConnectionManager, pass: &mut Pass) -> u64
+    requires { pass.old.of ≡ manager.now }
+    ensures { pass.new.of ≡ pass.old.of }
+{
+    match manager.handle(rt, pass) {
+        Ok(handle) => {
+            let answered = query(rt, manager, pass, &handle);
+            answered.saturating_add(close(rt, manager, pass, handle))
+        }
+        Err(_) => 0,
+    }
+}
+
+// The events that a pass has seen once it has met another.
+fn met(manager: &ConnectionManager, first: &mut Pass, second: Pass) -> u64
+    requires { (first.old.of ≡ manager.now) × (second.of ≡ manager.now) }
+    ensures { first.new.of ≡ first.old.of }
+{
+    match first.meet(manager, second) {
+        Ok(()) => manager.events(first),
+        Err(_) => u64::MAX,
+    }
+}
+
+// The events that two passes have seen: the first before the second makes its calls, the second after them, the first
+// once they have met, and again once a pass that was cut from it has canceled nothing.
+fn seen<R: Wait>(
+    rt: &R,
+    manager: &ConnectionManager,
+    mut first: Pass,
+) -> Result<(u64, u64, u64, u64), OutOfMemory>
+    requires { first.of ≡ manager.now }
+{
+    let mut second = manager.pass(&mut first)?;
+    let before = manager.events(&mut first);
+    queried(rt, manager, &mut second);
+    let after = manager.events(&mut second);
+    let met = met(manager, &mut first, second);
+    let mut third = manager.pass(&mut first)?;
+    let canceled = cancel(rt, manager, &mut third, 999, 0);
+    let last = if canceled == Ok(false) {
+        manager.events(&mut first)
+    } else {
+        0
+    };
+    Ok((before, after, met, last))
+}
+
 #[test]
 fn passes_meet(rt: HostRuntime) -> Result<(), Fail> {
-    let (manager, mut first) = ConnectionManager::new(rt.alloc())?;
-    let mut second = manager.pass(&mut first)?;
-    assert_eq!(rt; manager.events(&mut first), 0);
-    if let Ok(handle) = manager.handle(&rt, &mut second) {
-        assert_eq!(rt; query(&rt, &manager, &mut second, &handle), 3);
-        assert_eq!(rt; close(&rt, &manager, &mut second, handle), 1);
-    }
-    assert_eq!(rt; manager.events(&mut second), 5);
-    assert!(rt; first.meet(&manager, second).is_ok());
-    assert_eq!(rt; manager.events(&mut first), 5);
-    let mut third = manager.pass(&mut first)?;
-    assert_eq!(rt;
-        manager.cancel(&rt, &mut third, 999, &SecretKey::I32(0)),
-        Ok(false)
-    );
-    assert_eq!(rt; manager.events(&mut first), 6);
+    let (manager, first) = ConnectionManager::new(rt.alloc())?;
+    assert_eq!(rt; seen(&rt, &manager, first)?, (0, 5, 5, 6));
+    Ok(())
+}
+
+#[test]
+fn answers_are_counted(rt: HostRuntime) -> Result<(), Fail> {
+    let (manager, mut pass) = ConnectionManager::new(rt.alloc())?;
+    assert_eq!(rt; queried(&rt, &manager, &mut pass), 4);
     Ok(())
 }
 
@@ -248,6 +312,37 @@ fn replaced<R: Wait>(
     Some((looked, canceled, fired, again))
 }
 
+fn replaced_on_one<R: Wait>(
+    rt: &R,
+    manager: &ConnectionManager,
+    pass: &mut Pass,
+) -> Option<(Look, Canceled, Look, Look)>
+    requires { pass.old.of ≡ manager.now }
+    ensures { pass.new.of ≡ pass.old.of }
+{
+    let Ok(handle) = manager.handle(rt, pass) else {
+        return None;
+    };
+    let told = replaced(rt, manager, pass, &handle);
+    close(rt, manager, pass, handle);
+    told
+}
+
+#[test]
+fn a_query_replaces_another(rt: HostRuntime) -> Result<(), Fail> {
+    let (manager, mut pass) = ConnectionManager::new(rt.alloc())?;
+    assert_eq!(rt;
+        replaced_on_one(&rt, &manager, &mut pass),
+        Some((
+            Err(LookError::Canceled),
+            Ok(true),
+            Ok(Some(())),
+            Err(LookError::Canceled)
+        ))
+    );
+    Ok(())
+}
+
 // What a cancel by the pair answers, before and after one of two guards is released.
 fn twice<R: Wait>(
     rt: &R,
@@ -258,34 +353,30 @@ fn twice<R: Wait>(
     requires { pass.old.of ≡ arc_value manager.now }
     ensures { pass.new.of ≡ pass.old.of }
 {
-    let key = SecretKey::I32(5);
-    let (handle, guard) = ConnectionManager::register(
-        rt,
-        alloc,
-        manager,
-        pass,
-        7,
-        SecretKey::I32(5),
-    ).ok()?;
-    let before = manager.cancel(rt, pass, 7, &key);
-    let Ok((other, spare)) = ConnectionManager::register(
-        rt,
-        alloc,
-        manager,
-        pass,
-        7,
-        SecretKey::I32(5),
-    ) else {
+    let Ok((handle, guard)) = registered(rt, alloc, manager, pass, 7, 5) else {
+        return None;
+    };
+    let before = cancel(rt, manager, pass, 7, 5);
+    let Ok((other, spare)) = registered(rt, alloc, manager, pass, 7, 5) else {
         close(rt, manager, pass, handle);
         release(rt, pass, guard);
         return None;
     };
     release(rt, pass, guard);
-    let after = manager.cancel(rt, pass, 7, &key);
+    let after = cancel(rt, manager, pass, 7, 5);
     close(rt, manager, pass, handle);
     close(rt, manager, pass, other);
     release(rt, pass, spare);
     Some((before, after))
+}
+
+#[test]
+fn a_pair_goes_with_a_guard(rt: HostRuntime) -> Result<(), Fail> {
+    let (manager, mut pass) = ConnectionManager::new(rt.alloc())?;
+    let manager = Arc::new(rt.alloc(), manager)?;
+    let told = twice(&rt, rt.alloc(), &manager, &mut pass);
+    assert_eq!(rt; told, Some((Ok(true), Ok(false))));
+    Ok(())
 }
 
 // Starts a query and looks at it until it has fired, which it then tells the other thread.
@@ -322,7 +413,7 @@ fn strike<R: Wait>(rt: &R, manager: &ConnectionManager, mut pass: Pass, done: &A
         if done.load(Ordering::SeqCst) {
             return true;
         }
-        let _ = manager.cancel(rt, &mut pass, 7, &SecretKey::I32(5));
+        let _ = cancel(rt, manager, &mut pass, 7, 5);
     }
     false
 }
@@ -337,14 +428,7 @@ fn fires<R: Threads + Wait + Sync>(
 ) -> bool
     requires { (pass.of ≡ arc_value manager.now) × (other.of ≡ arc_value manager.now) }
 {
-    let Ok((handle, guard)) = ConnectionManager::register(
-        rt,
-        alloc,
-        manager,
-        &mut pass,
-        7,
-        SecretKey::I32(5),
-    ) else {
+    let Ok((handle, guard)) = registered(rt, alloc, manager, &mut pass, 7, 5) else {
         return false;
     };
     let done = AtomicBool::new(false);
@@ -368,21 +452,6 @@ fn threads_cancel(rt: HostRuntime) -> Result<(), Fail> {
     let (manager, mut pass) = ConnectionManager::new(rt.alloc())?;
     let other = manager.pass(&mut pass)?;
     let manager = Arc::new(rt.alloc(), manager)?;
-    if let Ok(handle) = manager.handle(&rt, &mut pass) {
-        let told = replaced(&rt, &manager, &mut pass, &handle);
-        close(&rt, &manager, &mut pass, handle);
-        assert_eq!(rt;
-            told,
-            Some((
-                Err(LookError::Canceled),
-                Ok(true),
-                Ok(Some(())),
-                Err(LookError::Canceled)
-            ))
-        );
-    }
-    let told = twice(&rt, rt.alloc(), &manager, &mut pass);
-    assert_eq!(rt; told, Some((Ok(true), Ok(false))));
     assert!(rt; fires(&rt, rt.alloc(), &manager, pass, other));
     Ok(())
 }

@@ -1,10 +1,11 @@
 //! One thread on the registry, and threads that draw numbers.
 ghost use Rattle.std.specs.Prelude.{◌≡◌, IfSome};
 
-use pgw_registry::error::{LookError, PidError};
+use pgw_registry::error::{LookError, PidError, RegistryError};
 use pgw_registry::generator::{PidSeat, PidSecretKeyGenerator, RandomPidSecretKeyGenerator};
 use pgw_registry::registry::Registry;
 use pgw_types::context::ProtocolVersion;
+use pgw_types::memory::OutOfMemory;
 use pgw_types::octets::Octets;
 use pgw_wire::secret_key::SecretKey;
 use std::alloc::Global;
@@ -12,85 +13,229 @@ use std::test::Fail;
 use std::thread;
 use std::thread::Threads;
 
+// A call of a registry. Handles and queries are numbered from 1, each for itself.
+#[derive(Clone, Copy)]
+enum Act {
+    Handle,
+    Register(i32, &'static [u8]),
+    Start(u64),
+    CancelHandle(u64),
+    Cancel(i32, &'static [u8]),
+    Look(u64),
+    Finish(u64),
+    Close(u64),
+    Release(i32, &'static [u8]),
+}
+
+fn number_word(answer: Result<u64, RegistryError>) -> &'static str {
+    match answer {
+        Ok(1) => "1",
+        Ok(2) => "2",
+        Ok(_) => "another number",
+        Err(_) => "refused",
+    }
+}
+
+fn canceled_word(answer: Result<bool, RegistryError>) -> &'static str {
+    match answer {
+        Ok(true) => "canceled",
+        Ok(false) => "not canceled",
+        Err(_) => "refused",
+    }
+}
+
+fn looked_word(answer: Result<Option<()>, LookError>) -> &'static str {
+    match answer {
+        Ok(Some(())) => "fired",
+        Ok(None) => "waits",
+        Err(LookError::Canceled) => "over",
+        Err(LookError::Exhausted) => "refused",
+    }
+}
+
+fn done_word(answer: Result<(), RegistryError>) -> &'static str {
+    match answer {
+        Ok(()) => "done",
+        Err(_) => "refused",
+    }
+}
+
+fn register(
+    alloc: Global,
+    registry: &mut Registry,
+    pid: i32,
+    key: &[u8],
+) -> Result<&'static str, OutOfMemory> {
+    let key = Octets::from_slice(alloc, key)?;
+    Ok(number_word(registry.register(pid, key)))
+}
+
+fn answer_to(
+    alloc: Global,
+    registry: &mut Registry,
+    act: Act,
+) -> Result<&'static str, OutOfMemory> {
+    Ok(match act {
+        Act::Handle => number_word(registry.new_handle()),
+        Act::Register(pid, key) => register(alloc, registry, pid, key)?,
+        Act::Start(handle) => number_word(registry.start_query(handle)),
+        Act::CancelHandle(handle) => canceled_word(registry.cancel_handle(handle)),
+        Act::Cancel(pid, key) => canceled_word(registry.cancel(pid, key)),
+        Act::Look(query) => looked_word(registry.look(query)),
+        Act::Finish(query) => done_word(registry.finish(query)),
+        Act::Close(handle) => done_word(registry.close_handle(handle)),
+        Act::Release(pid, key) => done_word(registry.release(pid, key)),
+    })
+}
+
+const QUERIES: &[(Act, &str)] = &[
+    (Act::Handle, "1"),
+    (Act::Start(1), "1"),
+    (Act::Start(1), "2"),
+    (Act::Look(1), "over"),
+    (Act::Look(2), "waits"),
+    (Act::CancelHandle(1), "canceled"),
+    (Act::Look(2), "fired"),
+    (Act::Look(2), "over"),
+    (Act::CancelHandle(1), "not canceled"),
+    (Act::Finish(2), "done"),
+];
+
 #[test]
 fn queries(rt: HostRuntime) -> Result<(), Fail> {
     let mut registry = Registry::new(rt.alloc());
-    let handle = registry.new_handle()?;
-    let first = registry.start_query(handle)?;
-    let second = registry.start_query(handle)?;
-    assert_eq!(rt; registry.look(first), Err(LookError::Canceled));
-    assert_eq!(rt; registry.look(second), Ok(None));
-    assert_eq!(rt; registry.cancel_handle(handle), Ok(true));
-    assert_eq!(rt; registry.look(second), Ok(Some(())));
-    assert_eq!(rt; registry.look(second), Err(LookError::Canceled));
-    assert_eq!(rt; registry.cancel_handle(handle), Ok(false));
-    assert_eq!(rt; registry.finish(second), Ok(()));
+    for (act, word) in QUERIES {
+        assert_eq!(rt; answer_to(rt.alloc(), &mut registry, *act)?, *word);
+    }
     Ok(())
 }
+
+const KEY: &[u8] = &[0, 0, 0, 1];
+
+// A handle that is given up too often takes its pair with it.
+const PAIRS: &[(Act, &str)] = &[
+    (Act::Register(7, KEY), "1"),
+    (Act::Register(7, KEY), "1"),
+    (Act::Start(1), "1"),
+    (Act::Cancel(7, KEY), "canceled"),
+    (Act::Look(1), "fired"),
+    (Act::Cancel(7, &[0, 0, 0, 2]), "not canceled"),
+    (Act::Release(7, KEY), "done"),
+    (Act::Cancel(7, KEY), "not canceled"),
+    (Act::Cancel(999, &[0, 0, 0, 0]), "not canceled"),
+    (Act::Register(7, KEY), "2"),
+    (Act::Close(2), "done"),
+    (Act::Cancel(7, KEY), "canceled"),
+    (Act::Close(2), "done"),
+    (Act::Cancel(7, KEY), "not canceled"),
+];
 
 #[test]
 fn pairs(rt: HostRuntime) -> Result<(), Fail> {
     let mut registry = Registry::new(rt.alloc());
-    let key: [u8; 4] = [0, 0, 0, 1];
-    let handle = registry.register(7, Octets::from_slice(rt.alloc(), &key)?)?;
-    assert_eq!(rt;
-        registry.register(7, Octets::from_slice(rt.alloc(), &key)?)?,
-        handle
-    );
-    let query = registry.start_query(handle)?;
-    assert_eq!(rt; registry.cancel(7, &key), Ok(true));
-    assert_eq!(rt; registry.look(query), Ok(Some(())));
-    assert_eq!(rt; registry.cancel(7, &[0, 0, 0, 2]), Ok(false));
-    assert_eq!(rt; registry.release(7, &key), Ok(()));
-    assert_eq!(rt; registry.cancel(7, &key), Ok(false));
-    assert_eq!(rt; registry.cancel(999, &[0, 0, 0, 0]), Ok(false));
-    // A handle that is given up too often takes its pair with it.
-    let other = registry.register(7, Octets::from_slice(rt.alloc(), &key)?)?;
-    assert_ne!(rt; other, handle);
-    registry.close_handle(other)?;
-    assert_eq!(rt; registry.cancel(7, &key), Ok(true));
-    registry.close_handle(other)?;
-    assert_eq!(rt; registry.cancel(7, &key), Ok(false));
+    for (act, word) in PAIRS {
+        assert_eq!(rt; answer_to(rt.alloc(), &mut registry, *act)?, *word);
+    }
     Ok(())
+}
+
+const WORDS: [u8; 32] = [
+    0, 0, 0, 1, 0, 0, 0, 0, 0, 0, 0, 0, 0, 0, 0, 0, 0, 0, 0, 0, 0, 0, 0, 0, 0, 0, 0, 0, 0, 0, 0, 0,
+];
+
+// The number that is drawn with this key: 0 where there is none, and -1 where the key is another.
+fn drawn(
+    generator: &RandomPidSecretKeyGenerator,
+    seat: &mut PidSeat,
+    version: ProtocolVersion,
+    key: &SecretKey,
+) -> i32
+    requires { seat.old.of ≡ generator.now }
+    ensures { seat.new.of ≡ seat.old.of }
+{
+    match generator.generate(seat, version, &WORDS) {
+        Ok((number, own)) => { if own == *key { number } else { -1 } }
+        Err(_) => 0,
+    }
+}
+
+fn short_drawn(generator: &RandomPidSecretKeyGenerator, seat: &mut PidSeat) -> i32
+    requires { seat.old.of ≡ generator.now }
+    ensures { seat.new.of ≡ seat.old.of }
+{
+    drawn(
+        generator,
+        seat,
+        ProtocolVersion::PROTOCOL3_0,
+        &SecretKey::I32(1),
+    )
+}
+
+fn long_drawn(
+    alloc: Global,
+    generator: &RandomPidSecretKeyGenerator,
+    seat: &mut PidSeat,
+) -> Result<i32, OutOfMemory>
+    requires { seat.old.of ≡ generator.now }
+    ensures { seat.new.of ≡ seat.old.of }
+{
+    let key = SecretKey::Bytes(Octets::from_slice(alloc, &WORDS)?);
+    Ok(drawn(generator, seat, ProtocolVersion::PROTOCOL3_2, &key))
+}
+
+// What two seats draw, and what one of them draws under a later version once they have met.
+fn split(
+    alloc: Global,
+    generator: &RandomPidSecretKeyGenerator,
+    mut first: PidSeat,
+) -> Result<(i32, i32, i32), PidError>
+    requires { first.of ≡ generator.now }
+{
+    let mut second = generator.seat(&mut first)?;
+    let one = short_drawn(generator, &mut first);
+    let two = short_drawn(generator, &mut second);
+    match first.meet(generator, second) {
+        Ok(()) => Ok((one, two, long_drawn(alloc, generator, &mut first)?)),
+        Err(_) => Ok((one, two, -2)),
+    }
 }
 
 #[test]
 fn seats_split(rt: HostRuntime) -> Result<(), Fail> {
-    let version = ProtocolVersion::PROTOCOL3_0;
-    let mut words = [0; 32];
-    words[3] = 1;
-    let (generator, mut first) = RandomPidSecretKeyGenerator::new(rt.alloc())?;
-    let mut second = generator.seat(&mut first)?;
+    let (generator, seat) = RandomPidSecretKeyGenerator::new(rt.alloc())?;
     assert_eq!(rt;
-        generator.generate(&mut first, version, &words)?,
-        (100001, SecretKey::I32(1))
-    );
-    assert_eq!(rt; generator.generate(&mut second, version, &words)?.0, 100002);
-    assert!(rt; first.meet(&generator, second).is_ok());
-    let later = ProtocolVersion::PROTOCOL3_2;
-    let key = SecretKey::Bytes(Octets::from_slice(rt.alloc(), &words)?);
-    assert_eq!(rt;
-        generator.generate(&mut first, later, &words)?,
-        (100003, key)
+        split(rt.alloc(), &generator, seat)?,
+        (100001, 100002, 100003)
     );
     Ok(())
 }
 
+fn pid_word<T: Drop>(answer: Result<T, PidError>) -> &'static str {
+    match answer {
+        Ok(_) => "drawn",
+        Err(PidError::PidsExhausted) => "exhausted",
+        Err(PidError::OutOfMemory) => "no memory",
+    }
+}
+
+fn ended(
+    generator: &RandomPidSecretKeyGenerator,
+    mut seat: PidSeat,
+) -> (i32, &'static str, &'static str)
+    requires { seat.of ≡ generator.now }
+{
+    let last = short_drawn(generator, &mut seat);
+    let version = ProtocolVersion::PROTOCOL3_0;
+    let next = pid_word(generator.generate(&mut seat, version, &WORDS));
+    (last, next, pid_word(generator.seat(&mut seat)))
+}
+
 #[test]
 fn numbers_end(rt: HostRuntime) -> Result<(), Fail> {
-    let version = ProtocolVersion::PROTOCOL3_0;
-    let (generator, mut seat) = RandomPidSecretKeyGenerator::starting_at(rt.alloc(), i32::MAX)?;
+    let (generator, seat) = RandomPidSecretKeyGenerator::starting_at(rt.alloc(), i32::MAX)?;
     assert_eq!(rt;
-        generator.generate(&mut seat, version, &[0; 32])?.0,
-        i32::MAX
-    );
-    assert_eq!(rt;
-        generator.generate(&mut seat, version, &[0; 32]).err(),
-        Some(PidError::PidsExhausted)
-    );
-    assert_eq!(rt;
-        generator.seat(&mut seat).err(),
-        Some(PidError::PidsExhausted)
+        ended(&generator, seat),
+        (i32::MAX, "exhausted", "exhausted")
     );
     Ok(())
 }

@@ -1,12 +1,10 @@
 //! Tags, types and columns.
 
-use pgw_backend::backend::PgWireBackendMessage;
-use pgw_backend::client_error::{PgWireClientError, unexpected};
+use crate::tests::shared::same;
 use pgw_backend::field_info::FieldInfo;
 use pgw_backend::pg_type::PgType;
 use pgw_backend::tag::Tag;
 use pgw_query::data::FieldDescription;
-use pgw_query::description::NoData;
 use pgw_types::listed::Duplicate;
 use pgw_types::memory::OutOfMemory;
 use pgw_types::text::Text;
@@ -24,26 +22,31 @@ const TAGS: &[(&str, &str)] = &[
     ("A 1 2 3", "A 1 2 3 None None"),
 ];
 
+fn tag(alloc: Global, text: &str) -> Result<Tag, OutOfMemory> {
+    let tag = Tag::parse(alloc, text)?;
+    tag.duplicate()
+}
+
 fn tag_shown(alloc: Global, text: &str) -> Result<String, OutOfMemory> {
-    let tag = Tag::parse(alloc, text)?.duplicate()?;
+    let tag = tag(alloc, text)?;
     let command = tag.command.as_str();
     Ok(format!(in alloc; "{command} {:?} {:?}", tag.oid, tag.rows)?)
 }
 
-#[test]
-fn tags(rt: HostRuntime) -> Result<(), Fail> {
-    for (text, want) in TAGS {
-        assert_eq!(rt; tag_shown(rt.alloc(), text)?.as_str(), *want);
-    }
-    Ok(())
+// The text of the message that a tag makes.
+fn tag_written(alloc: Global, text: &str) -> Result<String, OutOfMemory> {
+    let message = tag(alloc, text)?.into_command_complete(alloc)?;
+    Ok(message.tag.into_string())
 }
 
 #[test]
-fn tags_as_messages(rt: HostRuntime) -> Result<(), Fail> {
+fn tags(rt: HostRuntime) -> Result<(), Fail> {
     let alloc = rt.alloc();
+    for (text, want) in TAGS {
+        same(tag_shown(alloc, text), want)?;
+    }
     for text in ["BEGIN", "SELECT 3", "INSERT 0 5"] {
-        let message = Tag::parse(alloc, text)?.into_command_complete(alloc)?;
-        assert_eq!(rt; message.tag.as_str(), text);
+        same(tag_written(alloc, text), text)?;
     }
     Ok(())
 }
@@ -70,30 +73,42 @@ fn types(rt: HostRuntime) -> Result<(), Fail> {
     Ok(())
 }
 
-#[test]
-fn columns(rt: HostRuntime) -> Result<(), Fail> {
-    let description = FieldDescription {
-        name: Text::from_str(rt.alloc(), "n")?,
+fn description(alloc: Global) -> Result<FieldDescription, OutOfMemory> {
+    Ok(FieldDescription {
+        name: Text::from_str(alloc, "n")?,
         table_id: 0,
         column_id: -1,
         type_id: 25,
         type_size: -1,
         type_modifier: 7,
         format_code: 2,
-    };
-    let field = FieldInfo::from_description(description.duplicate()?);
-    let shown = format!(in rt.alloc();
+    })
+}
+
+fn field(alloc: Global) -> Result<FieldInfo, OutOfMemory> {
+    let description = description(alloc)?;
+    Ok(FieldInfo::from_description(description.duplicate()?))
+}
+
+fn field_shown(alloc: Global, field: &FieldInfo) -> Result<String, OutOfMemory> {
+    Ok(format!(in alloc;
         "{:?} {:?} {:?} {:?}",
         field.table_id, field.column_id, field.datatype, field.format
-    )?;
-    assert_eq!(rt; shown.as_str(), "None Some(-1) Text Binary");
-    assert!(rt; field.duplicate()? == field);
-    Ok(())
+    )?)
+}
+
+fn field_copy(alloc: Global) -> Result<FieldInfo, OutOfMemory> {
+    let field = field(alloc)?;
+    field.duplicate()
+}
+
+// What is shown of a copy.
+fn column_shown(alloc: Global) -> Result<String, OutOfMemory> {
+    let copy = field_copy(alloc)?;
+    field_shown(alloc, &copy)
 }
 
 #[test]
-fn an_unexpected_message(rt: HostRuntime) -> Result<(), Fail> {
-    let error = unexpected(rt.alloc(), PgWireBackendMessage::NoData(NoData::new()));
-    assert!(rt; matches!(&error, PgWireClientError::UnexpectedMessage(_)));
-    Ok(())
+fn columns(rt: HostRuntime) -> Result<(), Fail> {
+    same(column_shown(rt.alloc()), "None Some(-1) Text Binary")
 }

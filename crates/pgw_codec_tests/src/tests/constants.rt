@@ -1,4 +1,4 @@
-//! Numbers of the protocol.
+//! Numbers of the protocol. The check evaluates each constant, and so needs no test.
 
 use pgw_ext::extendedquery::{TARGET_TYPE_BYTE_PORTAL, TARGET_TYPE_BYTE_STATEMENT};
 use pgw_opening::gss_enc_request::GssEncRequest;
@@ -10,14 +10,48 @@ use pgw_query::response::{
 use pgw_startup::response::{GssEncResponse, SslResponse};
 use pgw_startup::startup::Startup;
 use pgw_types::context::ProtocolVersion;
-use std::test::Fail;
 
-const NUMBERS: &[(i32, i32)] = &[
-    (Startup::PROTOCOL_VERSION_3_0, 196608),
-    (Startup::PROTOCOL_VERSION_3_2, 196610),
-    (SslRequest::BODY_MAGIC_NUMBER, 80877103),
-    (GssEncRequest::BODY_MAGIC_NUMBER, 80877104),
-];
+const _: () = prove_eq!(Startup::PROTOCOL_VERSION_3_0, 196608);
+
+const _: () = prove_eq!(Startup::PROTOCOL_VERSION_3_2, 196610);
+
+const _: () = prove_eq!(Startup::PG_PROTOCOL_EARLIEST, 3);
+
+const _: () = prove_eq!(Startup::PG_PROTOCOL_LATEST, 3);
+
+const _: () = prove_eq!(SslRequest::BODY_MAGIC_NUMBER, 80877103);
+
+const _: () = prove_eq!(GssEncRequest::BODY_MAGIC_NUMBER, 80877104);
+
+const _: () = prove_eq!(TARGET_TYPE_BYTE_STATEMENT, b'S');
+
+const _: () = prove_eq!(TARGET_TYPE_BYTE_PORTAL, b'P');
+
+const _: () = prove_eq!(READY_STATUS_IDLE, b'I');
+
+const _: () = prove_eq!(READY_STATUS_TRANSACTION_BLOCK, b'T');
+
+const _: () = prove_eq!(READY_STATUS_FAILED_TRANSACTION_BLOCK, b'E');
+
+const _: () = prove_eq!(SslResponse::BYTE_ACCEPT, b'S');
+
+const _: () = prove_eq!(SslResponse::BYTE_REFUSE, b'N');
+
+const _: () = prove_eq!(GssEncResponse::BYTE_ACCEPT, b'G');
+
+const _: () = prove_eq!(GssEncResponse::BYTE_REFUSE, b'N');
+
+const _: () = prove_eq!(SslRequest::BODY_SIZE, 8);
+
+const _: () = prove_eq!(GssEncRequest::BODY_SIZE, 8);
+
+const _: () = prove_eq!(SslResponse::MESSAGE_LENGTH, 1);
+
+const _: () = prove_eq!(GssEncResponse::MESSAGE_LENGTH, 1);
+
+const _: () = prove_eq!(FORMAT_CODE_TEXT, 0);
+
+const _: () = prove_eq!(FORMAT_CODE_BINARY, 1);
 
 const VERSIONS: &[(ProtocolVersion, i32)] = &[
     (ProtocolVersion::PROTOCOL3_0, 196608),
@@ -26,41 +60,8 @@ const VERSIONS: &[(ProtocolVersion, i32)] = &[
 ];
 
 #[test]
-fn versions(rt: HostRuntime) -> Result<(), Fail> {
-    assert!(rt; NUMBERS.iter().all(|(number, want)| number == want));
-    assert!(rt;
-        VERSIONS
-            .iter()
-            .all(|(version, want)| i32::from(*version) == *want)
-    );
-    assert_eq!(rt; Startup::PG_PROTOCOL_EARLIEST, 3);
-    assert_eq!(rt; Startup::PG_PROTOCOL_LATEST, 3);
-    Ok(())
-}
-
-const BYTES: &[(u8, u8)] = &[
-    (TARGET_TYPE_BYTE_STATEMENT, b'S'),
-    (TARGET_TYPE_BYTE_PORTAL, b'P'),
-    (READY_STATUS_IDLE, b'I'),
-    (READY_STATUS_TRANSACTION_BLOCK, b'T'),
-    (READY_STATUS_FAILED_TRANSACTION_BLOCK, b'E'),
-    (SslResponse::BYTE_ACCEPT, b'S'),
-    (SslResponse::BYTE_REFUSE, b'N'),
-    (GssEncResponse::BYTE_ACCEPT, b'G'),
-    (GssEncResponse::BYTE_REFUSE, b'N'),
-];
-
-const SIZES: &[(usize, usize)] = &[
-    (SslRequest::BODY_SIZE, 8),
-    (GssEncRequest::BODY_SIZE, 8),
-    (SslResponse::MESSAGE_LENGTH, 1),
-    (GssEncResponse::MESSAGE_LENGTH, 1),
-];
-
-#[test]
-fn bytes_and_codes(rt: HostRuntime) -> Result<(), Fail> {
-    assert!(rt; BYTES.iter().all(|(byte, want)| byte == want));
-    assert!(rt; SIZES.iter().all(|(size, want)| size == want));
-    assert_eq!(rt; [FORMAT_CODE_TEXT, FORMAT_CODE_BINARY], [0, 1]);
-    Ok(())
+fn versions(rt: HostRuntime) {
+    for (version, want) in VERSIONS {
+        assert!(rt; i32::from(*version) == *want);
+    }
 }

@@ -1,11 +1,12 @@
 //! The longest lists, and names and columns that do not fit.
 
-use crate::tests::shared::{buffer, comes_back, told, typed, written};
-use bytes::BytesMut;
+use crate::tests::shared::{comes_back, encoded, refused, same, told, typed};
 use pgw_copy::copy::CopyInResponse;
 use pgw_ext::extendedquery::{Bind, Close, Execute, Parse, TARGET_TYPE_BYTE_PORTAL};
 use pgw_types::context::ProtocolVersion;
-use pgw_types::listed::Listed;
+use pgw_types::error::PgWireResult;
+use pgw_types::listed::{Duplicate, Listed};
+use pgw_types::memory::OutOfMemory;
 use pgw_types::octets::Octets;
 use pgw_types::text::Text;
 use pgw_wire::message::Message;
@@ -13,7 +14,7 @@ use std::alloc::Global;
 use std::test::Fail;
 
 // As many object identifiers 25.
-fn parse_of(alloc: Global, count: u32) -> Result<Parse, Fail> {
+fn parse_of(alloc: Global, count: u32) -> Result<Parse, OutOfMemory> {
     let mut oids = Listed::new(alloc);
     for _ in 0..count {
         oids.push(25_u32)?;
@@ -21,76 +22,102 @@ fn parse_of(alloc: Global, count: u32) -> Result<Parse, Fail> {
     Ok(Parse::new(None, Text::new(alloc), oids))
 }
 
-// As many formats 0 and values `1234`.
-fn bind_of(alloc: Global, count: u32) -> Result<Bind, Fail> {
+// As many formats 0.
+fn formats_of(alloc: Global, count: u32) -> Result<Listed<i16>, OutOfMemory> {
     let mut formats = Listed::new(alloc);
-    let mut values = Listed::new(alloc);
     for _ in 0..count {
         formats.push(0_i16)?;
+    }
+    Ok(formats)
+}
+
+// As many values `1234`.
+fn values_of(alloc: Global, count: u32) -> Result<Listed<Option<Octets>>, OutOfMemory> {
+    let mut values = Listed::new(alloc);
+    for _ in 0..count {
         values.push(Some(Octets::from_slice(alloc, b"1234")?))?;
     }
+    Ok(values)
+}
+
+// As many formats and values.
+fn bind_of(alloc: Global, count: u32) -> Result<Bind, OutOfMemory> {
+    let values = values_of(alloc, count)?;
+    let formats = formats_of(alloc, count)?;
     Ok(Bind::new(None, None, formats, values, Listed::new(alloc)))
+}
+
+// Whether so many bytes are written, which are read as it.
+fn is_long<M: Message + Duplicate + PartialEq + Drop>(
+    alloc: Global,
+    message: &M,
+    length: usize,
+) -> Result<bool, Fail> {
+    let buf = encoded(alloc, message)?;
+    Ok(buf.len() == length && comes_back::<M>(alloc, buf.as_slice())?)
+}
+
+fn parse_is_long(alloc: Global) -> Result<bool, Fail> {
+    let message = parse_of(alloc, 65535)?;
+    is_long(alloc, &message, 262149)
+}
+
+fn bind_is_long(alloc: Global) -> Result<bool, Fail> {
+    let message = bind_of(alloc, 65535)?;
+    is_long(alloc, &message, 655363)
 }
 
 #[test]
 fn longest_lists(rt: HostRuntime) -> Result<(), Fail> {
-    let alloc = rt.alloc();
-    let mut buf = BytesMut::new(alloc);
-    parse_of(alloc, 65535)?.encode(&mut buf)?;
-    assert_eq!(rt; buf.len(), 262149);
-    assert!(rt; comes_back::<Parse>(alloc, buf.as_slice())?);
-    buf.clear();
-    bind_of(alloc, 65535)?.encode(&mut buf)?;
-    assert_eq!(rt; buf.len(), 655363);
-    assert!(rt; comes_back::<Bind>(alloc, buf.as_slice())?);
+    assert!(rt; parse_is_long(rt.alloc())? && bind_is_long(rt.alloc())?);
     Ok(())
 }
 
-#[test]
-fn longer_lists(rt: HostRuntime) -> Result<(), Fail> {
-    let alloc = rt.alloc();
-    let mut buf = BytesMut::new(alloc);
-    let found = written(alloc, parse_of(alloc, 65536)?.encode(&mut buf))?;
-    assert_eq!(rt; found.as_str(), "InvalidMessageBody");
-    let found = written(alloc, bind_of(alloc, 65536)?.encode(&mut buf))?;
-    assert_eq!(rt; found.as_str(), "InvalidMessageBody");
-    assert!(rt; buf.is_empty());
-    Ok(())
+fn long_parse_refused(alloc: Global) -> Result<String, OutOfMemory> {
+    let message = parse_of(alloc, 65536)?;
+    refused(alloc, &message)
+}
+
+fn long_bind_refused(alloc: Global) -> Result<String, OutOfMemory> {
+    let message = bind_of(alloc, 65536)?;
+    refused(alloc, &message)
+}
+
+fn zero_refused(alloc: Global) -> Result<String, OutOfMemory> {
+    let name = Text::from_str(alloc, "a\0")?;
+    refused(alloc, &Execute::new(Some(name), 0))
+}
+
+// So many columns with one format.
+fn columns_refused(alloc: Global, columns: i16) -> Result<String, OutOfMemory> {
+    let formats = formats_of(alloc, 1)?;
+    refused(alloc, &CopyInResponse::new(0, columns, formats))
 }
 
 #[test]
-fn names(rt: HostRuntime) -> Result<(), Fail> {
+fn longer_lists_and_other_counts(rt: HostRuntime) -> Result<(), Fail> {
     let alloc = rt.alloc();
-    let mut buf = BytesMut::new(alloc);
-    let zero = Text::from_str(alloc, "a\0")?;
-    let found = written(alloc, Execute::new(Some(zero), 0).encode(&mut buf))?;
-    assert_eq!(rt; found.as_str(), "InvalidMessageBody");
-    Close::new(TARGET_TYPE_BYTE_PORTAL, Some(Text::new(alloc))).encode(&mut buf)?;
-    let ctx = typed(ProtocolVersion::PROTOCOL3_2);
-    let read = Close::decode(alloc, &mut buf, &ctx)?.ok_or("nothing")?;
-    assert_eq!(rt; read, Close::new(TARGET_TYPE_BYTE_PORTAL, None));
-    Ok(())
-}
-
-// What is written of so many columns with one format.
-fn columns_written(alloc: Global, columns: i16) -> Result<String, Fail> {
-    let mut formats = Listed::new(alloc);
-    formats.push(0_i16)?;
-    let mut buf = BytesMut::new(alloc);
-    let found = CopyInResponse::new(0, columns, formats).encode(&mut buf);
-    Ok(written(alloc, found)?)
-}
-
-#[test]
-fn miscounted_columns(rt: HostRuntime) -> Result<(), Fail> {
-    let alloc = rt.alloc();
+    same(long_parse_refused(alloc), "Err(InvalidMessageBody)")?;
+    same(long_bind_refused(alloc), "Err(InvalidMessageBody)")?;
+    same(zero_refused(alloc), "Err(InvalidMessageBody)")?;
     for columns in [-1_i16, 0, 2] {
-        let found = columns_written(alloc, columns)?;
-        assert_eq!(rt; found.as_str(), "InvalidMessageBody");
+        same(columns_refused(alloc, columns), "Err(InvalidMessageBody)")?;
     }
-    let mut buf = buffer(alloc, b"G\0\0\0\x07\0\xff\xff")?;
-    let found = CopyInResponse::decode(alloc, &mut buf, &typed(ProtocolVersion::PROTOCOL3_2));
-    let want = "InvalidElementCount(18446744073709551615, 18446744073709551615, 0)";
-    assert_eq!(rt; told(alloc, found)?.as_str(), want);
     Ok(())
+}
+
+// An empty name, written and read.
+fn empty_name(alloc: Global) -> PgWireResult<Option<Close>> {
+    let close = Close::new(TARGET_TYPE_BYTE_PORTAL, Some(Text::new(alloc)));
+    let mut buf = encoded(alloc, &close)?;
+    Close::decode(alloc, &mut buf, &typed(ProtocolVersion::PROTOCOL3_2))
+}
+
+#[test]
+fn an_empty_name_is_none(rt: HostRuntime) -> Result<(), Fail> {
+    let alloc = rt.alloc();
+    same(
+        told(alloc, empty_name(alloc)),
+        "Ok(Some(Close { target_type: 80, name: None }))",
+    )
 }

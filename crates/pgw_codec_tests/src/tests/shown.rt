@@ -1,85 +1,72 @@
-//! What is shown of messages that hold a secret.
+//! What is shown of messages that hold a secret, and what is cut from octets.
 
+use crate::tests::login::{Kind, family};
+use crate::tests::shared::{same, told};
 use pgw_backend::backend::PgWireBackendMessage;
 use pgw_frontend::frontend::PgWireFrontendMessage;
-use pgw_startup::password::{Password, PasswordMessageFamily};
-use pgw_startup::sasl::{SASLInitialResponse, SASLResponse};
 use pgw_types::context::DecodeContext;
+use pgw_types::memory::OutOfMemory;
 use pgw_types::octets::Octets;
-use pgw_types::text::Text;
 use std::alloc::Global;
 use std::test::Fail;
 
-// A message of the family, by its number.
-fn secret(alloc: Global, kind: usize) -> Result<PasswordMessageFamily, Fail> {
-    let text = Text::from_str(alloc, "secret")?;
-    let data = Octets::from_slice(alloc, b"secret")?;
-    Ok(match kind {
-        0 => PasswordMessageFamily::Raw(data),
-        1 => PasswordMessageFamily::Password(Password::new(text)),
-        2 => PasswordMessageFamily::SASLInitialResponse(SASLInitialResponse::new(text, Some(data))),
-        _ => PasswordMessageFamily::SASLResponse(SASLResponse::new(data)),
-    })
-}
-
-fn shown(alloc: Global, kind: usize) -> Result<String, Fail> {
-    let message = secret(alloc, kind)?;
-    Ok(format!(in alloc; "{message:?}")?)
-}
-
 // The same among all messages of a client.
-fn shown_among_all(alloc: Global, kind: usize) -> Result<String, Fail> {
-    let message = PgWireFrontendMessage::PasswordMessageFamily(secret(alloc, kind)?);
-    Ok(format!(in alloc; "{message:?}")?)
+fn among_all(alloc: Global, kind: Kind) -> Result<PgWireFrontendMessage, OutOfMemory> {
+    let message = family(alloc, kind)?;
+    Ok(PgWireFrontendMessage::PasswordMessageFamily(message))
 }
 
-const SHOWN: [&str; 4] = [
-    "Raw(_)",
-    "Password(_)",
-    "SASLInitialResponse(_)",
-    "SASLResponse(_)",
-];
-
-const SHOWN_AMONG_ALL: [&str; 4] = [
-    "PasswordMessageFamily(Raw(_))",
-    "PasswordMessageFamily(Password(_))",
-    "PasswordMessageFamily(SASLInitialResponse(_))",
-    "PasswordMessageFamily(SASLResponse(_))",
+const SHOWN: &[(Kind, &str, &str)] = &[
+    (Kind::Raw, "Ok(Raw(_))", "Ok(PasswordMessageFamily(Raw(_)))"),
+    (
+        Kind::Password,
+        "Ok(Password(_))",
+        "Ok(PasswordMessageFamily(Password(_)))",
+    ),
+    (
+        Kind::Initial,
+        "Ok(SASLInitialResponse(_))",
+        "Ok(PasswordMessageFamily(SASLInitialResponse(_)))",
+    ),
+    (
+        Kind::Response,
+        "Ok(SASLResponse(_))",
+        "Ok(PasswordMessageFamily(SASLResponse(_)))",
+    ),
 ];
 
 #[test]
 fn no_secret_is_shown(rt: HostRuntime) -> Result<(), Fail> {
-    let alloc = rt.alloc();
-    for (kind, want) in SHOWN.iter().enumerate() {
-        assert_eq!(rt; shown(alloc, kind)?.as_str(), *want);
-    }
-    for (kind, want) in SHOWN_AMONG_ALL.iter().enumerate() {
-        assert_eq!(rt; shown_among_all(alloc, kind)?.as_str(), *want);
+    for (kind, alone, all) in SHOWN {
+        same(told(rt.alloc(), family(rt.alloc(), *kind)), alone)?;
+        same(told(rt.alloc(), among_all(rt.alloc(), *kind)), all)?;
     }
     Ok(())
 }
 
 // What is taken at the front.
-fn taken(alloc: Global, octets: &mut Octets) -> Result<&'static str, Fail> {
-    let ctx = DecodeContext::default();
-    Ok(
-        match PgWireBackendMessage::decode_from(alloc, octets, &ctx)? {
-            None => "nothing yet",
-            Some(PgWireBackendMessage::DataRow(_row)) => "a row",
-            Some(PgWireBackendMessage::ReadyForQuery(_ready)) => "ready",
-            Some(_other) => "another",
-        },
-    )
+fn taken(alloc: Global, octets: &mut Octets) -> Result<String, OutOfMemory> {
+    let found = PgWireBackendMessage::decode_from(alloc, octets, &DecodeContext::default());
+    told(alloc, found)
 }
+
+// A row of one value, that the server is ready, and a message that is cut.
+const CUT: &[u8] = b"D\0\0\0\x0d\0\x01\0\0\0\x037\07Z\0\0\0\x05ID\0";
+
+const TAKEN: &[&str] = &[
+    "Ok(Some(DataRow(DataRow { payload: Octets { bytes: b\"\\0\\0\\0\\x037\\07\" }, field_count: 1 })))",
+    "Ok(Some(ReadyForQuery(ReadyForQuery { status: Idle })))",
+    "Ok(None)",
+];
 
 // What stands behind a message is left.
 #[test]
 fn messages_are_cut_from_octets(rt: HostRuntime) -> Result<(), Fail> {
     let alloc = rt.alloc();
-    let mut octets = Octets::from_slice(alloc, b"D\0\0\0\x0d\0\x01\0\0\0\x037\07Z\0\0\0\x05ID\0")?;
-    assert_eq!(rt; taken(alloc, &mut octets)?, "a row");
-    assert_eq!(rt; taken(alloc, &mut octets)?, "ready");
-    assert_eq!(rt; taken(alloc, &mut octets)?, "nothing yet");
-    assert_eq!(rt; octets.as_slice(), b"D\0".as_slice());
+    let mut octets = Octets::from_slice(alloc, CUT)?;
+    for want in TAKEN {
+        same(taken(alloc, &mut octets), want)?;
+    }
+    assert!(rt; octets.as_slice() == b"D\0".as_slice());
     Ok(())
 }

@@ -1,14 +1,11 @@
 //! OAUTHBEARER.
-use crate::tests::shared::{Silent, Step, TwoPasswords, let_go, scram, take_all, words_of};
-use pgw_login::client_info::{DefaultClient, PgWireConnectionState};
-use pgw_login::outbox::ByteOutbox;
-use pgw_login::state::LoginState;
+use crate::tests::shared::{Case, Outcome, Silent, Step, TwoPasswords, compare, outcome_of, scram};
 use pgw_registry::generator::RandomPidSecretKeyGenerator;
 use pgw_sasl::handler::SASLAuthStartupHandler;
 use pgw_sasl::oauth::Oauth;
 use pgw_sasl::validator::{OauthValidator, ValidatorModuleResult};
 use pgw_types::error::{PgWireError, PgWireResult};
-use pgw_types::listed::Duplicate;
+use pgw_types::memory::OutOfMemory;
 use pgw_types::text::Text;
 use std::alloc::Global;
 use std::process::Abort;
@@ -39,6 +36,25 @@ const DATA: &[u8] = b"n,,\x01host=localhost\x01auth=Bearer token123\x01port=5432
 #[derive(Drop)]
 struct OneToken;
 
+fn is_known(token: &str, username: &str, issuer: &str, required_scopes: &str) -> bool {
+    token == "token123"
+        && username == "bob"
+        && issuer == "https://example.com"
+        && required_scopes == "openid"
+}
+
+fn verdict(alloc: Global, authorized: bool, username: &str) -> PgWireResult<ValidatorModuleResult> {
+    Ok(ValidatorModuleResult {
+        authorized,
+        authn_id: Some(Text::from_str(alloc, username)?),
+        metadata: None,
+    })
+}
+
+fn down(alloc: Global) -> PgWireResult<ValidatorModuleResult> {
+    Err(PgWireError::OAuthValidationError(Text::from_str(alloc, "down")?))
+}
+
 impl OauthValidator for OneToken {
     ghost validates = { λ validator token user issuer scopes answer. Unit {0} };
 
@@ -51,167 +67,169 @@ impl OauthValidator for OneToken {
         required_scopes: &str,
     ) -> PgWireResult<ValidatorModuleResult> {
         if token == "broken" {
-            return Err(PgWireError::OAuthValidationError(Text::from_str(alloc, "down")?));
+            down(alloc)
+        } else {
+            let known = is_known(token, username, issuer, required_scopes);
+            verdict(alloc, known, username)
         }
-        let is_known = token == "token123"
-            && username == "bob"
-            && issuer == "https://example.com"
-            && required_scopes == "openid";
-        Ok(ValidatorModuleResult {
-            authorized: is_known,
-            authn_id: Some(Text::from_str(alloc, username)?),
-            metadata: None,
-        })
     }
 }
 
-/// What a handler for OAUTHBEARER alone answers, and whether the client may ask then.
-fn outcome_of<R: Abort>(
-    alloc: Global,
-    rt: &R,
-    steps: &[Step<'_>],
-) -> Result<(PgWireResult<()>, ByteOutbox, bool), Fail> {
+// What comes of messages to a handler for OAUTHBEARER alone.
+fn by_oauth<R: Abort>(rt: &R, alloc: Global, steps: &[Step<'_>]) -> Result<Outcome, OutOfMemory> {
     let issuer = Text::from_str(alloc, "https://example.com")?;
     let scope = Text::from_str(alloc, "openid")?;
     let oauth = Oauth::new(issuer, scope, Box::new(alloc, OneToken)?);
     let (generator, seat) = RandomPidSecretKeyGenerator::new(alloc)?;
     let handler = SASLAuthStartupHandler::<TwoPasswords, _, _, _>::new(Silent, generator);
     let handler = handler.with_oauth(oauth.with_skip_usermapping(true));
-    let mut client = DefaultClient::new(alloc, Text::new(alloc), false, ());
-    let mut out = ByteOutbox::new(alloc);
-    let mut state = LoginState::new([1; 18], [0; 32], seat, None);
-    let answer = take_all(alloc, &handler, &mut client, &mut out, &mut state, steps);
-    let_go(rt, state);
-    let is_ready = client.state == PgWireConnectionState::ReadyForQuery;
-    Ok((answer, out, is_ready))
+    outcome_of(rt, alloc, &handler, seat, steps)
 }
+
+const OPENED: Step<'static> = Step::Startup("bob");
+
+// Says no more than that it has no token.
+const TOKENLESS: Step<'static> = Step::First(METHOD, Some(b"n,,\x01\x01"));
+
+const WHOLE: Step<'static> = Step::First(METHOD, Some(DATA));
+
+const CASES: &[Case] = &[
+    (&[OPENED], "ok", &[OFFER], -1),
+    (&[OPENED, WHOLE], "ok ok", &[OFFER, END], 100000),
+    (
+        &[OPENED, Step::First(METHOD, None), Step::Further(DATA)],
+        "ok ok ok",
+        &[OFFER, ASKED, END],
+        100000,
+    ),
+    (
+        &[
+            OPENED,
+            Step::First(METHOD, Some(b"y,,\x01auth=BEARER   token123\x01")),
+        ],
+        "ok ok",
+        &[OFFER, END],
+        100000,
+    ),
+    (&[OPENED, TOKENLESS], "ok ok", &[OFFER, TOLD], -1),
+    (&[WHOLE], "InvalidSASLState", &[], -1),
+    (
+        &[OPENED, TOKENLESS, Step::Further(b"\x01")],
+        "ok ok Ended",
+        &[OFFER, TOLD],
+        -1,
+    ),
+    (
+        &[OPENED, TOKENLESS, Step::Further(b"\x02")],
+        "ok ok NotOneByte",
+        &[OFFER, TOLD],
+        -1,
+    ),
+    (
+        &[OPENED, TOKENLESS, Step::Further(b"\x01\x01")],
+        "ok ok NotOneByte",
+        &[OFFER, TOLD],
+        -1,
+    ),
+    (
+        &[OPENED, TOKENLESS, Step::Further(b"")],
+        "ok ok NotOneByte",
+        &[OFFER, TOLD],
+        -1,
+    ),
+    (
+        &[OPENED, WHOLE, Step::Further(b"\x01")],
+        "ok ok InvalidSASLState",
+        &[OFFER, END],
+        100000,
+    ),
+    (
+        &[OPENED, Step::Password],
+        "ok FailedToCoercePasswordMessage",
+        &[OFFER],
+        -1,
+    ),
+    (
+        &[OPENED, Step::First("SCRAM-SHA-256", Some(DATA))],
+        "ok SCRAM",
+        &[OFFER],
+        -1,
+    ),
+    (
+        &[Step::Startup(""), WHOLE],
+        "ok UserNameRequired",
+        &[OFFER],
+        -1,
+    ),
+];
 
 #[test]
 fn logins(rt: HostRuntime) -> Result<(), Fail> {
-    let opened = Step::Startup("bob");
-    let without = Step::First(METHOD, None);
-    let spaced = b"y,,\x01auth=BEARER   token123\x01";
-    let cases: [(&[Step<'_>], &[&[u8]], bool); 5] = [
-        (&[opened], &[OFFER], false),
-        (
-            &[opened, Step::First(METHOD, Some(DATA))],
-            &[OFFER, END],
-            true,
-        ),
-        (
-            &[opened, without, Step::Further(DATA)],
-            &[OFFER, ASKED, END],
-            true,
-        ),
-        (
-            &[opened, Step::First(METHOD, Some(spaced))],
-            &[OFFER, END],
-            true,
-        ),
-        (
-            &[opened, Step::First(METHOD, Some(b"n,,\x01\x01"))],
-            &[OFFER, TOLD],
-            false,
-        ),
-    ];
-    for (steps, parts, ready) in cases {
-        let (answer, out, is_ready) = outcome_of(rt.alloc(), &rt, steps)?;
-        assert_eq!(rt; words_of(&answer), "ok");
-        let mut sent = Vec::new(rt.alloc());
-        for part in parts {
-            sent.extend_from_slice(part)?;
-        }
-        assert_eq!(rt; out.buffer.as_slice(), sent.as_slice());
-        assert_eq!(rt; is_ready, ready);
+    for (steps, words, sent, number) in CASES {
+        let outcome = by_oauth(&rt, rt.alloc(), steps)?;
+        compare(&rt, rt.alloc(), outcome, words, sent, *number)?;
     }
     Ok(())
 }
 
+// First messages.
+const FAULTS: &[(&[u8], &str)] = &[
+    (b"p,,\x01\x01", "ok ChannelBinding"),
+    (b"x,,\x01\x01", "ok Flag"),
+    (b"n", "ok Flag"),
+    (b"n,", "ok AuthzId"),
+    (b"n,a=bob,\x01\x01", "ok AuthzId"),
+    (b"n,,", "ok Separator"),
+    (b"n,,\x01auth\x01\x01", "ok Pair"),
+    (b"n,,\x01a1=b\x01\x01", "ok Key"),
+    (b"n,,\x01host=\x7f\x01\x01", "ok Value"),
+    (
+        b"n,,\x01auth=Bearer a\x01auth=Bearer b\x01\x01",
+        "ok TwiceAuth",
+    ),
+    (b"n,,\x01auth=Bearer a\x01auth=\x7f\x01\x01", "ok TwiceAuth"),
+    (b"n,,\x01auth=Basic token123\x01\x01", "ok Malformed"),
+    (b"n,,\x01auth=Bearer \x01\x01", "ok Malformed"),
+    (b"n,,\x01auth=Bearer token 123\x01\x01", "ok Malformed"),
+    (b"n,,\x01auth=Bearer token124\x01\x01", "ok Refused"),
+    (b"n,,\x01auth=Bearer broken\x01\x01", "ok down"),
+    (b"n,,\x01auth=\x01\x01", "ok ok"),
+];
+
+fn words_for<R: Abort>(rt: &R, alloc: Global, first: &[u8]) -> Result<String, OutOfMemory> {
+    let steps = [OPENED, Step::First(METHOD, Some(first))];
+    let outcome = by_oauth(rt, alloc, &steps)?;
+    assert_eq!(rt; outcome.number, -1);
+    Ok(outcome.words)
+}
+
 #[test]
-fn oauth_faults(rt: HostRuntime) -> Result<(), Fail> {
-    let cases: [(&[u8], &str); 17] = [
-        (b"p,,\x01\x01", "ChannelBinding"),
-        (b"x,,\x01\x01", "Flag"),
-        (b"n", "Flag"),
-        (b"n,", "AuthzId"),
-        (b"n,a=bob,\x01\x01", "AuthzId"),
-        (b"n,,", "Separator"),
-        (b"n,,\x01auth\x01\x01", "Pair"),
-        (b"n,,\x01a1=b\x01\x01", "Key"),
-        (b"n,,\x01host=\x7f\x01\x01", "Value"),
-        (
-            b"n,,\x01auth=Bearer a\x01auth=Bearer b\x01\x01",
-            "TwiceAuth",
-        ),
-        (b"n,,\x01auth=Bearer a\x01auth=\x7f\x01\x01", "TwiceAuth"),
-        (b"n,,\x01auth=Basic token123\x01\x01", "Malformed"),
-        (b"n,,\x01auth=Bearer \x01\x01", "Malformed"),
-        (b"n,,\x01auth=Bearer token 123\x01\x01", "Malformed"),
-        (b"n,,\x01auth=Bearer token124\x01\x01", "Refused"),
-        (b"n,,\x01auth=Bearer broken\x01\x01", "down"),
-        (b"n,,\x01auth=\x01\x01", "ok"),
-    ];
-    for (bytes, words) in cases {
-        let steps = [Step::Startup("bob"), Step::First(METHOD, Some(bytes))];
-        let (answer, _out, is_ready) = outcome_of(rt.alloc(), &rt, &steps)?;
-        assert_eq!(rt; words_of(&answer), words);
-        assert!(rt; !is_ready);
+fn faults(rt: HostRuntime) -> Result<(), Fail> {
+    for (first, words) in FAULTS {
+        assert_eq!(rt;
+            words_for(&rt, rt.alloc(), first)?.as_str().trim_end(),
+            *words
+        );
     }
     Ok(())
 }
 
-#[test]
-fn refusals(rt: HostRuntime) -> Result<(), Fail> {
-    let opened = Step::Startup("bob");
-    let told = Step::First(METHOD, Some(b"n,,\x01\x01"));
-    let whole = Step::First(METHOD, Some(DATA));
-    let cases: [(&[Step<'_>], &str); 9] = [
-        (&[whole], "InvalidSASLState"),
-        (&[opened, told, Step::Further(b"\x01")], "Ended"),
-        (&[opened, told, Step::Further(b"\x02")], "NotOneByte"),
-        (&[opened, told, Step::Further(b"\x01\x01")], "NotOneByte"),
-        (&[opened, told, Step::Further(b"")], "NotOneByte"),
-        (&[opened, whole, Step::Further(b"\x01")], "InvalidSASLState"),
-        (&[opened, Step::Password], "FailedToCoercePasswordMessage"),
-        (&[opened, Step::First("SCRAM-SHA-256", Some(DATA))], "SCRAM"),
-        (&[Step::Startup(""), whole], "UserNameRequired"),
-    ];
-    for (steps, words) in cases {
-        let (answer, _out, _ready) = outcome_of(rt.alloc(), &rt, steps)?;
-        assert_eq!(rt; words_of(&answer), words);
-    }
-    Ok(())
-}
-
-// Both methods are offered, SCRAM first.
-#[test]
-fn both_methods(rt: HostRuntime) -> Result<(), Fail> {
-    let alloc = rt.alloc();
+// What comes of messages to a handler for both methods, with the issuer alone.
+fn by_both<R: Abort>(rt: &R, alloc: Global, steps: &[Step<'_>]) -> Result<Outcome, OutOfMemory> {
     let issuer = Text::from_str(alloc, "https://example.com/.well-known/x")?;
     let oauth = Oauth::new(issuer, Text::new(alloc), Box::new(alloc, OneToken)?);
     let (generator, seat) = RandomPidSecretKeyGenerator::new(alloc)?;
     let handler = SASLAuthStartupHandler::new(Silent, generator).with_scram(scram());
     let handler = handler.with_oauth(oauth);
-    let mut client = DefaultClient::new(alloc, Text::new(alloc), false, ());
-    let mut out = ByteOutbox::new(alloc);
-    let mut state = LoginState::new([1; 18], [0; 32], seat, None);
-    let steps = [Step::Startup("bob"), Step::First(METHOD, Some(b""))];
-    let answer = take_all(alloc, &handler, &mut client, &mut out, &mut state, &steps);
-    let_go(&rt, state);
-    assert_eq!(rt; words_of(&answer), "ok");
-    let mut sent = Vec::from_slice(alloc, BOTH_OFFERED)?;
-    sent.extend_from_slice(TOLD_OF_ISSUER)?;
-    assert_eq!(rt; out.buffer.as_slice(), sent.as_slice());
-    Ok(())
+    outcome_of(rt, alloc, &handler, seat, steps)
 }
 
-// A verdict's copy is the verdict.
+// Both methods are offered, SCRAM first.
 #[test]
-fn verdicts(rt: HostRuntime) -> Result<(), Fail> {
-    let alloc = rt.alloc();
-    let verdict = OneToken.validate(alloc, "token123", "bob", "https://example.com", "openid")?;
-    let copy = verdict.duplicate()?;
-    assert!(rt; copy.authorized && copy.metadata.is_none());
-    assert_eq!(rt; copy.authn_id, verdict.authn_id);
+fn both_methods(rt: HostRuntime) -> Result<(), Fail> {
+    let steps = [OPENED, Step::First(METHOD, Some(b""))];
+    let outcome = by_both(&rt, rt.alloc(), &steps)?;
+    let sent = [BOTH_OFFERED, TOLD_OF_ISSUER];
+    compare(&rt, rt.alloc(), outcome, "ok ok", &sent, -1)?;
     Ok(())
 }

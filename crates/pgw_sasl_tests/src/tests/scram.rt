@@ -1,15 +1,9 @@
 //! SCRAM-SHA-256. Texts and digests were computed with Python's hashlib by the formulas of RFC 5802.
-use crate::tests::shared::{Silent, Step, let_go, scram, take_all, words_of};
-use pgw_backend::client_error::PgWireClientError;
-use pgw_login::client_info::{DefaultClient, PgWireConnectionState};
-use pgw_login::handler::StartupHandler;
-use pgw_login::outbox::ByteOutbox;
-use pgw_login::state::LoginState;
+use crate::tests::shared::{Case, Outcome, Silent, Step, TwoPasswords, compare, outcome_of, scram};
 use pgw_registry::generator::RandomPidSecretKeyGenerator;
 use pgw_sasl::handler::SASLAuthStartupHandler;
-use pgw_scram::client::ScramClientAuth;
-use pgw_types::error::PgWireResult;
-use pgw_types::text::Text;
+use pgw_sasl::scram::ScramAuth;
+use pgw_types::memory::OutOfMemory;
 use std::alloc::Global;
 use std::process::Abort;
 use std::test::Fail;
@@ -19,6 +13,8 @@ const METHOD: &str = "SCRAM-SHA-256";
 const PLUS: &str = "SCRAM-SHA-256-PLUS";
 
 const FIRST: &[u8] = b"n,,n=bob,r=AAAAAAAAAAAAAAAAAAAAAAAA";
+
+const BOUND_FIRST: &[u8] = b"p=tls-server-end-point,,n=bob,r=AAAAAAAAAAAAAAAAAAAAAAAA";
 
 const LAST: &[u8] =
     b"c=biws,r=AAAAAAAAAAAAAAAAAAAAAAAAAQEBAQEBAQEBAQEBAQEBAQEB,p=rENGY+XF2NrcuDnCzeudKtjcyghjLunPidEO0/tNTKc=";
@@ -40,168 +36,131 @@ const SERVER_FIRST: &[u8] =
 
 const SERVER_FINAL: &[u8] = b"R\0\0\06\0\0\0\x0cv=ixyMlYYopKNLUY01k1RxEoUhGHhc+NZ5t4InsGNpq44=";
 
+const BOUND_FINAL: &[u8] = b"R\0\0\06\0\0\0\x0cv=WMQlyGrOcHISKr5/7+nbEhEOxtgqwwgK76PjmwdGP7Y=";
+
 // AuthenticationOk, BackendKeyData with the first number and a key of zeros, ReadyForQuery.
 const END: &[u8] = b"R\0\0\0\x08\0\0\0\0K\0\0\0\x0c\0\x01\x86\xa0\0\0\0\0Z\0\0\0\x05I";
 
-/// What a handler for SCRAM alone answers.
-fn outcome_of<R: Abort>(
-    alloc: Global,
-    rt: &R,
-    steps: &[Step<'_>],
-) -> PgWireResult<(PgWireResult<()>, ByteOutbox)> {
-    let (generator, seat) = RandomPidSecretKeyGenerator::new(alloc)?;
-    let handler = SASLAuthStartupHandler::new(Silent, generator).with_scram(scram());
-    let mut client = DefaultClient::new(alloc, Text::new(alloc), false, ());
-    let mut out = ByteOutbox::new(alloc);
-    let mut state = LoginState::new([1; 18], [0; 32], seat, None);
-    let answer = take_all(alloc, &handler, &mut client, &mut out, &mut state, steps);
-    let_go(rt, state);
-    Ok((answer, out))
-}
+const OPENED: Step<'static> = Step::Startup("bob");
 
-#[test]
-fn refusals(rt: HostRuntime) -> Result<(), Fail> {
-    let opened = Step::Startup("bob");
-    let first = Step::First(METHOD, Some(FIRST));
-    let last = Step::Further(LAST);
-    let cases: [(&[Step<'_>], &str); 14] = [
-        (&[opened, first, last], "ok"),
-        (&[first], "InvalidSASLState"),
-        (&[opened, opened], "InvalidSASLState"),
-        (
-            &[opened, Step::Further(FIRST)],
-            "FailedToCoercePasswordMessage",
-        ),
-        (&[opened, Step::Password], "FailedToCoercePasswordMessage"),
-        (&[opened, Step::First("PLAIN", None)], "PLAIN"),
-        (&[opened, Step::First("OAUTHBEARER", None)], "OAUTHBEARER"),
-        (&[opened, Step::First(METHOD, None)], "Empty"),
-        (&[opened, Step::First(METHOD, Some(b"n=bob"))], "Grammar"),
-        (&[Step::Startup("eve"), first], "UserNameRequired"),
-        (&[Step::Startup("tom"), first], "SaltRequired"),
-        (&[opened, first, first], "FailedToCoercePasswordMessage"),
-        (&[opened, first, Step::Further(FALSE_PROOF)], "bob"),
-        (&[opened, first, last, last], "InvalidSASLState"),
-    ];
-    for (steps, words) in cases {
-        let (answer, _out) = outcome_of(rt.alloc(), &rt, steps)?;
-        assert_eq!(rt; words_of(&answer), words);
-    }
-    Ok(())
-}
+const BEGUN: Step<'static> = Step::First(METHOD, Some(FIRST));
 
-/// An honest client's login, with the server's texts as they stand in the messages that it sends.
-fn log_in<H: StartupHandler>(
-    alloc: Global,
-    handler: &H,
-    client: &mut DefaultClient<()>,
-    out: &mut ByteOutbox,
-    state: &mut LoginState,
-) -> Result<(), PgWireClientError>
-    requires { H.fits handler.now state.old }
-    ensures { H.fits handler.now state.new }
-{
-    let name = Text::from_str(alloc, "bob")?;
-    let scram = ScramClientAuth::new(name, Text::from_str(alloc, "pencil")?);
-    let (first, scram) = scram.build_client_first(alloc, &[0; 18])?;
-    let first = Step::First(METHOD, Some(first.as_str().as_bytes()));
-    take_all(
-        alloc,
-        handler,
-        client,
-        out,
-        state,
-        &[Step::Startup("bob"), first],
-    )?;
-    let server_first = b"r=AAAAAAAAAAAAAAAAAAAAAAAAAQEBAQEBAQEBAQEBAQEBAQEB,s=YmFy,i=12";
-    let (last, scram) = scram.build_client_final(alloc, server_first)?;
-    let last = Step::Further(last.as_str().as_bytes());
-    take_all(alloc, handler, client, out, state, &[last])?;
-    let server_final = b"v=ixyMlYYopKNLUY01k1RxEoUhGHhc+NZ5t4InsGNpq44=";
-    scram.verify_server_final(alloc, server_final)
-}
+const ENDED: Step<'static> = Step::Further(LAST);
 
-#[test]
-fn honest_login(rt: HostRuntime) -> Result<(), Fail> {
-    let alloc = rt.alloc();
-    let (generator, seat) = RandomPidSecretKeyGenerator::new(alloc)?;
-    let handler = SASLAuthStartupHandler::new(Silent, generator).with_scram(scram());
-    let mut client = DefaultClient::new(alloc, Text::new(alloc), false, ());
-    let mut out = ByteOutbox::new(alloc);
-    let mut state = LoginState::new([1; 18], [0; 32], seat, None);
-    let answer = log_in(alloc, &handler, &mut client, &mut out, &mut state);
-    let_go(&rt, state);
-    answer?;
-    let mut sent = Vec::new(alloc);
-    for part in [OFFER, SERVER_FIRST, SERVER_FINAL, END] {
-        sent.extend_from_slice(part)?;
-    }
-    assert_eq!(rt; out.buffer.as_slice(), sent.as_slice());
-    assert_eq!(rt; client.state, PgWireConnectionState::ReadyForQuery);
-    assert_eq!(rt; client.pid_secret_key.0, 100000);
-    Ok(())
-}
+const UNEXPECTED: &str = "ok FailedToCoercePasswordMessage";
 
-/// What is answered once a message was refused.
-fn after_refusal<H: StartupHandler>(
-    alloc: Global,
-    handler: &H,
-    client: &mut DefaultClient<()>,
-    out: &mut ByteOutbox,
-    state: &mut LoginState,
-) -> PgWireResult<()>
-    requires { H.fits handler.now state.old }
-    ensures { H.fits handler.now state.new }
-{
-    let refused = [Step::Startup("bob"), Step::First(METHOD, None)];
-    match take_all(alloc, handler, client, out, state, &refused) {
-        Ok(()) => Ok(()),
-        Err(_) => {
-            let first = Step::First(METHOD, Some(FIRST));
-            take_all(alloc, handler, client, out, state, &[first])
-        }
-    }
-}
-
-#[test]
-fn stays_refused(rt: HostRuntime) -> Result<(), Fail> {
-    let alloc = rt.alloc();
-    let (generator, seat) = RandomPidSecretKeyGenerator::new(alloc)?;
-    let handler = SASLAuthStartupHandler::new(Silent, generator).with_scram(scram());
-    let mut client = DefaultClient::new(alloc, Text::new(alloc), false, ());
-    let mut out = ByteOutbox::new(alloc);
-    let mut state = LoginState::new([1; 18], [0; 32], seat, None);
-    let answer = after_refusal(alloc, &handler, &mut client, &mut out, &mut state);
-    let_go(&rt, state);
-    assert_eq!(rt; words_of(&answer), "InvalidSASLState");
-    assert_eq!(rt; out.buffer.as_slice(), OFFER);
-    Ok(())
-}
+// The first is an honest client's login.
+const CASES: &[Case] = &[
+    (
+        &[OPENED, BEGUN, ENDED],
+        "ok ok ok",
+        &[OFFER, SERVER_FIRST, SERVER_FINAL, END],
+        100000,
+    ),
+    (&[BEGUN], "InvalidSASLState", &[], -1),
+    (&[OPENED, OPENED], "ok InvalidSASLState", &[OFFER], -1),
+    (&[OPENED, Step::Further(FIRST)], UNEXPECTED, &[OFFER], -1),
+    (&[OPENED, Step::Password], UNEXPECTED, &[OFFER], -1),
+    (
+        &[OPENED, Step::First("PLAIN", None)],
+        "ok PLAIN",
+        &[OFFER],
+        -1,
+    ),
+    (
+        &[OPENED, Step::First("OAUTHBEARER", None)],
+        "ok OAUTHBEARER",
+        &[OFFER],
+        -1,
+    ),
+    (
+        &[OPENED, Step::First(METHOD, None), BEGUN],
+        "ok Empty InvalidSASLState",
+        &[OFFER],
+        -1,
+    ),
+    (
+        &[OPENED, Step::First(METHOD, Some(b"n=bob"))],
+        "ok Grammar",
+        &[OFFER],
+        -1,
+    ),
+    (
+        &[Step::Startup("eve"), BEGUN],
+        "ok UserNameRequired",
+        &[OFFER],
+        -1,
+    ),
+    (
+        &[Step::Startup("tom"), BEGUN],
+        "ok SaltRequired",
+        &[OFFER],
+        -1,
+    ),
+    (
+        &[OPENED, BEGUN, BEGUN],
+        "ok ok FailedToCoercePasswordMessage",
+        &[OFFER, SERVER_FIRST],
+        -1,
+    ),
+    (
+        &[OPENED, BEGUN, Step::Further(FALSE_PROOF)],
+        "ok ok bob",
+        &[OFFER, SERVER_FIRST],
+        -1,
+    ),
+    (
+        &[OPENED, BEGUN, ENDED, ENDED],
+        "ok ok ok InvalidSASLState",
+        &[OFFER, SERVER_FIRST, SERVER_FINAL, END],
+        100000,
+    ),
+];
 
 // With a certificate's hash the method with a channel binding is offered too, and its binding is taken.
-#[test]
-fn bound_login(rt: HostRuntime) -> Result<(), Fail> {
-    let alloc = rt.alloc();
-    let mut scram = scram();
-    assert!(rt; !scram.supports_channel_binding());
-    scram.configure_certificate_hash(alloc, &[10])?;
-    assert!(rt; scram.supports_channel_binding());
+const BOUND: &[Case] = &[(
+    &[
+        OPENED,
+        Step::First(PLUS, Some(BOUND_FIRST)),
+        Step::Further(BOUND_LAST),
+    ],
+    "ok ok ok",
+    &[BOUND_OFFER, SERVER_FIRST, BOUND_FINAL, END],
+    100000,
+)];
+
+// What comes of messages to a handler for SCRAM alone.
+fn by_scram<R: Abort>(
+    rt: &R,
+    alloc: Global,
+    scram: ScramAuth<TwoPasswords>,
+    steps: &[Step<'_>],
+) -> Result<Outcome, OutOfMemory> {
     let (generator, seat) = RandomPidSecretKeyGenerator::new(alloc)?;
     let handler = SASLAuthStartupHandler::new(Silent, generator).with_scram(scram);
-    let mut client = DefaultClient::new(alloc, Text::new(alloc), false, ());
-    let mut out = ByteOutbox::new(alloc);
-    let mut state = LoginState::new([1; 18], [0; 32], seat, None);
-    let steps = [
-        Step::Startup("bob"),
-        Step::First(
-            PLUS,
-            Some(b"p=tls-server-end-point,,n=bob,r=AAAAAAAAAAAAAAAAAAAAAAAA"),
-        ),
-        Step::Further(BOUND_LAST),
-    ];
-    let answer = take_all(alloc, &handler, &mut client, &mut out, &mut state, &steps);
-    let_go(&rt, state);
-    assert_eq!(rt; words_of(&answer), "ok");
-    assert!(rt; out.buffer.as_slice().starts_with(BOUND_OFFER));
+    outcome_of(rt, alloc, &handler, seat, steps)
+}
+
+#[test]
+fn logins(rt: HostRuntime) -> Result<(), Fail> {
+    for (steps, words, sent, number) in CASES {
+        let outcome = by_scram(&rt, rt.alloc(), scram(), steps)?;
+        compare(&rt, rt.alloc(), outcome, words, sent, *number)?;
+    }
+    Ok(())
+}
+
+fn bound(alloc: Global) -> Result<ScramAuth<TwoPasswords>, OutOfMemory> {
+    let mut scram = scram();
+    scram.configure_certificate_hash(alloc, &[10])?;
+    Ok(scram)
+}
+
+#[test]
+fn bound_logins(rt: HostRuntime) -> Result<(), Fail> {
+    for (steps, words, sent, number) in BOUND {
+        let outcome = by_scram(&rt, rt.alloc(), bound(rt.alloc())?, steps)?;
+        compare(&rt, rt.alloc(), outcome, words, sent, *number)?;
+    }
     Ok(())
 }

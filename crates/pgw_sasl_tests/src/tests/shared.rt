@@ -1,12 +1,17 @@
 //! What the tests log in with.
+ghost use Rattle.std.specs.Prelude.{◌≡◌, None};
+ghost use Rattle.pgw_login.specs.declared.state.LoginState.{LoginState as TheState};
+
+use bytes::BytesMut;
 use pgw_frontend::frontend::PgWireFrontendMessage;
 use pgw_hash::pbkdf2::gen_salted_password;
-use pgw_login::client_info::{ClientInfo, DefaultClient, METADATA_USER};
+use pgw_login::client_info::{ClientInfo, DefaultClient, METADATA_USER, PgWireConnectionState};
 use pgw_login::handler::StartupHandler;
 use pgw_login::outbox::ByteOutbox;
 use pgw_login::provider::ServerParameterProvider;
 use pgw_login::source::{AuthSource, LoginInfo};
 use pgw_login::state::LoginState;
+use pgw_registry::generator::PidSeat;
 use pgw_sasl::scram::ScramAuth;
 use pgw_scram::password::Password as Kept;
 use pgw_startup::password::{Password, PasswordMessageFamily};
@@ -114,35 +119,135 @@ fn password_of(alloc: Global, step: Step<'_>) -> PgWireResult<PasswordMessageFam
     }
 }
 
-pub fn message_of(alloc: Global, step: Step<'_>) -> PgWireResult<PgWireFrontendMessage> {
+fn message_of(alloc: Global, step: Step<'_>) -> PgWireResult<PgWireFrontendMessage> {
     match step {
         Step::Startup(user) => startup(alloc, user),
         _ => Ok(PgWireFrontendMessage::PasswordMessageFamily(password_of(alloc, step)?)),
     }
 }
 
-/// Takes messages, up to one that is refused.
-pub fn take_all<H: StartupHandler>(
+/// Messages, the word that each is answered, what is sent in all, and then the client's process number: -1 of one that may
+/// not ask.
+pub type Case = (
+    &'static [Step<'static>],
+    &'static str,
+    &'static [&'static [u8]],
+    i32,
+);
+
+/// What comes of messages.
+#[derive(Drop)]
+pub struct Outcome {
+    /// The word that each is answered, with a space behind it.
+    pub words: String,
+    pub sent: BytesMut,
+    pub number: i32,
+}
+
+fn add_word(words: &mut String, answer: &PgWireResult<()>) -> Result<(), OutOfMemory> {
+    words.push_str(words_of(answer))?;
+    words.push_str(" ")?;
+    Ok(())
+}
+
+fn answer_to<H: StartupHandler>(
+    alloc: Global,
+    handler: &H,
+    client: &mut DefaultClient<()>,
+    out: &mut ByteOutbox,
+    state: &mut LoginState,
+    step: Step<'_>,
+) -> PgWireResult<()>
+    requires { H.fits handler.now state.old }
+    ensures { H.fits handler.now state.new }
+{
+    let message = message_of(alloc, step)?;
+    handler.on_startup(alloc, client, out, state, message)
+}
+
+fn hear<H: StartupHandler>(
+    alloc: Global,
+    handler: &H,
+    client: &mut DefaultClient<()>,
+    out: &mut ByteOutbox,
+    state: &mut LoginState,
+    step: Step<'_>,
+    words: &mut String,
+) -> Result<(), OutOfMemory>
+    requires { H.fits handler.now state.old }
+    ensures { H.fits handler.now state.new }
+{
+    let answer = answer_to(alloc, handler, client, out, state, step);
+    add_word(words, &answer)
+}
+
+// Hears the messages, those behind a refusal too.
+fn hear_all<H: StartupHandler>(
     alloc: Global,
     handler: &H,
     client: &mut DefaultClient<()>,
     out: &mut ByteOutbox,
     state: &mut LoginState,
     steps: &[Step<'_>],
-) -> PgWireResult<()>
+    words: &mut String,
+) -> Result<(), OutOfMemory>
     requires { H.fits handler.now state.old }
     ensures { H.fits handler.now state.new }
 {
     for step in steps {
-        let message = message_of(alloc, *step)?;
-        handler.on_startup(alloc, client, out, state, message)?;
+        hear(alloc, handler, client, out, state, *step, words)?;
     }
     Ok(())
 }
 
-/// Lets a login go that was registered nowhere.
-pub fn let_go<R: Abort>(rt: &R, state: LoginState) {
-    let (_seat, _pass, handle, guard) = state.finish();
+fn number_of(client: &DefaultClient<()>) -> i32 {
+    if client.state == PgWireConnectionState::ReadyForQuery {
+        client.pid_secret_key.0
+    } else {
+        -1
+    }
+}
+
+/// What comes of messages to a handler.
+pub fn outcome_of<H: StartupHandler, R: Abort>(
+    rt: &R,
+    alloc: Global,
+    handler: &H,
+    seat: PidSeat,
+    steps: &[Step<'_>],
+) -> Result<Outcome, OutOfMemory>
+    requires { (state : TheState) → state.seat ≡ seat → state.pass ≡ None → H.fits handler.now state }
+{
+    let mut client = DefaultClient::new(alloc, Text::new(alloc), false, ());
+    let mut out = ByteOutbox::new(alloc);
+    let mut state = LoginState::new([1; 18], [0; 32], seat, None);
+    let mut words = String::new(alloc);
+    let heard = hear_all(
+        alloc,
+        handler,
+        &mut client,
+        &mut out,
+        &mut state,
+        steps,
+        &mut words,
+    );
+    let_go(rt, state);
+    heard?;
+    let number = number_of(&client);
+    Ok(Outcome {
+        words,
+        sent: out.buffer,
+        number,
+    })
+}
+
+// Lets a login go that was registered nowhere.
+fn let_go<R: Abort>(rt: &R, state: LoginState) {
+    let (_seat, pass, handle, guard) = state.finish();
+    match pass {
+        None => {}
+        Some(_pass) => panic!(rt; "registered"),
+    }
     match handle {
         None => {}
         Some(_handle) => panic!(rt; "registered"),
@@ -151,6 +256,29 @@ pub fn let_go<R: Abort>(rt: &R, state: LoginState) {
         None => {}
         Some(_guard) => panic!(rt; "registered"),
     }
+}
+
+fn joined(alloc: Global, parts: &[&[u8]]) -> Result<Vec<u8>, OutOfMemory> {
+    let mut all = Vec::new(alloc);
+    for part in parts {
+        all.extend_from_slice(part)?;
+    }
+    Ok(all)
+}
+
+/// Compares what comes of a case's messages with what is wanted.
+pub fn compare<R: Abort>(
+    rt: &R,
+    alloc: Global,
+    outcome: Outcome,
+    words: &str,
+    sent: &[&[u8]],
+    number: i32,
+) -> Result<(), OutOfMemory> {
+    assert_eq!(rt; outcome.words.as_str().trim_end(), words);
+    assert_eq!(rt; outcome.sent.as_slice(), joined(alloc, sent)?.as_slice());
+    assert_eq!(rt; outcome.number, number);
+    Ok(())
 }
 
 fn oauth_words(fault: &OauthFault) -> &'static str {
@@ -187,8 +315,8 @@ fn scram_words(fault: &ScramMessageFault) -> &'static str {
     }
 }
 
-/// What was refused.
-pub fn words_of(answer: &PgWireResult<()>) -> &str {
+// What was refused.
+fn words_of(answer: &PgWireResult<()>) -> &str {
     match answer {
         Ok(()) => "ok",
         Err(PgWireError::InvalidSASLState) => "InvalidSASLState",
