@@ -1,10 +1,9 @@
 //! Calls of extended queries.
 
 use crate::link::CaseLink;
-use crate::run::said;
-use crate::shown::{described_shown, error_name, rows_shown};
+use crate::shown::{said, told};
 use anyhow::{Context, Result, bail};
-use pgw_client::{ExecuteResult, Listed, Octets};
+use pgw_client::{Listed, Octets};
 use pgw_connection::{DescribeTarget, ExtendedQueryClient, PgWireClient};
 use pgw_default_handlers::DefaultExtendedQueryHandler;
 use std::alloc::Global;
@@ -26,13 +25,7 @@ fn target_of<'a>(kind: &str, name: &'a str) -> Result<DescribeTarget<'a>> {
 
 fn prepare(alloc: Global, lent: &mut Lent<'_>, text: &str) -> Result<String> {
     let (name, sql) = text.split_once(' ').context("a name and SQL")?;
-    match lent.prepare(alloc, name_of(name), sql, &[23]) {
-        Ok(prepared) => {
-            let types = prepared.param_types.as_slice().len();
-            Ok(format!(in alloc; "prepared, {types} types")?)
-        }
-        Err(e) => Ok(String::from_str(alloc, error_name(&e))?),
-    }
+    told(alloc, lent.prepare(alloc, name_of(name), sql, &[23]))
 }
 
 // One parameter, as text.
@@ -59,36 +52,25 @@ fn bind(alloc: Global, lent: &mut Lent<'_>, text: &str) -> Result<String> {
 
 fn execute(alloc: Global, lent: &mut Lent<'_>, text: &str) -> Result<String> {
     let (portal, most) = text.split_once(' ').context("a portal and a number")?;
-    match lent.execute(alloc, name_of(portal), most.parse::<i32>()?) {
-        Ok(ExecuteResult::Complete(rows)) => {
-            Ok(format!(in alloc; "complete {}", rows_shown(alloc, &rows)?)?)
-        }
-        Ok(ExecuteResult::Suspended(rows)) => {
-            Ok(format!(in alloc; "suspended {}", rows_shown(alloc, &rows)?)?)
-        }
-        Err(e) => Ok(String::from_str(alloc, error_name(&e))?),
-    }
+    let most = most.parse::<i32>()?;
+    told(alloc, lent.execute(alloc, name_of(portal), most))
 }
 
 fn describe(alloc: Global, lent: &mut Lent<'_>, text: &str) -> Result<String> {
     let (kind, name) = text.split_once(' ').context("a kind and a name")?;
-    match lent.describe(alloc, target_of(kind, name)?) {
-        Ok(described) => described_shown(alloc, &described.param_types, &described.fields),
-        Err(e) => Ok(String::from_str(alloc, error_name(&e))?),
-    }
+    let target = target_of(kind, name)?;
+    told(alloc, lent.describe(alloc, target))
 }
 
 fn close(alloc: Global, lent: &mut Lent<'_>, text: &str) -> Result<String> {
     let (kind, name) = text.split_once(' ').context("a kind and a name")?;
-    let closed = lent.close(alloc, target_of(kind, name)?);
-    said(alloc, closed, "closed")
+    let target = target_of(kind, name)?;
+    said(alloc, lent.close(alloc, target), "closed")
 }
 
 fn query(alloc: Global, lent: &mut Lent<'_>, sql: &str) -> Result<String> {
-    match lent.query(alloc, sql, &[23], parameters(alloc, "1")?) {
-        Ok(rows) => rows_shown(alloc, &rows),
-        Err(e) => Ok(String::from_str(alloc, error_name(&e))?),
-    }
+    let parameters = parameters(alloc, "1")?;
+    told(alloc, lent.query(alloc, sql, &[23], parameters))
 }
 
 /// An extended call on a client, and what came of it.

@@ -1,32 +1,23 @@
 //! What a caller reads and sends by itself.
 
 use crate::link::CaseLink;
-use crate::run::said;
-use crate::shown::error_name;
+use crate::shown::{said, told};
 use anyhow::{Result, bail};
 use pgw_client::{Listed, Text};
 use pgw_connection::{Outgoing, PgWireClient, PgWireFrontendMessage};
 use pgw_ext::extendedquery::{Parse, Sync};
-use pgw_handlers::ReadyState;
 use std::alloc::Global;
 
 type Client = PgWireClient<CaseLink>;
 
 /// Polls once.
 pub fn poll(alloc: Global, client: &mut Client) -> Result<String> {
-    match client.poll_next(alloc) {
-        Ok(ReadyState::Pending) => Ok(String::from_str(alloc, "pending")?),
-        Ok(ReadyState::Ready(_message)) => Ok(String::from_str(alloc, "a message")?),
-        Err(e) => Ok(String::from_str(alloc, error_name(&e))?),
-    }
+    told(alloc, client.poll_next(alloc))
 }
 
 /// Reads once.
 pub fn fill(alloc: Global, client: &mut Client) -> Result<String> {
-    match client.fill() {
-        Ok(more) => Ok(format!(in alloc; "{more}")?),
-        Err(e) => Ok(String::from_str(alloc, error_name(&e))?),
-    }
+    told(alloc, client.fill())
 }
 
 // A Parse that has no spelling: its text holds a zero byte.

@@ -4,9 +4,9 @@ use crate::case::Case;
 use crate::extended::extended;
 use crate::link::{CaseDialer, CaseLink};
 use crate::own::{fill, poll, send};
-use crate::shown::{error_name, responses_shown, status_shown};
+use crate::shown::{error_name, said, status_shown, told};
 use anyhow::Result;
-use pgw_client::{Config, PgWireClientError, PgWireClientResult};
+use pgw_client::{Config, PgWireClientResult};
 use pgw_connection::PgWireClient;
 use pgw_default_handlers::{DefaultSimpleQueryHandler, DefaultStartupHandler};
 use pgw_row_counter::RowCounter;
@@ -14,28 +14,14 @@ use std::alloc::Global;
 
 type Client = PgWireClient<CaseLink>;
 
-/// What came of a call, or the name of its error.
-pub fn said<T: Drop>(alloc: Global, came: PgWireClientResult<T>, shown: &str) -> Result<String> {
-    match came {
-        Ok(_) => Ok(String::from_str(alloc, shown)?),
-        Err(e) => Ok(String::from_str(alloc, error_name(&e))?),
-    }
-}
-
 fn simple(alloc: Global, client: &mut Client, sql: &str) -> Result<String> {
     let handler = DefaultSimpleQueryHandler::new(alloc);
-    match client.simple_query(alloc, handler, sql) {
-        Ok(responses) => responses_shown(alloc, &responses),
-        Err(e) => Ok(String::from_str(alloc, error_name(&e))?),
-    }
+    told(alloc, client.simple_query(alloc, handler, sql))
 }
 
 // A handler of a caller's own, which counts rows.
 fn count(alloc: Global, client: &mut Client, sql: &str) -> Result<String> {
-    match client.simple_query(alloc, RowCounter::new(), sql) {
-        Ok(counts) => Ok(format!(in alloc; "counted {:?}", counts.as_slice())?),
-        Err(e) => Ok(String::from_str(alloc, error_name(&e))?),
-    }
+    told(alloc, client.simple_query(alloc, RowCounter::new(), sql))
 }
 
 // A call that asks nothing of the server, or one of extended queries.

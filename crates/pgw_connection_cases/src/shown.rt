@@ -3,10 +3,11 @@
 use crate::link::CaseLink;
 use anyhow::Result;
 use pgw_client::{
-    DataRow, FieldInfo, Listed, PgType, PgWireClientError, PgWireError, Response, TransactionStatus,
+    DataRow, DescribeResponse, ExecuteResult, Listed, PgWireBackendMessage, PgWireClientError,
+    PgWireClientResult, PgWireError, PrepareResponse, Response, TransactionStatus,
 };
 use pgw_connection::PgWireClient;
-use pgw_handlers::ClientInfo;
+use pgw_handlers::{ClientInfo, ReadyState};
 use std::alloc::Global;
 
 fn refusal_name(error: &PgWireError) -> &'static str {
@@ -38,6 +39,27 @@ pub fn error_name(error: &PgWireClientError) -> &'static str {
     }
 }
 
+/// An answer of a call, as it is printed.
+pub trait Shown: Drop {
+    fn shown(&self, alloc: Global) -> Result<String>;
+}
+
+/// What came of a call: its answer, or the name of its error.
+pub fn told<T: Shown>(alloc: Global, came: PgWireClientResult<T>) -> Result<String> {
+    match came {
+        Ok(answer) => answer.shown(alloc),
+        Err(error) => Ok(String::from_str(alloc, error_name(&error))?),
+    }
+}
+
+/// What came of a call whose answer is printed as this.
+pub fn said<T: Drop>(alloc: Global, came: PgWireClientResult<T>, shown: &str) -> Result<String> {
+    match came {
+        Ok(_) => Ok(String::from_str(alloc, shown)?),
+        Err(error) => Ok(String::from_str(alloc, error_name(&error))?),
+    }
+}
+
 pub fn status_shown(client: &PgWireClient<CaseLink>) -> &'static str {
     match client.transaction_status() {
         TransactionStatus::Idle => "I",
@@ -60,35 +82,81 @@ fn response_shown(alloc: Global, response: &Response) -> Result<String> {
 }
 
 /// Of each response its command, and of a result how many rows of how many columns it has.
-pub fn responses_shown(alloc: Global, responses: &Listed<Response>) -> Result<String> {
-    let mut shown = String::from_str(alloc, "[")?;
-    for response in responses.as_slice() {
-        if shown.len() > 1 {
-            shown.push_str(", ")?;
+impl Shown for Listed<Response> {
+    fn shown(&self, alloc: Global) -> Result<String> {
+        let mut shown = String::from_str(alloc, "[")?;
+        for response in self.as_slice() {
+            if shown.len() > 1 {
+                shown.push_str(", ")?;
+            }
+            shown.push_str(response_shown(alloc, response)?.as_str())?;
         }
-        shown.push_str(response_shown(alloc, response)?.as_str())?;
+        shown.push_str("]")?;
+        Ok(shown)
     }
-    shown.push_str("]")?;
-    Ok(shown)
+}
+
+/// The counts of a handler that counts rows.
+impl Shown for Listed<u64> {
+    fn shown(&self, alloc: Global) -> Result<String> {
+        Ok(format!(in alloc; "counted {:?}", self.as_slice())?)
+    }
 }
 
 /// The payloads of some rows.
-pub fn rows_shown(alloc: Global, rows: &Listed<DataRow>) -> Result<String> {
-    let mut shown = String::from_str(alloc, "rows")?;
-    for row in rows.as_slice() {
-        shown.push_str(" ")?;
-        shown.push_str(hex::encode(alloc, row.payload.as_slice())?.as_str())?;
+impl Shown for Listed<DataRow> {
+    fn shown(&self, alloc: Global) -> Result<String> {
+        let mut shown = String::from_str(alloc, "rows")?;
+        for row in self.as_slice() {
+            shown.push_str(" ")?;
+            shown.push_str(hex::encode(alloc, row.payload.as_slice())?.as_str())?;
+        }
+        Ok(shown)
     }
-    Ok(shown)
+}
+
+impl Shown for ExecuteResult<Listed<DataRow>> {
+    fn shown(&self, alloc: Global) -> Result<String> {
+        match self {
+            ExecuteResult::Complete(rows) => {
+                Ok(format!(in alloc; "complete {}", rows.shown(alloc)?)?)
+            }
+            ExecuteResult::Suspended(rows) => {
+                Ok(format!(in alloc; "suspended {}", rows.shown(alloc)?)?)
+            }
+        }
+    }
+}
+
+impl Shown for PrepareResponse {
+    fn shown(&self, alloc: Global) -> Result<String> {
+        let types = self.param_types.as_slice().len();
+        Ok(format!(in alloc; "prepared, {types} types")?)
+    }
 }
 
 /// How many types and how many columns are described.
-pub fn described_shown(
-    alloc: Global,
-    types: &Listed<PgType>,
-    fields: &Listed<FieldInfo>,
-) -> Result<String> {
-    let types = types.as_slice().len();
-    let fields = fields.as_slice().len();
-    Ok(format!(in alloc; "{types} types, {fields} columns")?)
+impl Shown for DescribeResponse {
+    fn shown(&self, alloc: Global) -> Result<String> {
+        let types = self.param_types.as_slice().len();
+        let fields = self.fields.as_slice().len();
+        Ok(format!(in alloc; "{types} types, {fields} columns")?)
+    }
+}
+
+/// Whether bytes came.
+impl Shown for bool {
+    fn shown(&self, alloc: Global) -> Result<String> {
+        Ok(format!(in alloc; "{self}")?)
+    }
+}
+
+impl Shown for ReadyState<PgWireBackendMessage> {
+    fn shown(&self, alloc: Global) -> Result<String> {
+        let shown = match self {
+            ReadyState::Pending => "pending",
+            ReadyState::Ready(_message) => "a message",
+        };
+        Ok(String::from_str(alloc, shown)?)
+    }
 }
