@@ -44,28 +44,65 @@ fn release<R: Wait>(rt: &R, pass: &mut Pass, guard: ConnectionGuard)
     }
 }
 
+// Whether the handler takes a request.
+fn is_taken<R: Wait>(
+    rt: &R,
+    manager: &Arc<ConnectionManager>,
+    pass: &mut Pass,
+    number: i32,
+    key: i32,
+) -> bool
+    requires { pass.old.of ≡ arc_value manager.now }
+    ensures { pass.new.of ≡ pass.old.of }
+{
+    let Ok(manager) = manager.clone() else {
+        return false;
+    };
+    let handler = DefaultCancelHandler::new(manager, rt);
+    let request = CancelRequest::new(number, SecretKey::I32(key));
+    handler.on_cancel_request(pass, request).is_ok()
+}
+
 // Whether a query of the connection is canceled by a request.
 fn is_canceled<R: Wait>(
     rt: &R,
     manager: &Arc<ConnectionManager>,
     pass: &mut Pass,
     handle: &ConnectionHandle,
-    request: CancelRequest,
+    number: i32,
+    key: i32,
 ) -> Option<bool>
     requires { pass.old.of ≡ arc_value manager.now }
     ensures { pass.new.of ≡ pass.old.of }
 {
-    let handler = DefaultCancelHandler::new(manager.clone().ok()?, rt);
     let token = handle.start_query(rt, manager, pass).ok()?;
-    let answer = handler.on_cancel_request(pass, request);
+    let is_taken = is_taken(rt, manager, pass, number, key);
     let looked = token.try_recv(rt, manager, pass);
     finish(rt, manager, pass, token);
-    answer.ok()?;
-    Some(looked.ok()?.is_some())
+    if is_taken {
+        Some(looked.ok()?.is_some())
+    } else {
+        None
+    }
 }
 
-// Whether a query of the connection with the number 7 and the key 5 is canceled: by the key of another, by the number of
-// another, and by its own.
+// Whether a query of the connection is canceled: by the key of another, by the number of another, and by its own.
+fn each_canceled<R: Wait>(
+    rt: &R,
+    manager: &Arc<ConnectionManager>,
+    pass: &mut Pass,
+    handle: &ConnectionHandle,
+) -> [Option<bool>; 3]
+    requires { pass.old.of ≡ arc_value manager.now }
+    ensures { pass.new.of ≡ pass.old.of }
+{
+    let by_another_key = is_canceled(rt, manager, pass, handle, 7, 6);
+    let by_another_number = is_canceled(rt, manager, pass, handle, 8, 5);
+    let by_its_own = is_canceled(rt, manager, pass, handle, 7, 5);
+    [by_another_key, by_another_number, by_its_own]
+}
+
+// The same of a connection with the number 7 and the key 5.
 fn outcomes<R: Wait>(
     rt: &R,
     alloc: Global,
@@ -77,15 +114,10 @@ fn outcomes<R: Wait>(
 {
     let key = SecretKey::I32(5);
     let (handle, guard) = ConnectionManager::register(rt, alloc, manager, pass, 7, key).ok()?;
-    let request = CancelRequest::new(7, SecretKey::I32(6));
-    let by_another_key = is_canceled(rt, manager, pass, &handle, request);
-    let request = CancelRequest::new(8, SecretKey::I32(5));
-    let by_another_number = is_canceled(rt, manager, pass, &handle, request);
-    let request = CancelRequest::new(7, SecretKey::I32(5));
-    let by_its_own = is_canceled(rt, manager, pass, &handle, request);
+    let canceled = each_canceled(rt, manager, pass, &handle);
     close(rt, manager, pass, handle);
     release(rt, pass, guard);
-    Some([by_another_key, by_another_number, by_its_own])
+    Some(canceled)
 }
 
 #[test]

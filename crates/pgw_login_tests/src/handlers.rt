@@ -1,16 +1,11 @@
 //! Logins message by message.
 
-use crate::support::{OnePassword, Silent, Step, let_go, take_all, words_of};
+use crate::support::{OnePassword, Outcome, Silent, Step, compare, outcome_of};
 use pgw_login::cleartext::CleartextPasswordAuthStartupHandler;
-use pgw_login::client_info::{DefaultClient, PgWireConnectionState};
 use pgw_login::md5::Md5PasswordAuthStartupHandler;
 use pgw_login::noop::NoopHandler;
-use pgw_login::outbox::ByteOutbox;
-use pgw_login::state::LoginState;
 use pgw_registry::generator::RandomPidSecretKeyGenerator;
-use pgw_types::context::ProtocolVersion;
-use pgw_types::error::PgWireResult;
-use pgw_types::text::Text;
+use pgw_types::memory::OutOfMemory;
 use std::alloc::Global;
 use std::process::Abort;
 use std::test::Fail;
@@ -35,66 +30,35 @@ const HASHED: &str = "md521fe459d77d3e3ea9c9fcd5c11030d30";
 const WELCOMED: &[u8] =
     b"R\0\0\0\x08\0\0\0\0S\0\0\0\x17DateStyle\0ISO, YMD\0S\0\0\0\x1bIntervalStyle\0postgres\0S\0\0\0\x15TimeZone\0Etc/UTC\0S\0\0\0\x19client_encoding\0UTF8\0S\0\0\0\x26default_transaction_read_only\0off\0S\0\0\0\x17in_hot_standby\0off\0S\0\0\0\x19integer_datetimes\0on\0S\0\0\0\x14is_superuser\0on\0S\0\0\0\x1ascram_iterations\04096\0S\0\0\0\x17search_path\0public\0S\0\0\0\x19server_encoding\0UTF8\0S\0\0\0\x26server_version\016.6-pgwire-0.41.0\0S\0\0\0\x1esession_authorization\0bob\0S\0\0\0\x23standard_conforming_strings\0on\0K\0\0\0\x0c\0\x01\x86\xa0\x01\x01\x01\x01Z\0\0\0\x05I";
 
-// What comes of some messages.
-#[derive(Drop)]
-struct Outcome {
-    answer: PgWireResult<()>,
-    out: ByteOutbox,
-    client: DefaultClient<()>,
-}
-
 // A server that asks for the password `secret` in clear text.
-fn by_cleartext<R: Abort>(rt: &R, alloc: Global, steps: &[Step<'_>]) -> PgWireResult<Outcome> {
+fn by_cleartext<R: Abort>(
+    rt: &R,
+    alloc: Global,
+    steps: &[Step<'_>],
+) -> Result<Outcome, OutOfMemory> {
     let (generator, seat) = RandomPidSecretKeyGenerator::new(alloc)?;
     let source = OnePassword {
         password: b"secret",
     };
     let handler = CleartextPasswordAuthStartupHandler::new(source, Silent, generator);
-    let mut client = DefaultClient::new(alloc, Text::new(alloc), false, ());
-    let mut out = ByteOutbox::new(alloc);
-    let mut state = LoginState::new([7; 18], [1; 32], seat, None);
-    let answer = take_all(alloc, &handler, &mut client, &mut out, &mut state, steps);
-    let_go(rt, state);
-    Ok(Outcome {
-        answer,
-        out,
-        client,
-    })
+    outcome_of(rt, alloc, &handler, seat, steps)
 }
 
 // A server that asks for the password `themanwhochangedchina` of `zmjiang` under MD5.
-fn by_md5<R: Abort>(rt: &R, alloc: Global, steps: &[Step<'_>]) -> PgWireResult<Outcome> {
+fn by_md5<R: Abort>(rt: &R, alloc: Global, steps: &[Step<'_>]) -> Result<Outcome, OutOfMemory> {
     let (generator, seat) = RandomPidSecretKeyGenerator::new(alloc)?;
     let source = OnePassword {
         password: HASHED.as_bytes(),
     };
     let handler = Md5PasswordAuthStartupHandler::new(source, Silent, generator);
-    let mut client = DefaultClient::new(alloc, Text::new(alloc), false, ());
-    let mut out = ByteOutbox::new(alloc);
-    let mut state = LoginState::new([7; 18], [1; 32], seat, None);
-    let answer = take_all(alloc, &handler, &mut client, &mut out, &mut state, steps);
-    let_go(rt, state);
-    Ok(Outcome {
-        answer,
-        out,
-        client,
-    })
+    outcome_of(rt, alloc, &handler, seat, steps)
 }
 
 // A server that asks for nothing.
-fn by_noop<R: Abort>(rt: &R, alloc: Global, steps: &[Step<'_>]) -> PgWireResult<Outcome> {
+fn by_noop<R: Abort>(rt: &R, alloc: Global, steps: &[Step<'_>]) -> Result<Outcome, OutOfMemory> {
     let (generator, seat) = RandomPidSecretKeyGenerator::new(alloc)?;
     let handler = NoopHandler::new(generator);
-    let mut client = DefaultClient::new(alloc, Text::new(alloc), false, ());
-    let mut out = ByteOutbox::new(alloc);
-    let mut state = LoginState::new([7; 18], [1; 32], seat, None);
-    let answer = take_all(alloc, &handler, &mut client, &mut out, &mut state, steps);
-    let_go(rt, state);
-    Ok(Outcome {
-        answer,
-        out,
-        client,
-    })
+    outcome_of(rt, alloc, &handler, seat, steps)
 }
 
 const CLEARTEXT: &[(&[Step<'static>], &str, &[u8])] = &[
@@ -150,8 +114,7 @@ const CLEARTEXT: &[(&[Step<'static>], &str, &[u8])] = &[
 fn cleartext_table(rt: HostRuntime) -> Result<(), Fail> {
     for (steps, words, sent) in CLEARTEXT {
         let outcome = by_cleartext(&rt, rt.alloc(), steps)?;
-        assert_eq!(rt; words_of(&outcome.answer), *words);
-        assert_eq!(rt; outcome.out.buffer.as_slice(), *sent);
+        compare(&rt, outcome, words, sent);
     }
     Ok(())
 }
@@ -204,8 +167,7 @@ const MD5: &[(&[Step<'static>], &str, &[u8])] = &[
 fn md5_table(rt: HostRuntime) -> Result<(), Fail> {
     for (steps, words, sent) in MD5 {
         let outcome = by_md5(&rt, rt.alloc(), steps)?;
-        assert_eq!(rt; words_of(&outcome.answer), *words);
-        assert_eq!(rt; outcome.out.buffer.as_slice(), *sent);
+        compare(&rt, outcome, words, sent);
     }
     Ok(())
 }
@@ -231,8 +193,7 @@ const NOOP: &[(&[Step<'static>], &str, &[u8])] = &[
 fn noop_table(rt: HostRuntime) -> Result<(), Fail> {
     for (steps, words, sent) in NOOP {
         let outcome = by_noop(&rt, rt.alloc(), steps)?;
-        assert_eq!(rt; words_of(&outcome.answer), *words);
-        assert_eq!(rt; outcome.out.buffer.as_slice(), *sent);
+        compare(&rt, outcome, words, sent);
     }
     Ok(())
 }
@@ -240,28 +201,20 @@ fn noop_table(rt: HostRuntime) -> Result<(), Fail> {
 // What a handler sets in the client while it asks, and where it lets it in.
 #[test]
 fn asked_clients_are_set(rt: HostRuntime) -> Result<(), Fail> {
-    let asked = by_cleartext(&rt, rt.alloc(), &[Step::Version(3, 1)])?.client;
-    let waits = asked.state == PgWireConnectionState::AuthenticationInProgress;
+    let asked = by_cleartext(&rt, rt.alloc(), &[Step::Version(3, 1)])?;
     assert_eq!(rt;
-        (waits, asked.protocol_version),
-        (true, ProtocolVersion::PROTOCOL3_2)
+        asked.client.as_str(),
+        "(AuthenticationInProgress, PROTOCOL3_2, false, 0)"
     );
     Ok(())
 }
 
 #[test]
 fn let_in_clients_are_set(rt: HostRuntime) -> Result<(), Fail> {
-    let let_in = by_noop(&rt, rt.alloc(), &[Step::Startup("bob")])?.client;
-    let is_ready = let_in.state == PgWireConnectionState::ReadyForQuery;
-    let is_named = let_in.metadata.get("user").is_some();
+    let let_in = by_noop(&rt, rt.alloc(), &[Step::Startup("bob")])?;
     assert_eq!(rt;
-        (
-            is_ready,
-            is_named,
-            let_in.protocol_version,
-            let_in.pid_secret_key.0
-        ),
-        (true, true, ProtocolVersion::PROTOCOL3_0, 100_000)
+        let_in.client.as_str(),
+        "(ReadyForQuery, PROTOCOL3_0, true, 100000)"
     );
     Ok(())
 }

@@ -1,5 +1,8 @@
 //! A handler that is given messages.
+ghost use Rattle.std.specs.Prelude.{◌≡◌, None};
+ghost use Rattle.pgw_login.specs.declared.state.LoginState.{LoginState as TheState};
 
+use bytes::BytesMut;
 use pgw_frontend::frontend::PgWireFrontendMessage;
 use pgw_login::client_info::{ClientInfo, DefaultClient, METADATA_USER};
 use pgw_login::handler::StartupHandler;
@@ -8,6 +11,7 @@ use pgw_login::provider::ServerParameterProvider;
 use pgw_login::source::{AuthSource, LoginInfo};
 use pgw_login::state::LoginState;
 use pgw_opening::terminate::Terminate;
+use pgw_registry::generator::PidSeat;
 use pgw_scram::password::Password as Kept;
 use pgw_startup::password::{Password, PasswordMessageFamily};
 use pgw_startup::startup::Startup;
@@ -17,6 +21,7 @@ use pgw_types::octets::Octets;
 use pgw_types::text::Text;
 use pgw_wire::params::Params;
 use std::alloc::Global;
+use std::fmt::Debug;
 use std::process::Abort;
 
 /// Keeps one password with a salt, for whoever asks but `eve`; that of `tom` has no salt.
@@ -98,37 +103,129 @@ fn message_of(alloc: Global, step: Step<'_>) -> PgWireResult<PgWireFrontendMessa
     }
 }
 
-/// Takes messages, those behind a refusal too, and answers what the last is answered.
-pub fn take_all<H: StartupHandler>(
+/// What comes of messages.
+#[derive(Drop)]
+pub struct Outcome {
+    /// What the last is answered.
+    pub word: String,
+    pub sent: BytesMut,
+    /// How far the client is, its version, whether it has a name, and its process number.
+    pub client: String,
+}
+
+/// How a value is shown. Of any type, since a type with many variants makes the proof of a `format!` long.
+pub fn told<M: Debug + Drop>(alloc: Global, value: M) -> Result<String, OutOfMemory> {
+    Ok(format!(in alloc; "{value:?}")?)
+}
+
+fn answer_to<H: StartupHandler>(
+    alloc: Global,
+    handler: &H,
+    client: &mut DefaultClient<()>,
+    out: &mut ByteOutbox,
+    state: &mut LoginState,
+    step: Step<'_>,
+) -> PgWireResult<()>
+    requires { H.fits handler.now state.old }
+    ensures { H.fits handler.now state.new }
+{
+    let message = message_of(alloc, step)?;
+    handler.on_startup(alloc, client, out, state, message)
+}
+
+fn hear<H: StartupHandler>(
+    alloc: Global,
+    handler: &H,
+    client: &mut DefaultClient<()>,
+    out: &mut ByteOutbox,
+    state: &mut LoginState,
+    step: Step<'_>,
+) -> Result<String, OutOfMemory>
+    requires { H.fits handler.now state.old }
+    ensures { H.fits handler.now state.new }
+{
+    let answer = answer_to(alloc, handler, client, out, state, step);
+    Ok(String::from_str(alloc, words_of(&answer))?)
+}
+
+// Hears the messages, those behind a refusal too, and tells what the last is answered.
+fn hear_all<H: StartupHandler>(
     alloc: Global,
     handler: &H,
     client: &mut DefaultClient<()>,
     out: &mut ByteOutbox,
     state: &mut LoginState,
     steps: &[Step<'_>],
-) -> PgWireResult<()>
+) -> Result<String, OutOfMemory>
     requires { H.fits handler.now state.old }
     ensures { H.fits handler.now state.new }
 {
-    let mut answer = Ok(());
+    let mut word = String::new(alloc);
     for step in steps {
-        let message = message_of(alloc, *step)?;
-        answer = handler.on_startup(alloc, client, out, state, message);
+        word = hear(alloc, handler, client, out, state, *step)?;
     }
-    answer
+    Ok(word)
 }
 
-/// Lets a login go that was registered nowhere.
-pub fn let_go<R: Abort>(rt: &R, state: LoginState) {
-    let (_seat, _pass, handle, guard) = state.finish();
-    match (handle, guard) {
-        (None, None) => {}
-        _ => panic!(rt; "registered"),
+/// How far a client is, its version, whether it has a name, and its process number.
+pub fn client_told<C: ClientInfo>(alloc: Global, client: &C) -> Result<String, OutOfMemory> {
+    let is_named = client.metadata().get(METADATA_USER).is_some();
+    let (number, _key) = client.pid_and_secret_key();
+    told(
+        alloc,
+        (client.state(), client.protocol_version(), is_named, number),
+    )
+}
+
+/// What comes of messages to a handler.
+pub fn outcome_of<H: StartupHandler, R: Abort>(
+    rt: &R,
+    alloc: Global,
+    handler: &H,
+    seat: PidSeat,
+    steps: &[Step<'_>],
+) -> Result<Outcome, OutOfMemory>
+    requires { (state : TheState) → state.seat ≡ seat → state.pass ≡ None → H.fits handler.now state }
+{
+    let mut client = DefaultClient::new(alloc, Text::new(alloc), false, ());
+    let mut out = ByteOutbox::new(alloc);
+    let mut state = LoginState::new([7; 18], [1; 32], seat, None);
+    let heard = hear_all(alloc, handler, &mut client, &mut out, &mut state, steps);
+    let_go(rt, state);
+    let word = heard?;
+    let client = client_told(alloc, &client)?;
+    Ok(Outcome {
+        word,
+        sent: out.buffer,
+        client,
+    })
+}
+
+// Lets a login go that was registered nowhere.
+fn let_go<R: Abort>(rt: &R, state: LoginState) {
+    let (_seat, pass, handle, guard) = state.finish();
+    match pass {
+        None => {}
+        Some(_pass) => panic!(rt; "registered"),
+    }
+    match handle {
+        None => {}
+        Some(_handle) => panic!(rt; "registered"),
+    }
+    match guard {
+        None => {}
+        Some(_guard) => panic!(rt; "registered"),
     }
 }
 
-/// What was refused.
-pub fn words_of(answer: &PgWireResult<()>) -> &str {
+/// Compares what comes of messages with what is wanted.
+pub fn compare<R: Abort>(rt: &R, outcome: Outcome, word: &str, sent: &[u8]) {
+    assert_eq!(rt; outcome.word.as_str(), word);
+    assert_eq!(rt; outcome.sent.as_slice(), sent);
+}
+
+// What was refused.
+fn words_of(answer: &PgWireResult<()>) -> &str {
     match answer {
         Ok(()) => "ok",
         Err(PgWireError::InvalidSASLState) => "InvalidSASLState",
