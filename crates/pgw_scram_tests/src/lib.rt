@@ -5,4 +5,6 @@
 #[cfg(test)]
 mod hashes;
 #[cfg(test)]
+mod shared;
+#[cfg(test)]
 mod tests;
