@@ -1,246 +1,159 @@
-use pgw_backend::client_error::{PgWireClientError, PgWireClientResult};
+use crate::shared::{add, same, told};
 use pgw_backend::field_info::{FieldFormat, FieldInfo};
 use pgw_backend::pg_type::PgType;
 use pgw_query::data::DataRow;
-use pgw_rows::{DataRowDecoder, DataRows, DataRowsReader};
+use pgw_rows::{DataRowDecoder, DataRows, DataRowsReader, FromSql, FromSqlText};
 use pgw_types::listed::Listed;
+use pgw_types::memory::OutOfMemory;
 use pgw_types::octets::Octets;
 use pgw_types::text::Text;
 use std::alloc::Global;
+use std::fmt::Debug;
 use std::test::Fail;
 
-fn columns(alloc: Global, kinds: &[(PgType, FieldFormat)]) -> Result<Listed<FieldInfo>, Fail> {
+type Kind = (PgType, FieldFormat);
+
+fn column(alloc: Global, kind: &Kind) -> Result<FieldInfo, OutOfMemory> {
+    Ok(FieldInfo {
+        name: Text::from_str(alloc, "n")?,
+        table_id: None,
+        column_id: None,
+        datatype: kind.0,
+        type_size: -1,
+        type_modifier: -1,
+        format: kind.1,
+    })
+}
+
+fn columns(alloc: Global, kinds: &[Kind]) -> Result<Listed<FieldInfo>, OutOfMemory> {
     let mut columns = Listed::new(alloc);
-    for (datatype, format) in kinds {
-        columns.push(FieldInfo {
-            name: Text::from_str(alloc, "n")?,
-            table_id: None,
-            column_id: None,
-            datatype: *datatype,
-            type_size: -1,
-            type_modifier: -1,
-            format: *format,
-        })?;
+    for kind in kinds {
+        columns.push(column(alloc, kind)?)?;
     }
     Ok(columns)
 }
 
-fn row(alloc: Global, payload: &[u8]) -> Result<DataRow, Fail> {
+fn row(alloc: Global, payload: &[u8]) -> Result<DataRow, OutOfMemory> {
     Ok(DataRow::new(Octets::from_slice(alloc, payload)?, 1))
 }
 
-// What came of reading a value.
-fn outcome<T: Drop>(read: &PgWireClientResult<Option<T>>) -> &'static str {
-    match read {
-        Ok(Some(_)) => "a value",
-        Ok(None) => "NULL",
-        Err(PgWireClientError::DataRowIndexOutOfBounds) => "out of bounds",
-        Err(_) => "another error",
-    }
+// What two values are read as.
+fn two_values<T: FromSql + FromSqlText + Debug + Drop>(
+    alloc: Global,
+    decoder: &mut DataRowDecoder<'_>,
+    words: &mut String,
+) -> Result<(), OutOfMemory> {
+    add(alloc, words, decoder.next_value::<T>(alloc))?;
+    add(alloc, words, decoder.next_value::<T>(alloc))
 }
 
-fn next_text(alloc: Global, decoder: &mut DataRowDecoder<'_>) -> &'static str {
-    outcome(&decoder.next_value::<Text>(alloc))
+fn two_lent(
+    alloc: Global,
+    decoder: &mut DataRowDecoder<'_>,
+    words: &mut String,
+) -> Result<(), OutOfMemory> {
+    add(alloc, words, decoder.next_raw())?;
+    add(alloc, words, decoder.next_raw())
 }
 
-// The bytes that are lent next; none where the row has no more.
-fn next_raw<'a>(decoder: &'a mut DataRowDecoder<'_>) -> Option<Option<&'a [u8]>> {
-    decoder.next_raw().ok()
+fn add_values<T: FromSql + FromSqlText + Debug + Drop>(
+    alloc: Global,
+    columns: &[FieldInfo],
+    payload: &[u8],
+    words: &mut String,
+) -> Result<(), OutOfMemory> {
+    let mut decoder = DataRowDecoder::new(columns, row(alloc, payload)?);
+    two_values::<T>(alloc, &mut decoder, words)?;
+    add(alloc, words, decoder.next_raw())
 }
 
-fn next_number(alloc: Global, decoder: &mut DataRowDecoder<'_>) -> Result<Option<i32>, Fail> {
-    Ok(decoder.next_value::<i32>(alloc)?)
+fn add_lent(
+    alloc: Global,
+    columns: &[FieldInfo],
+    payload: &[u8],
+    words: &mut String,
+) -> Result<(), OutOfMemory> {
+    let mut decoder = DataRowDecoder::new(columns, row(alloc, payload)?);
+    add(alloc, words, (decoder.len(), decoder.is_empty()))?;
+    two_lent(alloc, &mut decoder, words)
 }
 
-#[test]
-fn select_one(rt: HostRuntime) -> Result<(), Fail> {
-    let alloc = rt.alloc();
-    let fields = columns(alloc, &[(PgType::Int4, FieldFormat::Text)])?;
-    let mut decoder = DataRowDecoder::new(fields.as_slice(), row(alloc, b"\0\0\0\x011")?);
-    assert_eq!(rt; (decoder.len(), decoder.is_empty()), (1, false));
-    assert_eq!(rt; next_number(alloc, &mut decoder)?, Some(1));
-    assert_eq!(rt; next_text(alloc, &mut decoder), "out of bounds");
-    let mut decoder = DataRowDecoder::new(fields.as_slice(), row(alloc, b"\0\0\0\x011")?);
-    assert_eq!(rt; next_raw(&mut decoder), Some(Some(b"1".as_slice())));
-    assert_eq!(rt; next_raw(&mut decoder), None);
-    Ok(())
+/// Two values of a row as they are read, and what is lent behind them.
+fn values<T: FromSql + FromSqlText + Debug + Drop>(
+    alloc: Global,
+    kinds: &[Kind],
+    payload: &[u8],
+) -> Result<String, OutOfMemory> {
+    let columns = columns(alloc, kinds)?;
+    let mut words = String::new(alloc);
+    add_values::<T>(alloc, columns.as_slice(), payload, &mut words)?;
+    Ok(words)
 }
 
-#[test]
-fn rows_in_order(rt: HostRuntime) -> Result<(), Fail> {
-    let alloc = rt.alloc();
-    let fields = columns(alloc, &[(PgType::Int2, FieldFormat::Binary)])?;
-    let mut rows = DataRows::new(alloc);
-    for number in [1_u8, 2, 3] {
-        rows.push(row(alloc, &[0, 0, 0, 2, 0, number])?)?;
-    }
-    let mut reader = DataRowsReader::new(fields, rows);
-    for number in [1_i16, 2, 3] {
-        let Some(mut decoder) = reader.next_row() else {
-            return Err(Fail::from("no row"));
-        };
-        assert_eq!(rt; decoder.next_value::<i16>(alloc)?, Some(number));
-    }
-    assert!(rt; reader.next_row().is_none());
-    let mut reader = DataRowsReader::empty(alloc);
-    assert!(rt; reader.next_row().is_none());
-    Ok(())
+/// The number of values of a row, whether it has none, and the bytes of two as they are lent.
+fn lent(alloc: Global, kinds: &[Kind], payload: &[u8]) -> Result<String, OutOfMemory> {
+    let columns = columns(alloc, kinds)?;
+    let mut words = String::new(alloc);
+    add_lent(alloc, columns.as_slice(), payload, &mut words)?;
+    Ok(words)
 }
 
-/// Two rows of one value and one without, and the beginning of a message that is no row, since its length ends before the
-/// number of values does.
-const FRONT: &[u8] =
-    b"D\0\0\0\x0b\0\x01\0\0\0\x011D\0\0\0\x0b\0\x01\0\0\0\x012D\0\0\0\x06\0\0D\0\0\0\x05\0\0";
+const NUMBER: &[Kind] = &[(PgType::Int4, FieldFormat::Text)];
 
-// A row that is pushed, and behind it those of the front.
-fn some_rows(alloc: Global) -> Result<DataRows, Fail> {
-    let mut rows = DataRows::new(alloc);
-    rows.push(row(alloc, b"\0\0\0\x010")?)?;
-    let mut bytes = Octets::from_slice(alloc, FRONT)?;
-    if rows.take_front(&mut bytes)? != 3 || bytes.as_slice() != b"D\0\0\0\x05\0\0".as_slice() {
-        return Err(Fail::from("other rows"));
-    }
-    Ok(rows)
-}
-
-/// The rows of `some_rows`: how many values each has, and its payload.
-const LENT: &[(i16, &[u8])] = &[
-    (1, b"\0\0\0\x010"),
-    (1, b"\0\0\0\x011"),
-    (1, b"\0\0\0\x012"),
-    (0, b""),
-];
-
-#[test]
-fn rows_are_lent(rt: HostRuntime) -> Result<(), Fail> {
-    let alloc = rt.alloc();
-    let rows = some_rows(alloc)?;
-    assert_eq!(rt; (rows.len(), rows.is_empty()), (4, false));
-    let mut lent = rows.iter();
-    for (field_count, payload) in LENT {
-        let row = lent.next().ok_or("no row")?;
-        assert_eq!(rt; row.field_count, *field_count);
-        assert_eq!(rt; row.payload, *payload);
-    }
-    assert!(rt; lent.next().is_none());
-    Ok(())
-}
-
-#[test]
-fn rows_are_taken(rt: HostRuntime) -> Result<(), Fail> {
-    let alloc = rt.alloc();
-    let mut rows = DataRows::new(alloc);
-    rows.push(row(alloc, b"\0\0\0\x01a")?)?;
-    rows.append(some_rows(alloc)?)?;
-    let mut reader = DataRowsReader::new(Listed::new(alloc), rows);
-    for want in [
-        b"\0\0\0\x01a",
-        b"\0\0\0\x010",
-        b"\0\0\0\x011",
-        b"\0\0\0\x012",
-    ] {
-        let row = reader.take_row()?.ok_or("no row")?;
-        assert_eq!(rt;
-            (row.field_count, row.payload.as_slice()),
-            (1, want.as_slice())
-        );
-    }
-    let row = reader.take_row()?.ok_or("no row")?;
-    assert_eq!(rt; (row.field_count, row.payload.is_empty()), (0, true));
-    assert!(rt; reader.take_row()?.is_none());
-    Ok(())
-}
-
-// A row of a run is let go once it is given, and ends where it does in the run.
-#[test]
-fn rows_of_a_run_in_order(rt: HostRuntime) -> Result<(), Fail> {
-    let alloc = rt.alloc();
-    let fields = columns(alloc, &[(PgType::Int4, FieldFormat::Text); 2])?;
-    let mut reader = DataRowsReader::new(fields, some_rows(alloc)?);
-    for number in [Some(0_i32), Some(1), Some(2), None] {
-        let Some(mut decoder) = reader.next_row() else {
-            return Err(Fail::from("no row"));
-        };
-        let read = decoder.next_value::<i32>(alloc);
-        assert_eq!(rt; read.ok().flatten(), number);
-        assert!(rt; decoder.next_value::<i32>(alloc).is_err());
-    }
-    assert!(rt; reader.next_row().is_none());
-    Ok(())
-}
-
-/// Bytes, how many rows stand whole at their front, and how many bytes are left.
-const FRONTS: &[(&[u8], usize, usize)] = &[
-    (b"", 0, 0),
-    (b"D\0\0\0\x06\0", 0, 6),
-    (b"D\0\0\0\x06\0\0", 1, 0),
-    (b"E\0\0\0\x06\0\0", 0, 7),
-    (b"D\0\0\0\x05\0\0", 0, 7),
-    (b"D\0\0\0\x07\0\0", 0, 7),
-    (b"D\x80\0\0\x06\0\0", 0, 7),
-    (b"D\xff\xff\xff\xff\0\0", 0, 7),
-    (b"D\0\0\0\x06\0\x01D\0\0\0\x06\0\x02D", 2, 1),
-];
-
-#[test]
-fn rows_at_fronts(rt: HostRuntime) -> Result<(), Fail> {
-    let alloc = rt.alloc();
-    for (front, count, left) in FRONTS {
-        let mut bytes = Octets::from_slice(alloc, front)?;
-        let mut rows = DataRows::new(alloc);
-        assert_eq!(rt; rows.take_front(&mut bytes)?, *count);
-        assert_eq!(rt; (rows.len(), bytes.len()), (*count, *left));
-    }
-    Ok(())
-}
-
-const BOTH_FORMATS: &[(PgType, FieldFormat)] = &[
+const BOTH_FORMATS: &[Kind] = &[
     (PgType::Bytea, FieldFormat::Binary),
     (PgType::Bytea, FieldFormat::Text),
 ];
 
-fn next_octets(alloc: Global, decoder: &mut DataRowDecoder<'_>) -> Option<Octets> {
-    decoder.next_value::<Octets>(alloc).ok().flatten()
+const TEXT: &[Kind] = &[(PgType::Text, FieldFormat::Text)];
+
+const BINARY_TEXT: &[Kind] = &[(PgType::Text, FieldFormat::Binary)];
+
+#[test]
+fn select_one(rt: HostRuntime) -> Result<(), Fail> {
+    same(
+        values::<i32>(rt.alloc(), NUMBER, b"\0\0\0\x011"),
+        "Ok(Some(1)); Err(DataRowIndexOutOfBounds); Err(DataRowIndexOutOfBounds); ",
+    )?;
+    same(
+        lent(rt.alloc(), NUMBER, b"\0\0\0\x011"),
+        "(1, false); Ok(Some([49])); Err(DataRowIndexOutOfBounds); ",
+    )
 }
 
 #[test]
 fn octets_in_both_formats(rt: HostRuntime) -> Result<(), Fail> {
-    let alloc = rt.alloc();
-    let fields = columns(alloc, BOTH_FORMATS)?;
-    let row = row(alloc, b"\0\0\0\x02\0\xff\0\0\0\x04\\x00")?;
-    let mut decoder = DataRowDecoder::new(fields.as_slice(), row);
-    let binary = next_octets(alloc, &mut decoder).ok_or("no value")?;
-    assert_eq!(rt; binary.as_slice(), b"\0\xff".as_slice());
-    let text = next_octets(alloc, &mut decoder).ok_or("no value")?;
-    assert_eq!(rt; text.as_slice(), b"\0".as_slice());
-    Ok(())
+    same(
+        values::<Octets>(rt.alloc(), BOTH_FORMATS, b"\0\0\0\x02\0\xff\0\0\0\x04\\x00"),
+        "Ok(Some(Octets { bytes: b\"\\0\\xff\" })); Ok(Some(Octets { bytes: b\"\\0\" })); Err(DataRowIndexOutOfBounds); ",
+    )
 }
 
 #[test]
 fn texts_are_read(rt: HostRuntime) -> Result<(), Fail> {
-    let alloc = rt.alloc();
-    let fields = columns(alloc, &[(PgType::Text, FieldFormat::Binary)])?;
-    let mut decoder = DataRowDecoder::new(fields.as_slice(), row(alloc, b"\0\0\0\x02ab")?);
-    let text = decoder.next_value::<Text>(alloc)?.ok_or("NULL")?;
-    assert_eq!(rt; text.as_str(), "ab");
-    Ok(())
+    same(
+        values::<Text>(rt.alloc(), BINARY_TEXT, b"\0\0\0\x02ab"),
+        "Ok(Some(Text { text: \"ab\" })); Err(DataRowIndexOutOfBounds); Err(DataRowIndexOutOfBounds); ",
+    )
 }
 
-// Rows that end within their value: nothing is read, however often it is tried.
+/// Rows that end within their value.
+const SHORT: &[&[u8]] = &[
+    b"",
+    b"\0\0\0",
+    b"\0\0\0\x01",
+    b"\0\0\0\x02a",
+    b"\x7f\xff\xff\xffa",
+];
+
+// Nothing is read, however often it is tried.
 #[test]
 fn short_rows(rt: HostRuntime) -> Result<(), Fail> {
-    let alloc = rt.alloc();
-    let fields = columns(alloc, &[(PgType::Text, FieldFormat::Text)])?;
-    for payload in [
-        &b""[..],
-        &b"\0\0\0"[..],
-        &b"\0\0\0\x01"[..],
-        &b"\0\0\0\x02a"[..],
-        &b"\x7f\xff\xff\xffa"[..],
-    ] {
-        let mut decoder = DataRowDecoder::new(fields.as_slice(), row(alloc, payload)?);
-        assert_eq!(rt; next_text(alloc, &mut decoder), "out of bounds");
-        assert_eq!(rt; next_raw(&mut decoder), None);
+    for payload in SHORT {
+        same(
+            values::<Text>(rt.alloc(), TEXT, payload),
+            "Err(DataRowIndexOutOfBounds); Err(DataRowIndexOutOfBounds); Err(DataRowIndexOutOfBounds); ",
+        )?;
     }
     Ok(())
 }
@@ -248,12 +161,180 @@ fn short_rows(rt: HostRuntime) -> Result<(), Fail> {
 // A negative length is NULL, and a row without columns has no value.
 #[test]
 fn other_rows(rt: HostRuntime) -> Result<(), Fail> {
-    let alloc = rt.alloc();
-    let fields = columns(alloc, &[(PgType::Text, FieldFormat::Text)])?;
-    let mut decoder = DataRowDecoder::new(fields.as_slice(), row(alloc, b"\x80\0\0\0")?);
-    assert_eq!(rt; next_raw(&mut decoder), Some(None));
-    let mut decoder = DataRowDecoder::new(&[], row(alloc, b"\0\0\0\0")?);
-    assert!(rt; decoder.is_empty());
-    assert_eq!(rt; next_raw(&mut decoder), None);
+    same(
+        lent(rt.alloc(), TEXT, b"\x80\0\0\0"),
+        "(1, false); Ok(None); Err(DataRowIndexOutOfBounds); ",
+    )?;
+    same(
+        lent(rt.alloc(), &[], b"\0\0\0\0"),
+        "(0, true); Err(DataRowIndexOutOfBounds); Err(DataRowIndexOutOfBounds); ",
+    )
+}
+
+// What two values of the next row are read as.
+fn add_row<T: FromSql + FromSqlText + Debug + Drop>(
+    alloc: Global,
+    reader: &mut DataRowsReader,
+    words: &mut String,
+) -> Result<(), OutOfMemory> {
+    match reader.next_row() {
+        Some(mut decoder) => two_values::<T>(alloc, &mut decoder, words),
+        None => add(alloc, words, "no row"),
+    }
+}
+
+// The same of all rows, of which there are fewer than five.
+fn all_rows<T: FromSql + FromSqlText + Debug + Drop>(
+    alloc: Global,
+    mut reader: DataRowsReader,
+) -> Result<String, OutOfMemory> {
+    let mut words = String::new(alloc);
+    for _ in 0..5 {
+        add_row::<T>(alloc, &mut reader, &mut words)?;
+    }
+    Ok(words)
+}
+
+/// Two rows of one value and one without, and the beginning of a message that is no row, since its length ends before the
+/// number of values does.
+const FRONT: &[u8] =
+    b"D\0\0\0\x0b\0\x01\0\0\0\x011D\0\0\0\x0b\0\x01\0\0\0\x012D\0\0\0\x06\0\0D\0\0\0\x05\0\0";
+
+fn one_row(alloc: Global, payload: &[u8]) -> Result<DataRows, OutOfMemory> {
+    let mut rows = DataRows::new(alloc);
+    rows.push(row(alloc, payload)?)?;
+    Ok(rows)
+}
+
+// Adds the rows of the front.
+fn add_front(alloc: Global, rows: &mut DataRows) -> Result<String, OutOfMemory> {
+    let mut bytes = Octets::from_slice(alloc, FRONT)?;
+    let taken = rows.take_front(&mut bytes)?;
+    told(alloc, (taken, bytes))
+}
+
+// A row that is pushed, and behind it those of the front.
+fn some_rows(alloc: Global) -> Result<DataRows, Fail> {
+    let mut rows = one_row(alloc, b"\0\0\0\x010")?;
+    same(
+        add_front(alloc, &mut rows),
+        "(3, Octets { bytes: b\"D\\0\\0\\0\\x05\\0\\0\" })",
+    )?;
+    Ok(rows)
+}
+
+fn three_rows(alloc: Global) -> Result<DataRows, OutOfMemory> {
+    let mut rows = DataRows::new(alloc);
+    for number in [1_u8, 2, 3] {
+        rows.push(row(alloc, &[0, 0, 0, 2, 0, number])?)?;
+    }
+    Ok(rows)
+}
+
+fn pushed(alloc: Global) -> Result<String, OutOfMemory> {
+    let columns = columns(alloc, &[(PgType::Int2, FieldFormat::Binary)])?;
+    let rows = three_rows(alloc)?;
+    all_rows::<i16>(alloc, DataRowsReader::new(columns, rows))
+}
+
+#[test]
+fn rows_in_order(rt: HostRuntime) -> Result<(), Fail> {
+    same(
+        pushed(rt.alloc()),
+        "Ok(Some(1)); Err(DataRowIndexOutOfBounds); Ok(Some(2)); Err(DataRowIndexOutOfBounds); Ok(Some(3)); Err(DataRowIndexOutOfBounds); \"no row\"; \"no row\"; ",
+    )?;
+    same(
+        all_rows::<i16>(rt.alloc(), DataRowsReader::empty(rt.alloc())),
+        "\"no row\"; \"no row\"; \"no row\"; \"no row\"; \"no row\"; ",
+    )
+}
+
+fn of_a_run(alloc: Global) -> Result<String, Fail> {
+    let columns = columns(alloc, &[(PgType::Int4, FieldFormat::Text); 2])?;
+    let rows = some_rows(alloc)?;
+    Ok(all_rows::<i32>(alloc, DataRowsReader::new(columns, rows))?)
+}
+
+// A row of a run is let go once it is given, and ends where it does in the run.
+#[test]
+fn rows_of_a_run_in_order(rt: HostRuntime) -> Result<(), Fail> {
+    let found = of_a_run(rt.alloc())?;
+    assert_eq!(rt;
+        found.as_str(),
+        "Ok(Some(0)); Err(DataRowIndexOutOfBounds); Ok(Some(1)); Err(DataRowIndexOutOfBounds); Ok(Some(2)); Err(DataRowIndexOutOfBounds); Err(DataRowIndexOutOfBounds); Err(DataRowIndexOutOfBounds); \"no row\"; "
+    );
+    Ok(())
+}
+
+/// The rows of `some_rows`: how many values each has, and its payload; and none behind them.
+const LENT: &str =
+    "(4, false); Some(DataRowRef { field_count: 1, payload: [0, 0, 0, 1, 48] }); Some(DataRowRef { field_count: 1, payload: [0, 0, 0, 1, 49] }); Some(DataRowRef { field_count: 1, payload: [0, 0, 0, 1, 50] }); Some(DataRowRef { field_count: 0, payload: [] }); None; ";
+
+fn lent_rows(alloc: Global, rows: &DataRows) -> Result<String, OutOfMemory> {
+    let mut words = String::new(alloc);
+    add(alloc, &mut words, (rows.len(), rows.is_empty()))?;
+    let mut lent = rows.iter();
+    for _ in 0..5 {
+        add(alloc, &mut words, lent.next())?;
+    }
+    Ok(words)
+}
+
+#[test]
+fn rows_are_lent(rt: HostRuntime) -> Result<(), Fail> {
+    let rows = some_rows(rt.alloc())?;
+    same(lent_rows(rt.alloc(), &rows), LENT)
+}
+
+/// A row alone, the rows of `some_rows`, and none behind them.
+const TAKEN: &str =
+    "Ok(Some(DataRow { payload: Octets { bytes: b\"\\0\\0\\0\\x01a\" }, field_count: 1 })); Ok(Some(DataRow { payload: Octets { bytes: b\"\\0\\0\\0\\x010\" }, field_count: 1 })); Ok(Some(DataRow { payload: Octets { bytes: b\"\\0\\0\\0\\x011\" }, field_count: 1 })); Ok(Some(DataRow { payload: Octets { bytes: b\"\\0\\0\\0\\x012\" }, field_count: 1 })); Ok(Some(DataRow { payload: Octets { bytes: b\"\" }, field_count: 0 })); Ok(None); ";
+
+fn appended(alloc: Global) -> Result<DataRows, Fail> {
+    let mut rows = one_row(alloc, b"\0\0\0\x01a")?;
+    rows.append(some_rows(alloc)?)?;
+    Ok(rows)
+}
+
+fn taken_rows(alloc: Global, mut reader: DataRowsReader) -> Result<String, OutOfMemory> {
+    let mut words = String::new(alloc);
+    for _ in 0..6 {
+        add(alloc, &mut words, reader.take_row())?;
+    }
+    Ok(words)
+}
+
+#[test]
+fn rows_are_taken(rt: HostRuntime) -> Result<(), Fail> {
+    let rows = appended(rt.alloc())?;
+    let reader = DataRowsReader::new(Listed::new(rt.alloc()), rows);
+    same(taken_rows(rt.alloc(), reader), TAKEN)
+}
+
+/// Bytes, how many rows stand whole at their front and are taken, and how many bytes are left.
+const FRONTS: &[(&[u8], &str)] = &[
+    (b"", "(0, 0, 0)"),
+    (b"D\0\0\0\x06\0", "(0, 0, 6)"),
+    (b"D\0\0\0\x06\0\0", "(1, 1, 0)"),
+    (b"E\0\0\0\x06\0\0", "(0, 0, 7)"),
+    (b"D\0\0\0\x05\0\0", "(0, 0, 7)"),
+    (b"D\0\0\0\x07\0\0", "(0, 0, 7)"),
+    (b"D\x80\0\0\x06\0\0", "(0, 0, 7)"),
+    (b"D\xff\xff\xff\xff\0\0", "(0, 0, 7)"),
+    (b"D\0\0\0\x06\0\x01D\0\0\0\x06\0\x02D", "(2, 2, 1)"),
+];
+
+fn front(alloc: Global, front: &[u8]) -> Result<String, OutOfMemory> {
+    let mut bytes = Octets::from_slice(alloc, front)?;
+    let mut rows = DataRows::new(alloc);
+    let taken = rows.take_front(&mut bytes)?;
+    told(alloc, (taken, rows.len(), bytes.len()))
+}
+
+#[test]
+fn rows_at_fronts(rt: HostRuntime) -> Result<(), Fail> {
+    for (bytes, wanted) in FRONTS {
+        same(front(rt.alloc(), bytes), wanted)?;
+    }
     Ok(())
 }

@@ -1,235 +1,231 @@
-use pgw_backend::client_error::{PgWireClientError, PgWireClientResult, SqlFault};
+use crate::shared::{same, told};
 use pgw_backend::pg_type::PgType;
 use pgw_rows::{FromSql, FromSqlText};
+use pgw_types::memory::OutOfMemory;
 use pgw_types::octets::Octets;
 use pgw_types::text::Text;
 use std::alloc::Global;
+use std::fmt::Debug;
 use std::test::Fail;
 
-const BAD: Result<i64, SqlFault> = Err(SqlFault::BadText);
+const BAD: &str = "Err(FromSqlError(BadText))";
 
-// What is read, or why nothing is; none is another error.
-fn outcome<T>(read: PgWireClientResult<T>) -> Option<Result<T, SqlFault>> {
-    match read {
-        Ok(value) => Some(Ok(value)),
-        Err(error) => match &error {
-            PgWireClientError::FromSqlError(fault) => Some(Err(*fault)),
-            _ => None,
-        },
-    }
+fn of_text<T: FromSqlText + Debug + Drop>(
+    alloc: Global,
+    ty: PgType,
+    text: &[u8],
+) -> Result<String, OutOfMemory> {
+    told(alloc, T::from_sql_text(alloc, &ty, text))
 }
 
-// Whether the text is read so by the type of this many bytes.
-fn number_is(alloc: Global, size: u8, text: &[u8], wanted: Result<i64, SqlFault>) -> bool {
+fn of_binary<T: FromSql + Debug + Drop>(
+    alloc: Global,
+    ty: PgType,
+    raw: &[u8],
+) -> Result<String, OutOfMemory> {
+    told(alloc, T::from_sql(alloc, &ty, raw))
+}
+
+// What is read of the text by the type of this many bytes.
+fn number_of(alloc: Global, size: u8, text: &[u8]) -> Result<String, OutOfMemory> {
     match size {
-        2 => {
-            let read = i16::from_sql_text(alloc, &PgType::Int2, text);
-            outcome(read.map(|n| n as i64)) == Some(wanted)
-        }
-        4 => {
-            let read = i32::from_sql_text(alloc, &PgType::Int4, text);
-            outcome(read.map(|n| n as i64)) == Some(wanted)
-        }
-        _ => outcome(i64::from_sql_text(alloc, &PgType::Int8, text)) == Some(wanted),
+        2 => of_text::<i16>(alloc, PgType::Int2, text),
+        4 => of_text::<i32>(alloc, PgType::Int4, text),
+        _ => of_text::<i64>(alloc, PgType::Int8, text),
     }
 }
+
+const EXTREMES: &[(u8, &[u8], &str)] = &[
+    (2, b"32767", "Ok(32767)"),
+    (2, b"32768", BAD),
+    (2, b"-32768", "Ok(-32768)"),
+    (2, b"-32769", BAD),
+    (4, b"2147483647", "Ok(2147483647)"),
+    (4, b"2147483648", BAD),
+    (4, b"-2147483648", "Ok(-2147483648)"),
+    (4, b"-2147483649", BAD),
+    (8, b"9223372036854775807", "Ok(9223372036854775807)"),
+    (8, b"9223372036854775808", BAD),
+    (8, b"-9223372036854775808", "Ok(-9223372036854775808)"),
+    (8, b"-9223372036854775809", BAD),
+];
 
 #[test]
 fn numbers_in_text(rt: HostRuntime) -> Result<(), Fail> {
-    let alloc = rt.alloc();
-    for (size, text, wanted) in [
-        (2, &b"32767"[..], Ok(32767)),
-        (2, &b"32768"[..], BAD),
-        (2, &b"-32768"[..], Ok(-32768)),
-        (2, &b"-32769"[..], BAD),
-        (4, &b"2147483647"[..], Ok(2147483647)),
-        (4, &b"2147483648"[..], BAD),
-        (4, &b"-2147483648"[..], Ok(-2147483648)),
-        (4, &b"-2147483649"[..], BAD),
-        (8, &b"9223372036854775807"[..], Ok(9223372036854775807)),
-        (8, &b"9223372036854775808"[..], BAD),
-        (8, &b"-9223372036854775808"[..], Ok(-9223372036854775808)),
-        (8, &b"-9223372036854775809"[..], BAD),
-    ] {
-        assert!(rt; number_is(alloc, size, text, wanted));
+    for (size, text, wanted) in EXTREMES {
+        same(number_of(rt.alloc(), *size, text), wanted)?;
     }
     Ok(())
 }
+
+const SPELLINGS: &[(&[u8], &str)] = &[
+    (b"0", "Ok(0)"),
+    (b"-0", "Ok(0)"),
+    (b"+7", "Ok(7)"),
+    (b"-7", "Ok(-7)"),
+    (b"007", "Ok(7)"),
+    (b"-00000000000000000000000007", "Ok(-7)"),
+    (b"", BAD),
+    (b"+", BAD),
+    (b"-", BAD),
+    (b"+-7", BAD),
+    (b"--7", BAD),
+    (b" 7", BAD),
+    (b"7 ", BAD),
+    (b"7\0", BAD),
+    (b"0x7", BAD),
+    (b"7.0", BAD),
+    (b"1e3", BAD),
+    (b"1_000", BAD),
+    (b"\xd9\xa7", BAD),
+    (b"\xff", BAD),
+];
 
 #[test]
 fn spellings_of_numbers(rt: HostRuntime) -> Result<(), Fail> {
-    let alloc = rt.alloc();
-    for (text, wanted) in [
-        (&b"0"[..], Ok(0)),
-        (&b"-0"[..], Ok(0)),
-        (&b"+7"[..], Ok(7)),
-        (&b"-7"[..], Ok(-7)),
-        (&b"007"[..], Ok(7)),
-        (&b"-00000000000000000000000007"[..], Ok(-7)),
-        (&b""[..], BAD),
-        (&b"+"[..], BAD),
-        (&b"-"[..], BAD),
-        (&b"+-7"[..], BAD),
-        (&b"--7"[..], BAD),
-        (&b" 7"[..], BAD),
-        (&b"7 "[..], BAD),
-        (&b"7\0"[..], BAD),
-        (&b"0x7"[..], BAD),
-        (&b"7.0"[..], BAD),
-        (&b"1e3"[..], BAD),
-        (&b"1_000"[..], BAD),
-        (&b"\xd9\xa7"[..], BAD),
-        (&b"\xff"[..], BAD),
-    ] {
-        assert!(rt; number_is(alloc, 2, text, wanted));
-        assert!(rt; number_is(alloc, 4, text, wanted));
-        assert!(rt; number_is(alloc, 8, text, wanted));
+    for (text, wanted) in SPELLINGS {
+        for size in [2, 4, 8] {
+            same(number_of(rt.alloc(), size, text), wanted)?;
+        }
     }
     Ok(())
 }
+
+// What is read of the bytes by the type of this many bytes.
+fn binary_number(alloc: Global, size: u8, raw: &[u8]) -> Result<String, OutOfMemory> {
+    match size {
+        2 => of_binary::<i16>(alloc, PgType::Int2, raw),
+        4 => of_binary::<i32>(alloc, PgType::Int4, raw),
+        _ => of_binary::<i64>(alloc, PgType::Int8, raw),
+    }
+}
+
+const BINARY: &[(u8, &[u8], &str)] = &[
+    (2, &[0x80, 0], "Ok(-32768)"),
+    (2, &[0x7f, 0xff], "Ok(32767)"),
+    (2, &[1], "Err(FromSqlError(WrongLength(1)))"),
+    (4, &[0xff, 0xff, 0xff, 0xfe], "Ok(-2)"),
+    (4, &[0, 1], "Err(FromSqlError(WrongLength(2)))"),
+    (8, &[0x80, 0, 0, 0, 0, 0, 0, 1], "Ok(-9223372036854775807)"),
+    (8, &[], "Err(FromSqlError(WrongLength(0)))"),
+];
 
 #[test]
 fn binary_numbers(rt: HostRuntime) -> Result<(), Fail> {
-    let alloc = rt.alloc();
-    let read = outcome(i16::from_sql(alloc, &PgType::Int2, &[0x80, 0]));
-    assert_eq!(rt; read, Some(Ok(-32768)));
-    let read = outcome(i16::from_sql(alloc, &PgType::Int2, &[0x7f, 0xff]));
-    assert_eq!(rt; read, Some(Ok(32767)));
-    let read = outcome(i16::from_sql(alloc, &PgType::Int2, &[1]));
-    assert_eq!(rt; read, Some(Err(SqlFault::WrongLength(1))));
-    let read = outcome(i32::from_sql(alloc, &PgType::Int4, &[0xff, 0xff, 0xff, 0xfe]));
-    assert_eq!(rt; read, Some(Ok(-2)));
-    let read = outcome(i32::from_sql(alloc, &PgType::Int4, &[0, 1]));
-    assert_eq!(rt; read, Some(Err(SqlFault::WrongLength(2))));
-    let read = outcome(i64::from_sql(alloc, &PgType::Int8, &[0x80, 0, 0, 0, 0, 0, 0, 1]));
-    assert_eq!(rt; read, Some(Ok(-9223372036854775807)));
-    let read = outcome(i64::from_sql(alloc, &PgType::Int8, &[]));
-    assert_eq!(rt; read, Some(Err(SqlFault::WrongLength(0))));
+    for (size, raw, wanted) in BINARY {
+        same(binary_number(rt.alloc(), *size, raw), wanted)?;
+    }
     Ok(())
 }
+
+const TRUTHS: &[(&[u8], &str)] = &[
+    (b"t", "Ok(true)"),
+    (b"f", "Ok(false)"),
+    (b"T", BAD),
+    (b"true", BAD),
+    (b"1", BAD),
+    (b"", BAD),
+];
+
+const BINARY_TRUTHS: &[(&[u8], &str)] = &[
+    (&[0], "Ok(false)"),
+    (&[1], "Ok(true)"),
+    (&[255], "Ok(true)"),
+    (&[], "Err(FromSqlError(WrongLength(0)))"),
+    (&[0, 1], "Err(FromSqlError(WrongLength(2)))"),
+];
 
 #[test]
 fn booleans(rt: HostRuntime) -> Result<(), Fail> {
-    let alloc = rt.alloc();
-    for (text, wanted) in [
-        (&b"t"[..], Ok(true)),
-        (&b"f"[..], Ok(false)),
-        (&b"T"[..], Err(SqlFault::BadText)),
-        (&b"true"[..], Err(SqlFault::BadText)),
-        (&b"1"[..], Err(SqlFault::BadText)),
-        (&b""[..], Err(SqlFault::BadText)),
-    ] {
-        let read = outcome(bool::from_sql_text(alloc, &PgType::Bool, text));
-        assert!(rt; read == Some(wanted));
+    for (text, wanted) in TRUTHS {
+        same(of_text::<bool>(rt.alloc(), PgType::Bool, text), wanted)?;
     }
-    for (raw, wanted) in [
-        (&[0_u8][..], Ok(false)),
-        (&[1_u8][..], Ok(true)),
-        (&[255_u8][..], Ok(true)),
-        (&[][..], Err(SqlFault::WrongLength(0))),
-        (&[0_u8, 1][..], Err(SqlFault::WrongLength(2))),
-    ] {
-        let read = outcome(bool::from_sql(alloc, &PgType::Bool, raw));
-        assert!(rt; read == Some(wanted));
+    for (raw, wanted) in BINARY_TRUTHS {
+        same(of_binary::<bool>(rt.alloc(), PgType::Bool, raw), wanted)?;
     }
     Ok(())
 }
 
-// Whether the bytes are read as this text in both formats, or refused.
-fn text_is(alloc: Global, ty: PgType, raw: &[u8], wanted: Result<&str, SqlFault>) -> bool {
-    let binary = outcome(Text::from_sql(alloc, &ty, raw));
-    let text = outcome(Text::from_sql_text(alloc, &ty, raw));
-    match (&binary, &text, wanted) {
-        (Some(Ok(a)), Some(Ok(b)), Ok(wanted)) => a.as_str() == wanted && b.as_str() == wanted,
-        (Some(Err(a)), Some(Err(b)), Err(wanted)) => *a == wanted && *b == wanted,
-        _ => false,
-    }
+const TEXT_TYPES: &[PgType] = &[
+    PgType::Text,
+    PgType::Varchar,
+    PgType::Bpchar,
+    PgType::Name,
+    PgType::Unknown,
+];
+
+/// Bytes, and what is read of them in both formats.
+const TEXTS: &[(&[u8], &str)] = &[
+    (b"", "Ok(Text { text: \"\" })"),
+    (b" a\xc3\xa9 ", "Ok(Text { text: \" a\u{e9} \" })"),
+    (b"\xff", BAD),
+];
+
+const NO_TEXT_TYPES: &[(PgType, &str)] = &[
+    (PgType::Bytea, "Err(FromSqlError(WrongType(Bytea)))"),
+    (PgType::Int4, "Err(FromSqlError(WrongType(Int4)))"),
+    (
+        PgType::Other(114),
+        "Err(FromSqlError(WrongType(Other(114))))",
+    ),
+];
+
+fn text_is(alloc: Global, ty: PgType, raw: &[u8], wanted: &str) -> Result<(), Fail> {
+    same(of_binary::<Text>(alloc, ty, raw), wanted)?;
+    same(of_text::<Text>(alloc, ty, raw), wanted)
 }
 
 #[test]
 fn texts(rt: HostRuntime) -> Result<(), Fail> {
-    let alloc = rt.alloc();
-    for ty in [
-        PgType::Text,
-        PgType::Varchar,
-        PgType::Bpchar,
-        PgType::Name,
-        PgType::Unknown,
-    ] {
-        assert!(rt; text_is(alloc, ty, b"", Ok("")));
-        assert!(rt; text_is(alloc, ty, b" a\xc3\xa9 ", Ok(" a\u{e9} ")));
-        assert!(rt; text_is(alloc, ty, b"\xff", Err(SqlFault::BadText)));
+    for ty in TEXT_TYPES {
+        for (raw, wanted) in TEXTS {
+            text_is(rt.alloc(), *ty, raw, wanted)?;
+        }
     }
-    for ty in [PgType::Bytea, PgType::Int4, PgType::Other(114)] {
-        assert!(rt; text_is(alloc, ty, b"a", Err(SqlFault::WrongType(ty))));
+    for (ty, wanted) in NO_TEXT_TYPES {
+        text_is(rt.alloc(), *ty, b"a", wanted)?;
     }
     Ok(())
 }
 
-// Whether the text is read as these bytes, or refused.
-fn octets_are(alloc: Global, text: &[u8], wanted: Result<&[u8], SqlFault>) -> bool {
-    match (
-        &outcome(Octets::from_sql_text(alloc, &PgType::Bytea, text)),
-        wanted,
-    ) {
-        (Some(Ok(octets)), Ok(wanted)) => octets.as_slice() == wanted,
-        (Some(Err(fault)), Err(wanted)) => *fault == wanted,
-        _ => false,
-    }
-}
+const OCTETS: &[(&[u8], &str)] = &[
+    (b"\\x", "Ok(Octets { bytes: b\"\" })"),
+    (b"\\x00ff", "Ok(Octets { bytes: b\"\\0\\xff\" })"),
+    (b"\\xDeAd", "Ok(Octets { bytes: b\"\\xde\\xad\" })"),
+    (b"\\x0", BAD),
+    (b"\\x0g", BAD),
+    (b"\\X00", BAD),
+    (b"x00", BAD),
+    (b"\\", BAD),
+    (b"", BAD),
+    (b"\\x 00", BAD),
+];
 
 #[test]
 fn octets(rt: HostRuntime) -> Result<(), Fail> {
-    let alloc = rt.alloc();
-    for (text, wanted) in [
-        (&b"\\x"[..], Ok(&b""[..])),
-        (&b"\\x00ff"[..], Ok(&b"\x00\xff"[..])),
-        (&b"\\xDeAd"[..], Ok(&b"\xde\xad"[..])),
-        (&b"\\x0"[..], Err(SqlFault::BadText)),
-        (&b"\\x0g"[..], Err(SqlFault::BadText)),
-        (&b"\\X00"[..], Err(SqlFault::BadText)),
-        (&b"x00"[..], Err(SqlFault::BadText)),
-        (&b"\\"[..], Err(SqlFault::BadText)),
-        (&b""[..], Err(SqlFault::BadText)),
-        (&b"\\x 00"[..], Err(SqlFault::BadText)),
-    ] {
-        assert!(rt; octets_are(alloc, text, wanted));
+    for (text, wanted) in OCTETS {
+        same(of_text::<Octets>(rt.alloc(), PgType::Bytea, text), wanted)?;
     }
-    let raw = Octets::from_sql(alloc, &PgType::Bytea, b"\xff\x00")?;
-    assert_eq!(rt; raw.as_slice(), b"\xff\x00".as_slice());
-    Ok(())
+    same(
+        of_binary::<Octets>(rt.alloc(), PgType::Bytea, b"\xff\x00"),
+        "Ok(Octets { bytes: b\"\\xff\\0\" })",
+    )
 }
+
+const OTHER: PgType = PgType::Other(1700);
+
+const WRONG: &str = "Err(FromSqlError(WrongType(Other(1700))))";
 
 #[test]
 fn other_types(rt: HostRuntime) -> Result<(), Fail> {
-    let alloc = rt.alloc();
-    let ty = PgType::Other(1700);
-    let wrong = SqlFault::WrongType(ty);
-    assert_eq!(rt; outcome(bool::from_sql(alloc, &ty, &[1])), Some(Err(wrong)));
-    assert_eq!(rt;
-        outcome(bool::from_sql_text(alloc, &ty, b"t")),
-        Some(Err(wrong))
-    );
-    assert_eq!(rt;
-        outcome(i16::from_sql(alloc, &ty, &[0, 1])),
-        Some(Err(wrong))
-    );
-    assert_eq!(rt;
-        outcome(i16::from_sql_text(alloc, &ty, b"1")),
-        Some(Err(wrong))
-    );
-    assert_eq!(rt; outcome(i32::from_sql(alloc, &ty, &[0])), Some(Err(wrong)));
-    assert_eq!(rt;
-        outcome(i32::from_sql_text(alloc, &ty, b"x")),
-        Some(Err(wrong))
-    );
-    assert_eq!(rt; outcome(i64::from_sql(alloc, &ty, &[])), Some(Err(wrong)));
-    assert_eq!(rt;
-        outcome(i64::from_sql_text(alloc, &ty, b"1")),
-        Some(Err(wrong))
-    );
-    assert!(rt; outcome(Octets::from_sql(alloc, &ty, b"")).is_some_and(|read| read.is_err()));
-    let read = outcome(Octets::from_sql_text(alloc, &ty, b"\\x"));
-    assert!(rt; read.is_some_and(|read| read.is_err()));
-    Ok(())
+    same(of_binary::<bool>(rt.alloc(), OTHER, &[1]), WRONG)?;
+    same(of_text::<bool>(rt.alloc(), OTHER, b"t"), WRONG)?;
+    same(of_binary::<i16>(rt.alloc(), OTHER, &[0, 1]), WRONG)?;
+    same(of_text::<i16>(rt.alloc(), OTHER, b"1"), WRONG)?;
+    same(of_binary::<i32>(rt.alloc(), OTHER, &[0]), WRONG)?;
+    same(of_text::<i32>(rt.alloc(), OTHER, b"x"), WRONG)?;
+    same(of_binary::<i64>(rt.alloc(), OTHER, &[]), WRONG)?;
+    same(of_text::<i64>(rt.alloc(), OTHER, b"1"), WRONG)?;
+    same(of_binary::<Octets>(rt.alloc(), OTHER, b""), WRONG)?;
+    same(of_text::<Octets>(rt.alloc(), OTHER, b"\\x"), WRONG)
 }
