@@ -60,6 +60,20 @@ fn two_taken(
     ([first, second], [count, out.len()])
 }
 
+fn answers_to(
+    alloc: Global,
+    asked: (&Config, &[Request]),
+    limit: u64,
+    pieces: [&[u8]; 2],
+    out: &mut BytesMut,
+) -> PgWireClientResult<([&'static str; 2], [usize; 2])> {
+    let (config, requests) = asked;
+    match Dialogue::start(alloc, config, requests, &[0; 18], limit, out) {
+        Ok(mut dialogue) => Ok(two_taken(&mut dialogue, pieces, out)),
+        Err(error) => Err(error),
+    }
+}
+
 // What two pieces are answered, and how many bytes were put out behind each.
 fn answers(
     alloc: Global,
@@ -69,8 +83,8 @@ fn answers(
     let config = Config::parse(alloc, "user=bob")?;
     let requests = select_one(alloc)?;
     let mut out = BytesMut::new(alloc);
-    let mut dialogue = Dialogue::start(alloc, &config, &requests, &[0; 18], limit, &mut out)?;
-    Ok(two_taken(&mut dialogue, pieces, &mut out))
+    let asked = (&config, requests.as_slice());
+    Ok(answers_to(alloc, asked, limit, pieces, &mut out)?)
 }
 
 // Phases within and behind the startup segment; the transcript whole, with bytes behind it in the same piece, and behind
@@ -149,13 +163,23 @@ fn end_of(
     }
 }
 
+fn end_behind_these(
+    alloc: Global,
+    config: &Config,
+    requests: &[Request],
+    bytes: &[u8],
+    out: &mut BytesMut,
+) -> Result<&'static str, Fail> {
+    let mut dialogue = Dialogue::start(alloc, config, requests, &[0; 18], 1000, out)?;
+    end_of(&mut dialogue, bytes, out)
+}
+
 // What the link's end means behind these bytes.
 fn end_behind(alloc: Global, bytes: &[u8]) -> Result<&'static str, Fail> {
     let config = Config::parse(alloc, "user=bob")?;
     let requests = select_one(alloc)?;
     let mut out = BytesMut::new(alloc);
-    let mut dialogue = Dialogue::start(alloc, &config, &requests, &[0; 18], 1000, &mut out)?;
-    end_of(&mut dialogue, bytes, &mut out)
+    end_behind_these(alloc, &config, requests.as_slice(), bytes, &mut out)
 }
 
 // No byte; a message begun; an error of the server; a message that has no place in a simple query, before its

@@ -4,7 +4,8 @@ ghost use Rattle.std.specs.Prelude.{◌<◌};
 use bytes::BytesMut;
 use pgw_client::{Config, Listed, MemoryLink, Octets, Request, Text, run_session};
 use pgw_dialogue::{Dialogue, DialoguePhase};
-use std::alloc::Global;
+use std::alloc::{AllocError, Global};
+use std::fmt;
 use std::test::Fail;
 
 // AuthenticationOk, ReadyForQuery; then a row of one field, its result and ReadyForQuery.
@@ -20,11 +21,16 @@ fn select_one(alloc: Global) -> Result<Vec<Request>, Fail> {
     Ok(requests)
 }
 
+// A value as text.
+fn shown<T: fmt::Debug>(alloc: Global, value: &T) -> Result<String, AllocError> {
+    format!(in alloc; "{value:?}")
+}
+
 fn report_over(alloc: Global, link: &mut MemoryLink) -> Result<String, Fail> {
     let config = Config::parse(alloc, "user=bob")?;
     let requests = select_one(alloc)?;
     let report = run_session(alloc, link, &config, &requests, &[0; 18], 1000)?;
-    Ok(format!(in alloc; "{report:?}")?)
+    Ok(shown(alloc, &report)?)
 }
 
 // What a session over a link writes, and its report as text.
@@ -35,25 +41,35 @@ fn over_link(alloc: Global) -> Result<(Vec<u8>, String), Fail> {
     Ok((link.written().to_vec(alloc)?, report))
 }
 
-// The same of a dialogue, which is given pieces of this size.
+// The report of a dialogue that is given pieces of this size, as text.
+fn report_in_pieces(
+    alloc: Global,
+    config: &Config,
+    requests: &[Request],
+    size: usize,
+    out: &mut BytesMut,
+) -> Result<String, Fail>
+    requires { 0 < size }
+{
+    let mut dialogue = Dialogue::start(alloc, config, requests, &[0; 18], 1000, out)?;
+    for piece in SERVER.chunks(size) {
+        match dialogue.take(piece, out)? {
+            DialoguePhase::Waiting | DialoguePhase::Ready => {}
+            DialoguePhase::Done => return Ok(shown(alloc, &dialogue.report())?),
+        }
+    }
+    Ok(String::new(alloc))
+}
+
+// What such a dialogue puts out, and its report.
 fn in_pieces(alloc: Global, size: usize) -> Result<(Vec<u8>, String), Fail>
     requires { 0 < size }
 {
     let config = Config::parse(alloc, "user=bob")?;
     let requests = select_one(alloc)?;
     let mut out = BytesMut::new(alloc);
-    let mut dialogue = Dialogue::start(alloc, &config, &requests, &[0; 18], 1000, &mut out)?;
-    for piece in SERVER.chunks(size) {
-        match dialogue.take(piece, &mut out)? {
-            DialoguePhase::Waiting | DialoguePhase::Ready => {}
-            DialoguePhase::Done => {
-                let report = dialogue.report();
-                let sent = out.as_slice().to_vec(alloc)?;
-                return Ok((sent, format!(in alloc; "{report:?}")?));
-            }
-        }
-    }
-    Ok((Vec::new(alloc), String::new(alloc)))
+    let report = report_in_pieces(alloc, &config, requests.as_slice(), size, &mut out)?;
+    Ok((out.as_slice().to_vec(alloc)?, report))
 }
 
 #[test]
