@@ -34,13 +34,13 @@ fn next_number(number: u32) -> u32
     ((u64::from(number) * 1103515245 + 12345) % u64::from(MODULUS)) as u32
 }
 
-fn put(out: &mut BytesMut, message: &PgWireBackendMessage) -> Result<(), OutOfMemory>
-    ensures { OnOk result (Puts (message.now ∷ []) out.old.items out.new.items) }
+// Appends a message, and lets it go.
+fn put(out: &mut BytesMut, message: PgWireBackendMessage) -> Result<(), OutOfMemory>
+    ensures { OnOk result (Puts (message ∷ []) out.old.items out.new.items) }
 {
-    match message.encode(out) {
-        Ok(()) => Ok(()),
-        Err(_) => Err(OutOfMemory),
-    }
+    let put = message.encode(out).ok().ok_or(OutOfMemory);
+    drop(message);
+    put
 }
 
 // Appends a row whose one field is the number, as it is encoded.
@@ -104,10 +104,10 @@ fn put_beginning(alloc: Global, out: &mut BytesMut) -> Result<(), OutOfMemory>
 {
     put(
         out,
-        &PgWireBackendMessage::Authentication(Authentication::Ok),
+        PgWireBackendMessage::Authentication(Authentication::Ok),
     )?;
-    put(out, &ready())?;
-    put(out, &description(alloc)?)?;
+    put(out, ready())?;
+    put(out, description(alloc)?)?;
     Ok(())
 }
 
@@ -115,8 +115,8 @@ fn put_beginning(alloc: Global, out: &mut BytesMut) -> Result<(), OutOfMemory>
 fn put_end(alloc: Global, out: &mut BytesMut, count: u32) -> Result<(), OutOfMemory>
     ensures { OnOk result (Puts (end_of count) out.old.items out.new.items) }
 {
-    put(out, &complete(alloc, count)?)?;
-    put(out, &ready())?;
+    put(out, complete(alloc, count)?)?;
+    put(out, ready())?;
     Ok(())
 }
 
