@@ -28,7 +28,6 @@ use std::alloc::Global;
 ///
 /// It is given the server's bytes as they come, in pieces of any length, and puts out what is to be sent to the server.
 /// Of the bytes given it takes no more than its limit.
-#[derive(Drop)]
 pub struct Dialogue<'a> {
     alloc: Global,
     config: &'a Config,
@@ -40,6 +39,24 @@ pub struct Dialogue<'a> {
     room: u64,
     state: State,
     ghost able: { able_while state (input_with config.now requests.now nonce) notes.stage ≡ true },
+}
+
+// Written out, so that for callers to let one go is a call.
+impl Drop for Dialogue<'_> {
+    fn drop(self) {
+        let Dialogue {
+            alloc: _alloc,
+            config: _config,
+            requests: _requests,
+            nonce: _nonce,
+            notes,
+            inbox,
+            room: _room,
+            state: _state,
+        } = self;
+        drop(notes);
+        drop(inbox);
+    }
 }
 
 // What is answered where the transcript is not whole: the limit is reached, or the startup segment is open, or has closed.
@@ -118,7 +135,10 @@ impl<'a> Dialogue<'a> {
         };
         match out.extend_from_slice(opening.as_slice()) {
             Ok(()) => {}
-            Err(_) => return Err(PgWireClientError::OutOfMemory),
+            Err(_) => {
+                drop(notes);
+                return Err(PgWireClientError::OutOfMemory);
+            }
         }
         Ok(Dialogue {
             alloc,
@@ -193,6 +213,17 @@ impl<'a> Dialogue<'a> {
         // For every pair that it stands for, it is that of a completed session.
         ensures completed { (input : TheInput) (limit : ℕ) (given put : List ℕ) → Stands input limit self.entry given put → Completed input (taken_of limit given) put result }
     {
-        into_report(self.notes)
+        let Dialogue {
+            alloc: _alloc,
+            config: _config,
+            requests: _requests,
+            nonce: _nonce,
+            notes,
+            inbox,
+            room: _room,
+            state: _state,
+        } = self;
+        drop(inbox);
+        into_report(notes)
     }
 }
