@@ -137,11 +137,15 @@ impl DefaultStartupHandler {
     {
         match next {
             Next::Goes(stage, reply) => {
+                drop(message);
                 send_reply(client, reply)?;
                 self.stage = stage;
                 Ok(())
             }
-            Next::Refuses(error) => Err(error),
+            Next::Refuses(error) => {
+                drop(message);
+                Err(error)
+            }
             Next::Closes | Next::Wrong | Next::PassesOver => Err(misplaced(alloc, message)),
         }
     }
@@ -185,8 +189,13 @@ impl StartupHandler for DefaultStartupHandler {
         message: Authentication,
     ) -> PgWireClientResult<()> {
         let message = PgWireBackendMessage::Authentication(message);
-        let next = self.next(alloc, client.config(), &message)?;
-        self.follow(alloc, client, message, next)
+        match self.next(alloc, client.config(), &message) {
+            Ok(next) => self.follow(alloc, client, message, next),
+            Err(error) => {
+                drop(message);
+                Err(error.into())
+            }
+        }
     }
 
     fn on_backend_key<C: ClientInfo + Outgoing>(
