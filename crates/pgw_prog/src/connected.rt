@@ -46,8 +46,8 @@ fn talk<D: Dialer>(
     outcome
 }
 
-/// Prints a session's report or its error. Want of memory is no answer to be printed.
-fn print_result(
+// Prints a session's report or its error. Want of memory is no answer to be printed.
+fn print_outcome(
     alloc: Global,
     outcome: &PgWireClientResult<SessionReport>,
 ) -> Result<Printed, OutOfMemory>
@@ -59,6 +59,19 @@ fn print_result(
     put_result(&mut text, outcome)?;
     let told = told_of_outcome(alloc, outcome);
     Ok(Printed { text, status, told })
+}
+
+// The same of an outcome that is let go then.
+fn print_result(
+    alloc: Global,
+    outcome: PgWireClientResult<SessionReport>,
+) -> Result<Printed, OutOfMemory>
+    ensures says { IfOk result (λ p. Says p (result_text outcome) (status_for outcome)) }
+    ensures memory { OnOk result (IsErrOf outcome client.OutOfMemory → ⊥) }
+{
+    let printed = print_outcome(alloc, &outcome);
+    drop(outcome);
+    printed
 }
 
 /// Holds the session at the address of a configuration and prints it, or prints that there is no address.
@@ -76,9 +89,9 @@ fn connect_with<D: Dialer>(
     match config.address(alloc) {
         Ok(address) => {
             let outcome = talk(alloc, asked, config, &address, dialer, nonce);
-            print_result(alloc, &outcome)
+            print_result(alloc, outcome)
         }
-        Err(error) => print_result(alloc, &Err(error)),
+        Err(error) => print_result(alloc, Err(error)),
     }
 }
 
@@ -94,7 +107,11 @@ pub fn connect<D: Dialer>(
     ensures prints { IfOk result (Connects nonce.now D.tells (D.tape dialer.old) (D.tape dialer.new) (D.faults dialer.old) (D.faults dialer.new) asked.now) }
 {
     match Config::parse(alloc, asked.text.as_str()) {
-        Ok(config) => connect_with(alloc, asked, &config, dialer, nonce),
-        Err(error) => print_result(alloc, &Err(error)),
+        Ok(config) => {
+            let printed = connect_with(alloc, asked, &config, dialer, nonce);
+            drop(config);
+            printed
+        }
+        Err(error) => print_result(alloc, Err(error)),
     }
 }

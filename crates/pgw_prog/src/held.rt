@@ -40,6 +40,22 @@ fn versioned(script: &Script, mut config: Config) -> Config
     config
 }
 
+// Prints a session's report or its error behind what was written. Want of memory is no answer to be printed.
+fn print_session(
+    alloc: Global,
+    written: &[u8],
+    outcome: &PgWireClientResult<SessionReport>,
+) -> Result<Printed, OutOfMemory>
+    ensures says { IfOk result (λ p. Says p (session_text written.now outcome.now) (status_for outcome.now)) }
+    ensures memory { OnOk result (IsErrOf outcome.now client.OutOfMemory → ⊥) }
+{
+    let status = status_of(outcome)?;
+    let mut text = Vec::new(alloc);
+    put_session(&mut text, written, outcome)?;
+    let told = told_of_outcome(alloc, outcome);
+    Ok(Printed { text, status, told })
+}
+
 /// Prints what a session over this link gave.
 fn print_outcome(
     alloc: Global,
@@ -55,11 +71,7 @@ fn print_outcome(
     if link.was_short_of_memory() {
         return Err(OutOfMemory);
     }
-    let status = status_of(outcome)?;
-    let mut text = Vec::new(alloc);
-    put_session(&mut text, link.written(), outcome)?;
-    let told = told_of_outcome(alloc, outcome);
-    Ok(Printed { text, status, told })
+    print_session(alloc, link.written(), outcome)
 }
 
 /// Holds a session over a link in memory, and prints it.
@@ -112,11 +124,9 @@ fn print_refusal(alloc: Global, error: PgWireClientError) -> Result<Printed, Out
     ensures memory { OnOk result (error ≢ client.OutOfMemory) }
 {
     let outcome = Err(error);
-    let status = status_of(&outcome)?;
-    let mut text = Vec::new(alloc);
-    put_session(&mut text, b"", &outcome)?;
-    let told = told_of_outcome(alloc, &outcome);
-    Ok(Printed { text, status, told })
+    let printed = print_session(alloc, b"", &outcome);
+    drop(outcome);
+    printed
 }
 
 /// Holds a script's session and prints it, or prints why its connection text is refused.
