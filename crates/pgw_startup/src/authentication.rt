@@ -2,8 +2,10 @@
 ghost use Rattle.std.specs.Prelude.{◌≡◌, Ok, ◌==◌, ◌∷◌, [], ◌++◌, length, OnOk};
 ghost use Rattle.std.specs.List.{list_any, flat_map};
 ghost use Rattle.pgw_wire.specs.declared.framing.Framing.TheVariants.{Typed};
-ghost use Rattle.pgw_wire.specs.Reading.{Reads};
+ghost use Rattle.pgw_wire.specs.Reading.{Reads, name_at, octets_at, rest_at, marked_list_at};
+ghost use Rattle.pgw_wire.specs.Formats.{made_at};
 ghost use Rattle.pgw_wire.specs.Writing.{text as text_bytes, u32 as u32_bytes};
+ghost use Rattle.pgw_startup.specs.declared.authentication.Authentication.TheVariants.{MD5Password, SASL, SASLContinue, SASLFinal};
 ghost use Rattle.pgw_startup.specs.Login.{by_code, authentication_of, authentication, is_method_refused, authentication_fault};
 
 use pgw_types::context::DecodeContext;
@@ -51,6 +53,31 @@ fn is_refused_method(method: &Text) -> bool
     method.is_empty() || has_zero(method)
 }
 
+// Four bytes.
+fn take_salt(reader: &mut FieldReader<'_>) -> PgWireResult<Authentication>
+    ensures { Reads result reader.new (made_at MD5Password (octets_at 4) reader.old) }
+{
+    Ok(Authentication::MD5Password(reader.take_octets(4)?))
+}
+
+fn take_methods(alloc: Global, reader: &mut FieldReader<'_>) -> PgWireResult<Authentication>
+    ensures { Reads result reader.new (made_at SASL (marked_list_at name_at) reader.old) }
+{
+    Ok(Authentication::SASL(take_up_to_mark(alloc, reader)?))
+}
+
+fn take_continue(reader: &mut FieldReader<'_>) -> PgWireResult<Authentication>
+    ensures { Reads result reader.new (made_at SASLContinue rest_at reader.old) }
+{
+    Ok(Authentication::SASLContinue(reader.take_rest()?))
+}
+
+fn take_final(reader: &mut FieldReader<'_>) -> PgWireResult<Authentication>
+    ensures { Reads result reader.new (made_at SASLFinal rest_at reader.old) }
+{
+    Ok(Authentication::SASLFinal(reader.take_rest()?))
+}
+
 // What follows the code.
 #[tactic(auto, unfolding(crate::specs::Login::by_code))]
 fn take_by_code(
@@ -64,10 +91,10 @@ fn take_by_code(
         0 => Ok(Authentication::Ok),
         2 => Ok(Authentication::KerberosV5),
         3 => Ok(Authentication::CleartextPassword),
-        5 => Ok(Authentication::MD5Password(reader.take_octets(4)?)),
-        10 => Ok(Authentication::SASL(take_up_to_mark(alloc, reader)?)),
-        11 => Ok(Authentication::SASLContinue(reader.take_rest()?)),
-        12 => Ok(Authentication::SASLFinal(reader.take_rest()?)),
+        5 => take_salt(reader),
+        10 => take_methods(alloc, reader),
+        11 => take_continue(reader),
+        12 => take_final(reader),
         _ => Err(PgWireError::InvalidAuthenticationMessageCode(code.cast_signed())),
     }
 }

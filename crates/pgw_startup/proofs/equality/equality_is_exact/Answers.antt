@@ -1,7 +1,9 @@
-use Rattle.std.proofs.Common.{refl, ap}
+use Rattle.std.proofs.Common.{◌≡◌, ◌⊎◌, inl, inr, ℕ, List, refl, ap}
 use Rattle.std.proofs.lemmas.Bool.Decides.{Decides-eqb, Decides-int_eq}
 use Rattle.std.specs.Cmp.Lexicographic.{pointwise_decides, bytes_decides}
 use Rattle.pgw_startup.specs.declared.authentication.Authentication.TheVariants as auth
+use Rattle.pgw_startup.specs.declared.authentication.Authentication.{Authentication}
+use Rattle.pgw_startup.specs.contracts.authentication.Authentication.{as_values}
 use Rattle.pgw_startup.specs.declared.parameter_status.ParameterStatus.{ParameterStatus}
 use Rattle.pgw_startup.specs.declared.negotiate.NegotiateProtocolVersion.{NegotiateProtocolVersion}
 use Rattle.pgw_startup.specs.declared.response.SslResponse.TheVariants as ssl
@@ -12,18 +14,32 @@ use Rattle.pgw_startup.specs.declared.sasl.SASLResponse.{SASLResponse}
 use Rattle.pgw_startup.specs.declared.password.PasswordMessageFamily.TheVariants as family
 use Rattle.pgw_startup.specs.declared.backend_key_data.BackendKeyData.{BackendKeyData}
 use Rattle.pgw_startup.specs.declared.startup.Startup.{Startup}
-use Rattle.pgw_wire.proofs.EqualLaws.{option_exact, both_exact, made_exact}
+use Rattle.pgw_wire.proofs.EqualLaws.{option_exact, both_exact, made_exact, one_exact, none_exact, sum_exact, field_exact}
 use Rattle.pgw_startup.proofs.equality.equality_is_exact.Goals as goal
 
+-- an authentication request as one of its kinds
+from_kind : Unit {0} ⊎ (Unit {0} ⊎ (Unit {0} ⊎ ((List ℕ × Unit {0}) ⊎ ((List (List ℕ) × Unit {0}) ⊎ ((List ℕ × Unit {0}) ⊎ ((List ℕ × Unit {0}) ⊎ ⊥)))))) → Authentication
+from_kind (inl x) = auth.Ok
+from_kind (inr (inl x)) = auth.CleartextPassword
+from_kind (inr (inr (inl x))) = auth.KerberosV5
+from_kind (inr (inr (inr (inl x)))) = auth.MD5Password x.0
+from_kind (inr (inr (inr (inr (inl x))))) = auth.SASL x.0
+from_kind (inr (inr (inr (inr (inr (inl x)))))) = auth.SASLContinue x.0
+from_kind (inr (inr (inr (inr (inr (inr (inl x))))))) = auth.SASLFinal x.0
+from_kind (inr (inr (inr (inr (inr (inr (inr x))))))) = absurd x
+
+from_kind-as_values : (a : Authentication) → from_kind (as_values a) ≡ a
+unfolding from_kind
+from_kind-as_values auth.Ok = refl
+from_kind-as_values auth.CleartextPassword = refl
+from_kind-as_values auth.KerberosV5 = refl
+from_kind-as_values (auth.MD5Password x) = refl
+from_kind-as_values (auth.SASL x) = refl
+from_kind-as_values (auth.SASLContinue x) = refl
+from_kind-as_values (auth.SASLFinal x) = refl
+
 pub returns-clause-authentication : goal.returns-clause-authentication
-returns-clause-authentication c auth.Ok auth.Ok = (λ e. refl, λ e. refl)
-returns-clause-authentication c auth.CleartextPassword auth.CleartextPassword = (λ e. refl, λ e. refl)
-returns-clause-authentication c auth.KerberosV5 auth.KerberosV5 = (λ e. refl, λ e. refl)
-returns-clause-authentication c (auth.MD5Password x) (auth.MD5Password y) = (λ e. ap (λ z. auth.MD5Password z) ((bytes_decides x y).0 e), λ e. (bytes_decides x y).1 cc)
-returns-clause-authentication c (auth.SASL x) (auth.SASL y) = (λ e. ap (λ z. auth.SASL z) (((pointwise_decides bytes_decides) x y).0 e), λ e. ((pointwise_decides bytes_decides) x y).1 cc)
-returns-clause-authentication c (auth.SASLContinue x) (auth.SASLContinue y) = (λ e. ap (λ z. auth.SASLContinue z) ((bytes_decides x y).0 e), λ e. (bytes_decides x y).1 cc)
-returns-clause-authentication c (auth.SASLFinal x) (auth.SASLFinal y) = (λ e. ap (λ z. auth.SASLFinal z) ((bytes_decides x y).0 e), λ e. (bytes_decides x y).1 cc)
-returns-clause-authentication c x y = (λ e. absurd cc, λ e. absurd cc)
+returns-clause-authentication c = made_exact as_values from_kind from_kind-as_values _ (sum_exact _ _ (one_exact (λ x y. refl)) (sum_exact _ _ (one_exact (λ x y. refl)) (sum_exact _ _ (one_exact (λ x y. refl)) (sum_exact _ _ (field_exact _ bytes_decides) (sum_exact _ _ (field_exact _ (pointwise_decides bytes_decides)) (sum_exact _ _ (field_exact _ bytes_decides) (sum_exact _ _ (field_exact _ bytes_decides) (none_exact (λ x y. absurd x)))))))))
 
 pub returns-clause-parameter_status : goal.returns-clause-parameter_status
 returns-clause-parameter_status c = made_exact {Y = ParameterStatus} (λ x. (x.name, x.value)) (λ p. record { name = p.0; value = p.1 }) (λ x. refl) _ (both_exact _ _ bytes_decides bytes_decides)
