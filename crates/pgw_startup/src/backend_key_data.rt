@@ -69,7 +69,7 @@ impl Message for BackendKeyData {
         self.secret_key.put(out)
     }
 
-    #[tactic(auto, unfolding(crate::specs::Login::backend_key_data_of))]
+    #[tactic(auto, unfolding(crate::specs::Login::backend_key_data_of, pgw_wire::specs::Reading::rest_at, pgw_wire::specs::Reading::ended))]
     fn decode_body(
         _alloc: Global,
         body: &Octets,
@@ -77,9 +77,7 @@ impl Message for BackendKeyData {
     ) -> PgWireResult<BackendKeyData> {
         let mut reader = FieldReader::new(body);
         let pid = reader.take_i32()?;
-        let rest = reader.take_rest()?;
-        let secret_key = SecretKey::decode(&rest, ctx)?;
-        reader.finish()?;
+        let secret_key = SecretKey::decode(&reader.take_rest()?, ctx)?;
         Ok(BackendKeyData { pid, secret_key })
     }
 }

@@ -192,7 +192,7 @@ impl Message for PasswordMessageFamily {
         }
     }
 
-    #[tactic(auto, unfolding(crate::specs::Password::family_of))]
+    #[tactic(auto, unfolding(crate::specs::Password::family_of, pgw_wire::specs::Reading::rest_at, pgw_wire::specs::Reading::ended))]
     fn decode_body(
         _alloc: Global,
         body: &Octets,
@@ -200,7 +200,6 @@ impl Message for PasswordMessageFamily {
     ) -> PgWireResult<PasswordMessageFamily> {
         let mut reader = FieldReader::new(body);
         let body = reader.take_rest()?;
-        reader.finish()?;
         Ok(PasswordMessageFamily::Raw(body))
     }
 }

@@ -172,13 +172,12 @@ impl SASLResponse {
 }
 
 /// Reads a body.
-#[tactic(auto, unfolding(crate::specs::Password::response_of))]
+#[tactic(auto, unfolding(crate::specs::Password::response_of, pgw_wire::specs::Reading::rest_at, pgw_wire::specs::Reading::ended))]
 pub fn read_response(body: &Octets) -> PgWireResult<SASLResponse>
     ensures { Gives result (response_of body.now) }
 {
     let mut reader = FieldReader::new(body);
     let payload = reader.take_rest()?;
-    reader.finish()?;
     Ok(SASLResponse { payload })
 }
 
