@@ -1,10 +1,14 @@
 //! Binding parameters to a prepared statement.
 ghost use Rattle.std.specs.Prelude.{◌≡◌, ◌||◌, [], None};
 ghost use Rattle.pgw_wire.specs.declared.framing.Framing.TheVariants.{Typed};
+ghost use Rattle.std.specs.Int.{w16};
+ghost use Rattle.pgw_wire.specs.Reading.{Reads, int_at};
+ghost use Rattle.pgw_wire.specs.Formats.{pair_at};
 ghost use Rattle.pgw_wire.specs.Writing.{refused_if};
+ghost use Rattle.pgw_ext.specs.Kinds.{parameter_at};
 ghost use Rattle.pgw_ext.specs.Kinds.{is_name_refused as is_name_refused_list};
 ghost use Rattle.pgw_ext.specs.Rows.{bind_of, bind, is_bind_refused, bind_complete_of};
-ghost use Rattle.pgw_wire.specs.Counted.{is_too_long};
+ghost use Rattle.pgw_wire.specs.Counted.{is_too_long, counted16_at};
 
 use crate::kinds::{is_name_refused, name_len, put_name};
 use crate::parameter::{parameters_len, put_parameters, take_parameters};
@@ -78,6 +82,19 @@ fn is_refused(m: &Bind) -> bool
     is_any_name_refused(m) || is_any_list_too_long(m)
 }
 
+// The values between the formats of both sides.
+fn take_values(
+    alloc: Global,
+    reader: &mut FieldReader<'_>,
+) -> PgWireResult<(Listed<i16>, (Listed<Option<Octets>>, Listed<i16>))>
+    ensures { Reads result reader.new (pair_at (counted16_at 2 (int_at w16)) (pair_at (counted16_at 4 parameter_at) (counted16_at 2 (int_at w16))) reader.old) }
+{
+    let parameter_formats = take_counted16(alloc, reader, 2)?;
+    let parameters = take_parameters(alloc, reader)?;
+    let result_formats = take_counted16(alloc, reader, 2)?;
+    Ok((parameter_formats, (parameters, result_formats)))
+}
+
 impl Message for Bind {
     ghost row_framing = { Typed 66 };
 
@@ -122,17 +139,19 @@ impl Message for Bind {
         let mut reader = FieldReader::new(body);
         let portal_name = reader.take_name(alloc)?;
         let statement_name = reader.take_name(alloc)?;
-        let parameter_format_codes = take_counted16(alloc, &mut reader, 2)?;
-        let parameters = take_parameters(alloc, &mut reader)?;
-        let result_column_format_codes = take_counted16(alloc, &mut reader, 2)?;
-        reader.finish()?;
-        Ok(Bind {
+        let (parameter_format_codes, (parameters, result_column_format_codes)) = take_values(
+            alloc,
+            &mut reader,
+        )?;
+        let message = Bind {
             portal_name,
             statement_name,
             parameter_format_codes,
             parameters,
             result_column_format_codes,
-        })
+        };
+        reader.finish()?;
+        Ok(message)
     }
 }
 
