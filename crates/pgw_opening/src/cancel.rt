@@ -79,7 +79,7 @@ impl Message for CancelRequest {
         self.secret_key.put(out)
     }
 
-    #[tactic(auto, unfolding(crate::specs::Openings::cancel_request_of, crate::specs::Openings::only_code))]
+    #[tactic(auto, unfolding(crate::specs::Openings::cancel_request_of, crate::specs::Openings::only_code, pgw_wire::specs::Reading::rest_at, pgw_wire::specs::Reading::ended))]
     fn decode_body(
         _alloc: Global,
         body: &Octets,
@@ -93,9 +93,7 @@ impl Message for CancelRequest {
             return Err(PgWireError::InvalidCancelRequest);
         }
         let pid = reader.take_i32()?;
-        let rest = reader.take_rest()?;
-        let secret_key = SecretKey::decode(&rest, ctx)?;
-        reader.finish()?;
+        let secret_key = SecretKey::decode(&reader.take_rest()?, ctx)?;
         Ok(CancelRequest { pid, secret_key })
     }
 }
