@@ -1,8 +1,10 @@
 //! Rows.
 ghost use Rattle.std.specs.Prelude.{◌≡◌, ◌∷◌, [], ◌++◌, ◌||◌, ◌==◌, nat_lt, length, None, OnOk};
+ghost use Rattle.std.specs.Int.{w16, w32};
 ghost use Rattle.std.specs.List.{list_any, flat_map};
 ghost use Rattle.pgw_wire.specs.declared.framing.Framing.TheVariants.{Typed};
-ghost use Rattle.pgw_wire.specs.Reading.{Reads};
+ghost use Rattle.pgw_wire.specs.Reading.{Reads, nat_at, int_at};
+ghost use Rattle.pgw_wire.specs.Formats.{pair_at};
 ghost use Rattle.pgw_wire.specs.Writing.{has_zero as holds_zero, refused_if};
 ghost use Rattle.pgw_query.specs.Rows.{field_at, field, row_description_of, row_description, is_refused as is_refused_list, data_row_of, data_row};
 
@@ -67,6 +69,27 @@ impl FieldDescription {
     }
 }
 
+// The size of the type, its modifier and the format.
+fn take_form(reader: &mut FieldReader<'_>) -> PgWireResult<(i16, (i32, i16))>
+    ensures { Reads result reader.new (pair_at (int_at w16) (pair_at (int_at w32) (int_at w16)) reader.old) }
+{
+    let type_size = reader.take_i16()?;
+    let type_modifier = reader.take_i32()?;
+    let format_code = reader.take_i16()?;
+    Ok((type_size, (type_modifier, format_code)))
+}
+
+// Where the column comes from, its type and its form.
+fn take_origin(reader: &mut FieldReader<'_>) -> PgWireResult<(i32, (i16, (u32, (i16, (i32, i16)))))>
+    ensures { Reads result reader.new (pair_at (int_at w32) (pair_at (int_at w16) (pair_at (nat_at w32) (pair_at (int_at w16) (pair_at (int_at w32) (int_at w16))))) reader.old) }
+{
+    let table_id = reader.take_i32()?;
+    let column_id = reader.take_i16()?;
+    let type_id = reader.take_u32()?;
+    let form = take_form(reader)?;
+    Ok((table_id, (column_id, (type_id, form))))
+}
+
 impl Field for FieldDescription {
     ghost at = { field_at };
 
@@ -75,12 +98,8 @@ impl Field for FieldDescription {
     #[tactic(auto, unfolding(crate::specs::Rows::field_at))]
     fn take(alloc: Global, reader: &mut FieldReader<'_>) -> PgWireResult<FieldDescription> {
         let name = reader.take_text(alloc)?;
-        let table_id = reader.take_i32()?;
-        let column_id = reader.take_i16()?;
-        let type_id = reader.take_u32()?;
-        let type_size = reader.take_i16()?;
-        let type_modifier = reader.take_i32()?;
-        let format_code = reader.take_i16()?;
+        let (table_id, (column_id, (type_id, form))) = take_origin(reader)?;
+        let (type_size, (type_modifier, format_code)) = form;
         Ok(FieldDescription {
             name,
             table_id,
@@ -235,12 +254,11 @@ impl Message for DataRow {
         out.put_slice(self.payload.as_slice())
     }
 
-    #[tactic(auto, unfolding(crate::specs::Rows::data_row_of))]
+    #[tactic(auto, unfolding(crate::specs::Rows::data_row_of, pgw_wire::specs::Reading::rest_at, pgw_wire::specs::Reading::ended))]
     fn decode_body(_alloc: Global, body: &Octets, _ctx: &DecodeContext) -> PgWireResult<DataRow> {
         let mut reader = FieldReader::new(body);
         let field_count = reader.take_i16()?;
         let payload = reader.take_rest()?;
-        reader.finish()?;
         Ok(DataRow {
             payload,
             field_count,

@@ -31,11 +31,10 @@ fn write_line<W: fmt::Write>(
 }
 
 fn write_fields<W: fmt::Write>(f: &mut fmt::Formatter<W>, fields: &[(u8, Text)]) -> fmt::Result {
-    f.write_str(text_of(fields, b'S'))?;
-    f.write_str(" ")?;
-    f.write_str(text_of(fields, b'C'))?;
-    f.write_str(": ")?;
-    f.write_str(text_of(fields, b'M'))?;
+    let severity = text_of(fields, b'S');
+    let code = text_of(fields, b'C');
+    let message = text_of(fields, b'M');
+    write!(f, "{severity} {code}: {message}")?;
     write_line(f, "DETAIL: ", fields, b'D')?;
     write_line(f, "HINT: ", fields, b'H')
 }
