@@ -1,5 +1,5 @@
 //! What a client sends (RFC 5802, section 5), of texts that are prepared.
-ghost use Rattle.std.specs.Prelude.{◌≡◌, ◌++◌, IfOk, Some, None, option_map, codes, IsUtf8};
+ghost use Rattle.std.specs.Prelude.{◌≡◌, ◌++◌, IfOk, Ok, Some, None, option_map, codes, IsUtf8};
 ghost use Rattle.pgw_hash.specs.Pbkdf2.{salted_password};
 ghost use Rattle.pgw_scram.specs.Base64.{base64, salt_of};
 ghost use Rattle.pgw_scram.specs.Formulas.{auth_message, client_proof, server_signature};
@@ -7,6 +7,7 @@ ghost use Rattle.pgw_scram.specs.Exchange.{client_first_bare, client_first, with
 ghost use Rattle.pgw_scram.specs.Answers.{AnswersClient};
 ghost use Rattle.pgw_scram.specs.Refusals.{begins_with};
 ghost use Rattle.pgw_scram.specs.Client.{replied};
+ghost use Rattle.pgw_scram.specs.Readers.{read_server_first};
 
 use crate::encoding::decode_salt;
 use crate::messages::ServerFirst;
@@ -97,6 +98,21 @@ pub fn client_final(
     ensures { AnswersClient result (replied user.now password.now nonce.now server_first.now) }
 {
     let parts = ServerFirst::read(alloc, server_first)?;
+    reply_to(alloc, user, password, nonce, server_first, &parts)
+}
+
+/// The same, of the parts of the server's first message.
+fn reply_to(
+    alloc: Global,
+    user: &str,
+    password: &str,
+    nonce: &str,
+    server_first: &[u8],
+    parts: &ServerFirst,
+) -> PgWireClientResult<ClientReply>
+    requires { read_server_first server_first.now ≡ Ok parts.now }
+    ensures { AnswersClient result (replied user.now password.now nonce.now server_first.now) }
+{
     if !begins_with(parts.nonce.as_str(), nonce) {
         return Err(PgWireClientError::ScramError(ScramFault::NonceMismatch));
     }

@@ -1,9 +1,9 @@
 //! The server's end of an exchange (RFC 5802, section 5).
-ghost use Rattle.std.specs.Prelude.{◌≡◌, ◌≤◌, ◌++◌, IfOk, OnOk, OnErr, Some, None, codes, IsUtf8};
+ghost use Rattle.std.specs.Prelude.{◌≡◌, ◌≤◌, ◌++◌, IfOk, OnOk, OnErr, Ok, Some, None, codes, IsUtf8};
 ghost use Rattle.std.specs.Option.{option_copied};
 ghost use Rattle.pgw_scram.specs.Answers.{Answers};
 ghost use Rattle.pgw_scram.specs.Base64.{base64, nonce_text};
-ghost use Rattle.pgw_scram.specs.Server.{server_first, bound, server_final, offered, accepted};
+ghost use Rattle.pgw_scram.specs.Server.{server_first, bound, server_final, waiting, offered, accepted_as, accepted};
 
 use crate::encoding::encode;
 use crate::messages::{ClientFinal, ClientFirst};
@@ -130,23 +130,47 @@ impl ScramServerAuth {
         let Some(salt) = password.salt() else {
             return Err(PgWireError::SaltRequired);
         };
-        let own = random_nonce(alloc, nonce)?;
-        let nonce = joined(alloc, parts.nonce.as_str(), own.as_str())?;
+        let waiting = self.offer(alloc, parts, salt, password.password(), nonce)?;
+        let message = waiting.server_first.duplicate()?;
+        Ok((message, waiting))
+    }
+
+    /// The server that has sent its first message, of the parts of the client's.
+    fn offer(
+        &self,
+        alloc: Global,
+        parts: ClientFirst,
+        salt: &[u8],
+        salted: &[u8],
+        own: &[u8; 18],
+    ) -> Result<ScramServerAuthWaitingForClientFinal, OutOfMemory>
+        ensures { IfOk result (λ server. server ≡ waiting self.now parts salt.now salted.now own.now) }
+    {
+        let nonce = whole_nonce(alloc, parts.nonce.as_str(), own)?;
         let server_first = server_first(alloc, nonce.as_str(), salt, self.iterations)?;
-        let hash = self.certificate_hash.as_ref().map(|hash| hash.as_slice());
-        let binding = binding_of(alloc, parts.header.as_str().as_bytes(), hash)?;
-        let salted = Octets::from_slice(alloc, password.password())?;
-        let message = server_first.duplicate()?;
-        let waiting = ScramServerAuthWaitingForClientFinal {
+        let binding = binding_of(
+            alloc,
+            parts.header.as_str().as_bytes(),
+            self.certificate_hash(),
+        )?;
+        let salted = Octets::from_slice(alloc, salted)?;
+        Ok(ScramServerAuthWaitingForClientFinal {
             user: parts.user,
             bare: parts.bare,
             server_first,
             nonce,
             binding,
             salted,
-        };
-        Ok((message, waiting))
+        })
     }
+}
+
+/// The nonce of an exchange, of the client's and the bytes of the server's own.
+fn whole_nonce(alloc: Global, nonce: &str, own: &[u8; 18]) -> Result<Text, OutOfMemory>
+    ensures { IfOk result (λ text. text ≡ nonce.now ++ nonce_text own.now) }
+{
+    let own = random_nonce(alloc, own)?;
+    joined(alloc, nonce, own.as_str())
 }
 
 fn joined(alloc: Global, front: &str, back: &str) -> Result<Text, OutOfMemory>
@@ -174,6 +198,13 @@ impl ScramServerAuthWaitingForClientFinal {
         ensures { Answers result (accepted self.now message.now) }
     {
         let parts = ClientFinal::read(alloc, message)?;
+        self.accept(alloc, &parts)
+    }
+
+    /// The server's last message, of the parts of the client's.
+    fn accept(&self, alloc: Global, parts: &ClientFinal) -> PgWireResult<Text>
+        ensures { Answers result (accepted_as self.now (Ok parts.now)) }
+    {
         if parts.binding != self.binding {
             return Err(PgWireError::InvalidScramMessage(ScramMessageFault::ChannelBinding));
         }

@@ -1,7 +1,7 @@
 use Rattle.std.proofs.Common.{sym, subst}
 use Rattle.std.specs.Str.{IsUtf8}
 use Rattle.pgw_scram.proofs.Base64Laws.{base64_utf8}
-use Rattle.pgw_scram.proofs.server.ScramServerAuthWaitingForClientFinal.on_client_final_message.Goals as goal
+use Rattle.pgw_scram.proofs.server.ScramServerAuthWaitingForClientFinal.accept.Goals as goal
 
 pub server_final-requires : goal.server_final-requires
 server_final-requires c = subst IsUtf8 (sym c.server_signature-signature.ensures) (base64_utf8 _)
