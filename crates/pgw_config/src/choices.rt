@@ -1,6 +1,7 @@
 //! The words that a choice of a configuration is written by.
-ghost use Rattle.std.specs.Prelude.{◌≡◌};
-ghost use Rattle.pgw_config.specs.Choices.{ssl_mode_of, ssl_negotiation_of, target_of, channel_binding_of, load_balance_of, with_choice};
+ghost use Rattle.std.specs.Prelude.{◌≡◌, Some, None, if◌then◌else◌};
+ghost use Rattle.pgw_config.specs.declared.config.Config.{Config as TheConfig};
+ghost use Rattle.pgw_config.specs.Choices.{ssl_mode_of, ssl_negotiation_of, target_of, channel_binding_of, load_balance_of, with_value, with_choice};
 
 use crate::config::{
     ChannelBinding, Config, LoadBalanceHosts, SslMode, SslNegotiation, TargetSessionAttrs,
@@ -78,16 +79,26 @@ fn load_balance_in(word: &str) -> Option<LoadBalanceHosts>
     }
 }
 
-/// The configuration with this choice, where the word is one of the key's.
-pub(crate) fn choose(mut config: Config, key: ChoiceKey, word: &str) -> Option<Config>
-    ensures { result ≡ with_choice config key word.now }
+// Puts a value into a field, if there is one. Whether there is.
+fn put<T: Copy>(field: &mut T, value: Option<T>) -> bool
+    ensures { (with_it : T → TheConfig) → with_value value with_it ≡ (if result then Some (with_it field.new) else None) }
+{
+    let Some(value) = value else {
+        return false;
+    };
+    *field = value;
+    true
+}
+
+/// Sets the choice of this key, where the word is one of the key's. Whether it is.
+pub(crate) fn choose(config: &mut Config, key: ChoiceKey, word: &str) -> bool
+    ensures { with_choice config.old key word.now ≡ (if result then Some config.new else None) }
 {
     match key {
-        ChoiceKey::SslMode => config.ssl_mode = ssl_mode_in(word)?,
-        ChoiceKey::SslNegotiation => config.ssl_negotiation = ssl_negotiation_in(word)?,
-        ChoiceKey::TargetSessionAttrs => config.target_session_attrs = target_in(word)?,
-        ChoiceKey::ChannelBinding => config.channel_binding = channel_binding_in(word)?,
-        ChoiceKey::LoadBalanceHosts => config.load_balance_hosts = load_balance_in(word)?,
+        ChoiceKey::SslMode => put(&mut config.ssl_mode, ssl_mode_in(word)),
+        ChoiceKey::SslNegotiation => put(&mut config.ssl_negotiation, ssl_negotiation_in(word)),
+        ChoiceKey::TargetSessionAttrs => put(&mut config.target_session_attrs, target_in(word)),
+        ChoiceKey::ChannelBinding => put(&mut config.channel_binding, channel_binding_in(word)),
+        ChoiceKey::LoadBalanceHosts => put(&mut config.load_balance_hosts, load_balance_in(word)),
     }
-    Some(config)
 }

@@ -233,19 +233,48 @@ impl Config {
     }
 }
 
+// The texts and the lists of a configuration, each copied.
+impl Config {
+    fn duplicate_login(&self) -> Result<(Option<Text>, Option<Octets>), OutOfMemory>
+        ensures { IfOk result (λ r. r ≡ (self.now.user, self.now.password)) }
+    {
+        let user = self.user.duplicate()?;
+        Ok((user, self.password.duplicate()?))
+    }
+
+    fn duplicate_texts(&self) -> Result<(Option<Text>, Option<Text>, Option<Text>), OutOfMemory>
+        ensures { IfOk result (λ r. r ≡ (self.now.dbname, self.now.options, self.now.application_name)) }
+    {
+        let dbname = self.dbname.duplicate()?;
+        let options = self.options.duplicate()?;
+        Ok((dbname, options, self.application_name.duplicate()?))
+    }
+
+    fn duplicate_lists(&self) -> Result<(Listed<Host>, Listed<HostAddr>, Listed<u16>), OutOfMemory>
+        ensures { IfOk result (λ r. r ≡ (self.now.host, self.now.hostaddr, self.now.port)) }
+    {
+        let host = self.host.duplicate()?;
+        let hostaddr = self.hostaddr.duplicate()?;
+        Ok((host, hostaddr, self.port.duplicate()?))
+    }
+}
+
 impl Duplicate for Config {
     fn duplicate(&self) -> Result<Config, OutOfMemory> {
+        let (user, password) = self.duplicate_login()?;
+        let (dbname, options, application_name) = self.duplicate_texts()?;
+        let (host, hostaddr, port) = self.duplicate_lists()?;
         Ok(Config {
-            user: self.user.duplicate()?,
-            password: self.password.duplicate()?,
-            dbname: self.dbname.duplicate()?,
-            options: self.options.duplicate()?,
-            application_name: self.application_name.duplicate()?,
+            user,
+            password,
+            dbname,
+            options,
+            application_name,
             ssl_mode: self.ssl_mode,
             ssl_negotiation: self.ssl_negotiation,
-            host: self.host.duplicate()?,
-            hostaddr: self.hostaddr.duplicate()?,
-            port: self.port.duplicate()?,
+            host,
+            hostaddr,
+            port,
             connect_timeout: self.connect_timeout,
             tcp_user_timeout: self.tcp_user_timeout,
             keepalives: self.keepalives,

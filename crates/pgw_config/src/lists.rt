@@ -1,5 +1,7 @@
 //! The keys whose value is a list with commas.
-ghost use Rattle.std.specs.Prelude.{◌≡◌, ◌∷◌, ◌++◌, ◌<◌, ◌+◌, ◌==◌, [], length, IfOk, Some, None};
+ghost use Rattle.std.specs.Prelude.{◌≡◌, ◌∷◌, ◌++◌, ◌<◌, ◌+◌, ◌==◌, [], length, List, IfOk, OnOk, Some, None, if◌then◌else◌};
+ghost use Rattle.pgw_config.specs.declared.config.Config.{Config as TheConfig};
+ghost use Rattle.pgw_config.specs.Choices.{with_value};
 ghost use Rattle.std.specs.List.{position_or_len, before_first, after_first};
 ghost use Rattle.pgw_config.specs.Lists.{port_of, with_list, hosts_of};
 ghost use Rattle.pgw_config.specs.Config.{host_named};
@@ -15,6 +17,7 @@ use pgw_types::listed::{Duplicate, Listed};
 use pgw_types::memory::OutOfMemory;
 use pgw_types::text::Text;
 use std::alloc::Global;
+use std::mem::replace;
 
 /// The pieces of a text between the marks in it.
 pub(crate) fn pieces(alloc: Global, text: &str, mark: char) -> Result<Listed<Text>, OutOfMemory>
@@ -58,15 +61,14 @@ pub(crate) fn named_host(name: Text) -> Host
     }
 }
 
-fn add_hosts(alloc: Global, hosts: Listed<Host>, value: &str) -> Result<Listed<Host>, OutOfMemory>
-    ensures { IfOk result (λ all. all ≡ hosts ++ hosts_of (pieces_at 44 value.now)) }
+fn add_hosts(alloc: Global, hosts: &mut Listed<Host>, value: &str) -> Result<(), OutOfMemory>
+    ensures { OnOk result (hosts.new ≡ hosts.old ++ hosts_of (pieces_at 44 value.now)) }
 {
     let names = pieces(alloc, value, ',')?;
-    let mut all = hosts;
     for name in names.as_slice() {
-        all.push(named_host(name.duplicate()?))?;
+        hosts.push(named_host(name.duplicate()?))?;
     }
-    Ok(all)
+    Ok(())
 }
 
 #[tactic(auto, unfolding(crate::specs::Lists::port_of))]
@@ -80,7 +82,7 @@ fn read_port(text: &str) -> Option<u16>
     }
 }
 
-fn add_ports(
+fn read_ports(
     alloc: Global,
     ports: Listed<u16>,
     value: &str,
@@ -95,7 +97,7 @@ fn add_ports(
     Ok(all)
 }
 
-fn add_addrs(
+fn read_addrs(
     alloc: Global,
     addrs: Listed<HostAddr>,
     value: &str,
@@ -110,33 +112,38 @@ fn add_addrs(
     Ok(all)
 }
 
-/// The configuration with the elements of a list, where each is one that the key takes.
+// Puts a list into its place, if there is one. Whether there is.
+fn put_list<T: Drop>(place: &mut Listed<T>, list: Option<Listed<T>>) -> bool
+    ensures { (with_it : List T → TheConfig) → with_value list with_it ≡ (if result then Some (with_it place.new) else None) }
+{
+    let Some(list) = list else {
+        return false;
+    };
+    *place = list;
+    true
+}
+
+/// Appends the elements of a list, where each is one that the key takes. Whether each is.
 pub(crate) fn extend(
     alloc: Global,
-    mut config: Config,
+    config: &mut Config,
     key: ListKey,
     value: &str,
-) -> Result<Option<Config>, OutOfMemory>
-    ensures { IfOk result (λ r. r ≡ with_list config key value.now) }
+) -> Result<bool, OutOfMemory>
+    ensures { IfOk result (λ taken. with_list config.old key value.now ≡ (if taken then Some config.new else None)) }
 {
     match key {
         ListKey::Host => {
-            config.host = add_hosts(alloc, config.host, value)?;
-            Ok(Some(config))
+            add_hosts(alloc, &mut config.host, value)?;
+            Ok(true)
         }
-        ListKey::HostAddr => match add_addrs(alloc, config.hostaddr, value)? {
-            Some(addrs) => {
-                config.hostaddr = addrs;
-                Ok(Some(config))
-            }
-            None => Ok(None),
-        },
-        ListKey::Port => match add_ports(alloc, config.port, value)? {
-            Some(ports) => {
-                config.port = ports;
-                Ok(Some(config))
-            }
-            None => Ok(None),
-        },
+        ListKey::HostAddr => {
+            let earlier = replace(&mut config.hostaddr, Listed::new(alloc));
+            Ok(put_list(&mut config.hostaddr, read_addrs(alloc, earlier, value)?))
+        }
+        ListKey::Port => {
+            let earlier = replace(&mut config.port, Listed::new(alloc));
+            Ok(put_list(&mut config.port, read_ports(alloc, earlier, value)?))
+        }
     }
 }

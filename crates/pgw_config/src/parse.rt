@@ -1,5 +1,5 @@
 //! Connection texts.
-ghost use Rattle.std.specs.Prelude.{◌≡◌, Result, IfOk, IfErr};
+ghost use Rattle.std.specs.Prelude.{◌≡◌, Result, Err, Some, IfOk, IfErr};
 ghost use Rattle.pgw_backend.specs.declared.client_error.PgWireClientError.{PgWireClientError as ClientError};
 ghost use Rattle.pgw_config.specs.Answers.{Answers, IsRefusal};
 ghost use Rattle.pgw_config.specs.Parse.{ended_by, outcome_of, HasOutcome, IsParsed};
@@ -16,14 +16,22 @@ use pgw_conninfo::part::{Cut, Fault};
 use pgw_conninfo::text;
 use std::alloc::Global;
 
+fn refusal(alloc: Global, fault: Fault) -> PgWireClientError
+    ensures { (config : TheConfig) → Answers (Err result) (ended_by (Some fault) config) }
+{
+    match fault {
+        Fault::Syntax => invalid(alloc, "syntax"),
+        Fault::Host => invalid(alloc, "host"),
+        Fault::NotUtf8(bytes) => PgWireClientError::InvalidUtf8ConfigValue(bytes),
+    }
+}
+
 fn end_at(alloc: Global, fault: Option<Fault>, config: Config) -> PgWireClientResult<Config>
     ensures { Answers result (ended_by fault config) }
 {
     match fault {
         None => Ok(config),
-        Some(Fault::Syntax) => Err(invalid(alloc, "syntax")),
-        Some(Fault::Host) => Err(invalid(alloc, "host")),
-        Some(Fault::NotUtf8(bytes)) => Err(PgWireClientError::InvalidUtf8ConfigValue(bytes)),
+        Some(fault) => Err(refusal(alloc, fault)),
     }
 }
 

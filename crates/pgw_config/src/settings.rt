@@ -1,5 +1,5 @@
 //! What the parts of a connection text do to a configuration.
-ghost use Rattle.std.specs.Prelude.{◌≡◌, IfOk};
+ghost use Rattle.std.specs.Prelude.{◌≡◌, Ok, Err, Some, None, IfOk, OnOk, IfErr, if◌then◌else◌};
 ghost use Rattle.pgw_config.specs.Answers.{Answers, IsUnknown};
 ghost use Rattle.pgw_config.specs.Settings.{with_text, value_set, pair_set, applied, all_applied};
 
@@ -13,7 +13,6 @@ use pgw_backend::client_error::{PgWireClientError, PgWireClientResult};
 use pgw_conninfo::part::Part;
 use pgw_types::listed::Duplicate;
 use pgw_types::memory::OutOfMemory;
-use pgw_types::octets::Octets;
 use pgw_types::text::Text;
 use std::alloc::Global;
 
@@ -28,67 +27,63 @@ fn unknown(alloc: Global, key: &str) -> PgWireClientError
 
 fn write_text(
     alloc: Global,
-    mut config: Config,
+    config: &mut Config,
     key: TextKey,
     value: &str,
-) -> Result<Config, OutOfMemory>
-    ensures { IfOk result (λ r. r ≡ with_text config key value.now) }
+) -> Result<(), OutOfMemory>
+    ensures { OnOk result (config.new ≡ with_text config.old key value.now) }
 {
     match key {
-        TextKey::User => config.user = Some(Text::from_str(alloc, value)?),
-        TextKey::Password => {
-            config.password = Some(Octets::from_slice(alloc, value.as_bytes())?);
-        }
-        TextKey::Dbname => config.dbname = Some(Text::from_str(alloc, value)?),
-        TextKey::Options => config.options = Some(Text::from_str(alloc, value)?),
-        TextKey::ApplicationName => {
-            config.application_name = Some(Text::from_str(alloc, value)?);
-        }
+        TextKey::User => config.set_user(alloc, value),
+        TextKey::Password => config.set_password(alloc, value.as_bytes()),
+        TextKey::Dbname => config.set_dbname(alloc, value),
+        TextKey::Options => config.set_options(alloc, value),
+        TextKey::ApplicationName => config.set_application_name(alloc, value),
     }
-    Ok(config)
 }
 
-// The configuration with a value, where the key takes it.
-fn set_value(
-    alloc: Global,
-    config: Config,
-    key: Key,
-    value: &str,
-) -> Result<Option<Config>, OutOfMemory>
-    ensures { IfOk result (λ r. r ≡ value_set config key value.now) }
+// Sets a value, where the key takes it. Whether it does.
+fn set_value(alloc: Global, config: &mut Config, key: Key, value: &str) -> Result<bool, OutOfMemory>
+    ensures { IfOk result (λ taken. value_set config.old key value.now ≡ (if taken then Some config.new else None)) }
 {
     match key {
-        Key::Text(key) => Ok(Some(write_text(alloc, config, key, value)?)),
+        Key::Text(key) => {
+            write_text(alloc, config, key, value)?;
+            Ok(true)
+        }
         Key::Choice(key) => Ok(choose(config, key, value)),
         Key::List(key) => extend(alloc, config, key, value),
         Key::Number(key) => Ok(count(config, key, value)),
     }
 }
 
-fn set_pair(alloc: Global, config: Config, name: &str, value: &str) -> PgWireClientResult<Config>
-    ensures { Answers result (pair_set config name.now value.now) }
+fn set_pair(alloc: Global, config: &mut Config, name: &str, value: &str) -> PgWireClientResult<()>
+    ensures set { OnOk result (pair_set config.old name.now value.now ≡ Ok config.new) }
+    ensures refused { IfErr result (λ e. Answers (Err e) (pair_set config.old name.now value.now)) }
 {
     let Some(key) = key_named(name) else {
         return Err(unknown(alloc, name));
     };
-    match set_value(alloc, config, key, value)? {
-        Some(config) => Ok(config),
-        None => Err(invalid(alloc, name)),
+    if set_value(alloc, config, key, value)? {
+        Ok(())
+    } else {
+        Err(invalid(alloc, name))
     }
 }
 
-fn apply(alloc: Global, mut config: Config, part: &Part) -> PgWireClientResult<Config>
-    ensures { Answers result (applied config part.now) }
+fn apply(alloc: Global, config: &mut Config, part: &Part) -> PgWireClientResult<()>
+    ensures set { OnOk result (applied config.old part.now ≡ Ok config.new) }
+    ensures refused { IfErr result (λ e. Answers (Err e) (applied config.old part.now)) }
 {
     match part {
         Part::Pair(key, value) => set_pair(alloc, config, key.as_str(), value.as_str()),
         Part::Host(name) => {
             config.host.push(named_host(name.duplicate()?))?;
-            Ok(config)
+            Ok(())
         }
         Part::Password(password) => {
             config.password = Some(password.duplicate()?);
-            Ok(config)
+            Ok(())
         }
     }
 }
@@ -99,7 +94,7 @@ pub(crate) fn apply_all(alloc: Global, config: Config, parts: &[Part]) -> PgWire
 {
     let mut config = config;
     for part in parts {
-        config = apply(alloc, config, part)?;
+        apply(alloc, &mut config, part)?;
     }
     Ok(config)
 }
