@@ -183,12 +183,14 @@ fn hang_up<D: Dialer>(client: PgWireClient<D::Link>, dialer: &mut D)
     ensures shut { D.tells → Shut (D.tape dialer.old) (D.tape dialer.new) (D.Link.tape client.link) }
 {
     let PgWireClient {
-        desk: _desk,
+        desk,
         link,
-        inbox: _inbox,
+        inbox,
         read: _read,
         limit: _limit,
     } = client;
+    drop(desk);
+    drop(inbox);
     dialer.close(link);
 }
 
@@ -212,7 +214,10 @@ fn connect_at<D: Dialer, S: StartupHandler + Drop>(
 {
     let link = match dial_to(address, dialer) {
         Ok(link) => link,
-        Err(error) => return Err(error),
+        Err(error) => {
+            drop(config);
+            return Err(error);
+        }
     };
     let mut client = client_over(alloc, config, link, limit);
     match client.log_in(alloc, handler) {
@@ -268,7 +273,10 @@ impl<L: Link> PgWireClient<L> {
     {
         match address_for(alloc, &config) {
             Ok(address) => connect_at(alloc, config, &address, startup_handler, dialer, limit),
-            Err(error) => Err(error),
+            Err(error) => {
+                drop(config);
+                Err(error)
+            }
         }
     }
 

@@ -30,7 +30,10 @@ use std::alloc::Global;
 fn is_due(kind: Kind) -> bool
     ensures { result ≡ is_due kind }
 {
-    behind_error(kind).is_some()
+    let sent = behind_error(kind);
+    let due = sent.is_some();
+    drop(sent);
+    due
 }
 
 // Whether the message says that a portal was suspended.
@@ -115,7 +118,10 @@ impl<L: Link> PgWireClient<L> {
                 let passed = self.pass_over(alloc, error);
                 passed_answer(passed, self.desk.broken)
             }
-            Err(error) => Err(error),
+            Err(failure) => {
+                drop(error);
+                Err(failure)
+            }
         }
     }
 
@@ -287,10 +293,15 @@ impl<L: Link> PgWireClient<L> {
             (finish result handler.new (client_of self.new.desk) self.new.desk.broken self.new.inbox) }
     {
         if self.desk.broken {
+            drop(request);
             return Err(PgWireClientError::Broken);
         }
         match request {
-            Ok(request) => self.request(alloc, handler, &request),
+            Ok(request) => {
+                let asked = self.request(alloc, handler, &request);
+                drop(request);
+                asked
+            }
             Err(_) => {
                 self.desk.broken = true;
                 Err(PgWireClientError::OutOfMemory)

@@ -60,7 +60,10 @@ fn hand<H: ExtendedQueryHandler>(
         PgWireFrontendMessage::Close(m) => handler.close(alloc, desk, m),
         PgWireFrontendMessage::Sync(m) => handler.sync(alloc, desk, m),
         PgWireFrontendMessage::Flush(m) => handler.flush(alloc, desk, m),
-        _other => Ok(()),
+        other => {
+            drop(other);
+            Ok(())
+        }
     }
 }
 
@@ -138,7 +141,10 @@ fn heed<H: ExtendedQueryHandler>(
             Err(error) => Err(error),
         },
         PgWireBackendMessage::PortalSuspended(_) => handler.on_portal_suspended(alloc),
-        _other => Ok(()),
+        other => {
+            drop(other);
+            Ok(())
+        }
     }
 }
 
@@ -165,6 +171,7 @@ pub(crate) fn take<H: ExtendedQueryHandler>(
             }
         },
         Err(_) => {
+            drop(message);
             desk.broken = true;
             Err(PgWireClientError::OutOfMemory)
         }

@@ -27,7 +27,10 @@ fn in_place_of(error: PgWireClientError, failure: PgWireClientError) -> PgWireCl
 {
     match failure {
         PgWireClientError::UnexpectedEOF => error,
-        other => other,
+        other => {
+            drop(error);
+            other
+        }
     }
 }
 
@@ -38,9 +41,15 @@ pub(crate) fn first_of(error: PgWireClientError, message: PgWireBackendMessage) 
     match error {
         PgWireClientError::UnexpectedEOF => match message {
             PgWireBackendMessage::ErrorResponse(m) => PgWireClientError::RemoteError(m),
-            _other => PgWireClientError::UnexpectedEOF,
+            other => {
+                drop(other);
+                PgWireClientError::UnexpectedEOF
+            }
         },
-        other => other,
+        other => {
+            drop(message);
+            other
+        }
     }
 }
 

@@ -98,6 +98,7 @@ impl<L: Link> PgWireClient<L> {
             opened result self.new.desk.broken }
     {
         if self.desk.broken {
+            drop(opened);
             return Err(PgWireClientError::OutOfMemory);
         }
         match opened {
@@ -161,12 +162,16 @@ impl<L: Link> PgWireClient<L> {
             answer result (client_of self.new.desk) self.new.desk.broken }
     {
         if self.desk.broken {
+            drop(answer);
             return Err(PgWireClientError::OutOfMemory);
         }
         match answer {
             Ok(state) => match self.put_out() {
                 Ok(()) => Ok(state),
-                Err(error) => Err(error),
+                Err(error) => {
+                    drop(state);
+                    Err(error)
+                }
             },
             Err(error) => Err(self.give_up(alloc, goes_on, closing, error)),
         }

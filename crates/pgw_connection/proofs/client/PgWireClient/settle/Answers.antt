@@ -7,4 +7,4 @@ returns-in-Ok-clause-settled g c = λ t.
 
 pub returns-in-Err-clause-settled : goal.returns-in-Err-clause-settled
 returns-in-Err-clause-settled g c = λ t.
-    settled_ill g.H.ExtendedQueryHandler.means c.args.due _ _ _ _ _ c.args.error c.in-Err.error _ _ (c.in-Err.ensures.synced t) (never _ c.in-Err.ensures.usable)
+    settled_ill g.H.ExtendedQueryHandler.means c.args.due _ _ _ _ _ c.args.error c.in-Err.failure _ _ (c.in-Err.ensures.synced t) (never _ c.in-Err.ensures.usable)
