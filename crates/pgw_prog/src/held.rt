@@ -14,7 +14,9 @@ use pgw_backend::client_error::{PgWireClientError, PgWireClientResult};
 use pgw_config::config::Config;
 use pgw_link::memory::MemoryLink;
 use pgw_script::script::Script;
+use pgw_script::server_bytes::ServerBytes;
 use pgw_session::types::{Request, SessionReport};
+use pgw_types::listed::Listed;
 use pgw_types::memory::OutOfMemory;
 use pgw_types::text::Text;
 use std::alloc::Global;
@@ -91,6 +93,23 @@ fn run(
     print_outcome(alloc, link, &outcome)
 }
 
+// The link of a script: what its server sends, and which calls fail.
+fn link_of(
+    alloc: Global,
+    server: ServerBytes,
+    cut: usize,
+    fail_reads: Listed<u64>,
+    fail_writes: Listed<u64>,
+) -> Result<MemoryLink, OutOfMemory>
+    requires { 0 < cut }
+    ensures made { IfOk result (λ link. making_of link ≡ record { server = server; cut = cut; reads = fail_reads; writes = fail_writes }) }
+    ensures first { IfOk result (λ link. tape_of link ≡ first_tape (making_of link)) }
+    ensures faultless { IfOk result (λ link. faults_of link ≡ 0) }
+{
+    let server = server.into_octets()?;
+    Ok(MemoryLink::new(alloc, server, cut, fail_reads, fail_writes))
+}
+
 /// Holds the session of a script with the configuration of its connection text, and prints it.
 fn hold_with(alloc: Global, script: Script, config: Config) -> Result<Printed, OutOfMemory>
     requires { 0 < script.cut }
@@ -107,15 +126,20 @@ fn hold_with(alloc: Global, script: Script, config: Config) -> Result<Printed, O
         server,
         ..
     } = script;
-    let mut link = MemoryLink::new(alloc, server.into_octets()?, cut, fail_reads, fail_writes);
-    run(
-        alloc,
-        &mut link,
-        &config,
-        requests.as_slice(),
-        &nonce,
-        limit,
-    )
+    let held = match link_of(alloc, server, cut, fail_reads, fail_writes) {
+        Ok(mut link) => run(
+            alloc,
+            &mut link,
+            &config,
+            requests.as_slice(),
+            &nonce,
+            limit,
+        ),
+        Err(error) => Err(error),
+    };
+    drop(requests);
+    drop(config);
+    held
 }
 
 /// Prints why a connection text is refused. Want of memory is no refusal to be printed.
