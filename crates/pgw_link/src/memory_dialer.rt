@@ -25,7 +25,7 @@ pub struct MemoryDialer {
 }
 
 impl MemoryDialer {
-    ghost use Rattle.std.specs.Prelude.{◌<◌, ◌≤◌, length, Some, None, IfSome, true, false};
+    ghost use Rattle.std.specs.Prelude.{◌<◌, ◌≤◌, ◌∷◌, length, Some, None, IfSome, true, false};
     ghost use Rattle.pgw_link.specs.Tape.{Rose};
     ghost use Rattle.pgw_link.specs.Dials.{NotDialled};
     ghost use Rattle.pgw_link.specs.MemoryDials.{IsUnused, offer_of, dial_tape, dial_faults, links_of, is_refused};
@@ -74,6 +74,20 @@ impl MemoryDialer {
         }
         false
     }
+
+    /// Hands out the first link, for a dial to this address.
+    fn hand_out(&mut self, to: Address) -> MemoryLink
+        requires { 0 < length (links_of self.old) }
+        ensures links { links_of self.old ≡ result ∷ links_of self.new }
+        ensures listing { self.new.dials ≡ self.old.dials }
+        ensures address { self.new.address ≡ Some to }
+        ensures shut { self.new.shut ≡ self.old.shut }
+        ensures faults { dial_faults self.new ≡ dial_faults self.old }
+        ensures unused { IsUnused result }
+    {
+        self.address = Some(to);
+        self.links.remove(0)
+    }
 }
 
 impl Dialer for MemoryDialer {
@@ -106,10 +120,7 @@ impl Dialer for MemoryDialer {
             return Err(DialError::Fault);
         }
         match address.duplicate() {
-            Ok(to) => {
-                self.address = Some(to);
-                Ok(self.links.remove(0))
-            }
+            Ok(to) => Ok(self.hand_out(to)),
             Err(_) => Err(DialError::OutOfMemory),
         }
     }

@@ -64,16 +64,24 @@ impl<R: Net<Stream = TcpStream> + Eprint + Drop> SocketDialer<R> {
         }
     }
 
+    fn connect(&self, addr: SocketAddr) -> io::Result<TcpStream> {
+        match unless_zero(self.timeouts.connect) {
+            Some(time) => TcpStream::connect_timeout(&self.rt, &addr, time),
+            None => TcpStream::connect(&self.rt, addr),
+        }
+    }
+
+    fn set_up(&self, stream: &TcpStream) -> io::Result<()> {
+        stream.set_nodelay(true)?;
+        stream.set_read_timeout(unless_zero(self.timeouts.read))?;
+        stream.set_write_timeout(unless_zero(self.timeouts.write))
+    }
+
     fn open_tcp(&self, addr: SocketAddr) -> io::Result<ClientSocket>
         ensures { IfOk result (λ s. socket_faults s ≡ 0) }
     {
-        let stream = match unless_zero(self.timeouts.connect) {
-            Some(time) => TcpStream::connect_timeout(&self.rt, &addr, time)?,
-            None => TcpStream::connect(&self.rt, addr)?,
-        };
-        stream.set_nodelay(true)?;
-        stream.set_read_timeout(unless_zero(self.timeouts.read))?;
-        stream.set_write_timeout(unless_zero(self.timeouts.write))?;
+        let stream = self.connect(addr)?;
+        self.set_up(&stream)?;
         Ok(ClientSocket::Plain(StreamLink::new(stream)))
     }
 
