@@ -1,7 +1,10 @@
 //! The version that a server offers.
 ghost use Rattle.std.specs.Prelude.{◌≡◌, ◌||◌, nat_lt, length, ◌++◌};
+ghost use Rattle.std.specs.Int.{w32};
 ghost use Rattle.std.specs.List.{list_any, flat_map};
 ghost use Rattle.pgw_wire.specs.declared.framing.Framing.TheVariants.{Typed};
+ghost use Rattle.pgw_wire.specs.Reading.{Reads, text_at};
+ghost use Rattle.pgw_wire.specs.Formats.{counted_at};
 ghost use Rattle.pgw_wire.specs.Writing.{has_zero as holds_zero, refused_if};
 ghost use Rattle.pgw_startup.specs.Login.{negotiate_of, negotiate, is_options_refused};
 ghost use Rattle.pgw_startup.specs.Negotiate.{known_version as version_known, negotiated_version as version_offered};
@@ -54,6 +57,14 @@ fn is_refused(options: &[Text]) -> bool
     options.len() > 2147483647 || any_has_zero(options)
 }
 
+// A count and as many options.
+fn take_options(alloc: Global, reader: &mut FieldReader<'_>) -> PgWireResult<Listed<Text>>
+    ensures { Reads result reader.new (counted_at w32 1 text_at reader.old) }
+{
+    let count = unsigned_count(reader.take_i32()?);
+    take_list(alloc, reader, count, 1)
+}
+
 impl Message for NegotiateProtocolVersion {
     ghost row_framing = { Typed 118 };
 
@@ -98,8 +109,7 @@ impl Message for NegotiateProtocolVersion {
     ) -> PgWireResult<NegotiateProtocolVersion> {
         let mut reader = FieldReader::new(body);
         let newest_minor_protocol = reader.take_i32()?;
-        let count = unsigned_count(reader.take_i32()?);
-        let unsupported_options = take_list(alloc, &mut reader, count, 1)?;
+        let unsupported_options = take_options(alloc, &mut reader)?;
         reader.finish()?;
         Ok(NegotiateProtocolVersion {
             newest_minor_protocol,
