@@ -1,5 +1,5 @@
 //! Binding parameters to a prepared statement.
-ghost use Rattle.std.specs.Prelude.{◌≡◌, ◌||◌, [], None};
+ghost use Rattle.std.specs.Prelude.{◌≡◌, ◌||◌, [], None, IfOk};
 ghost use Rattle.pgw_wire.specs.declared.framing.Framing.TheVariants.{Typed};
 ghost use Rattle.std.specs.Int.{w16};
 ghost use Rattle.pgw_wire.specs.Reading.{Reads, int_at};
@@ -215,14 +215,31 @@ impl Duplicate for BindComplete {
     }
 }
 
+// Copies of the values between the formats of both sides.
+fn copied_values(
+    m: &Bind,
+) -> Result<(Listed<i16>, (Listed<Option<Octets>>, Listed<i16>)), OutOfMemory>
+    ensures { IfOk result (λ copy. copy ≡ (m.now.parameter_format_codes, (m.now.parameters, m.now.result_column_format_codes))) }
+{
+    let parameter_formats = m.parameter_format_codes.duplicate()?;
+    let parameters = m.parameters.duplicate()?;
+    let result_formats = m.result_column_format_codes.duplicate()?;
+    Ok((parameter_formats, (parameters, result_formats)))
+}
+
 impl Duplicate for Bind {
     fn duplicate(&self) -> Result<Bind, OutOfMemory> {
+        let portal_name = self.portal_name.duplicate()?;
+        let statement_name = self.statement_name.duplicate()?;
+        let (parameter_format_codes, (parameters, result_column_format_codes)) = copied_values(
+            self,
+        )?;
         Ok(Bind {
-            portal_name: self.portal_name.duplicate()?,
-            statement_name: self.statement_name.duplicate()?,
-            parameter_format_codes: self.parameter_format_codes.duplicate()?,
-            parameters: self.parameters.duplicate()?,
-            result_column_format_codes: self.result_column_format_codes.duplicate()?,
+            portal_name,
+            statement_name,
+            parameter_format_codes,
+            parameters,
+            result_column_format_codes,
         })
     }
 }
