@@ -1,11 +1,13 @@
 //! Logins by a password in clear text.
-ghost use Rattle.std.specs.Prelude.{◌≡◌, ◌⊎◌};
+ghost use Rattle.std.specs.Prelude.{◌≡◌, ◌⊎◌, Result, Err};
 ghost use Rattle.std.specs.Option.{option_copied};
 ghost use Rattle.pgw_login.specs.Logins.{login_of};
 ghost use Rattle.pgw_login.specs.Acts.{standing, Did, Then, Awaits};
 ghost use Rattle.std.specs.Arc.{arc_value};
 ghost use Rattle.pgw_login.specs.Finish.{Finishes};
-ghost use Rattle.pgw_login.specs.Cleartext.{CleartextMeans, CleartextOn, Checked, Checks, wrong_password};
+ghost use Rattle.pgw_login.specs.Cleartext.{CleartextMeans, CleartextOn, Checked, Checks, ComparedTo, wrong_password};
+ghost use Rattle.pgw_scram.specs.declared.password.Password.{Password as Kept};
+ghost use Rattle.pgw_types.specs.declared.error.PgWireError.{PgWireError as Refusal};
 ghost use Rattle.pgw_types.specs.declared.error.PgWireError.TheVariants.{OutOfMemory as NoMemory};
 
 use crate::client_info::ClientInfo;
@@ -80,8 +82,15 @@ where
         ensures { Checked (A.answers self.now.auth_source) message (login_of login.now) result }
     {
         let password = message.into_password(alloc)?;
+        self.verify_text(alloc, login, password.password.as_str())
+    }
+
+    // Whether the text is the source's.
+    fn verify_text(&self, alloc: Global, login: &LoginInfo<'_>, text: &str) -> PgWireResult<()>
+        ensures { (result ≡ Err NoMemory) ⊎ ((given : Result Kept Refusal) × A.answers self.now.auth_source (login_of login.now) given × ComparedTo text.now (login_of login.now) given result) }
+    {
         let kept = self.auth_source.get_password(alloc, login)?;
-        if password.password.as_str().as_bytes() == kept.password() {
+        if text.as_bytes() == kept.password() {
             Ok(())
         } else {
             Err(wrong_password(alloc, login))

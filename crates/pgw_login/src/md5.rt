@@ -1,11 +1,12 @@
 //! Logins by a password that MD5 is taken of.
-ghost use Rattle.std.specs.Prelude.{◌≡◌};
+ghost use Rattle.std.specs.Prelude.{◌≡◌, ◌⊎◌, Ok, Err};
 ghost use Rattle.pgw_login.specs.Logins.{login_of};
 ghost use Rattle.pgw_login.specs.Acts.{standing, Did, Then, Awaits, IsSameSource};
 ghost use Rattle.std.specs.Arc.{arc_value};
 ghost use Rattle.pgw_login.specs.Finish.{Finishes};
 ghost use Rattle.pgw_login.specs.Opening.{Opens};
-ghost use Rattle.pgw_login.specs.Md5.{Md5Means, Md5On, Salted, Challenges, Matched, Matches};
+ghost use Rattle.pgw_login.specs.Md5.{Md5Means, Md5On, Salted, salt_of, Challenges, Matched, Matches};
+ghost use Rattle.pgw_types.specs.declared.error.PgWireError.TheVariants.{OutOfMemory as NoMemory};
 
 use crate::acts::send;
 use crate::cleartext::wrong_password;
@@ -22,6 +23,7 @@ use pgw_backend::backend::PgWireBackendMessage;
 use pgw_frontend::frontend::PgWireFrontendMessage;
 use pgw_registry::generator::PidSecretKeyGenerator;
 use pgw_registry::manager::ConnectionManager;
+use pgw_scram::password::Password;
 use pgw_startup::authentication::Authentication;
 use pgw_startup::password::PasswordMessageFamily;
 use pgw_startup::startup::Startup;
@@ -77,6 +79,17 @@ fn compare(
     }
 }
 
+// The salt of a kept password, and its text.
+fn salt_and_text(alloc: Global, kept: &Password) -> PgWireResult<(Octets, Octets)>
+    ensures { (result ≡ Err NoMemory) ⊎ (result ≡ salt_of (Ok kept.now)) }
+{
+    let Some(salt) = kept.salt() else {
+        return Err(PgWireError::SaltRequired);
+    };
+    let salt = Octets::from_slice(alloc, salt)?;
+    Ok((salt, Octets::from_slice(alloc, kept.password())?))
+}
+
 impl<A, P, G, M> Md5PasswordAuthStartupHandler<A, P, G, M>
 where
     A: AuthSource,
@@ -89,12 +102,7 @@ where
         ensures { Salted (A.answers self.now.auth_source) (login_of login.now) result }
     {
         let kept = self.auth_source.get_password(alloc, login)?;
-        let Some(salt) = kept.salt() else {
-            return Err(PgWireError::SaltRequired);
-        };
-        let salt = Octets::from_slice(alloc, salt)?;
-        let password = Octets::from_slice(alloc, kept.password())?;
-        Ok((salt, password))
+        salt_and_text(alloc, &kept)
     }
 
     fn challenge<C: ClientInfo, O: Outbox>(

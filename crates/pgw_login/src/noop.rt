@@ -60,7 +60,9 @@ fn introduce_default<C: ClientInfo, O: Outbox>(
     ensures { (login : TheState) → Did O.add (O.sent out.old) (O.sent out.new) (IntroducesBy default_provider) (standing (C.sight client.now) login (O.faults out.old)) (standing (C.sight client.now) login (O.faults out.new)) result }
 {
     let provider = DefaultServerParameterProvider::new(alloc)?;
-    introduce(alloc, client, out, &provider)
+    let told = introduce(alloc, client, out, &provider);
+    drop(provider);
+    told
 }
 
 fn welcome<H: NoopStartupHandler, C: ClientInfo, O: Outbox>(

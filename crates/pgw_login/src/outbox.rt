@@ -65,10 +65,12 @@ impl Outbox for ByteOutbox {
     ghost faults = { λ o. 0 };
 
     fn feed(&mut self, message: PgWireBackendMessage) -> PgWireResult<()> {
-        message.encode(&mut self.buffer)
+        let written = message.encode(&mut self.buffer);
+        drop(message);
+        written
     }
 
     fn send(&mut self, message: PgWireBackendMessage) -> PgWireResult<()> {
-        message.encode(&mut self.buffer)
+        self.feed(message)
     }
 }

@@ -50,26 +50,50 @@ pub struct DefaultServerParameterProvider {
     pub session_authorization: Option<Text>,
 }
 
+// Three texts, each a copy.
+fn three_texts(
+    alloc: Global,
+    first: &str,
+    second: &str,
+    third: &str,
+) -> Result<(Text, Text, Text), OutOfMemory>
+    ensures { IfOk result (λ r. r ≡ (first.now, second.now, third.now)) }
+{
+    let first = Text::from_str(alloc, first)?;
+    let second = Text::from_str(alloc, second)?;
+    Ok((first, second, Text::from_str(alloc, third)?))
+}
+
 impl DefaultServerParameterProvider {
     ghost use Rattle.pgw_login.specs.Provider.{default_provider};
 
     pub fn new(alloc: Global) -> Result<DefaultServerParameterProvider, OutOfMemory>
         ensures { IfOk result (λ p. p ≡ default_provider) }
     {
+        let search_path = Text::from_str(alloc, "public")?;
+        let (server_version, server_encoding, client_encoding) = three_texts(
+            alloc,
+            "16.6-pgwire-0.41.0",
+            "UTF8",
+            "UTF8",
+        )?;
+        let (time_zone, date_style, interval_style) = three_texts(
+            alloc, "Etc/UTC", "ISO, YMD", "postgres",
+        )?;
         Ok(DefaultServerParameterProvider {
-            server_version: Text::from_str(alloc, "16.6-pgwire-0.41.0")?,
-            server_encoding: Text::from_str(alloc, "UTF8")?,
+            server_version,
+            server_encoding,
             integer_datetimes: true,
             in_hot_standby: false,
-            search_path: Text::from_str(alloc, "public")?,
+            search_path,
             is_superuser: true,
             default_transaction_read_only: false,
             scram_iterations: 4096,
-            time_zone: Text::from_str(alloc, "Etc/UTC")?,
-            date_style: Text::from_str(alloc, "ISO, YMD")?,
-            interval_style: Text::from_str(alloc, "postgres")?,
+            time_zone,
+            date_style,
+            interval_style,
             standard_conforming_strings: true,
-            client_encoding: Some(Text::from_str(alloc, "UTF8")?),
+            client_encoding: Some(client_encoding),
             application_name: None,
             session_authorization: None,
         })
