@@ -1,112 +1,108 @@
 //! Logins, however their bytes are cut.
 
-use crate::servers::{cleartext, md5};
-use bytes::BytesMut;
+use crate::servers::{Asks, compare, server_says};
 use std::test::Fail;
+
+// A client's bytes, what the server answers in the end, and what it puts out.
+const ENCRYPTED: &[(&[u8], &str, &[u8])] = &[
+    (b"\0\0\0\x08\x04\xd2\x16\x2f", "waiting", b"N"),
+    (
+        b"\0\0\0\x08\x04\xd2\x16\x30\0\0\0\x08\x04\xd2\x16\x2f",
+        "waiting",
+        b"NN",
+    ),
+    (
+        b"\0\0\0\x08\x04\xd2\x16\x2f\0\0\0\x08\x04\xd2\x16\x30\0\0\0\x12\0\x03\0\0user\0bob\0\0",
+        "waiting",
+        b"NNR\0\0\0\x08\0\0\0\x03",
+    ),
+    (
+        b"\0\0\0\x08\x04\xd2\x16\x2f\0\0\0\x12\0\x03\0\0user\0bob\0\0p\0\0\0\x0bsecret\0",
+        "finished",
+        b"NR\0\0\0\x08\0\0\0\x03R\0\0\0\x08\0\0\0\0K\0\0\0\x0c\0\x01\x86\xa0\x01\x01\x01\x01Z\0\0\0\x05I",
+    ),
+];
 
 // Requests for encryption are refused by `N`, and the login goes on, however the bytes are cut.
 #[test]
 fn server_core_ssl(rt: HostRuntime) -> Result<(), Fail> {
-    let alloc = rt.alloc();
-    let cases: [(&[u8], &str, &[u8]); 4] = [
-        (b"\0\0\0\x08\x04\xd2\x16\x2f", "waiting", b"N"),
-        (
-            b"\0\0\0\x08\x04\xd2\x16\x30\0\0\0\x08\x04\xd2\x16\x2f",
-            "waiting",
-            b"NN",
-        ),
-        (
-            b"\0\0\0\x08\x04\xd2\x16\x2f\0\0\0\x08\x04\xd2\x16\x30\0\0\0\x12\0\x03\0\0user\0bob\0\0",
-            "waiting",
-            b"NNR\0\0\0\x08\0\0\0\x03",
-        ),
-        (
-            b"\0\0\0\x08\x04\xd2\x16\x2f\0\0\0\x12\0\x03\0\0user\0bob\0\0p\0\0\0\x0bsecret\0",
-            "finished",
-            b"NR\0\0\0\x08\0\0\0\x03R\0\0\0\x08\0\0\0\0K\0\0\0\x0c\0\x01\x86\xa0\x01\x01\x01\x01Z\0\0\0\x05I",
-        ),
-    ];
-    for (bytes, answer, want) in cases {
+    for (bytes, answer, out) in ENCRYPTED {
         for cut in [1, 7, 100] {
-            let mut out = BytesMut::new(alloc);
-            let told = cleartext(&rt, alloc, bytes, cut, &mut out)?;
-            assert_eq!(rt; told.as_str(), answer, "cut at {cut}");
-            assert_eq!(rt; out.as_slice(), want, "cut at {cut}");
+            let said = server_says(&rt, rt.alloc(), Asks::Cleartext, bytes, cut)?;
+            compare(&rt, said, answer, out);
         }
     }
     Ok(())
 }
 
 // The salt and the text are the worked exchange of the documentation's formula.
+const MD5: &[u8] =
+    b"\0\0\0\x16\0\x03\0\0user\0zmjiang\0\0p\0\0\0\x28md521fe459d77d3e3ea9c9fcd5c11030d30\0";
+
+const LET_IN_BY_MD5: &[u8] =
+    b"R\0\0\0\x0c\0\0\0\x05\x14\xf7\x6b\xf9R\0\0\0\x08\0\0\0\0K\0\0\0\x0c\0\x01\x86\xa0\x01\x01\x01\x01Z\0\0\0\x05I";
+
 #[test]
 fn md5_login(rt: HostRuntime) -> Result<(), Fail> {
-    let alloc = rt.alloc();
-    let bytes =
-        b"\0\0\0\x16\0\x03\0\0user\0zmjiang\0\0p\0\0\0\x28md521fe459d77d3e3ea9c9fcd5c11030d30\0";
-    let want =
-        b"R\0\0\0\x0c\0\0\0\x05\x14\xf7\x6b\xf9R\0\0\0\x08\0\0\0\0K\0\0\0\x0c\0\x01\x86\xa0\x01\x01\x01\x01Z\0\0\0\x05I";
     for cut in [1, 22, 100] {
-        let mut out = BytesMut::new(alloc);
-        let told = md5(&rt, alloc, bytes, cut, &mut out)?;
-        assert_eq!(rt; told.as_str(), "finished", "cut at {cut}");
-        assert_eq!(rt; out.as_slice(), want.as_slice(), "cut at {cut}");
+        let said = server_says(&rt, rt.alloc(), Asks::Md5, MD5, cut)?;
+        compare(&rt, said, "finished", LET_IN_BY_MD5);
     }
     Ok(())
 }
 
+// A client's bytes, how many come at a time, what the server answers in the end, and what it puts out.
+const ENDS: &[(&[u8], usize, &str, &[u8])] = &[
+    (
+        b"\0\0\0\x10\x04\xd2\x16\x2e\0\0\0\x07\0\0\0\x09",
+        5,
+        "cancel 7",
+        b"",
+    ),
+    (
+        b"\0\0\0\x10\x04\xd2\x16\x2e\0\0\0\x07\0\0\0\x09\0",
+        16,
+        "the login is in another state",
+        b"",
+    ),
+    (
+        b"\0\0\0\x12\0\x03\0\0user\0bob\0\0p\0\0\0\x0bsecreT\0",
+        30,
+        "password authentication failed for user `bob`",
+        b"R\0\0\0\x08\0\0\0\x03",
+    ),
+    (
+        b"\0\0\0\x12\0\x03\0\0user\0bob\0\0p\0\0\0\x0bsecreT\0p\0\0\0\x0bsecret\0",
+        30,
+        "the login is in another state",
+        b"R\0\0\0\x08\0\0\0\x03",
+    ),
+    (
+        b"\0\0\0\x12\0\x03\0\0user\0bob\0\0z\0",
+        20,
+        "invalid message type 122",
+        b"R\0\0\0\x08\0\0\0\x03",
+    ),
+    (
+        b"\0\0\0\x12\0\x03\0\0user\0bob\0\0p\0\0\0\x0bsecret\0Q\0\0\0\x05\0H\0\0",
+        100,
+        "finished",
+        b"R\0\0\0\x08\0\0\0\x03R\0\0\0\x08\0\0\0\0K\0\0\0\x0c\0\x01\x86\xa0\x01\x01\x01\x01Z\0\0\0\x05I",
+    ),
+    (
+        b"\0\0\0\x12\0\x03\0\0user\0bob\0\0p\0\0\0\x0bsecret\0p\0\0\0\x0bsecret\0",
+        100,
+        "the login is in another state",
+        b"R\0\0\0\x08\0\0\0\x03R\0\0\0\x08\0\0\0\0K\0\0\0\x0c\0\x01\x86\xa0\x01\x01\x01\x01Z\0\0\0\x05I",
+    ),
+];
+
 // Behind an end nothing is looked at and nothing is sent.
 #[test]
 fn ends_stay(rt: HostRuntime) -> Result<(), Fail> {
-    let alloc = rt.alloc();
-    let cases: [(&[u8], usize, &str, &[u8]); 7] = [
-        (
-            b"\0\0\0\x10\x04\xd2\x16\x2e\0\0\0\x07\0\0\0\x09",
-            5,
-            "cancel 7",
-            b"",
-        ),
-        (
-            b"\0\0\0\x10\x04\xd2\x16\x2e\0\0\0\x07\0\0\0\x09\0",
-            16,
-            "the login is in another state",
-            b"",
-        ),
-        (
-            b"\0\0\0\x12\0\x03\0\0user\0bob\0\0p\0\0\0\x0bsecreT\0",
-            30,
-            "password authentication failed for user `bob`",
-            b"R\0\0\0\x08\0\0\0\x03",
-        ),
-        (
-            b"\0\0\0\x12\0\x03\0\0user\0bob\0\0p\0\0\0\x0bsecreT\0p\0\0\0\x0bsecret\0",
-            30,
-            "the login is in another state",
-            b"R\0\0\0\x08\0\0\0\x03",
-        ),
-        (
-            b"\0\0\0\x12\0\x03\0\0user\0bob\0\0z\0",
-            20,
-            "invalid message type 122",
-            b"R\0\0\0\x08\0\0\0\x03",
-        ),
-        (
-            b"\0\0\0\x12\0\x03\0\0user\0bob\0\0p\0\0\0\x0bsecret\0Q\0\0\0\x05\0H\0\0",
-            100,
-            "finished",
-            b"R\0\0\0\x08\0\0\0\x03R\0\0\0\x08\0\0\0\0K\0\0\0\x0c\0\x01\x86\xa0\x01\x01\x01\x01Z\0\0\0\x05I",
-        ),
-        (
-            b"\0\0\0\x12\0\x03\0\0user\0bob\0\0p\0\0\0\x0bsecret\0p\0\0\0\x0bsecret\0",
-            100,
-            "the login is in another state",
-            b"R\0\0\0\x08\0\0\0\x03R\0\0\0\x08\0\0\0\0K\0\0\0\x0c\0\x01\x86\xa0\x01\x01\x01\x01Z\0\0\0\x05I",
-        ),
-    ];
-    for (bytes, cut, answer, want) in cases {
-        let mut out = BytesMut::new(alloc);
-        let told = cleartext(&rt, alloc, bytes, cut, &mut out)?;
-        assert_eq!(rt; told.as_str(), answer);
-        assert_eq!(rt; out.as_slice(), want, "{answer}");
+    for (bytes, cut, answer, out) in ENDS {
+        let said = server_says(&rt, rt.alloc(), Asks::Cleartext, bytes, *cut)?;
+        compare(&rt, said, answer, out);
     }
     Ok(())
 }

@@ -1,13 +1,18 @@
 //! An honest client's login by SCRAM-SHA-256 at a server's core, however its bytes are cut.
 
-use crate::servers::scram;
+use crate::servers::{Asks, server_says};
+use crate::support::Said;
 use bytes::BytesMut;
 use pgw_frontend::frontend::PgWireFrontendMessage;
 use pgw_login::client_info::METADATA_USER;
-use pgw_scram::client::{ScramClientAuth, ScramClientAuthWaitingForServerFirst};
+use pgw_scram::client::{
+    ScramClientAuth, ScramClientAuthWaitingForServerFinal, ScramClientAuthWaitingForServerFirst,
+};
 use pgw_startup::password::PasswordMessageFamily;
 use pgw_startup::sasl::{SASLInitialResponse, SASLResponse};
 use pgw_startup::startup::Startup;
+use pgw_types::error::PgWireResult;
+use pgw_types::memory::OutOfMemory;
 use pgw_types::octets::Octets;
 use pgw_types::text::Text;
 use std::alloc::Global;
@@ -17,7 +22,7 @@ use std::test::Fail;
 // How many bytes AuthenticationSASL with its one method has.
 const OFFER: usize = 24;
 
-fn startup(alloc: Global) -> Result<PgWireFrontendMessage, Fail> {
+fn startup(alloc: Global) -> Result<PgWireFrontendMessage, OutOfMemory> {
     let mut startup = Startup::new(alloc);
     let name = Text::from_str(alloc, METADATA_USER)?;
     startup
@@ -26,7 +31,7 @@ fn startup(alloc: Global) -> Result<PgWireFrontendMessage, Fail> {
     Ok(PgWireFrontendMessage::Startup(startup))
 }
 
-fn first(alloc: Global, text: &str) -> Result<PgWireFrontendMessage, Fail> {
+fn first(alloc: Global, text: &str) -> Result<PgWireFrontendMessage, OutOfMemory> {
     let method = Text::from_str(alloc, "SCRAM-SHA-256")?;
     let payload = Octets::from_slice(alloc, text.as_bytes())?;
     let response = SASLInitialResponse::new(method, Some(payload));
@@ -34,15 +39,14 @@ fn first(alloc: Global, text: &str) -> Result<PgWireFrontendMessage, Fail> {
     Ok(PgWireFrontendMessage::PasswordMessageFamily(message))
 }
 
-fn further(alloc: Global, text: &str) -> Result<PgWireFrontendMessage, Fail> {
+fn further(alloc: Global, text: &str) -> Result<PgWireFrontendMessage, OutOfMemory> {
     let payload = Octets::from_slice(alloc, text.as_bytes())?;
     let message = PasswordMessageFamily::SASLResponse(SASLResponse::new(payload));
     Ok(PgWireFrontendMessage::PasswordMessageFamily(message))
 }
 
-fn put(bytes: &mut BytesMut, message: PgWireFrontendMessage) -> Result<(), Fail> {
-    message.encode(bytes)?;
-    Ok(())
+fn put(bytes: &mut BytesMut, message: PgWireFrontendMessage) -> PgWireResult<()> {
+    message.encode(bytes)
 }
 
 // The text of the message of a server that stands there, behind its type, its length and its code.
@@ -54,38 +58,66 @@ fn text_at(out: &[u8], at: usize) -> &[u8] {
     }
 }
 
-// The client's bytes up to its first message of SCRAM, and where it stands then.
-fn begun(alloc: Global) -> Result<(BytesMut, ScramClientAuthWaitingForServerFirst), Fail> {
-    let mut bytes = BytesMut::new(alloc);
-    put(&mut bytes, startup(alloc)?)?;
+fn client(alloc: Global) -> Result<ScramClientAuth, OutOfMemory> {
     let name = Text::from_str(alloc, "bob")?;
-    let client = ScramClientAuth::new(name, Text::from_str(alloc, "pencil")?);
-    let (text, client) = client.build_client_first(alloc, &[0; 18])?;
-    put(&mut bytes, first(alloc, text.as_str())?)?;
-    Ok((bytes, client))
+    Ok(ScramClientAuth::new(name, Text::from_str(alloc, "pencil")?))
+}
+
+// Puts out the client's first message of SCRAM.
+fn begin(
+    alloc: Global,
+    bytes: &mut BytesMut,
+) -> Result<ScramClientAuthWaitingForServerFirst, Fail> {
+    let (text, client) = client(alloc)?.build_client_first(alloc, &[0; 18])?;
+    put(bytes, first(alloc, text.as_str())?)?;
+    Ok(client)
+}
+
+// Puts out the client's last message of SCRAM, which it makes of what the server said.
+fn end(
+    alloc: Global,
+    client: ScramClientAuthWaitingForServerFirst,
+    said: &[u8],
+    bytes: &mut BytesMut,
+) -> Result<ScramClientAuthWaitingForServerFinal, Fail> {
+    let (text, client) = client.build_client_final(alloc, text_at(said, OFFER))?;
+    put(bytes, further(alloc, text.as_str())?)?;
+    Ok(client)
+}
+
+fn heard<R: Abort>(rt: &R, alloc: Global, bytes: &BytesMut, cut: usize) -> Result<Said, Fail> {
+    Ok(server_says(rt, alloc, Asks::Scram, bytes.as_slice(), cut)?)
+}
+
+// Puts out all that the client sends; how many bytes the server said before the last message, and the client behind it.
+fn sent<R: Abort>(
+    rt: &R,
+    alloc: Global,
+    cut: usize,
+    bytes: &mut BytesMut,
+) -> Result<(usize, ScramClientAuthWaitingForServerFinal), Fail> {
+    put(bytes, startup(alloc)?)?;
+    let client = begin(alloc, bytes)?;
+    let said = heard(rt, alloc, bytes, cut)?;
+    let client = end(alloc, client, said.out.as_slice(), bytes)?;
+    Ok((said.out.len(), client))
 }
 
 // What the server answers to all that the client sends, once the client has found that it knows the password.
 fn log_in<R: Abort>(rt: &R, alloc: Global, cut: usize) -> Result<String, Fail> {
-    let (mut bytes, client) = begun(alloc)?;
-    let mut out = BytesMut::new(alloc);
-    scram(rt, alloc, bytes.as_slice(), cut, &mut out)?;
-    let (text, client) = client.build_client_final(alloc, text_at(out.as_slice(), OFFER))?;
-    put(&mut bytes, further(alloc, text.as_str())?)?;
-    let mut all = BytesMut::new(alloc);
-    let answer = scram(rt, alloc, bytes.as_slice(), cut, &mut all)?;
-    client.verify_server_final(alloc, text_at(all.as_slice(), out.len()))?;
-    Ok(answer)
+    let mut bytes = BytesMut::new(alloc);
+    let (count, client) = sent(rt, alloc, cut, &mut bytes)?;
+    let said = heard(rt, alloc, &bytes, cut)?;
+    client.verify_server_final(alloc, text_at(said.out.as_slice(), count))?;
+    drop(client);
+    drop(bytes);
+    Ok(said.answer)
 }
 
 #[test]
 fn scram_login(rt: HostRuntime) -> Result<(), Fail> {
     for cut in [1, 7, 1000] {
-        assert_eq!(rt;
-            log_in(&rt, rt.alloc(), cut)?.as_str(),
-            "finished",
-            "cut at {cut}"
-        );
+        assert_eq!(rt; log_in(&rt, rt.alloc(), cut)?.as_str(), "finished");
     }
     Ok(())
 }

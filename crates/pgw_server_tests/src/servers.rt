@@ -1,93 +1,90 @@
 //! Servers that ask for a password.
 
-use crate::support::{NoParameters, OnePassword, give};
-use bytes::BytesMut;
+use crate::support::{NoParameters, OnePassword, Said, hear};
 use pgw_login::cleartext::CleartextPasswordAuthStartupHandler;
-use pgw_login::client_info::DefaultClient;
 use pgw_login::md5::Md5PasswordAuthStartupHandler;
-use pgw_login::state::LoginState;
 use pgw_registry::generator::RandomPidSecretKeyGenerator;
 use pgw_sasl::handler::SASLAuthStartupHandler;
 use pgw_sasl::scram::ScramAuth;
-use pgw_server::connection::{ServerCore, ServerPhase};
-use pgw_types::error::PgWireResult;
-use pgw_types::text::Text;
+use pgw_types::memory::OutOfMemory;
 use std::alloc::Global;
 use std::process::Abort;
-use std::test::Fail;
+
+/// What a server asks for.
+#[derive(Clone, Copy, Drop)]
+pub enum Asks {
+    Cleartext,
+    Md5,
+    Scram,
+}
 
 /// What a server for SCRAM keeps.
 pub const PENCIL: &[u8] =
     b"\xc6\xe7F\xca\x1c\n\xb4\xb9F\x99\x15iu\xf6\x1a1\xb6\x1f\x07^V\xb3\x1e\xbb;\x117\x8b\x14)`R";
 
-// What an answer says, in words.
-fn told(alloc: Global, answer: &PgWireResult<ServerPhase>) -> Result<String, Fail> {
-    match answer {
-        Ok(ServerPhase::Waiting) => Ok(String::from_str(alloc, "waiting")?),
-        Ok(ServerPhase::Finished) => Ok(String::from_str(alloc, "finished")?),
-        Ok(ServerPhase::CancelAsked(request)) => Ok(format!(in alloc; "cancel {}", request.pid)?),
-        Err(e) => Ok(format!(in alloc; "{e}")?),
-    }
-}
-
-/// A server that asks for the password `secret` in clear text.
-pub fn cleartext<R: Abort>(
+// A server that asks for the password `secret` in clear text.
+fn cleartext<R: Abort>(
     rt: &R,
     alloc: Global,
     bytes: &[u8],
     cut: usize,
-    out: &mut BytesMut,
-) -> Result<String, Fail> {
+) -> Result<Said, OutOfMemory> {
     let (generator, seat) = RandomPidSecretKeyGenerator::new(alloc)?;
-    let client = DefaultClient::new(alloc, Text::from_str(alloc, "")?, false, ());
     let source = OnePassword {
         salt: b"",
         password: b"secret",
     };
     let handler = CleartextPasswordAuthStartupHandler::new(source, NoParameters, generator);
-    let state = LoginState::new([7; 18], [1; 32], seat, None);
-    let core = ServerCore::start(alloc, handler, client, state);
-    told(alloc, &give(rt, alloc, core, bytes, cut, out))
+    hear(rt, alloc, handler, seat, bytes, cut)
 }
 
-/// A server that asks for the password `themanwhochangedchina` of `zmjiang` under MD5, with a salt.
-pub fn md5<R: Abort>(
-    rt: &R,
-    alloc: Global,
-    bytes: &[u8],
-    cut: usize,
-    out: &mut BytesMut,
-) -> Result<String, Fail> {
+// A server that asks for the password `themanwhochangedchina` of `zmjiang` under MD5, with a salt.
+fn md5<R: Abort>(rt: &R, alloc: Global, bytes: &[u8], cut: usize) -> Result<Said, OutOfMemory> {
     let (generator, seat) = RandomPidSecretKeyGenerator::new(alloc)?;
-    let client = DefaultClient::new(alloc, Text::from_str(alloc, "")?, false, ());
     let source = OnePassword {
         salt: b"\x14\xf7\x6b\xf9",
         password: b"md521fe459d77d3e3ea9c9fcd5c11030d30",
     };
     let handler = Md5PasswordAuthStartupHandler::new(source, NoParameters, generator);
-    let state = LoginState::new([7; 18], [1; 32], seat, None);
-    let core = ServerCore::start(alloc, handler, client, state);
-    told(alloc, &give(rt, alloc, core, bytes, cut, out))
+    hear(rt, alloc, handler, seat, bytes, cut)
 }
 
-/// A server that asks for the password `pencil` by SCRAM-SHA-256. It keeps what PBKDF2 makes of it, as Python's hashlib
-/// tells it: `pbkdf2_hmac('sha256', b'pencil', b'bar', 12)`.
-pub fn scram<R: Abort>(
-    rt: &R,
-    alloc: Global,
-    bytes: &[u8],
-    cut: usize,
-    out: &mut BytesMut,
-) -> Result<String, Fail> {
-    let (generator, seat) = RandomPidSecretKeyGenerator::new(alloc)?;
-    let client = DefaultClient::new(alloc, Text::from_str(alloc, "")?, false, ());
+// SCRAM with twelve rounds.
+fn pencil() -> ScramAuth<OnePassword> {
     let mut scram = ScramAuth::new(OnePassword {
         salt: b"bar",
         password: PENCIL,
     });
     scram.set_iterations(12);
-    let handler = SASLAuthStartupHandler::new(NoParameters, generator).with_scram(scram);
-    let state = LoginState::new([7; 18], [1; 32], seat, None);
-    let core = ServerCore::start(alloc, handler, client, state);
-    told(alloc, &give(rt, alloc, core, bytes, cut, out))
+    scram
+}
+
+// A server that asks for the password `pencil` by SCRAM-SHA-256. It keeps what PBKDF2 makes of it, as Python's hashlib
+// tells it: `pbkdf2_hmac('sha256', b'pencil', b'bar', 12)`.
+fn scram<R: Abort>(rt: &R, alloc: Global, bytes: &[u8], cut: usize) -> Result<Said, OutOfMemory> {
+    let (generator, seat) = RandomPidSecretKeyGenerator::new(alloc)?;
+    let handler = SASLAuthStartupHandler::new(NoParameters, generator).with_scram(pencil());
+    hear(rt, alloc, handler, seat, bytes, cut)
+}
+
+/// What a server says to a client's bytes, so many at a time.
+pub fn server_says<R: Abort>(
+    rt: &R,
+    alloc: Global,
+    asks: Asks,
+    bytes: &[u8],
+    cut: usize,
+) -> Result<Said, OutOfMemory> {
+    match asks {
+        Asks::Cleartext => cleartext(rt, alloc, bytes, cut),
+        Asks::Md5 => md5(rt, alloc, bytes, cut),
+        Asks::Scram => scram(rt, alloc, bytes, cut),
+    }
+}
+
+/// Compares what a server says with what is wanted.
+pub fn compare<R: Abort>(rt: &R, said: Said, answer: &str, out: &[u8]) {
+    assert_eq!(rt; said.answer.as_str(), answer);
+    assert_eq!(rt; said.out.as_slice(), out);
+    drop(said);
 }

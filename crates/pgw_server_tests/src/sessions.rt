@@ -1,44 +1,49 @@
 //! Whole logins of a client's session at a server's core: each is given what the other says.
 
-use crate::servers::{cleartext, md5, scram};
+use crate::servers::{Asks, compare, server_says};
 use bytes::BytesMut;
-use pgw_client::{Config, Listed, MemoryLink, Octets, run_session};
+use pgw_client::{Config, Listed, MemoryLink, Octets, OutOfMemory, run_session};
 use std::alloc::Global;
 use std::process::Abort;
 use std::test::Fail;
 
-/// What a server asks for.
-#[derive(Clone, Copy, Drop)]
-enum Asks {
-    Cleartext,
-    Md5,
-    Scram,
+fn link_of(alloc: Global, server: &[u8]) -> Result<MemoryLink, OutOfMemory> {
+    let server = Octets::from_slice(alloc, server)?;
+    Ok(MemoryLink::new(alloc, server, 7, Listed::new(alloc), Listed::new(alloc)))
+}
+
+// Whether a session over the link is done.
+fn is_done(alloc: Global, link: &mut MemoryLink, config: &Config) -> bool {
+    let answer = run_session(alloc, link, config, &[], &[0; 18], 10_000);
+    let is_done = answer.is_ok();
+    drop(answer);
+    is_done
 }
 
 // What a session writes to a server that says this, and whether it was done.
-fn client_says(alloc: Global, config: &str, server: &[u8]) -> Result<(Vec<u8>, bool), Fail> {
-    let config = Config::parse(alloc, config)?;
-    let server = Octets::from_slice(alloc, server)?;
-    let mut link = MemoryLink::new(alloc, server, 7, Listed::new(alloc), Listed::new(alloc));
-    let report = run_session(alloc, &mut link, &config, &[], &[0; 18], 10_000);
-    Ok((link.written().to_vec(alloc)?, report.is_ok()))
+fn client_says(
+    alloc: Global,
+    config: &Config,
+    server: &BytesMut,
+) -> Result<(Vec<u8>, bool), OutOfMemory> {
+    let mut link = link_of(alloc, server.as_slice())?;
+    let is_done = is_done(alloc, &mut link, config);
+    let written = link.written().to_vec(alloc);
+    drop(link);
+    Ok((written?, is_done))
 }
 
-// What a server puts out for a client's bytes, so many at a time, and what it answers.
-fn server_says<R: Abort>(
+// What the server says to a session that hears this.
+fn replied<R: Abort>(
     rt: &R,
     alloc: Global,
     asks: Asks,
-    client: &[u8],
+    config: &Config,
     cut: usize,
-) -> Result<(Vec<u8>, String), Fail> {
-    let mut out = BytesMut::new(alloc);
-    let answer = match asks {
-        Asks::Cleartext => cleartext(rt, alloc, client, cut, &mut out)?,
-        Asks::Md5 => md5(rt, alloc, client, cut, &mut out)?,
-        Asks::Scram => scram(rt, alloc, client, cut, &mut out)?,
-    };
-    Ok((Vec::from_slice(alloc, out.as_slice())?, answer))
+    server: &BytesMut,
+) -> Result<BytesMut, OutOfMemory> {
+    let (client, _) = client_says(alloc, config, server)?;
+    Ok(server_says(rt, alloc, asks, client.as_slice(), cut)?.out)
 }
 
 // What the server says in the end, where each begins anew with all that the other has said, four times.
@@ -46,16 +51,28 @@ fn talked<R: Abort>(
     rt: &R,
     alloc: Global,
     asks: Asks,
-    config: &str,
+    config: &Config,
     cut: usize,
-) -> Result<Vec<u8>, Fail> {
-    let mut server = Vec::new(alloc);
+) -> Result<BytesMut, OutOfMemory> {
+    let mut server = BytesMut::new(alloc);
     for _ in 0..4 {
-        let (client, _) = client_says(alloc, config, server.as_slice())?;
-        let (said, _) = server_says(rt, alloc, asks, client.as_slice(), cut)?;
-        server = said;
+        server = replied(rt, alloc, asks, config, cut, &server)?;
     }
     Ok(server)
+}
+
+// The session that hears this server is done and says what it is to say.
+fn check_client<R: Abort>(
+    rt: &R,
+    alloc: Global,
+    config: &Config,
+    server: &BytesMut,
+    want: &[u8],
+) -> Result<(), OutOfMemory> {
+    let (client, is_done) = client_says(alloc, config, server)?;
+    assert!(rt; is_done);
+    assert_eq!(rt; client.as_slice(), want);
+    Ok(())
 }
 
 // The client that hears this server is done and says what it is to say, and the server that hears it says this and is
@@ -64,45 +81,58 @@ fn agree<R: Abort>(
     rt: &R,
     alloc: Global,
     asks: Asks,
-    config: &str,
+    config: &Config,
     cut: usize,
     want: &[u8],
-) -> Result<(), Fail> {
+) -> Result<(), OutOfMemory> {
     let server = talked(rt, alloc, asks, config, cut)?;
-    let (client, is_done) = client_says(alloc, config, server.as_slice())?;
-    assert!(rt; is_done, "{config}");
-    assert_eq!(rt; client.as_slice(), want, "{config}");
-    let (said, answer) = server_says(rt, alloc, asks, client.as_slice(), cut)?;
-    assert_eq!(rt; answer.as_str(), "finished", "{config}");
-    assert_eq!(rt; said.as_slice(), server.as_slice(), "{config}");
+    check_client(rt, alloc, config, &server, want)?;
+    let said = server_says(rt, alloc, asks, want, cut)?;
+    compare(rt, said, "finished", server.as_slice());
+    Ok(())
+}
+
+// The same, however the client's bytes are cut.
+fn agree_by<R: Abort>(
+    rt: &R,
+    alloc: Global,
+    asks: Asks,
+    config: &Config,
+    want: &[u8],
+) -> Result<(), OutOfMemory> {
+    for cut in [1, 7, 1000] {
+        agree(rt, alloc, asks, config, cut, want)?;
+    }
     Ok(())
 }
 
 // MD5 password and salt: the worked exchange of the documentation's formula. SCRAM: computed with Python's hashlib by
 // the formulas of RFC 5802.
+const SESSIONS: &[(Asks, &str, &[u8])] = &[
+    (
+        Asks::Cleartext,
+        "user=bob password=secret",
+        b"\0\0\0\x12\0\x03\0\0user\0bob\0\0p\0\0\0\x0bsecret\0",
+    ),
+    (
+        Asks::Md5,
+        "user=zmjiang password=themanwhochangedchina",
+        b"\0\0\0\x16\0\x03\0\0user\0zmjiang\0\0p\0\0\0\x28md521fe459d77d3e3ea9c9fcd5c11030d30\0",
+    ),
+    (
+        Asks::Scram,
+        "user=bob password=pencil",
+        b"\0\0\0\x12\0\x03\0\0user\0bob\0\0p\0\0\0\x39SCRAM-SHA-256\0\0\0\0\x23n,,n=bob,r=AAAAAAAAAAAAAAAAAAAAAAAAp\0\0\0\x6cc=biws,r=AAAAAAAAAAAAAAAAAAAAAAAABwcHBwcHBwcHBwcHBwcHBwcH,p=n1VgT25XHwVm6sZ2+FOk/xU9ha8fQMg8oIejHRXoAqY=",
+    ),
+];
+
 #[test]
 fn sessions_log_in(rt: HostRuntime) -> Result<(), Fail> {
-    let cases: [(Asks, &str, &[u8]); 3] = [
-        (
-            Asks::Cleartext,
-            "user=bob password=secret",
-            b"\0\0\0\x12\0\x03\0\0user\0bob\0\0p\0\0\0\x0bsecret\0",
-        ),
-        (
-            Asks::Md5,
-            "user=zmjiang password=themanwhochangedchina",
-            b"\0\0\0\x16\0\x03\0\0user\0zmjiang\0\0p\0\0\0\x28md521fe459d77d3e3ea9c9fcd5c11030d30\0",
-        ),
-        (
-            Asks::Scram,
-            "user=bob password=pencil",
-            b"\0\0\0\x12\0\x03\0\0user\0bob\0\0p\0\0\0\x39SCRAM-SHA-256\0\0\0\0\x23n,,n=bob,r=AAAAAAAAAAAAAAAAAAAAAAAAp\0\0\0\x6cc=biws,r=AAAAAAAAAAAAAAAAAAAAAAAABwcHBwcHBwcHBwcHBwcHBwcH,p=n1VgT25XHwVm6sZ2+FOk/xU9ha8fQMg8oIejHRXoAqY=",
-        ),
-    ];
-    for (asks, config, want) in cases {
-        for cut in [1, 7, 1000] {
-            agree(&rt, rt.alloc(), asks, config, cut, want)?;
-        }
+    for (asks, text, want) in SESSIONS {
+        let config = Config::parse(rt.alloc(), text)?;
+        let agreed = agree_by(&rt, rt.alloc(), *asks, &config, want);
+        drop(config);
+        agreed?;
     }
     Ok(())
 }
