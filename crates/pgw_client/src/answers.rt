@@ -127,6 +127,7 @@ pub fn note(
     ensures { OnOk result (tally.new ≡ tally_after tally.old message) }
 {
     if tally.remote.is_some() {
+        drop(message);
         return Ok(());
     }
     match message {
@@ -148,18 +149,18 @@ pub fn note(
         }
         PgWireBackendMessage::PortalSuspended(_) => suspend(alloc, tally),
         PgWireBackendMessage::ErrorResponse(error) => tally.remote = Some(error),
-        PgWireBackendMessage::Authentication(_request) => {}
-        PgWireBackendMessage::ParameterStatus(_parameter) => {}
-        PgWireBackendMessage::BackendKeyData(_key) => {}
-        PgWireBackendMessage::NegotiateProtocolVersion(_version) => {}
+        PgWireBackendMessage::Authentication(request) => drop(request),
+        PgWireBackendMessage::ParameterStatus(parameter) => drop(parameter),
+        PgWireBackendMessage::BackendKeyData(key) => drop(key),
+        PgWireBackendMessage::NegotiateProtocolVersion(version) => drop(version),
         PgWireBackendMessage::ReadyForQuery(_ready) => {}
-        PgWireBackendMessage::NoticeResponse(_notice) => {}
-        PgWireBackendMessage::NotificationResponse(_notification) => {}
-        PgWireBackendMessage::CopyData(_data) => {}
-        PgWireBackendMessage::CopyFail(_reason) => {}
-        PgWireBackendMessage::CopyInResponse(_formats) => {}
-        PgWireBackendMessage::CopyOutResponse(_formats) => {}
-        PgWireBackendMessage::CopyBothResponse(_formats) => {}
+        PgWireBackendMessage::NoticeResponse(notice) => drop(notice),
+        PgWireBackendMessage::NotificationResponse(notification) => drop(notification),
+        PgWireBackendMessage::CopyData(data) => drop(data),
+        PgWireBackendMessage::CopyFail(reason) => drop(reason),
+        PgWireBackendMessage::CopyInResponse(formats) => drop(formats),
+        PgWireBackendMessage::CopyOutResponse(formats) => drop(formats),
+        PgWireBackendMessage::CopyBothResponse(formats) => drop(formats),
         PgWireBackendMessage::SslResponse(_)
         | PgWireBackendMessage::GssEncResponse(_)
         | PgWireBackendMessage::ParseComplete(_)
@@ -215,28 +216,25 @@ fn columns_of(alloc: Global, opened: Option<Opened>) -> Listed<FieldInfo>
     }
 }
 
-// What a request gives where no error came.
-fn result_of(alloc: Global, request: &Request, tally: Tally) -> Result<Answer, OutOfMemory>
-    ensures { IfOk result (λ answer. answer ≡ result_of request.now tally) }
+// What a request gives where no error came. It is taken out of the tally.
+fn result_of(alloc: Global, request: &Request, tally: &mut Tally) -> Result<Answer, OutOfMemory>
+    ensures { IfOk result (λ answer. answer ≡ result_of request.now tally.old) }
 {
-    let Tally {
-        responses,
-        opened,
-        param_types,
-        executed,
-        rows,
-        remote: _remote,
-    } = tally;
     match request {
-        Request::Simple(_) => Ok(Answer::Responses(responses)),
+        Request::Simple(_) => {
+            let responses = replace(&mut tally.responses, Listed::new(alloc));
+            Ok(Answer::Responses(responses))
+        }
         Request::Prepare(name, ..) => {
             let name = name.duplicate()?;
+            let param_types = replace(&mut tally.param_types, Listed::new(alloc));
             Ok(Answer::Prepared(PrepareResponse { name, param_types }))
         }
         Request::Bind(..) => Ok(Answer::Bound),
-        Request::Execute(..) => Ok(Answer::Executed(executed_of(alloc, executed))),
+        Request::Execute(..) => Ok(Answer::Executed(executed_of(alloc, tally.executed.take()))),
         Request::Describe(_) => {
-            let fields = columns_of(alloc, opened);
+            let param_types = replace(&mut tally.param_types, Listed::new(alloc));
+            let fields = columns_of(alloc, tally.opened.take());
             Ok(Answer::Described(DescribeResponse {
                 param_types,
                 fields,
@@ -244,7 +242,8 @@ fn result_of(alloc: Global, request: &Request, tally: Tally) -> Result<Answer, O
         }
         Request::Close(_) => Ok(Answer::Closed),
         Request::Query(..) => {
-            let rows = with_rows(rows_until(alloc, executed), rows)?;
+            let behind = replace(&mut tally.rows, DataRows::new(alloc));
+            let rows = with_rows(rows_until(alloc, tally.executed.take()), behind)?;
             Ok(Answer::Rows(rows))
         }
     }
@@ -254,8 +253,10 @@ fn result_of(alloc: Global, request: &Request, tally: Tally) -> Result<Answer, O
 pub fn answer_by(alloc: Global, request: &Request, mut tally: Tally) -> Result<Answer, OutOfMemory>
     ensures { IfOk result (λ answer. answer ≡ answer_by request.now tally) }
 {
-    match tally.remote.take() {
+    let answer = match tally.remote.take() {
         Some(error) => Ok(Answer::Remote(error)),
-        None => result_of(alloc, request, tally),
-    }
+        None => result_of(alloc, request, &mut tally),
+    };
+    drop(tally);
+    answer
 }

@@ -132,7 +132,10 @@ fn note(
 ) -> Result<(), OutOfMemory>
     ensures { OnOk result (notes.new ≡ notes_book.takes notes.old message [] stage) }
 {
-    standings::note(&mut notes.standing, &message)?;
+    if standings::note(&mut notes.standing, &message).is_err() {
+        drop(message);
+        return Err(OutOfMemory);
+    }
     answers::note(alloc, &mut notes.tally, message)?;
     notes.stage = stage;
     Ok(())
@@ -166,7 +169,10 @@ fn go_on(
 {
     match note(alloc, notes, message, stage) {
         Ok(()) => {}
-        Err(_) => return Err(PgWireClientError::OutOfMemory),
+        Err(_) => {
+            drop(reply);
+            return Err(PgWireClientError::OutOfMemory);
+        }
     }
     match put_reply(reply, out) {
         Ok(()) => Ok(false),
@@ -187,7 +193,11 @@ fn keep_answer(
     if closed > 0 {
         if let Some(request) = input.requests.get(closed - 1) {
             answers.push(answers::answer_by(alloc, request, tally)?)?;
+        } else {
+            drop(tally);
         }
+    } else {
+        drop(tally);
     }
     Ok(())
 }
@@ -201,12 +211,9 @@ fn close(
 ) -> Result<(), OutOfMemory>
     ensures { OnOk result (notes.new ≡ record (notes_book.closes notes.old message (answered (input_of input.now) notes.old.closed)) { closed = notes.old.closed }) }
 {
-    standings::note(&mut notes.standing, &message)?;
-    let mut tally = replace(&mut notes.tally, answers::no_tally(alloc));
-    answers::note(alloc, &mut tally, message)?;
-    keep_answer(alloc, input, notes.closed, tally, &mut notes.answers)?;
-    notes.stage = Stage::Starting;
-    Ok(())
+    note(alloc, notes, message, Stage::Starting)?;
+    let tally = replace(&mut notes.tally, answers::no_tally(alloc));
+    keep_answer(alloc, input, notes.closed, tally, &mut notes.answers)
 }
 
 // Opens the next request, if there is one; answers that there is none.
@@ -265,12 +272,11 @@ fn keep_first(
     ensures own { IfErr result IsOwn }
     ensures passed { Passed notes.old notes.new first message.now result }
 {
+    drop(replace(&mut notes.first_passed, Some(first)));
     match standings::note(&mut notes.standing, message) {
-        Ok(()) => {}
-        Err(_) => return Err(PgWireClientError::OutOfMemory),
+        Ok(()) => Ok(false),
+        Err(_) => Err(PgWireClientError::OutOfMemory),
     }
-    notes.first_passed = Some(first);
-    Ok(false)
 }
 
 // Behind the first message that had no place all are passed over, up to ReadyForQuery.
@@ -284,9 +290,12 @@ fn pass_over(
     ensures passed { Passed notes.old notes.new first message result }
 {
     if is_ready(&message) {
+        drop(message);
         return Err(unexpected(alloc, first));
     }
-    keep_first(notes, first, &message)
+    let kept = keep_first(notes, first, &message);
+    drop(message);
+    kept
 }
 
 // The first message that has no place is passed over.
@@ -295,12 +304,12 @@ fn pass_first(notes: &mut Notes, message: PgWireBackendMessage) -> Result<bool, 
     ensures passed { IfOk result (λ whole. (whole ≡ false) × (notes.new ≡ record notes.old { standing = standing_by notes.old.standing message; first_passed = Some message })) }
     ensures lacks { IfErr result (λ e. e ≡ PgWireClientError.OutOfMemory) }
 {
-    match standings::note(&mut notes.standing, &message) {
-        Ok(()) => {}
-        Err(_) => return Err(PgWireClientError::OutOfMemory),
+    let noted = standings::note(&mut notes.standing, &message);
+    drop(replace(&mut notes.first_passed, Some(message)));
+    match noted {
+        Ok(()) => Ok(false),
+        Err(_) => Err(PgWireClientError::OutOfMemory),
     }
-    notes.first_passed = Some(message);
-    Ok(false)
 }
 
 // Does what the table says of a message, where none has been passed over.
@@ -321,7 +330,10 @@ fn follow(
         Next::Goes(stage, reply) => go_on(alloc, notes, message, stage, reply, out),
         Next::Closes => close_and_open(alloc, input, notes, message, out),
         Next::Wrong => Err(unexpected(alloc, message)),
-        Next::Refuses(error) => Err(error),
+        Next::Refuses(error) => {
+            drop(message);
+            Err(error)
+        }
         Next::PassesOver => pass_first(notes, message),
     }
 }
@@ -341,7 +353,10 @@ fn step(
 {
     match after(alloc, input, &notes.stage, &message) {
         Ok(next) => follow(alloc, input, notes, message, next, out),
-        Err(_) => Err(PgWireClientError::OutOfMemory),
+        Err(_) => {
+            drop(message);
+            Err(PgWireClientError::OutOfMemory)
+        }
     }
 }
 
@@ -420,10 +435,16 @@ pub fn into_report(notes: Notes) -> SessionReport
     ensures { result ≡ report_at notes }
 {
     let Notes {
+        stage,
         standing,
+        tally,
         answers,
+        first_passed,
         ..
     } = notes;
+    drop(stage);
+    drop(tally);
+    drop(first_passed);
     SessionReport {
         version: standing.version,
         parameters: standing.parameters,

@@ -170,11 +170,17 @@ fn hold_session<L: Link>(
     };
     match send(link, out.as_slice()) {
         Ok(()) => {}
-        Err(_) => return Err(PgWireClientError::IoError),
+        Err(_) => {
+            drop(notes);
+            return Err(PgWireClientError::IoError);
+        }
     }
     match converse(alloc, link, input, &mut notes, limit) {
         Ok(()) => Ok(into_report(notes)),
-        Err(e) => Err(e),
+        Err(e) => {
+            drop(notes);
+            Err(e)
+        }
     }
 }
 

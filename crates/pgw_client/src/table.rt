@@ -253,8 +253,8 @@ fn by_server_first(alloc: Global, input: &Input<'_>, first: &Octets) -> Result<N
         first.as_slice(),
     ) {
         Ok(reply) => {
-            let sent = response_message(alloc, &reply.message)?;
             let expected = Octets::from_slice(alloc, &reply.signature)?;
+            let sent = response_message(alloc, &reply.message)?;
             Ok(Next::Goes(Stage::Proving(expected), Some(sent)))
         }
         Err(PgWireClientError::OutOfMemory) => Err(OutOfMemory),
