@@ -29,6 +29,7 @@ use pgw_types::error::{PgWireError, PgWireResult};
 use pgw_types::listed::Duplicate;
 use pgw_types::memory::OutOfMemory;
 use pgw_wire::buffer::Buffer;
+use pgw_wire::kinds::{decode_as, duplicate_as};
 use pgw_wire::message::Message;
 use std::alloc::Global;
 
@@ -106,10 +107,10 @@ impl PgWireBackendMessage {
         ensures { Decodes result (B.held buf.old) (B.held buf.new) (backend_front ctx.now (B.held buf.old)) }
     {
         if ctx.awaiting_backend_ssl_response {
-            return Ok(SslResponse::decode_from(alloc, buf, ctx)?.map(Self::SslResponse));
+            return decode_as(alloc, buf, ctx, Self::SslResponse);
         }
         if ctx.awaiting_backend_gss_response {
-            return Ok(GssEncResponse::decode_from(alloc, buf, ctx)?.map(Self::GssEncResponse));
+            return decode_as(alloc, buf, ctx, Self::GssEncResponse);
         }
         Self::decode_typed(alloc, buf, ctx)
     }
@@ -140,12 +141,10 @@ impl PgWireBackendMessage {
         ensures { Decodes result (B.held buf.old) (B.held buf.new) (backend_by byte ctx.now (B.held buf.old)) }
     {
         match byte {
-            b'R' => Ok(Authentication::decode_from(alloc, buf, ctx)?.map(Self::Authentication)),
-            b'S' => Ok(ParameterStatus::decode_from(alloc, buf, ctx)?.map(Self::ParameterStatus)),
-            b'K' => Ok(BackendKeyData::decode_from(alloc, buf, ctx)?.map(Self::BackendKeyData)),
-            b'v' => Ok(NegotiateProtocolVersion::decode_from(alloc, buf, ctx)?.map(
-                Self::NegotiateProtocolVersion,
-            )),
+            b'R' => decode_as(alloc, buf, ctx, Self::Authentication),
+            b'S' => decode_as(alloc, buf, ctx, Self::ParameterStatus),
+            b'K' => decode_as(alloc, buf, ctx, Self::BackendKeyData),
+            b'v' => decode_as(alloc, buf, ctx, Self::NegotiateProtocolVersion),
             _ => Self::decode_query(byte, alloc, buf, ctx),
         }
     }
@@ -160,18 +159,14 @@ impl PgWireBackendMessage {
         ensures { Decodes result (B.held buf.old) (B.held buf.new) (query_by byte ctx.now (B.held buf.old)) }
     {
         match byte {
-            b'C' => Ok(CommandComplete::decode_from(alloc, buf, ctx)?.map(Self::CommandComplete)),
-            b'I' => Ok(EmptyQueryResponse::decode_from(alloc, buf, ctx)?.map(
-                Self::EmptyQueryResponse,
-            )),
-            b'Z' => Ok(ReadyForQuery::decode_from(alloc, buf, ctx)?.map(Self::ReadyForQuery)),
-            b'E' => Ok(ErrorResponse::decode_from(alloc, buf, ctx)?.map(Self::ErrorResponse)),
-            b'N' => Ok(NoticeResponse::decode_from(alloc, buf, ctx)?.map(Self::NoticeResponse)),
-            b'A' => Ok(NotificationResponse::decode_from(alloc, buf, ctx)?.map(
-                Self::NotificationResponse,
-            )),
-            b'T' => Ok(RowDescription::decode_from(alloc, buf, ctx)?.map(Self::RowDescription)),
-            b'D' => Ok(DataRow::decode_from(alloc, buf, ctx)?.map(Self::DataRow)),
+            b'C' => decode_as(alloc, buf, ctx, Self::CommandComplete),
+            b'I' => decode_as(alloc, buf, ctx, Self::EmptyQueryResponse),
+            b'Z' => decode_as(alloc, buf, ctx, Self::ReadyForQuery),
+            b'E' => decode_as(alloc, buf, ctx, Self::ErrorResponse),
+            b'N' => decode_as(alloc, buf, ctx, Self::NoticeResponse),
+            b'A' => decode_as(alloc, buf, ctx, Self::NotificationResponse),
+            b'T' => decode_as(alloc, buf, ctx, Self::RowDescription),
+            b'D' => decode_as(alloc, buf, ctx, Self::DataRow),
             _ => Self::decode_extended(byte, alloc, buf, ctx),
         }
     }
@@ -186,14 +181,12 @@ impl PgWireBackendMessage {
         ensures { Decodes result (B.held buf.old) (B.held buf.new) (extended_by byte ctx.now (B.held buf.old)) }
     {
         match byte {
-            b'1' => Ok(ParseComplete::decode_from(alloc, buf, ctx)?.map(Self::ParseComplete)),
-            b'2' => Ok(BindComplete::decode_from(alloc, buf, ctx)?.map(Self::BindComplete)),
-            b'3' => Ok(CloseComplete::decode_from(alloc, buf, ctx)?.map(Self::CloseComplete)),
-            b's' => Ok(PortalSuspended::decode_from(alloc, buf, ctx)?.map(Self::PortalSuspended)),
-            b'n' => Ok(NoData::decode_from(alloc, buf, ctx)?.map(Self::NoData)),
-            b't' => Ok(ParameterDescription::decode_from(alloc, buf, ctx)?.map(
-                Self::ParameterDescription,
-            )),
+            b'1' => decode_as(alloc, buf, ctx, Self::ParseComplete),
+            b'2' => decode_as(alloc, buf, ctx, Self::BindComplete),
+            b'3' => decode_as(alloc, buf, ctx, Self::CloseComplete),
+            b's' => decode_as(alloc, buf, ctx, Self::PortalSuspended),
+            b'n' => decode_as(alloc, buf, ctx, Self::NoData),
+            b't' => decode_as(alloc, buf, ctx, Self::ParameterDescription),
             _ => Self::decode_copy(byte, alloc, buf, ctx),
         }
     }
@@ -208,12 +201,12 @@ impl PgWireBackendMessage {
         ensures { Decodes result (B.held buf.old) (B.held buf.new) (copy_by byte ctx.now (B.held buf.old)) }
     {
         match byte {
-            b'd' => Ok(CopyData::decode_from(alloc, buf, ctx)?.map(Self::CopyData)),
-            b'c' => Ok(CopyDone::decode_from(alloc, buf, ctx)?.map(Self::CopyDone)),
-            b'f' => Ok(CopyFail::decode_from(alloc, buf, ctx)?.map(Self::CopyFail)),
-            b'G' => Ok(CopyInResponse::decode_from(alloc, buf, ctx)?.map(Self::CopyInResponse)),
-            b'H' => Ok(CopyOutResponse::decode_from(alloc, buf, ctx)?.map(Self::CopyOutResponse)),
-            b'W' => Ok(CopyBothResponse::decode_from(alloc, buf, ctx)?.map(Self::CopyBothResponse)),
+            b'd' => decode_as(alloc, buf, ctx, Self::CopyData),
+            b'c' => decode_as(alloc, buf, ctx, Self::CopyDone),
+            b'f' => decode_as(alloc, buf, ctx, Self::CopyFail),
+            b'G' => decode_as(alloc, buf, ctx, Self::CopyInResponse),
+            b'H' => decode_as(alloc, buf, ctx, Self::CopyOutResponse),
+            b'W' => decode_as(alloc, buf, ctx, Self::CopyBothResponse),
             _ => Err(PgWireError::InvalidMessageType(byte)),
         }
     }
@@ -271,32 +264,32 @@ impl PgWireBackendMessage {
 impl Duplicate for PgWireBackendMessage {
     fn duplicate(&self) -> Result<PgWireBackendMessage, OutOfMemory> {
         match self {
-            Self::SslResponse(m) => Ok(Self::SslResponse(m.duplicate()?)),
-            Self::GssEncResponse(m) => Ok(Self::GssEncResponse(m.duplicate()?)),
-            Self::Authentication(m) => Ok(Self::Authentication(m.duplicate()?)),
-            Self::ParameterStatus(m) => Ok(Self::ParameterStatus(m.duplicate()?)),
-            Self::BackendKeyData(m) => Ok(Self::BackendKeyData(m.duplicate()?)),
-            Self::NegotiateProtocolVersion(m) => Ok(Self::NegotiateProtocolVersion(m.duplicate()?)),
-            Self::ParseComplete(m) => Ok(Self::ParseComplete(m.duplicate()?)),
-            Self::BindComplete(m) => Ok(Self::BindComplete(m.duplicate()?)),
-            Self::CloseComplete(m) => Ok(Self::CloseComplete(m.duplicate()?)),
-            Self::PortalSuspended(m) => Ok(Self::PortalSuspended(m.duplicate()?)),
-            Self::EmptyQueryResponse(m) => Ok(Self::EmptyQueryResponse(m.duplicate()?)),
-            Self::NoData(m) => Ok(Self::NoData(m.duplicate()?)),
-            Self::CommandComplete(m) => Ok(Self::CommandComplete(m.duplicate()?)),
-            Self::ReadyForQuery(m) => Ok(Self::ReadyForQuery(m.duplicate()?)),
-            Self::ErrorResponse(m) => Ok(Self::ErrorResponse(m.duplicate()?)),
-            Self::NoticeResponse(m) => Ok(Self::NoticeResponse(m.duplicate()?)),
-            Self::NotificationResponse(m) => Ok(Self::NotificationResponse(m.duplicate()?)),
-            Self::ParameterDescription(m) => Ok(Self::ParameterDescription(m.duplicate()?)),
-            Self::RowDescription(m) => Ok(Self::RowDescription(m.duplicate()?)),
-            Self::DataRow(m) => Ok(Self::DataRow(m.duplicate()?)),
-            Self::CopyData(m) => Ok(Self::CopyData(m.duplicate()?)),
-            Self::CopyDone(m) => Ok(Self::CopyDone(m.duplicate()?)),
-            Self::CopyFail(m) => Ok(Self::CopyFail(m.duplicate()?)),
-            Self::CopyInResponse(m) => Ok(Self::CopyInResponse(m.duplicate()?)),
-            Self::CopyOutResponse(m) => Ok(Self::CopyOutResponse(m.duplicate()?)),
-            Self::CopyBothResponse(m) => Ok(Self::CopyBothResponse(m.duplicate()?)),
+            Self::SslResponse(m) => duplicate_as(m, Self::SslResponse),
+            Self::GssEncResponse(m) => duplicate_as(m, Self::GssEncResponse),
+            Self::Authentication(m) => duplicate_as(m, Self::Authentication),
+            Self::ParameterStatus(m) => duplicate_as(m, Self::ParameterStatus),
+            Self::BackendKeyData(m) => duplicate_as(m, Self::BackendKeyData),
+            Self::NegotiateProtocolVersion(m) => duplicate_as(m, Self::NegotiateProtocolVersion),
+            Self::ParseComplete(m) => duplicate_as(m, Self::ParseComplete),
+            Self::BindComplete(m) => duplicate_as(m, Self::BindComplete),
+            Self::CloseComplete(m) => duplicate_as(m, Self::CloseComplete),
+            Self::PortalSuspended(m) => duplicate_as(m, Self::PortalSuspended),
+            Self::EmptyQueryResponse(m) => duplicate_as(m, Self::EmptyQueryResponse),
+            Self::NoData(m) => duplicate_as(m, Self::NoData),
+            Self::CommandComplete(m) => duplicate_as(m, Self::CommandComplete),
+            Self::ReadyForQuery(m) => duplicate_as(m, Self::ReadyForQuery),
+            Self::ErrorResponse(m) => duplicate_as(m, Self::ErrorResponse),
+            Self::NoticeResponse(m) => duplicate_as(m, Self::NoticeResponse),
+            Self::NotificationResponse(m) => duplicate_as(m, Self::NotificationResponse),
+            Self::ParameterDescription(m) => duplicate_as(m, Self::ParameterDescription),
+            Self::RowDescription(m) => duplicate_as(m, Self::RowDescription),
+            Self::DataRow(m) => duplicate_as(m, Self::DataRow),
+            Self::CopyData(m) => duplicate_as(m, Self::CopyData),
+            Self::CopyDone(m) => duplicate_as(m, Self::CopyDone),
+            Self::CopyFail(m) => duplicate_as(m, Self::CopyFail),
+            Self::CopyInResponse(m) => duplicate_as(m, Self::CopyInResponse),
+            Self::CopyOutResponse(m) => duplicate_as(m, Self::CopyOutResponse),
+            Self::CopyBothResponse(m) => duplicate_as(m, Self::CopyBothResponse),
         }
     }
 }

@@ -3,7 +3,7 @@ ghost use Rattle.std.specs.Prelude.{◌≡◌, ◌++◌, ℕ, List, IfOk, IfSome
 ghost use Rattle.pgw_types.specs.declared.context.ProtocolVersion.{ProtocolVersion as TheVersion};
 ghost use Rattle.pgw_types.specs.declared.context.DecodeContext.{DecodeContext as TheContext};
 ghost use Rattle.pgw_wire.specs.Framing.{Appends, Decodes};
-ghost use Rattle.pgw_frontend.specs.Frontend.{encoding, negotiation_front, first_front, typed_front, frontend_front, is_extended};
+ghost use Rattle.pgw_frontend.specs.Frontend.{encoding, negotiation_front, first_front, frontend_by, typed_front, frontend_front, is_extended};
 ghost use Rattle.pgw_frontend.specs.FrontendSpells.{SpellsFrontend, Awaits, as_read, SuitsFrontend};
 ghost use Rattle.pgw_frontend.specs.declared.frontend.PgWireFrontendMessage.{PgWireFrontendMessage as TheMessage};
 
@@ -22,6 +22,7 @@ use pgw_types::context::DecodeContext;
 use pgw_types::error::{PgWireError, PgWireResult};
 use pgw_types::listed::Duplicate;
 use pgw_types::memory::OutOfMemory;
+use pgw_wire::kinds::{decode_as, duplicate_as};
 use pgw_wire::message::Message;
 use std::alloc::Global;
 
@@ -186,9 +187,9 @@ fn decode_first(
         return Ok(None);
     }
     if CancelRequest::is_cancel_request_packet(buf.as_slice()) {
-        Ok(CancelRequest::decode(alloc, buf, ctx)?.map(PgWireFrontendMessage::CancelRequest))
+        decode_as(alloc, buf, ctx, PgWireFrontendMessage::CancelRequest)
     } else {
-        Ok(Startup::decode(alloc, buf, ctx)?.map(PgWireFrontendMessage::Startup))
+        decode_as(alloc, buf, ctx, PgWireFrontendMessage::Startup)
     }
 }
 
@@ -205,22 +206,37 @@ fn decode_typed(
         return Ok(None);
     }
     let byte = buf.as_slice()[0];
+    decode_by(byte, alloc, buf, ctx)
+}
+
+// By the type byte.
+fn decode_by(
+    byte: u8,
+    alloc: Global,
+    buf: &mut BytesMut,
+    ctx: &DecodeContext,
+) -> PgWireResult<Option<PgWireFrontendMessage>>
+    ensures { Decodes result buf.old.items buf.new.items (frontend_by byte ctx.now buf.old.items) }
+{
     match byte {
-        b'p' => Ok(PasswordMessageFamily::decode(alloc, buf, ctx)?.map(
+        b'p' => decode_as(
+            alloc,
+            buf,
+            ctx,
             PgWireFrontendMessage::PasswordMessageFamily,
-        )),
-        b'Q' => Ok(Query::decode(alloc, buf, ctx)?.map(PgWireFrontendMessage::Query)),
-        b'P' => Ok(Parse::decode(alloc, buf, ctx)?.map(PgWireFrontendMessage::Parse)),
-        b'B' => Ok(Bind::decode(alloc, buf, ctx)?.map(PgWireFrontendMessage::Bind)),
-        b'C' => Ok(Close::decode(alloc, buf, ctx)?.map(PgWireFrontendMessage::Close)),
-        b'D' => Ok(Describe::decode(alloc, buf, ctx)?.map(PgWireFrontendMessage::Describe)),
-        b'E' => Ok(Execute::decode(alloc, buf, ctx)?.map(PgWireFrontendMessage::Execute)),
-        b'H' => Ok(Flush::decode(alloc, buf, ctx)?.map(PgWireFrontendMessage::Flush)),
-        b'S' => Ok(Sync::decode(alloc, buf, ctx)?.map(PgWireFrontendMessage::Sync)),
-        b'X' => Ok(Terminate::decode(alloc, buf, ctx)?.map(PgWireFrontendMessage::Terminate)),
-        b'd' => Ok(CopyData::decode(alloc, buf, ctx)?.map(PgWireFrontendMessage::CopyData)),
-        b'c' => Ok(CopyDone::decode(alloc, buf, ctx)?.map(PgWireFrontendMessage::CopyDone)),
-        b'f' => Ok(CopyFail::decode(alloc, buf, ctx)?.map(PgWireFrontendMessage::CopyFail)),
+        ),
+        b'Q' => decode_as(alloc, buf, ctx, PgWireFrontendMessage::Query),
+        b'P' => decode_as(alloc, buf, ctx, PgWireFrontendMessage::Parse),
+        b'B' => decode_as(alloc, buf, ctx, PgWireFrontendMessage::Bind),
+        b'C' => decode_as(alloc, buf, ctx, PgWireFrontendMessage::Close),
+        b'D' => decode_as(alloc, buf, ctx, PgWireFrontendMessage::Describe),
+        b'E' => decode_as(alloc, buf, ctx, PgWireFrontendMessage::Execute),
+        b'H' => decode_as(alloc, buf, ctx, PgWireFrontendMessage::Flush),
+        b'S' => decode_as(alloc, buf, ctx, PgWireFrontendMessage::Sync),
+        b'X' => decode_as(alloc, buf, ctx, PgWireFrontendMessage::Terminate),
+        b'd' => decode_as(alloc, buf, ctx, PgWireFrontendMessage::CopyData),
+        b'c' => decode_as(alloc, buf, ctx, PgWireFrontendMessage::CopyDone),
+        b'f' => decode_as(alloc, buf, ctx, PgWireFrontendMessage::CopyFail),
         _ => Err(PgWireError::InvalidMessageType(byte)),
     }
 }
@@ -246,41 +262,23 @@ fn decode_exact(
 impl Duplicate for PgWireFrontendMessage {
     fn duplicate(&self) -> Result<PgWireFrontendMessage, OutOfMemory> {
         match self {
-            PgWireFrontendMessage::SslNegotiation(x) => Ok(PgWireFrontendMessage::SslNegotiation(
-                x.duplicate()?,
-            )),
-            PgWireFrontendMessage::Startup(x) => Ok(PgWireFrontendMessage::Startup(x.duplicate()?)),
-            PgWireFrontendMessage::CancelRequest(x) => Ok(PgWireFrontendMessage::CancelRequest(
-                x.duplicate()?,
-            )),
-            PgWireFrontendMessage::PasswordMessageFamily(x) => Ok(
-                PgWireFrontendMessage::PasswordMessageFamily(x.duplicate()?),
-            ),
-            PgWireFrontendMessage::PortalSuspended(x) => Ok(PgWireFrontendMessage::PortalSuspended(
-                x.duplicate()?,
-            )),
-            PgWireFrontendMessage::Query(x) => Ok(PgWireFrontendMessage::Query(x.duplicate()?)),
-            PgWireFrontendMessage::Parse(x) => Ok(PgWireFrontendMessage::Parse(x.duplicate()?)),
-            PgWireFrontendMessage::Bind(x) => Ok(PgWireFrontendMessage::Bind(x.duplicate()?)),
-            PgWireFrontendMessage::Close(x) => Ok(PgWireFrontendMessage::Close(x.duplicate()?)),
-            PgWireFrontendMessage::Describe(x) => Ok(PgWireFrontendMessage::Describe(
-                x.duplicate()?,
-            )),
-            PgWireFrontendMessage::Execute(x) => Ok(PgWireFrontendMessage::Execute(x.duplicate()?)),
-            PgWireFrontendMessage::Flush(x) => Ok(PgWireFrontendMessage::Flush(x.duplicate()?)),
-            PgWireFrontendMessage::Sync(x) => Ok(PgWireFrontendMessage::Sync(x.duplicate()?)),
-            PgWireFrontendMessage::Terminate(x) => Ok(PgWireFrontendMessage::Terminate(
-                x.duplicate()?,
-            )),
-            PgWireFrontendMessage::CopyData(x) => Ok(PgWireFrontendMessage::CopyData(
-                x.duplicate()?,
-            )),
-            PgWireFrontendMessage::CopyDone(x) => Ok(PgWireFrontendMessage::CopyDone(
-                x.duplicate()?,
-            )),
-            PgWireFrontendMessage::CopyFail(x) => Ok(PgWireFrontendMessage::CopyFail(
-                x.duplicate()?,
-            )),
+            Self::SslNegotiation(x) => duplicate_as(x, Self::SslNegotiation),
+            Self::Startup(x) => duplicate_as(x, Self::Startup),
+            Self::CancelRequest(x) => duplicate_as(x, Self::CancelRequest),
+            Self::PasswordMessageFamily(x) => duplicate_as(x, Self::PasswordMessageFamily),
+            Self::PortalSuspended(x) => duplicate_as(x, Self::PortalSuspended),
+            Self::Query(x) => duplicate_as(x, Self::Query),
+            Self::Parse(x) => duplicate_as(x, Self::Parse),
+            Self::Bind(x) => duplicate_as(x, Self::Bind),
+            Self::Close(x) => duplicate_as(x, Self::Close),
+            Self::Describe(x) => duplicate_as(x, Self::Describe),
+            Self::Execute(x) => duplicate_as(x, Self::Execute),
+            Self::Flush(x) => duplicate_as(x, Self::Flush),
+            Self::Sync(x) => duplicate_as(x, Self::Sync),
+            Self::Terminate(x) => duplicate_as(x, Self::Terminate),
+            Self::CopyData(x) => duplicate_as(x, Self::CopyData),
+            Self::CopyDone(x) => duplicate_as(x, Self::CopyDone),
+            Self::CopyFail(x) => duplicate_as(x, Self::CopyFail),
         }
     }
 }

@@ -11,6 +11,7 @@ pub mod equality;
 pub mod field;
 pub mod framing;
 pub mod item;
+pub mod kinds;
 pub mod message;
 pub mod params;
 pub mod reader;
