@@ -121,12 +121,10 @@ impl ConnectionManager {
         ensures err { IfErr result (λ e. Grew e pass.old pass.new ⊎ ((e ≡ NoMemory) × (pass.new ≡ pass.old))) }
     {
         let key = secret_key.to_bytes(alloc)?;
-        let given = key.duplicate()?;
-        let copy = copied(alloc, key.as_slice())?;
         let Ok(owner) = Arc::try_clone(manager) else {
             return Err(RegistryError::OutOfMemory);
         };
-        let number = manager.add(rt, pass, pid, key.as_slice(), given, copy)?;
+        let number = manager.add_copied(rt, alloc, pass, pid, &key)?;
         let guard = ConnectionGuard {
             manager: owner,
             pid,
@@ -209,6 +207,24 @@ impl ConnectionManager {
         commit::<Brand>(&self.desk, &mut pass.place, 0, pid, key);
         leave(&self.desk, &mut pass.place, registry);
         Ok(reply)
+    }
+
+    // The number of the pair's handle. The copies of the key are made before the turn is taken.
+    fn add_copied<R: Wait>(
+        &self,
+        rt: &R,
+        alloc: Global,
+        pass: &mut Pass,
+        pid: i32,
+        key: &Octets,
+    ) -> Result<u64, RegistryError>
+        requires { pass.old.of ≡ self.now }
+        ensures ok { IfOk result (λ h. Makes (Register pid key.now) (Handled h) pass.old pass.new) }
+        ensures err { IfErr result (λ e. Grew e pass.old pass.new ⊎ ((e ≡ NoMemory) × (pass.new ≡ pass.old))) }
+    {
+        let given = key.duplicate()?;
+        let copy = copied(alloc, key.as_slice())?;
+        self.add(rt, pass, pid, key.as_slice(), given, copy)
     }
 
     // The number of the pair's handle. No memory that grows with the key is taken while the turn is held.
