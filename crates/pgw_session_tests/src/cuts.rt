@@ -2,10 +2,12 @@
 ghost use Rattle.std.specs.Prelude.{◌<◌};
 
 use pgw_client::{
-    Answer, Config, ExecuteResult, Listed, MemoryLink, Octets, ProtocolVersion, Request,
-    SessionReport, run_session,
+    Answer, Config, ExecuteResult, Listed, MemoryLink, Octets, OutOfMemory, PgWireClientResult,
+    ProtocolVersion, Request, SessionReport, run_session,
 };
 use std::alloc::Global;
+use std::fmt::Debug;
+use std::process::Abort;
 use std::test::Fail;
 
 // Simple queries and then Executes of the unnamed portal; the server's bytes, those that it is to get, and the answers.
@@ -72,7 +74,9 @@ E\0\0\0\x09\0\0\0\0\x01H\0\0\0\x04",
     answers: "remote 0\ncomplete 0\nsuspended 1\n",
 };
 
-fn simple_queries(alloc: Global, queries: &[&str]) -> Result<Vec<Request>, Fail> {
+const CASES: &[Case<'static>] = &[SELECT_ONE, NEGOTIATED, TRANSACTION, EXECUTES];
+
+fn simple_queries(alloc: Global, queries: &[&str]) -> Result<Vec<Request>, OutOfMemory> {
     let mut requests = Vec::new(alloc);
     for query in queries {
         requests.push(Request::simple(alloc, query)?)?;
@@ -80,7 +84,7 @@ fn simple_queries(alloc: Global, queries: &[&str]) -> Result<Vec<Request>, Fail>
     Ok(requests)
 }
 
-fn requests_of(alloc: Global, case: &Case<'_>) -> Result<Vec<Request>, Fail> {
+fn requests_of(alloc: Global, case: &Case<'_>) -> Result<Vec<Request>, OutOfMemory> {
     let mut requests = simple_queries(alloc, case.queries)?;
     for rows in case.executes {
         requests.push(Request::execute(alloc, "", *rows)?)?;
@@ -88,33 +92,51 @@ fn requests_of(alloc: Global, case: &Case<'_>) -> Result<Vec<Request>, Fail> {
     Ok(requests)
 }
 
-fn config_of(alloc: Global, case: &Case<'_>) -> Result<Config, Fail> {
+fn config_of(alloc: Global, case: &Case<'_>) -> PgWireClientResult<Config> {
     let mut config = Config::parse(alloc, "user=bob")?;
     config.protocol_version(case.version);
     Ok(config)
 }
 
 // A link to a server that says the case's bytes.
-fn link_of(alloc: Global, case: &Case<'_>, cut: usize) -> Result<MemoryLink, Fail>
+fn link_of(alloc: Global, case: &Case<'_>, cut: usize) -> Result<MemoryLink, OutOfMemory>
     requires { 0 < cut }
 {
     let server = Octets::from_slice(alloc, case.server)?;
     Ok(MemoryLink::new(alloc, server, cut, Listed::new(alloc), Listed::new(alloc)))
 }
 
-fn report_of(alloc: Global, case: &Case<'_>, link: &mut MemoryLink) -> Result<SessionReport, Fail> {
-    let config = config_of(alloc, case)?;
-    let requests = requests_of(alloc, case)?;
-    Ok(run_session(alloc, link, &config, &requests, &[0; 18], 1000)?)
+// It has no clause, since those of a session make what calls it dear.
+fn session(
+    alloc: Global,
+    link: &mut MemoryLink,
+    config: &Config,
+    requests: &[Request],
+) -> PgWireClientResult<SessionReport> {
+    run_session(alloc, link, config, requests, &[0; 18], 1000)
 }
 
-// What is written, and the report, where at most so many bytes go at a time.
-fn held(alloc: Global, case: &Case<'_>, cut: usize) -> Result<(Vec<u8>, SessionReport), Fail>
-    requires { 0 < cut }
-{
-    let mut link = link_of(alloc, case, cut)?;
-    let report = report_of(alloc, case, &mut link)?;
-    Ok((link.written().to_vec(alloc)?, report))
+fn report_by(
+    alloc: Global,
+    case: &Case<'_>,
+    link: &mut MemoryLink,
+    config: &Config,
+) -> PgWireClientResult<SessionReport> {
+    let requests = requests_of(alloc, case)?;
+    let report = session(alloc, link, config, &requests);
+    drop(requests);
+    report
+}
+
+fn report_of(
+    alloc: Global,
+    case: &Case<'_>,
+    link: &mut MemoryLink,
+) -> PgWireClientResult<SessionReport> {
+    let config = config_of(alloc, case)?;
+    let report = report_by(alloc, case, link, &config);
+    drop(config);
+    report
 }
 
 // How an answer is called, and how many responses or rows it has.
@@ -129,26 +151,75 @@ fn answered(answer: &Answer) -> (&'static str, usize) {
 }
 
 // The answers, a line each.
-fn answers_of(alloc: Global, report: &SessionReport) -> Result<String, Fail> {
+fn lines_of(alloc: Global, answers: &[Answer]) -> Result<String, OutOfMemory> {
     let mut text = String::new(alloc);
-    for answer in report.answers.as_slice() {
+    for answer in answers {
         let (name, count) = answered(answer);
         text.push_str(format!(in alloc; "{name} {count}\n")?.as_str())?;
     }
     Ok(text)
 }
 
-// The first of the cuts from 1 to 40 at which a session writes or reports other than it does uncut.
-fn first_other(
+fn answers_over(
     alloc: Global,
     case: &Case<'_>,
-    uncut: &SessionReport,
-) -> Result<Option<usize>, Fail> {
-    let want = format!(in alloc; "{uncut:?}")?;
+    link: &mut MemoryLink,
+) -> PgWireClientResult<String> {
+    let report = report_of(alloc, case, link)?;
+    let lines = lines_of(alloc, report.answers.as_slice());
+    drop(report);
+    Ok(lines?)
+}
+
+// Compares what a session writes over the link, and what it is answered, with what the case wants.
+fn compare<R: Abort>(
+    rt: &R,
+    alloc: Global,
+    case: &Case<'_>,
+    link: &mut MemoryLink,
+) -> Result<(), Fail> {
+    assert_eq!(rt; answers_over(alloc, case, link)?.as_str(), case.answers);
+    assert_eq!(rt; link.written(), case.client);
+    Ok(())
+}
+
+fn check_uncut<R: Abort>(rt: &R, alloc: Global, case: &Case<'_>) -> Result<(), Fail> {
+    let mut link = link_of(alloc, case, 8192)?;
+    let compared = compare(rt, alloc, case, &mut link);
+    drop(link);
+    compared
+}
+
+// A value as text.
+fn shown<T: Debug + Drop>(alloc: Global, value: T) -> Result<String, OutOfMemory> {
+    Ok(format!(in alloc; "{value:?}")?)
+}
+
+// The whole report as text, where a session over the link writes what the case wants.
+fn shown_over(alloc: Global, case: &Case<'_>, link: &mut MemoryLink) -> PgWireClientResult<String> {
+    let text = shown(alloc, report_of(alloc, case, link)?)?;
+    if link.written() == case.client {
+        Ok(text)
+    } else {
+        Ok(String::new(alloc))
+    }
+}
+
+// The same where at most so many bytes go at a time.
+fn shown_at(alloc: Global, case: &Case<'_>, cut: usize) -> PgWireClientResult<String>
+    requires { 0 < cut }
+{
+    let mut link = link_of(alloc, case, cut)?;
+    let text = shown_over(alloc, case, &mut link);
+    drop(link);
+    text
+}
+
+// The first of the cuts from 1 to 40 at which a session writes or reports other than it does uncut.
+fn first_other(alloc: Global, case: &Case<'_>) -> PgWireClientResult<Option<usize>> {
+    let uncut = shown_at(alloc, case, 8192)?;
     for cut in 1..41 {
-        let (written, report) = held(alloc, case, cut)?;
-        let told = format!(in alloc; "{report:?}")?;
-        if written.as_slice() != case.client || told != want {
+        if shown_at(alloc, case, cut)? != uncut {
             return Ok(Some(cut));
         }
     }
@@ -157,12 +228,9 @@ fn first_other(
 
 #[test]
 fn cuts_change_nothing(rt: HostRuntime) -> Result<(), Fail> {
-    let alloc = rt.alloc();
-    for case in [SELECT_ONE, NEGOTIATED, TRANSACTION, EXECUTES] {
-        let (written, report) = held(alloc, &case, 8192)?;
-        assert_eq!(rt; written.as_slice(), case.client);
-        assert_eq!(rt; answers_of(alloc, &report)?.as_str(), case.answers);
-        assert_eq!(rt; first_other(alloc, &case, &report)?, None);
+    for case in CASES {
+        check_uncut(&rt, rt.alloc(), case)?;
+        assert_eq!(rt; first_other(rt.alloc(), case)?, None);
     }
     Ok(())
 }

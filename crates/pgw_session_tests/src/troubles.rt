@@ -2,10 +2,11 @@
 ghost use Rattle.std.specs.Prelude.{◌<◌};
 
 use pgw_client::{
-    Config, Listed, MemoryLink, Octets, PgWireClientError, PgWireClientResult, Request,
-    SessionReport, run_session,
+    Config, Listed, MemoryLink, Octets, OutOfMemory, PgWireClientError, PgWireClientResult,
+    Request, SessionReport, run_session,
 };
 use std::alloc::Global;
+use std::process::Abort;
 use std::test::Fail;
 
 // AuthenticationOk, ReadyForQuery; then a row of one field, its result and ReadyForQuery.
@@ -36,7 +37,7 @@ const SOUND: Setting<'static> = Setting {
     failing_write: 0,
 };
 
-fn one(alloc: Global, number: u64) -> Result<Listed<u64>, Fail> {
+fn one(alloc: Global, number: u64) -> Result<Listed<u64>, OutOfMemory> {
     let mut numbers = Listed::new(alloc);
     numbers.push(number)?;
     Ok(numbers)
@@ -53,7 +54,7 @@ fn ending(answer: &PgWireClientResult<SessionReport>) -> &'static str {
     }
 }
 
-fn link_of(alloc: Global, setting: &Setting<'_>, cut: usize) -> Result<MemoryLink, Fail>
+fn link_of(alloc: Global, setting: &Setting<'_>, cut: usize) -> Result<MemoryLink, OutOfMemory>
     requires { 0 < cut }
 {
     let server = Octets::from_slice(alloc, setting.server)?;
@@ -62,20 +63,63 @@ fn link_of(alloc: Global, setting: &Setting<'_>, cut: usize) -> Result<MemoryLin
     Ok(MemoryLink::new(alloc, server, cut, failing_reads, failing_writes))
 }
 
-fn end_over(alloc: Global, limit: u64, link: &mut MemoryLink) -> Result<&'static str, Fail> {
-    let config = Config::parse(alloc, "user=bob")?;
-    let requests = [Request::simple(alloc, "SELECT 1")?];
-    let answer = run_session(alloc, link, &config, &requests, &[0; 18], limit);
-    Ok(ending(&answer))
+fn ending_of(
+    alloc: Global,
+    link: &mut MemoryLink,
+    config: &Config,
+    requests: &[Request],
+    limit: u64,
+) -> &'static str {
+    let answer = run_session(alloc, link, config, requests, &[0; 18], limit);
+    let ended = ending(&answer);
+    drop(answer);
+    ended
 }
 
-// What is written, and how the session ends, where at most so many bytes go at a time.
-fn held(alloc: Global, setting: &Setting<'_>, cut: usize) -> Result<(Vec<u8>, &'static str), Fail>
-    requires { 0 < cut }
-{
-    let mut link = link_of(alloc, setting, cut)?;
-    let ended = end_over(alloc, setting.limit, &mut link)?;
-    Ok((link.written().to_vec(alloc)?, ended))
+fn end_by(
+    alloc: Global,
+    link: &mut MemoryLink,
+    config: &Config,
+    limit: u64,
+) -> Result<&'static str, OutOfMemory> {
+    let requests = [Request::simple(alloc, "SELECT 1")?];
+    let ended = ending_of(alloc, link, config, &requests, limit);
+    drop(requests);
+    Ok(ended)
+}
+
+fn end_over(alloc: Global, link: &mut MemoryLink, limit: u64) -> Result<&'static str, Fail> {
+    let config = Config::parse(alloc, "user=bob")?;
+    let ended = end_by(alloc, link, &config, limit);
+    drop(config);
+    Ok(ended?)
+}
+
+// Compares what a session writes over the link, and how it ends, with what is wanted. The number tells a failure's case.
+fn compare<R: Abort>(
+    rt: &R,
+    alloc: Global,
+    link: &mut MemoryLink,
+    limit: u64,
+    (number, written, ended): (usize, &[u8], &str),
+) -> Result<(), Fail> {
+    assert_eq!(rt; end_over(alloc, link, limit)?, ended, "{number}");
+    assert_eq!(rt; link.written(), written, "{number}");
+    Ok(())
+}
+
+// The same where at most so many bytes go at a time.
+fn check<R: Abort>(
+    rt: &R,
+    alloc: Global,
+    setting: &Setting<'_>,
+    cut: usize,
+    want: (usize, &[u8], &str),
+) -> Result<(), Fail> {
+    let mut link = link_of(alloc, setting, cut.max(1))?;
+    let compared = compare(rt, alloc, &mut link, setting.limit, want);
+    drop(link);
+    compared
 }
 
 // What is written by a client that got so many bytes.
@@ -87,42 +131,45 @@ fn written_behind(count: usize) -> &'static [u8] {
     }
 }
 
+// How a session ends that stands so many bytes before its end.
+fn ended_before(left: usize, trouble: &'static str) -> &'static str {
+    if left > 0 { trouble } else { "Ok" }
+}
+
 #[test]
 fn limits(rt: HostRuntime) -> Result<(), Fail> {
-    let alloc = rt.alloc();
     for count in 0..=SERVER.len() {
         let setting = Setting {
             limit: count as u64,
             ..SOUND
         };
-        let (written, ended) = held(alloc, &setting, 1000)?;
-        let want = if count < SERVER.len() {
-            "ReadLimit"
-        } else {
-            "Ok"
-        };
-        assert_eq!(rt; written.as_slice(), written_behind(count), "{count}");
-        assert_eq!(rt; ended, want, "{count}");
+        let want = ended_before(SERVER.len() - count, "ReadLimit");
+        check(
+            &rt,
+            rt.alloc(),
+            &setting,
+            1000,
+            (count, written_behind(count), want),
+        )?;
     }
     Ok(())
 }
 
 #[test]
 fn early_ends(rt: HostRuntime) -> Result<(), Fail> {
-    let alloc = rt.alloc();
     for count in 0..=SERVER.len() {
         let setting = Setting {
             server: &SERVER[..count],
             ..SOUND
         };
-        let (written, ended) = held(alloc, &setting, 1000)?;
-        let want = if count < SERVER.len() {
-            "UnexpectedEOF"
-        } else {
-            "Ok"
-        };
-        assert_eq!(rt; written.as_slice(), written_behind(count), "{count}");
-        assert_eq!(rt; ended, want, "{count}");
+        let want = ended_before(SERVER.len() - count, "UnexpectedEOF");
+        check(
+            &rt,
+            rt.alloc(),
+            &setting,
+            1000,
+            (count, written_behind(count), want),
+        )?;
     }
     Ok(())
 }
@@ -130,20 +177,19 @@ fn early_ends(rt: HostRuntime) -> Result<(), Fail> {
 // Byte by byte: the read behind so many bytes fails. Behind the last there is none.
 #[test]
 fn failing_reads(rt: HostRuntime) -> Result<(), Fail> {
-    let alloc = rt.alloc();
     for count in 0..=SERVER.len() {
         let setting = Setting {
             failing_read: count as u64 + 1,
             ..SOUND
         };
-        let (written, ended) = held(alloc, &setting, 1)?;
-        let want = if count < SERVER.len() {
-            "IoError"
-        } else {
-            "Ok"
-        };
-        assert_eq!(rt; written.as_slice(), written_behind(count), "{count}");
-        assert_eq!(rt; ended, want, "{count}");
+        let want = ended_before(SERVER.len() - count, "IoError");
+        check(
+            &rt,
+            rt.alloc(),
+            &setting,
+            1,
+            (count, written_behind(count), want),
+        )?;
     }
     Ok(())
 }
@@ -151,49 +197,43 @@ fn failing_reads(rt: HostRuntime) -> Result<(), Fail> {
 // Byte by byte: the write behind so many bytes fails. Behind the last there is none.
 #[test]
 fn failing_writes(rt: HostRuntime) -> Result<(), Fail> {
-    let alloc = rt.alloc();
     for count in 0..=CLIENT.len() {
         let setting = Setting {
             failing_write: count as u64 + 1,
             ..SOUND
         };
-        let (written, ended) = held(alloc, &setting, 1)?;
-        let want = if count < CLIENT.len() {
-            "IoError"
-        } else {
-            "Ok"
-        };
-        assert_eq!(rt; written.as_slice(), &CLIENT[..count], "{count}");
-        assert_eq!(rt; ended, want, "{count}");
+        let want = ended_before(CLIENT.len() - count, "IoError");
+        check(
+            &rt,
+            rt.alloc(),
+            &setting,
+            1,
+            (count, &CLIENT[..count], want),
+        )?;
     }
     Ok(())
 }
 
+// The read and the write that fail, what is written, and how the session ends.
+const AT_ONCE: &[(u64, u64, &[u8], &str)] = &[
+    (1, 0, b"\0\0\0\x12\0\x03\0\0user\0bob\0\0", "IoError"),
+    (2, 0, CLIENT, "Ok"),
+    (3, 0, CLIENT, "Ok"),
+    (0, 1, b"", "IoError"),
+    (0, 2, b"\0\0\0\x12\0\x03\0\0user\0bob\0\0", "IoError"),
+    (0, 3, CLIENT, "Ok"),
+];
+
 // All at once: a read brings all that the server says, and each message is one write.
 #[test]
 fn failing_calls_at_once(rt: HostRuntime) -> Result<(), Fail> {
-    let alloc = rt.alloc();
-    let cases: [(u64, u64, usize, &str); 6] = [
-        (1, 0, STARTUP, "IoError"),
-        (2, 0, CLIENT.len(), "Ok"),
-        (3, 0, CLIENT.len(), "Ok"),
-        (0, 1, 0, "IoError"),
-        (0, 2, STARTUP, "IoError"),
-        (0, 3, CLIENT.len(), "Ok"),
-    ];
-    for (failing_read, failing_write, count, want) in cases {
+    for (number, (failing_read, failing_write, written, ended)) in AT_ONCE.iter().enumerate() {
         let setting = Setting {
-            failing_read,
-            failing_write,
+            failing_read: *failing_read,
+            failing_write: *failing_write,
             ..SOUND
         };
-        let (written, ended) = held(alloc, &setting, 1000)?;
-        assert_eq!(rt;
-            written.as_slice(),
-            &CLIENT[..count],
-            "{failing_read} {failing_write}"
-        );
-        assert_eq!(rt; ended, want, "{failing_read} {failing_write}");
+        check(&rt, rt.alloc(), &setting, 1000, (number, written, ended))?;
     }
     Ok(())
 }
