@@ -1,11 +1,13 @@
 //! What a client lays before its handlers.
-ghost use Rattle.std.specs.Prelude.{◌≡◌, [], false, IfOk, OnOk, OnErr};
+ghost use Rattle.std.specs.Prelude.{◌≡◌, [], false, IfErr, IfOk, OnOk, OnErr};
 ghost use Rattle.std.specs.FinMap as map;
 ghost use Rattle.pgw_session.specs.Segments.{is_ready};
 ghost use Rattle.pgw_config.specs.declared.config.Config.{Config as TheConfig};
 ghost use Rattle.pgw_connection.specs.Talk.{fresh, told};
 ghost use Rattle.pgw_frontend.specs.Frontend.{encoding};
 ghost use Rattle.pgw_client.specs.Wire.{PutOut};
+ghost use Rattle.pgw_handlers.specs.Handling.{OfError};
+ghost use Rattle.pgw_handlers.specs.Sending.{Sent, NotSent, IsSpelled, IsUsable};
 ghost use Rattle.pgw_connection.specs.Desk.{client_of, sight_of, first_client, insert_all, with_information, is_wanting, cancel_bytes};
 
 use bytes::BytesMut;
@@ -103,7 +105,10 @@ impl Desk {
             Err(_) => return Err(PgWireClientError::OutOfMemory),
         };
         let request = CancelRequest::new(self.process_id, key);
-        put(&PgWireFrontendMessage::CancelRequest(request), out)
+        let message = PgWireFrontendMessage::CancelRequest(request);
+        let done = put(&message, out);
+        drop(message);
+        done
     }
 
     /// Notes what a message tells that is passed over, and says whether it is ReadyForQuery.
@@ -201,17 +206,34 @@ fn is_wanting(error: &PgWireClientError) -> bool
     matches!(error, PgWireClientError::OutOfMemory)
 }
 
-impl Outgoing for Desk {
-    fn send(&mut self, message: PgWireFrontendMessage) -> PgWireClientResult<()> {
+impl Desk {
+    // Appends what a handler sends. A message that has no spelling leaves the desk as it was, any other error unusable.
+    fn append(&mut self, message: &PgWireFrontendMessage) -> PgWireClientResult<()>
+        ensures sent { OnOk result (Sent (encoding message.now) (sight_of self.old) (sight_of self.new)) }
+        ensures failed { IfErr result (λ e. NotSent (encoding message.now) (sight_of self.old) (sight_of self.new) e) }
+        ensures spelled { IsSpelled (encoding message.now) result }
+        ensures client { client_of self.new ≡ client_of self.old }
+        ensures usable { IsUsable result self.old.broken self.new.broken }
+        ensures config { self.new.config ≡ self.old.config }
+        ensures cause { OfError result 0 0 self.new.broken }
+    {
         if self.broken {
             return Err(PgWireClientError::Broken);
         }
-        match put(&message, &mut self.out) {
+        match put(message, &mut self.out) {
             Ok(()) => Ok(()),
             Err(e) => {
                 self.broken = is_wanting(&e);
                 Err(e)
             }
         }
+    }
+}
+
+impl Outgoing for Desk {
+    fn send(&mut self, message: PgWireFrontendMessage) -> PgWireClientResult<()> {
+        let sent = self.append(&message);
+        drop(message);
+        sent
     }
 }
