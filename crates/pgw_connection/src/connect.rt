@@ -185,12 +185,11 @@ fn hang_up<D: Dialer>(client: PgWireClient<D::Link>, dialer: &mut D)
     let PgWireClient {
         desk,
         link,
-        inbox,
+        inbox: _inbox,
         read: _read,
         limit: _limit,
     } = client;
     drop(desk);
-    drop(inbox);
     dialer.close(link);
 }
 

@@ -30,10 +30,10 @@ use std::alloc::Global;
 fn is_due(kind: Kind) -> bool
     ensures { result ≡ is_due kind }
 {
-    let sent = behind_error(kind);
-    let due = sent.is_some();
-    drop(sent);
-    due
+    let due = behind_error(kind);
+    let is_due = due.is_some();
+    drop(due);
+    is_due
 }
 
 // Whether the message says that a portal was suspended.
@@ -298,9 +298,9 @@ impl<L: Link> PgWireClient<L> {
         }
         match request {
             Ok(request) => {
-                let asked = self.request(alloc, handler, &request);
+                let answer = self.request(alloc, handler, &request);
                 drop(request);
-                asked
+                answer
             }
             Err(_) => {
                 self.desk.broken = true;

@@ -215,6 +215,7 @@ impl<L: Link> PgWireClient<L> {
                 Ok(true) => return error,
                 Ok(false) => {}
                 Err(_) => {
+                    drop(error);
                     self.desk.broken = true;
                     return PgWireClientError::OutOfMemory;
                 }

@@ -168,10 +168,7 @@ impl<L: Link> PgWireClient<L> {
         match answer {
             Ok(state) => match self.put_out() {
                 Ok(()) => Ok(state),
-                Err(error) => {
-                    drop(state);
-                    Err(error)
-                }
+                Err(error) => Err(error),
             },
             Err(error) => Err(self.give_up(alloc, goes_on, closing, error)),
         }
