@@ -13,4 +13,3 @@ pub mod listed;
 pub mod memory;
 pub mod octets;
 pub mod text;
-mod told;
