@@ -1,8 +1,9 @@
 //! How SCRAM logins end.
 
+use crate::session::{link_of, session};
 use pgw_client::{
-    Config, Listed, MemoryLink, Octets, PgWireClientError, PgWireClientResult, ScramFault,
-    SessionReport, run_session,
+    Config, MemoryLink, OutOfMemory, PgWireClientError, PgWireClientResult, ScramFault,
+    SessionReport,
 };
 use std::alloc::Global;
 use std::test::Fail;
@@ -15,17 +16,11 @@ pub const HONEST: &[u8] =
 const FORGED: &[u8] =
     b"R\0\0\0\x17\0\0\0\x0aSCRAM-SHA-256\0\0R\0\0\0\x4a\0\0\0\x0br=AAAAAAAAAAAAAAAAAAAAAAAAserver,s=W22ZaJ0SNY7soEsUEjb6gQ==,i=4096R\0\0\0\x0e\0\0\0\x0cv=AAAAR\0\0\0\x08\0\0\0\0Z\0\0\0\x05I";
 
-fn config_of(alloc: Global, password: &[u8]) -> Result<Config, Fail> {
+fn config_of(alloc: Global, password: &[u8]) -> Result<Config, OutOfMemory> {
     let mut config = Config::new(alloc);
     config.set_user(alloc, "bob")?;
     config.set_password(alloc, password)?;
     Ok(config)
-}
-
-// A link that moves few bytes at a time.
-fn link_of(alloc: Global, server: &[u8]) -> Result<MemoryLink, Fail> {
-    let server = Octets::from_slice(alloc, server)?;
-    Ok(MemoryLink::new(alloc, server, 7, Listed::new(alloc), Listed::new(alloc)))
 }
 
 fn name_of(answer: &PgWireClientResult<SessionReport>) -> &'static str {
@@ -37,12 +32,30 @@ fn name_of(answer: &PgWireClientResult<SessionReport>) -> &'static str {
     }
 }
 
-// How a login as bob ends.
-fn ended(alloc: Global, server: &[u8], password: &[u8]) -> Result<&'static str, Fail> {
+fn ending_of(alloc: Global, link: &mut MemoryLink, config: &Config) -> &'static str {
+    let answer = session(alloc, link, config, &[], 10_000);
+    let name = name_of(&answer);
+    drop(answer);
+    name
+}
+
+fn end_over(
+    alloc: Global,
+    link: &mut MemoryLink,
+    password: &[u8],
+) -> Result<&'static str, OutOfMemory> {
     let config = config_of(alloc, password)?;
-    let mut link = link_of(alloc, server)?;
-    let answer = run_session(alloc, &mut link, &config, &[], &[0; 18], 10_000);
-    Ok(name_of(&answer))
+    let ended = ending_of(alloc, link, &config);
+    drop(config);
+    Ok(ended)
+}
+
+// How a login as bob ends.
+fn ended(alloc: Global, server: &[u8], password: &[u8]) -> Result<&'static str, OutOfMemory> {
+    let mut link = link_of(alloc, server, 7)?;
+    let ended = end_over(alloc, &mut link, password);
+    drop(link);
+    ended
 }
 
 // The honest server; another signature than the one of this exchange; a password that is no text; another password than

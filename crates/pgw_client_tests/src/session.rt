@@ -1,62 +1,161 @@
+//! What sessions write, and what they are answered.
+ghost use Rattle.std.specs.Prelude.{◌<◌};
+
 use crate::scram::HONEST;
 use pgw_client::{
-    Answer, Config, DataRows, ExecuteResult, Listed, MemoryLink, Octets, PgWireClientError,
-    PgWireError, Request, Response, SessionReport, Target, Text, run_session,
+    Answer, Config, DataRows, ExecuteResult, Listed, MemoryLink, Octets, OutOfMemory,
+    PgWireClientError, PgWireClientResult, PgWireError, Request, Response, SessionReport, Target,
+    Text, run_session,
 };
 use std::alloc::Global;
+use std::process::Abort;
 use std::test::Fail;
 
-// What is written to a server that says this, and the report.
-fn held(
-    alloc: Global,
-    config: &str,
-    requests: &[Request],
-    server: &[u8],
-) -> Result<(Vec<u8>, SessionReport), Fail> {
-    let config = Config::parse(alloc, config)?;
+/// A link to a server that says this, which moves at most so many bytes at a time.
+pub fn link_of(alloc: Global, server: &[u8], cut: usize) -> Result<MemoryLink, OutOfMemory>
+    requires { 0 < cut }
+{
     let server = Octets::from_slice(alloc, server)?;
-    let mut link = MemoryLink::new(alloc, server, 50, Listed::new(alloc), Listed::new(alloc));
-    let report = run_session(alloc, &mut link, &config, requests, &[0; 18], 10000)?;
-    Ok((link.written().to_vec(alloc)?, report))
+    Ok(MemoryLink::new(alloc, server, cut, Listed::new(alloc), Listed::new(alloc)))
 }
 
-// MD5 password and salt: the worked exchange of the documentation's formula. SCRAM: computed with
-// Python's hashlib.
+/// A session over the link, with a nonce of zeros. It has no clause, since those of a session make what calls it dear.
+pub fn session(
+    alloc: Global,
+    link: &mut MemoryLink,
+    config: &Config,
+    requests: &[Request],
+    limit: u64,
+) -> PgWireClientResult<SessionReport> {
+    run_session(alloc, link, config, requests, &[0; 18], limit)
+}
+
+// How an answer is called, and how many rows or parameters it has.
+type Mark = (&'static str, usize);
+
+fn answered(answer: &Answer) -> Mark {
+    match answer {
+        Answer::Responses(responses) => ("responses", responses.as_slice().len()),
+        Answer::Prepared(statement) => ("prepared", statement.param_types.as_slice().len()),
+        Answer::Bound => ("bound", 0),
+        Answer::Executed(ExecuteResult::Complete(rows)) => ("complete", rows.len()),
+        Answer::Executed(ExecuteResult::Suspended(rows)) => ("suspended", rows.len()),
+        Answer::Described(target) => ("described", target.fields.as_slice().len()),
+        Answer::Closed => ("closed", 0),
+        Answer::Rows(rows) => ("rows", rows.len()),
+        Answer::Remote(_) => ("remote", 0),
+    }
+}
+
+fn marks_of(alloc: Global, answers: &[Answer]) -> Result<Vec<Mark>, OutOfMemory> {
+    let mut marks = Vec::new(alloc);
+    for answer in answers {
+        marks.push(answered(answer))?;
+    }
+    Ok(marks)
+}
+
+// What the requests are answered over the link.
+fn answers_over(
+    alloc: Global,
+    link: &mut MemoryLink,
+    config: &Config,
+    requests: &[Request],
+) -> Result<Vec<Mark>, Fail> {
+    let report = session(alloc, link, config, requests, 10_000)?;
+    let marks = marks_of(alloc, report.answers.as_slice());
+    drop(report);
+    Ok(marks?)
+}
+
+// Compares a session over the link with what is to be written and answered.
+fn compare<R: Abort>(
+    rt: &R,
+    alloc: Global,
+    link: &mut MemoryLink,
+    (config, requests): (&Config, &[Request]),
+    written: &[u8],
+    answers: &[Mark],
+) -> Result<(), Fail> {
+    let marks = answers_over(alloc, link, config, requests)?;
+    assert_eq!(rt; link.written(), written);
+    assert_eq!(rt; marks.as_slice(), answers);
+    Ok(())
+}
+
+fn check_by<R: Abort>(
+    rt: &R,
+    alloc: Global,
+    link: &mut MemoryLink,
+    (config, requests): (&str, &[Request]),
+    written: &[u8],
+    answers: &[Mark],
+) -> Result<(), Fail> {
+    let config = Config::parse(alloc, config)?;
+    let compared = compare(rt, alloc, link, (&config, requests), written, answers);
+    drop(config);
+    compared
+}
+
+// Compares a session by a connection text, with a server that says this, with what is to be written and answered.
+fn check<R: Abort>(
+    rt: &R,
+    alloc: Global,
+    (config, server): (&str, &[u8]),
+    requests: &[Request],
+    written: &[u8],
+    answers: &[Mark],
+) -> Result<(), Fail> {
+    let mut link = link_of(alloc, server, 50)?;
+    let checked = check_by(rt, alloc, &mut link, (config, requests), written, answers);
+    drop(link);
+    checked
+}
+
+// A connection text, what the server says, and what it is told. MD5 password and salt: the worked exchange of the
+// documentation's formula. SCRAM: computed with Python's hashlib.
+const LOGINS: &[(&str, &[u8], &[u8])] = &[
+    (
+        "user=bob password=secret",
+        b"R\0\0\0\x08\0\0\0\x03R\0\0\0\x08\0\0\0\0Z\0\0\0\x05I",
+        b"\0\0\0\x12\0\x03\0\0user\0bob\0\0p\0\0\0\x0bsecret\0",
+    ),
+    (
+        "user=zmjiang password=themanwhochangedchina",
+        b"R\0\0\0\x0c\0\0\0\x05\x14\xf7\x6b\xf9R\0\0\0\x08\0\0\0\0Z\0\0\0\x05I",
+        b"\0\0\0\x16\0\x03\0\0user\0zmjiang\0\0p\0\0\0\x28md521fe459d77d3e3ea9c9fcd5c11030d30\0",
+    ),
+    (
+        "user=bob password=pencil",
+        HONEST,
+        b"\0\0\0\x12\0\x03\0\0user\0bob\0\0p\0\0\0\x39SCRAM-SHA-256\0\0\0\0\x23n,,n=bob,r=AAAAAAAAAAAAAAAAAAAAAAAAp\0\0\0\x5ac=biws,r=AAAAAAAAAAAAAAAAAAAAAAAAserver,p=J0NXZihltZeaxM/aR3msf91g2I9t/18qmtWUTFIvbaQ=",
+    ),
+];
+
 #[test]
 fn logins_are_sent(rt: HostRuntime) -> Result<(), Fail> {
-    let alloc = rt.alloc();
-    let cases: [(&str, &[u8], &[u8]); 3] = [
-        (
-            "user=bob password=secret",
-            b"R\0\0\0\x08\0\0\0\x03R\0\0\0\x08\0\0\0\0Z\0\0\0\x05I",
-            b"\0\0\0\x12\0\x03\0\0user\0bob\0\0p\0\0\0\x0bsecret\0",
-        ),
-        (
-            "user=zmjiang password=themanwhochangedchina",
-            b"R\0\0\0\x0c\0\0\0\x05\x14\xf7\x6b\xf9R\0\0\0\x08\0\0\0\0Z\0\0\0\x05I",
-            b"\0\0\0\x16\0\x03\0\0user\0zmjiang\0\0p\0\0\0\x28md521fe459d77d3e3ea9c9fcd5c11030d30\0",
-        ),
-        (
-            "user=bob password=pencil",
-            HONEST,
-            b"\0\0\0\x12\0\x03\0\0user\0bob\0\0p\0\0\0\x39SCRAM-SHA-256\0\0\0\0\x23n,,n=bob,r=AAAAAAAAAAAAAAAAAAAAAAAAp\0\0\0\x5ac=biws,r=AAAAAAAAAAAAAAAAAAAAAAAAserver,p=J0NXZihltZeaxM/aR3msf91g2I9t/18qmtWUTFIvbaQ=",
-        ),
-    ];
-    for (config, server, want) in cases {
-        let (written, _report) = held(alloc, config, &[], server)?;
-        assert_eq!(rt; written.as_slice(), want, "{config}");
+    for (config, server, want) in LOGINS {
+        check(&rt, rt.alloc(), (config, server), &[], want, &[])?;
     }
     Ok(())
 }
 
-// Each request that is made of texts, one after the other.
-fn of_texts(alloc: Global) -> Result<Listed<Request>, Fail> {
-    let mut requests = Listed::new(alloc);
-    requests.push(Request::prepare(alloc, "s1", "SELECT $1")?)?;
-    requests.push(Request::bind(alloc, "", "s1", &[Some("1"), None])?)?;
-    requests.push(Request::execute(alloc, "", 2)?)?;
-    requests.push(Request::query(alloc, "SELECT $1", &[Some("x")])?)?;
-    requests.push(Request::simple(alloc, "SELECT 1")?)?;
+// Each request that is made of texts.
+fn of_texts(alloc: Global, number: usize) -> Result<Request, OutOfMemory> {
+    match number {
+        0 => Request::prepare(alloc, "s1", "SELECT $1"),
+        1 => Request::bind(alloc, "", "s1", &[Some("1"), None]),
+        2 => Request::execute(alloc, "", 2),
+        3 => Request::query(alloc, "SELECT $1", &[Some("x")]),
+        _ => Request::simple(alloc, "SELECT 1"),
+    }
+}
+
+fn all_of_texts(alloc: Global) -> Result<Vec<Request>, OutOfMemory> {
+    let mut requests = Vec::new(alloc);
+    for number in 0..5 {
+        requests.push(of_texts(alloc, number)?)?;
+    }
     Ok(requests)
 }
 
@@ -67,90 +166,129 @@ const ANSWERED: &[u8] =
 const OF_TEXTS: &[u8] =
     b"\0\0\0\x12\0\x03\0\0user\0bob\0\0P\0\0\0\x13s1\0SELECT $1\0\0\0D\0\0\0\x08Ss1\0S\0\0\0\x04B\0\0\0\x17\0s1\0\0\0\0\x02\0\0\0\x011\xff\xff\xff\xff\0\0H\0\0\0\x04E\0\0\0\x09\0\0\0\0\x02H\0\0\0\x04S\0\0\0\x04P\0\0\0\x11\0SELECT $1\0\0\0B\0\0\0\x11\0\0\0\0\0\x01\0\0\0\x01x\0\0E\0\0\0\x09\0\0\0\0\0S\0\0\0\x04Q\0\0\0\x0dSELECT 1\0";
 
+const MARKS_OF_TEXTS: &[Mark] = &[
+    ("prepared", 1),
+    ("bound", 0),
+    ("complete", 0),
+    ("rows", 0),
+    ("responses", 1),
+];
+
 #[test]
 fn requests_of_texts(rt: HostRuntime) -> Result<(), Fail> {
     let alloc = rt.alloc();
-    let requests = of_texts(alloc)?;
-    let (written, report) = held(alloc, "user=bob", requests.as_slice(), ANSWERED)?;
-    assert_eq!(rt; written.as_slice(), OF_TEXTS);
-    assert_eq!(rt; report.answers.len(), 5);
-    Ok(())
+    let requests = all_of_texts(alloc)?;
+    let checked = check(
+        &rt,
+        alloc,
+        ("user=bob", ANSWERED),
+        &requests,
+        OF_TEXTS,
+        MARKS_OF_TEXTS,
+    );
+    drop(requests);
+    checked
 }
 
 // What a client has sent before its answer to a server's first SCRAM message.
 const ASKED: &[u8] =
     b"\0\0\0\x12\0\x03\0\0user\0bob\0\0p\0\0\0\x39SCRAM-SHA-256\0\0\0\0\x23n,,n=bob,r=AAAAAAAAAAAAAAAAAAAAAAAA";
 
-// A server's nonce so long that the answer to it is larger than its message may be: nothing of it is written.
-#[test]
-fn an_answer_too_large(rt: HostRuntime) -> Result<(), Fail> {
-    let alloc = rt.alloc();
+// A server's nonce so long that the answer to it is larger than its message may be.
+fn long_nonce(alloc: Global) -> Result<Vec<u8>, OutOfMemory> {
     let mut server = Vec::from_slice(alloc, b"R\0\0\0\x17\0\0\0\x0aSCRAM-SHA-256\0\0")?;
     server.extend_from_slice(b"R\0\0\x27\x29\0\0\0\x0br=AAAAAAAAAAAAAAAAAAAAAAAA")?;
     server.extend_from_slice(&[b'x'; 9980])?;
     server.extend_from_slice(b",s=YmFy,i=1")?;
-    let config = Config::parse(alloc, "user=bob password=pencil")?;
-    let server = Octets::from_slice(alloc, &server)?;
-    let mut link = MemoryLink::new(alloc, server, 500, Listed::new(alloc), Listed::new(alloc));
-    let result = run_session(alloc, &mut link, &config, &[], &[0; 18], 20000);
-    assert!(rt;
-        matches!(
-            result,
-            Err(PgWireClientError::PgWireError(PgWireError::MessageTooLarge(10000, 10064)))
-        )
+    Ok(server)
+}
+
+// Whether a session over the link is refused for its large answer.
+fn is_too_large(alloc: Global, link: &mut MemoryLink, config: &Config) -> bool {
+    let answer = session(alloc, link, config, &[], 20_000);
+    let is_too_large = matches!(
+        &answer,
+        Err(PgWireClientError::PgWireError(PgWireError::MessageTooLarge(10000, 10064)))
     );
+    drop(answer);
+    is_too_large
+}
+
+fn check_large<R: Abort>(rt: &R, alloc: Global, link: &mut MemoryLink) -> Result<(), Fail> {
+    let config = Config::parse(alloc, "user=bob password=pencil")?;
+    let is_too_large = is_too_large(alloc, link, &config);
+    drop(config);
+    assert!(rt; is_too_large);
     assert_eq!(rt; link.written(), ASKED);
     Ok(())
 }
 
-fn named(alloc: Global, name: &str) -> Result<Option<Text>, Fail> {
+// Nothing of the answer is written.
+#[test]
+fn an_answer_too_large(rt: HostRuntime) -> Result<(), Fail> {
+    let server = long_nonce(rt.alloc())?;
+    let mut link = link_of(rt.alloc(), server.as_slice(), 500)?;
+    let checked = check_large(&rt, rt.alloc(), &mut link);
+    drop(link);
+    checked
+}
+
+fn named(alloc: Global, name: &str) -> Result<Option<Text>, OutOfMemory> {
     Ok(Some(Text::from_str(alloc, name)?))
 }
 
-fn one_parameter(alloc: Global) -> Result<Listed<Option<Octets>>, Fail> {
+fn one_parameter(alloc: Global) -> Result<Listed<Option<Octets>>, OutOfMemory> {
     let mut parameters = Listed::new(alloc);
     parameters.push(Some(Octets::from_slice(alloc, b"1")?))?;
     Ok(parameters)
 }
 
-fn one_type(alloc: Global) -> Result<Listed<u32>, Fail> {
+fn one_type(alloc: Global) -> Result<Listed<u32>, OutOfMemory> {
     let mut types = Listed::new(alloc);
     types.push(23)?;
     Ok(types)
 }
 
-fn prepare(alloc: Global) -> Result<Request, Fail> {
+fn prepare(alloc: Global) -> Result<Request, OutOfMemory> {
     let sql = Text::from_str(alloc, "SELECT $1")?;
     Ok(Request::Prepare(named(alloc, "s")?, sql, one_type(alloc)?))
 }
 
-fn bind(alloc: Global) -> Result<Request, Fail> {
+fn bind(alloc: Global) -> Result<Request, OutOfMemory> {
     let parameters = one_parameter(alloc)?;
     let portal = named(alloc, "p")?;
     Ok(Request::Bind(portal, named(alloc, "s")?, parameters, Listed::new(alloc)))
 }
 
-fn portal(alloc: Global) -> Result<Target, Fail> {
+fn portal(alloc: Global) -> Result<Target, OutOfMemory> {
     Ok(Target::Portal(named(alloc, "p")?))
 }
 
-fn query(alloc: Global) -> Result<Request, Fail> {
+fn query(alloc: Global) -> Result<Request, OutOfMemory> {
     let sql = Text::from_str(alloc, "SELECT $1")?;
     Ok(Request::Query(sql, one_type(alloc)?, one_parameter(alloc)?))
 }
 
 // Each kind of request, with an Execute that is suspended and one that completes.
-fn requests(alloc: Global) -> Result<Vec<Request>, Fail> {
+fn request_at(alloc: Global, number: usize) -> Result<Request, OutOfMemory> {
+    match number {
+        0 => prepare(alloc),
+        1 => bind(alloc),
+        2 => Ok(Request::Execute(named(alloc, "p")?, 1)),
+        3 => Ok(Request::Execute(named(alloc, "p")?, 0)),
+        4 => Ok(Request::Describe(Target::Statement(named(alloc, "s")?))),
+        5 => Ok(Request::Describe(portal(alloc)?)),
+        6 => Ok(Request::Close(portal(alloc)?)),
+        7 => query(alloc),
+        _ => Ok(Request::Simple(Text::from_str(alloc, "SELECT 1")?)),
+    }
+}
+
+fn requests(alloc: Global) -> Result<Vec<Request>, OutOfMemory> {
     let mut requests = Vec::new(alloc);
-    requests.push(prepare(alloc)?)?;
-    requests.push(bind(alloc)?)?;
-    requests.push(Request::Execute(named(alloc, "p")?, 1))?;
-    requests.push(Request::Execute(named(alloc, "p")?, 0))?;
-    requests.push(Request::Describe(Target::Statement(named(alloc, "s")?)))?;
-    requests.push(Request::Describe(portal(alloc)?))?;
-    requests.push(Request::Close(portal(alloc)?))?;
-    requests.push(query(alloc)?)?;
-    requests.push(Request::Simple(Text::from_str(alloc, "SELECT 1")?))?;
+    for number in 0..9 {
+        requests.push(request_at(alloc, number)?)?;
+    }
     Ok(requests)
 }
 
@@ -176,58 +314,25 @@ C\0\0\0\x07Pp\0S\0\0\0\x04\
 P\0\0\0\x15\0SELECT $1\0\0\x01\0\0\0\x17B\0\0\0\x11\0\0\0\0\0\x01\0\0\0\x011\0\0E\0\0\0\x09\0\0\0\0\0S\0\0\0\x04\
 Q\0\0\0\x0dSELECT 1\0";
 
-// How an answer is called, and how many rows or parameters it has.
-fn answered(answer: &Answer) -> (&str, usize) {
-    match answer {
-        Answer::Responses(responses) => ("responses", responses.as_slice().len()),
-        Answer::Prepared(statement) => ("prepared", statement.param_types.as_slice().len()),
-        Answer::Bound => ("bound", 0),
-        Answer::Executed(ExecuteResult::Complete(rows)) => ("complete", rows.len()),
-        Answer::Executed(ExecuteResult::Suspended(rows)) => ("suspended", rows.len()),
-        Answer::Described(target) => ("described", target.fields.as_slice().len()),
-        Answer::Closed => ("closed", 0),
-        Answer::Rows(rows) => ("rows", rows.len()),
-        Answer::Remote(_) => ("remote", 0),
-    }
-}
+const MARKS: &[Mark] = &[
+    ("prepared", 1),
+    ("bound", 0),
+    ("suspended", 1),
+    ("complete", 0),
+    ("described", 1),
+    ("described", 0),
+    ("closed", 0),
+    ("rows", 1),
+    ("responses", 1),
+];
 
 #[test]
 fn requests_are_answered(rt: HostRuntime) -> Result<(), Fail> {
     let alloc = rt.alloc();
-    let (written, report) = held(alloc, "user=bob", &requests(alloc)?, SERVER)?;
-    assert_eq!(rt; written.as_slice(), SENT);
-    let want = [
-        ("prepared", 1),
-        ("bound", 0),
-        ("suspended", 1),
-        ("complete", 0),
-        ("described", 1),
-        ("described", 0),
-        ("closed", 0),
-        ("rows", 1),
-        ("responses", 1),
-    ];
-    assert_eq!(rt; report.answers.len(), 9);
-    for (answer, want) in report.answers.as_slice().iter().zip(want) {
-        assert_eq!(rt; answered(answer), want);
-    }
-    Ok(())
-}
-
-// The report of one simple query, where the link moves so many bytes at a time.
-fn report_of(alloc: Global, server: &[u8], cut: usize) -> Result<SessionReport, Fail> {
-    let config = Config::parse(alloc, "user=bob")?;
-    let server = Octets::from_slice(alloc, server)?;
-    let mut link = MemoryLink::new(
-        alloc,
-        server,
-        cut.max(1),
-        Listed::new(alloc),
-        Listed::new(alloc),
-    );
-    let requests = [Request::Simple(Text::from_str(alloc, "SELECT a")?)];
-    let report = run_session(alloc, &mut link, &config, &requests, &[0; 18], 100_000)?;
-    Ok(report)
+    let requests = requests(alloc)?;
+    let checked = check(&rt, alloc, ("user=bob", SERVER), &requests, SENT, MARKS);
+    drop(requests);
+    checked
 }
 
 // The rows of one simple query.
@@ -240,28 +345,87 @@ fn rows_of(report: &SessionReport) -> Option<&DataRows> {
     None
 }
 
-// A row of 40,000 bytes between two of one, in pieces and whole.
-#[test]
-fn a_large_row_comes_in_pieces(rt: HostRuntime) -> Result<(), Fail> {
-    let alloc = rt.alloc();
-    let mut server = Vec::new(alloc);
-    server.extend_from_slice(b"R\0\0\0\x08\0\0\0\0Z\0\0\0\x05I")?;
-    server.extend_from_slice(
-        b"T\0\0\0\x1a\0\x01a\0\0\0\0\0\0\0\0\0\0\x17\0\x04\xff\xff\xff\xff\0\0",
+// How long each row is, and its last byte.
+fn sizes_of(
+    alloc: Global,
+    report: &SessionReport,
+) -> Result<Vec<(usize, Option<u8>)>, OutOfMemory> {
+    let mut sizes = Vec::new(alloc);
+    if let Some(rows) = rows_of(report) {
+        for row in rows.iter() {
+            sizes.push((row.payload.len(), row.payload.last().copied()))?;
+        }
+    }
+    Ok(sizes)
+}
+
+// The same of one simple query over the link.
+fn sizes_by(
+    alloc: Global,
+    link: &mut MemoryLink,
+    config: &Config,
+    requests: &[Request],
+) -> Result<Vec<(usize, Option<u8>)>, Fail> {
+    let report = session(alloc, link, config, requests, 100_000)?;
+    let sizes = sizes_of(alloc, &report);
+    drop(report);
+    Ok(sizes?)
+}
+
+fn sizes_asked(
+    alloc: Global,
+    link: &mut MemoryLink,
+    config: &Config,
+) -> Result<Vec<(usize, Option<u8>)>, Fail> {
+    let requests = [Request::simple(alloc, "SELECT a")?];
+    let sizes = sizes_by(alloc, link, config, &requests);
+    drop(requests);
+    sizes
+}
+
+fn sizes_over(alloc: Global, link: &mut MemoryLink) -> Result<Vec<(usize, Option<u8>)>, Fail> {
+    let config = Config::parse(alloc, "user=bob")?;
+    let sizes = sizes_asked(alloc, link, &config);
+    drop(config);
+    sizes
+}
+
+// The same where the link moves so many bytes at a time.
+fn sizes_in_pieces(
+    alloc: Global,
+    server: &[u8],
+    cut: usize,
+) -> Result<Vec<(usize, Option<u8>)>, Fail>
+    requires { 0 < cut }
+{
+    let mut link = link_of(alloc, server, cut)?;
+    let sizes = sizes_over(alloc, &mut link);
+    drop(link);
+    sizes
+}
+
+// A row of 40,000 bytes between two of one.
+fn large_rows(alloc: Global) -> Result<Vec<u8>, OutOfMemory> {
+    let mut server = Vec::from_slice(
+        alloc,
+        b"R\0\0\0\x08\0\0\0\0Z\0\0\0\x05I\
+T\0\0\0\x1a\0\x01a\0\0\0\0\0\0\0\0\0\0\x17\0\x04\xff\xff\xff\xff\0\0D\0\0\0\x0b\0\x01\0\0\0\x011\
+D\0\0\x9c\x4a\0\x01\0\0\x9c\x40",
     )?;
-    server.extend_from_slice(b"D\0\0\0\x0b\0\x01\0\0\0\x011")?;
-    server.extend_from_slice(b"D\0\0\x9c\x4a\0\x01\0\0\x9c\x40")?;
     server.extend_from_slice(vec![in alloc; b'x'; 40_000]?.as_slice())?;
     server.extend_from_slice(b"D\0\0\0\x0b\0\x01\0\0\0\x012C\0\0\0\x0dSELECT 3\0Z\0\0\0\x05I")?;
-    let want = [(5, b'1'), (40_004, b'x'), (5, b'2')];
+    Ok(server)
+}
+
+const SIZES: &[(usize, Option<u8>)] = &[(5, Some(b'1')), (40_004, Some(b'x')), (5, Some(b'2'))];
+
+// It comes in pieces and whole.
+#[test]
+fn a_large_row_comes_in_pieces(rt: HostRuntime) -> Result<(), Fail> {
+    let server = large_rows(rt.alloc())?;
     for cut in [999, 8192, 65536] {
-        let report = report_of(alloc, server.as_slice(), cut)?;
-        let rows = rows_of(&report).ok_or("no rows")?;
-        assert_eq!(rt; rows.len(), 3);
-        for (row, (len, last)) in rows.iter().zip(want) {
-            assert_eq!(rt; row.payload.len(), len);
-            assert_eq!(rt; row.payload.last(), Some(&last));
-        }
+        let sizes = sizes_in_pieces(rt.alloc(), server.as_slice(), cut)?;
+        assert_eq!(rt; sizes.as_slice(), SIZES);
     }
     Ok(())
 }
