@@ -24,7 +24,9 @@ const TAGS: &[(&str, &str)] = &[
 
 fn tag(alloc: Global, text: &str) -> Result<Tag, OutOfMemory> {
     let tag = Tag::parse(alloc, text)?;
-    tag.duplicate()
+    let copy = tag.duplicate();
+    drop(tag);
+    copy
 }
 
 fn tag_shown(alloc: Global, text: &str) -> Result<String, OutOfMemory> {
@@ -87,7 +89,9 @@ fn description(alloc: Global) -> Result<FieldDescription, OutOfMemory> {
 
 fn field(alloc: Global) -> Result<FieldInfo, OutOfMemory> {
     let description = description(alloc)?;
-    Ok(FieldInfo::from_description(description.duplicate()?))
+    let copy = description.duplicate();
+    drop(description);
+    Ok(FieldInfo::from_description(copy?))
 }
 
 fn field_shown(alloc: Global, field: &FieldInfo) -> Result<String, OutOfMemory> {
@@ -99,13 +103,17 @@ fn field_shown(alloc: Global, field: &FieldInfo) -> Result<String, OutOfMemory> 
 
 fn field_copy(alloc: Global) -> Result<FieldInfo, OutOfMemory> {
     let field = field(alloc)?;
-    field.duplicate()
+    let copy = field.duplicate();
+    drop(field);
+    copy
 }
 
 // What is shown of a copy.
 fn column_shown(alloc: Global) -> Result<String, OutOfMemory> {
     let copy = field_copy(alloc)?;
-    field_shown(alloc, &copy)
+    let shown = field_shown(alloc, &copy);
+    drop(copy);
+    shown
 }
 
 #[test]

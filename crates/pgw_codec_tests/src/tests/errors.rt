@@ -67,22 +67,30 @@ const FAULTY: &[(u8, &str)] = &[
 // A copy of what the fields say.
 fn info_of(alloc: Global, fields: &[(u8, &str)]) -> Result<ErrorInfo, OutOfMemory> {
     let info = ErrorInfo::from_fields(fields_of(alloc, fields)?);
-    info.duplicate()
+    let copy = info.duplicate();
+    drop(info);
+    copy
 }
 
 fn line_of(alloc: Global) -> Result<Option<usize>, OutOfMemory> {
     let info = info_of(alloc, WHOLE)?;
-    Ok(info.line)
+    let line = info.line;
+    drop(info);
+    Ok(line)
 }
 
 fn error_written(alloc: Global, fields: &[(u8, &str)]) -> PgWireResult<BytesMut> {
     let message = ErrorResponse::from_info(alloc, info_of(alloc, fields)?)?;
-    encoded(alloc, &message)
+    let bytes = encoded(alloc, &message);
+    drop(message);
+    bytes
 }
 
 fn notice_written(alloc: Global, fields: &[(u8, &str)]) -> PgWireResult<BytesMut> {
     let message = NoticeResponse::from_info(alloc, info_of(alloc, fields)?)?;
-    encoded(alloc, &message)
+    let bytes = encoded(alloc, &message);
+    drop(message);
+    bytes
 }
 
 const ALL_FIELDS: &[u8] =
@@ -197,13 +205,19 @@ const TEXT_ERRORS: &[&str] = &[
     "ERROR 22P02 parameter `x` cannot be read",
 ];
 
-// What an error is told as.
-fn told(alloc: Global, error: PgWireError) -> Result<String, OutOfMemory> {
-    let info = ErrorInfo::from_error(alloc, error)?;
+fn info_told(alloc: Global, info: &ErrorInfo) -> Result<String, OutOfMemory> {
     let severity = info.severity.as_str();
     let code = info.code.as_str();
     let message = info.message.as_str();
     Ok(format!(in alloc; "{severity} {code} {message}")?)
+}
+
+// What an error is told as.
+fn told(alloc: Global, error: PgWireError) -> Result<String, OutOfMemory> {
+    let info = ErrorInfo::from_error(alloc, error)?;
+    let told = info_told(alloc, &info);
+    drop(info);
+    told
 }
 
 fn text_told(alloc: Global, number: usize) -> Result<String, OutOfMemory> {

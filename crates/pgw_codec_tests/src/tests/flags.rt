@@ -83,7 +83,10 @@ fn write(
 ) -> Result<bool, OutOfMemory> {
     let message = message(alloc, kind)?;
     let mut out = BytesMut::new(alloc);
-    Ok(codec.encode(message, &mut out).is_ok() || out.is_empty())
+    let written = codec.encode(message, &mut out);
+    let is_right = written.is_ok() || out.is_empty();
+    drop(written);
+    Ok(is_right)
 }
 
 fn write_all(
@@ -132,7 +135,10 @@ const KEY: &[u8] = b"K\0\0\0\x0d\0\0\0\x07\x01\x02\x03\x04\x05";
 
 // Whether a message stands at the front.
 fn is_next(alloc: Global, codec: &mut PgWireMessageClientCodec, buf: &mut BytesMut) -> bool {
-    matches!(codec.decode_from(alloc, buf), Ok(Some(_)))
+    let found = codec.decode_from(alloc, buf);
+    let is_next = matches!(&found, Ok(Some(_)));
+    drop(found);
+    is_next
 }
 
 #[test]

@@ -59,12 +59,16 @@ fn is_long<M: Message + Duplicate + PartialEq + Drop>(
 
 fn parse_is_long(alloc: Global) -> Result<bool, Fail> {
     let message = parse_of(alloc, 65535)?;
-    is_long(alloc, &message, 262149)
+    let is_long = is_long(alloc, &message, 262149);
+    drop(message);
+    is_long
 }
 
 fn bind_is_long(alloc: Global) -> Result<bool, Fail> {
     let message = bind_of(alloc, 65535)?;
-    is_long(alloc, &message, 655363)
+    let is_long = is_long(alloc, &message, 655363);
+    drop(message);
+    is_long
 }
 
 #[test]
@@ -75,12 +79,16 @@ fn longest_lists(rt: HostRuntime) -> Result<(), Fail> {
 
 fn long_parse_refused(alloc: Global) -> Result<String, OutOfMemory> {
     let message = parse_of(alloc, 65536)?;
-    refused(alloc, &message)
+    let told = refused(alloc, &message);
+    drop(message);
+    told
 }
 
 fn long_bind_refused(alloc: Global) -> Result<String, OutOfMemory> {
     let message = bind_of(alloc, 65536)?;
-    refused(alloc, &message)
+    let told = refused(alloc, &message);
+    drop(message);
+    told
 }
 
 fn zero_refused(alloc: Global) -> Result<String, OutOfMemory> {

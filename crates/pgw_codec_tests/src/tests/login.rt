@@ -82,7 +82,9 @@ const READ: &[(Kind, &[u8], &[u8])] = &[
 
 fn copy_of(alloc: Global, kind: Kind) -> Result<PasswordMessageFamily, OutOfMemory> {
     let message = family(alloc, kind)?;
-    message.duplicate()
+    let copy = message.duplicate();
+    drop(message);
+    copy
 }
 
 // How a copy is written among all messages of a client.
@@ -127,12 +129,16 @@ fn is_family(
     kind: Kind,
 ) -> Result<bool, OutOfMemory> {
     let want = family(alloc, kind)?;
-    Ok(want == *found)
+    let is_family = want == *found;
+    drop(want);
+    Ok(is_family)
 }
 
 fn is_taken(alloc: Global, kind: Kind, body: &[u8]) -> PgWireResult<bool> {
     let found = body_taken(alloc, kind, body)?;
-    Ok(is_family(alloc, &found, kind)?)
+    let is_family = is_family(alloc, &found, kind);
+    drop(found);
+    Ok(is_family?)
 }
 
 #[test]

@@ -64,6 +64,7 @@ pub fn refusal(
     if buf.as_slice() == b"x".as_slice() {
         told(alloc, found)
     } else {
+        drop(found);
         Ok(String::from_str(alloc, "something is written")?)
     }
 }
