@@ -32,6 +32,11 @@ impl Call {
     }
 }
 
+// The text of hex digits.
+fn hex_text(alloc: Global, digits: &str) -> Result<String> {
+    Ok(String::from_utf8(hex_bytes(alloc, digits)?)?)
+}
+
 #[derive(Drop)]
 struct Failing {
     call: Call,
@@ -70,12 +75,22 @@ impl Case {
     /// The case that the lines of a section describe.
     pub fn read(alloc: Global, text: &str) -> Result<Case> {
         let mut case = Case::new(alloc);
-        for line in text.lines() {
-            if !line.is_empty() {
-                case.add(alloc, line).context(format_args!("{line}"))?;
+        match case.add_all(alloc, text) {
+            Ok(()) => Ok(case),
+            Err(error) => {
+                drop(case);
+                Err(error)
             }
         }
-        Ok(case)
+    }
+
+    fn add_all(&mut self, alloc: Global, text: &str) -> Result<()> {
+        for line in text.lines() {
+            if !line.is_empty() {
+                self.add(alloc, line).context(format_args!("{line}"))?;
+            }
+        }
+        Ok(())
     }
 
     fn add(&mut self, alloc: Global, line: &str) -> Result<()> {
@@ -95,9 +110,7 @@ impl Case {
     fn set(&mut self, alloc: Global, key: &str, text: &str) -> Result<()> {
         match key {
             "word" => self.words.push(String::from_str(alloc, text)?)?,
-            "word-hex" => self
-                .words
-                .push(String::from_utf8(hex_bytes(alloc, text)?)?)?,
+            "word-hex" => self.words.push(hex_text(alloc, text)?)?,
             "server" => add_form(alloc, &mut self.server, "hex", text)?,
             "sent" => self.sent.add(alloc, "hex", text)?,
             "cut" => self.cut = Some(text.parse::<NonZeroUsize>()?),
@@ -110,10 +123,9 @@ impl Case {
 
     fn fail(&mut self, text: &str) -> Result<()> {
         let (name, number) = split(text);
-        self.failing.push(Failing {
-            call: Call::named(name).context("no such call")?,
-            number: number.parse::<u64>()?,
-        })?;
+        let call = Call::named(name).context("no such call")?;
+        let number = number.parse::<u64>()?;
+        self.failing.push(Failing { call, number })?;
         Ok(())
     }
 

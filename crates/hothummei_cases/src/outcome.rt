@@ -34,18 +34,41 @@ impl Outcome {
     pub fn fits(&self, case: &Case) -> bool {
         self.status == case.status
             && case.output.fits(self.output.written())
-            && (!case.told.is_stated() || case.told.fits(self.errors.written()))
-            && (!case.sent.is_stated() || case.sent.fits(self.sent()))
+            && case.told.allows(self.errors.written())
+            && case.sent.allows(self.sent())
     }
 
     /// Tells people of it.
     pub fn shown(&self, alloc: Global) -> Result<String> {
-        let status = self.status;
-        let output = String::from_utf8_lossy(alloc, self.output.written())?;
-        let told = String::from_utf8_lossy(alloc, self.errors.written())?;
-        let sent = hex::encode(alloc, self.sent())?;
-        Ok(format!(in alloc; "status {status}, wrote {output:?}, told {told:?}, sent {sent}")?)
+        let mut shown = format!(in alloc; "status {}, wrote ", self.status)?;
+        add_text(alloc, &mut shown, self.output.written())?;
+        shown.push_str(", told ")?;
+        add_text(alloc, &mut shown, self.errors.written())?;
+        shown.push_str(", sent ")?;
+        shown.push_str(hex::encode(alloc, self.sent())?.as_str())?;
+        Ok(shown)
     }
+
+    // Runs the program. It has no clause, since those of the program make what calls it dear.
+    fn run(&mut self, alloc: Global, case: &Case, input: &mut MemorySource) {
+        self.status = run_program_with(
+            alloc,
+            &case.words,
+            input,
+            &mut self.output,
+            &mut self.errors,
+            &mut self.dialer,
+            &[0; 18],
+            &[0; 32],
+        );
+    }
+}
+
+// Adds bytes as text in quotes.
+fn add_text(alloc: Global, shown: &mut String, bytes: &[u8]) -> Result<()> {
+    let text = String::from_utf8_lossy(alloc, bytes)?;
+    shown.push_str(format!(in alloc; "{text:?}")?.as_str())?;
+    Ok(())
 }
 
 fn cut_of(cut: Option<NonZeroUsize>, usual: usize) -> usize
@@ -69,41 +92,44 @@ fn sink_of(alloc: Global, case: &Case, call: Call) -> Result<MemorySink> {
     Ok(MemorySink::new(alloc, cut_of(case.cut, 7), fail_writes))
 }
 
-/// A dialer with one link, where the case has a server.
-fn dialer_of(alloc: Global, case: &Case) -> Result<MemoryDialer> {
-    let fail_dials = case.numbers(alloc, Call::Dial)?;
-    let mut links = Listed::new(alloc);
-    if case.server.is_empty() {
-        return Ok(MemoryDialer::new(links, fail_dials));
-    }
+fn link_of(alloc: Global, case: &Case) -> Result<MemoryLink> {
     let server = Octets::from_slice(alloc, &case.server)?;
-    let cut = cut_of(case.cut, 10);
     let fail_reads = case.numbers(alloc, Call::LinkRead)?;
     let fail_writes = case.numbers(alloc, Call::LinkWrite)?;
-    links.push(MemoryLink::new(alloc, server, cut, fail_reads, fail_writes))?;
-    Ok(MemoryDialer::new(links, fail_dials))
+    Ok(MemoryLink::new(alloc, server, cut_of(case.cut, 10), fail_reads, fail_writes))
+}
+
+// The links of a dialer: one, where the case has a server.
+fn links_of(alloc: Global, case: &Case) -> Result<Listed<MemoryLink>> {
+    let mut links = Listed::new(alloc);
+    if !case.server.is_empty() {
+        links.push(link_of(alloc, case)?)?;
+    }
+    Ok(links)
+}
+
+fn dialer_of(alloc: Global, case: &Case) -> Result<MemoryDialer> {
+    let links = links_of(alloc, case)?;
+    Ok(MemoryDialer::new(links, case.numbers(alloc, Call::Dial)?))
+}
+
+// What a run begins with.
+fn begun(alloc: Global, case: &Case) -> Result<Outcome> {
+    let output = sink_of(alloc, case, Call::Write)?;
+    let errors = sink_of(alloc, case, Call::Told)?;
+    Ok(Outcome {
+        dialer: dialer_of(alloc, case)?,
+        output,
+        errors,
+        status: 0,
+    })
 }
 
 /// Runs the program as the case says.
 pub fn run_case(alloc: Global, case: &Case) -> Result<Outcome> {
     let mut input = source_of(alloc, case)?;
-    let mut output = sink_of(alloc, case, Call::Write)?;
-    let mut errors = sink_of(alloc, case, Call::Told)?;
-    let mut dialer = dialer_of(alloc, case)?;
-    let status = run_program_with(
-        alloc,
-        &case.words,
-        &mut input,
-        &mut output,
-        &mut errors,
-        &mut dialer,
-        &[0; 18],
-        &[0; 32],
-    );
-    Ok(Outcome {
-        output,
-        errors,
-        dialer,
-        status,
-    })
+    let mut outcome = begun(alloc, case)?;
+    outcome.run(alloc, case, &mut input);
+    drop(input);
+    Ok(outcome)
 }

@@ -71,11 +71,12 @@ impl Wanted {
         }
     }
 
-    /// Whether a case has said it.
-    pub fn is_stated(&self) -> bool {
-        self.is_stated
+    /// Whether it is this, or nothing was said of it.
+    pub fn allows(&self, written: &[u8]) -> bool {
+        !self.is_stated || self.fits(written)
     }
 
+    /// Whether it is this.
     pub fn fits(&self, written: &[u8]) -> bool {
         match &self.end {
             None => written == self.front.as_slice(),
