@@ -145,7 +145,9 @@ fn hear<H: StartupHandler>(
     ensures { H.fits handler.now state.new }
 {
     let answer = answer_to(alloc, handler, client, out, state, step);
-    Ok(String::from_str(alloc, words_of(&answer))?)
+    let word = String::from_str(alloc, words_of(&answer));
+    drop(answer);
+    Ok(word?)
 }
 
 // Hears the messages, those behind a refusal too, and tells what the last is answered.
@@ -177,6 +179,18 @@ pub fn client_told<C: ClientInfo>(alloc: Global, client: &C) -> Result<String, O
     )
 }
 
+fn outcome_by(
+    heard: Result<String, OutOfMemory>,
+    client: Result<String, OutOfMemory>,
+    out: ByteOutbox,
+) -> Result<Outcome, OutOfMemory> {
+    Ok(Outcome {
+        word: heard?,
+        client: client?,
+        sent: out.buffer,
+    })
+}
+
 /// What comes of messages to a handler.
 pub fn outcome_of<H: StartupHandler, R: Abort>(
     rt: &R,
@@ -192,13 +206,9 @@ pub fn outcome_of<H: StartupHandler, R: Abort>(
     let mut state = LoginState::new([7; 18], [1; 32], seat, None);
     let heard = hear_all(alloc, handler, &mut client, &mut out, &mut state, steps);
     let_go(rt, state);
-    let word = heard?;
-    let client = client_told(alloc, &client)?;
-    Ok(Outcome {
-        word,
-        sent: out.buffer,
-        client,
-    })
+    let told = client_told(alloc, &client);
+    drop(client);
+    outcome_by(heard, told, out)
 }
 
 // Lets a login go that was registered nowhere.
@@ -222,6 +232,7 @@ fn let_go<R: Abort>(rt: &R, state: LoginState) {
 pub fn compare<R: Abort>(rt: &R, outcome: Outcome, word: &str, sent: &[u8]) {
     assert_eq!(rt; outcome.word.as_str(), word);
     assert_eq!(rt; outcome.sent.as_slice(), sent);
+    drop(outcome);
 }
 
 // What was refused.
