@@ -189,17 +189,20 @@ fn two<R: Threads + Wait + Sync>(
     both(manager, first, second)
 }
 
-fn four<R: Threads + Wait + Sync>(
+// What two pairs of threads did.
+fn pairs<R: Threads + Wait + Sync>(
     rt: &R,
     alloc: Global,
     manager: &Arc<ConnectionManager>,
-    mut first: Pass,
-) -> Option<(u64, u64)>
-    requires { first.of ≡ arc_value manager.now }
+    left: (Pass, Pass),
+    right: (Pass, Pass),
+) -> Option<(Pass, u64)>
+    requires left { (left.0.of ≡ arc_value manager.now) × (left.1.of ≡ arc_value manager.now) }
+    requires right { (right.0.of ≡ arc_value manager.now) × (right.1.of ≡ arc_value manager.now) }
+    ensures { IfSome result (λ r. r.0.of ≡ arc_value manager.now) }
 {
-    let second = manager.pass(&mut first).ok()?;
-    let third = manager.pass(&mut first).ok()?;
-    let fourth = manager.pass(&mut first).ok()?;
+    let (first, second) = left;
+    let (third, fourth) = right;
     let (left, right) = thread::join(
         rt,
         || -> Option<(Pass, u64)>
@@ -211,18 +214,50 @@ fn four<R: Threads + Wait + Sync>(
             ensures { IfSome result (λ r. r.0.of ≡ arc_value manager.entry.now) }
         { two(rt, alloc, manager, third, fourth) },
     );
-    let (mut pass, answered) = both(manager, left?, right?)?;
+    both(manager, left?, right?)
+}
+
+// A pass, and one that is cut from it.
+fn cut(manager: &ConnectionManager, mut first: Pass) -> Option<(Pass, Pass)>
+    requires { first.of ≡ manager.now }
+    ensures { IfSome result (λ r. (r.0.of ≡ manager.now) × (r.1.of ≡ manager.now)) }
+{
+    let second = manager.pass(&mut first).ok()?;
+    Some((first, second))
+}
+
+fn four<R: Threads + Wait + Sync>(
+    rt: &R,
+    alloc: Global,
+    manager: &Arc<ConnectionManager>,
+    first: Pass,
+) -> Option<(u64, u64)>
+    requires { first.of ≡ arc_value manager.now }
+{
+    let (left, right) = cut(manager, first)?;
+    let left = cut(manager, left)?;
+    let right = cut(manager, right)?;
+    let (mut pass, answered) = pairs(rt, alloc, manager, left, right)?;
     Some((manager.events(&mut pass), answered))
 }
 
+// A registry that threads share, and its first pass.
+fn shared(alloc: Global) -> Option<(Arc<ConnectionManager>, Pass)>
+    ensures { IfSome result (λ r. r.1.of ≡ arc_value r.0) }
+{
+    let (manager, pass) = ConnectionManager::new(alloc).ok()?;
+    Some((Arc::new(alloc, manager).ok()?, pass))
+}
+
+fn counted<R: Threads + Wait + Sync>(rt: &R, alloc: Global) -> Option<(u64, u64)> {
+    let (manager, pass) = shared(alloc)?;
+    four(rt, alloc, &manager, pass)
+}
+
+// The events, and the calls that were answered.
 #[test]
-fn four_threads_count_each_call(rt: HostRuntime) -> Result<(), Fail> {
-    let (manager, pass) = ConnectionManager::new(rt.alloc())?;
-    let manager = Arc::new(rt.alloc(), manager)?;
-    let (events, answered) = four(&rt, rt.alloc(), &manager, pass).ok_or("a pass was not made")?;
-    assert_eq!(rt; events, answered);
-    assert_eq!(rt; events, 2400);
-    Ok(())
+fn four_threads_count_each_call(rt: HostRuntime) {
+    assert_eq!(rt; counted(&rt, rt.alloc()), Some((2400, 2400)));
 }
 
 // How many calls of a query on a new handle were answered.
@@ -288,35 +323,61 @@ fn answers_are_counted(rt: HostRuntime) -> Result<(), Fail> {
     Ok(())
 }
 
+// What the later of two queries is told, and a cancel behind which it fires.
+fn fired<R: Wait>(
+    rt: &R,
+    manager: &ConnectionManager,
+    pass: &mut Pass,
+    handle: &ConnectionHandle,
+    second: &CancelToken,
+) -> (Canceled, Look, Look)
+    requires { pass.old.of ≡ manager.now }
+    ensures { pass.new.of ≡ pass.old.of }
+{
+    let canceled = handle.cancel(rt, manager, pass);
+    let fired = second.try_recv(rt, manager, pass);
+    (canceled, fired, second.try_recv(rt, manager, pass))
+}
+
+// What is told once a second query is started: of the first, and of the second.
+fn behind<R: Wait>(
+    rt: &R,
+    manager: &ConnectionManager,
+    pass: &mut Pass,
+    handle: &ConnectionHandle,
+    first: &CancelToken,
+) -> Option<(Look, (Canceled, Look, Look))>
+    requires { pass.old.of ≡ manager.now }
+    ensures { pass.new.of ≡ pass.old.of }
+{
+    let second = handle.start_query(rt, manager, pass).ok()?;
+    let looked = first.try_recv(rt, manager, pass);
+    let fired = fired(rt, manager, pass, handle, &second);
+    finish(rt, manager, pass, second);
+    Some((looked, fired))
+}
+
 // What is told of two queries of one connection.
 fn replaced<R: Wait>(
     rt: &R,
     manager: &ConnectionManager,
     pass: &mut Pass,
     handle: &ConnectionHandle,
-) -> Option<(Look, Canceled, Look, Look)>
+) -> Option<(Look, (Canceled, Look, Look))>
     requires { pass.old.of ≡ manager.now }
     ensures { pass.new.of ≡ pass.old.of }
 {
     let first = handle.start_query(rt, manager, pass).ok()?;
-    let Ok(second) = handle.start_query(rt, manager, pass) else {
-        finish(rt, manager, pass, first);
-        return None;
-    };
-    let looked = first.try_recv(rt, manager, pass);
-    let canceled = handle.cancel(rt, manager, pass);
-    let fired = second.try_recv(rt, manager, pass);
-    let again = second.try_recv(rt, manager, pass);
+    let told = behind(rt, manager, pass, handle, &first);
     finish(rt, manager, pass, first);
-    finish(rt, manager, pass, second);
-    Some((looked, canceled, fired, again))
+    told
 }
 
 fn replaced_on_one<R: Wait>(
     rt: &R,
     manager: &ConnectionManager,
     pass: &mut Pass,
-) -> Option<(Look, Canceled, Look, Look)>
+) -> Option<(Look, (Canceled, Look, Look))>
     requires { pass.old.of ≡ manager.now }
     ensures { pass.new.of ≡ pass.old.of }
 {
@@ -335,9 +396,7 @@ fn a_query_replaces_another(rt: HostRuntime) -> Result<(), Fail> {
         replaced_on_one(&rt, &manager, &mut pass),
         Some((
             Err(LookError::Canceled),
-            Ok(true),
-            Ok(Some(())),
-            Err(LookError::Canceled)
+            (Ok(true), Ok(Some(())), Err(LookError::Canceled))
         ))
     );
     Ok(())
@@ -372,8 +431,7 @@ fn twice<R: Wait>(
 
 #[test]
 fn a_pair_goes_with_a_guard(rt: HostRuntime) -> Result<(), Fail> {
-    let (manager, mut pass) = ConnectionManager::new(rt.alloc())?;
-    let manager = Arc::new(rt.alloc(), manager)?;
+    let (manager, mut pass) = shared(rt.alloc()).ok_or("no registry")?;
     let told = twice(&rt, rt.alloc(), &manager, &mut pass);
     assert_eq!(rt; told, Some((Ok(true), Ok(false))));
     Ok(())
@@ -449,9 +507,8 @@ fn fires<R: Threads + Wait + Sync>(
 
 #[test]
 fn threads_cancel(rt: HostRuntime) -> Result<(), Fail> {
-    let (manager, mut pass) = ConnectionManager::new(rt.alloc())?;
-    let other = manager.pass(&mut pass)?;
-    let manager = Arc::new(rt.alloc(), manager)?;
+    let (manager, pass) = shared(rt.alloc()).ok_or("no registry")?;
+    let (pass, other) = cut(&manager, pass).ok_or("no pass")?;
     assert!(rt; fires(&rt, rt.alloc(), &manager, pass, other));
     Ok(())
 }
