@@ -101,12 +101,20 @@ const QUERIES: &[(Act, &str)] = &[
     (Act::Finish(2), "done"),
 ];
 
+// The number of the first act that is answered by another word.
+fn first_other(alloc: Global, acts: &[(Act, &str)]) -> Result<Option<usize>, OutOfMemory> {
+    let mut registry = Registry::new(alloc);
+    for (number, (act, word)) in acts.iter().enumerate() {
+        if answer_to(alloc, &mut registry, *act)? != *word {
+            return Ok(Some(number));
+        }
+    }
+    Ok(None)
+}
+
 #[test]
 fn queries(rt: HostRuntime) -> Result<(), Fail> {
-    let mut registry = Registry::new(rt.alloc());
-    for (act, word) in QUERIES {
-        assert_eq!(rt; answer_to(rt.alloc(), &mut registry, *act)?, *word);
-    }
+    assert_eq!(rt; first_other(rt.alloc(), QUERIES)?, None);
     Ok(())
 }
 
@@ -132,10 +140,7 @@ const PAIRS: &[(Act, &str)] = &[
 
 #[test]
 fn pairs(rt: HostRuntime) -> Result<(), Fail> {
-    let mut registry = Registry::new(rt.alloc());
-    for (act, word) in PAIRS {
-        assert_eq!(rt; answer_to(rt.alloc(), &mut registry, *act)?, *word);
-    }
+    assert_eq!(rt; first_other(rt.alloc(), PAIRS)?, None);
     Ok(())
 }
 
@@ -300,23 +305,48 @@ fn two<R: Threads + Sync>(
     both(generator, first, second)
 }
 
-fn four<R: Threads + Sync>(rt: &R, alloc: Global) -> Option<Vec<i32>> {
-    let (generator, mut first) = RandomPidSecretKeyGenerator::new(alloc).ok()?;
-    let second = generator.seat(&mut first).ok()?;
-    let third = generator.seat(&mut first).ok()?;
-    let fourth = generator.seat(&mut first).ok()?;
+// What two pairs of threads draw.
+fn pairs_of_threads<R: Threads + Sync>(
+    rt: &R,
+    alloc: Global,
+    generator: &RandomPidSecretKeyGenerator,
+    left: (PidSeat, PidSeat),
+    right: (PidSeat, PidSeat),
+) -> Option<(PidSeat, Vec<i32>)>
+    requires left { (left.0.of ≡ generator.now) × (left.1.of ≡ generator.now) }
+    requires right { (right.0.of ≡ generator.now) × (right.1.of ≡ generator.now) }
+{
+    let (first, second) = left;
+    let (third, fourth) = right;
     let (left, right) = thread::join(
         rt,
         || -> Option<(PidSeat, Vec<i32>)>
-            requires { (first.of ≡ generator) × (second.of ≡ generator) }
-            ensures { IfSome result (λ r. r.0.of ≡ generator) }
-        { two(rt, alloc, &generator, first, second) },
+            requires { (first.of ≡ generator.now) × (second.of ≡ generator.now) }
+            ensures { IfSome result (λ r. r.0.of ≡ generator.entry.now) }
+        { two(rt, alloc, generator, first, second) },
         || -> Option<(PidSeat, Vec<i32>)>
-            requires { (third.of ≡ generator) × (fourth.of ≡ generator) }
-            ensures { IfSome result (λ r. r.0.of ≡ generator) }
-        { two(rt, alloc, &generator, third, fourth) },
+            requires { (third.of ≡ generator.now) × (fourth.of ≡ generator.now) }
+            ensures { IfSome result (λ r. r.0.of ≡ generator.entry.now) }
+        { two(rt, alloc, generator, third, fourth) },
     );
-    Some(both(&generator, left, right)?.1)
+    both(generator, left, right)
+}
+
+// A seat, and one that is cut from it.
+fn cut(generator: &RandomPidSecretKeyGenerator, mut first: PidSeat) -> Option<(PidSeat, PidSeat)>
+    requires { first.of ≡ generator.now }
+    ensures { IfSome result (λ r. (r.0.of ≡ generator.now) × (r.1.of ≡ generator.now)) }
+{
+    let second = generator.seat(&mut first).ok()?;
+    Some((first, second))
+}
+
+fn four<R: Threads + Sync>(rt: &R, alloc: Global) -> Option<Vec<i32>> {
+    let (generator, seat) = RandomPidSecretKeyGenerator::new(alloc).ok()?;
+    let (left, right) = cut(&generator, seat)?;
+    let left = cut(&generator, left)?;
+    let right = cut(&generator, right)?;
+    Some(pairs_of_threads(rt, alloc, &generator, left, right)?.1)
 }
 
 #[test]
