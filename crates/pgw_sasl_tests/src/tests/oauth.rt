@@ -75,11 +75,15 @@ impl OauthValidator for OneToken {
     }
 }
 
+fn oauth_by(alloc: Global, issuer: &str, scope: &str) -> Result<Oauth, OutOfMemory> {
+    let issuer = Text::from_str(alloc, issuer)?;
+    let scope = Text::from_str(alloc, scope)?;
+    Ok(Oauth::new(issuer, scope, Box::new(alloc, OneToken)?))
+}
+
 // What comes of messages to a handler for OAUTHBEARER alone.
 fn by_oauth<R: Abort>(rt: &R, alloc: Global, steps: &[Step<'_>]) -> Result<Outcome, OutOfMemory> {
-    let issuer = Text::from_str(alloc, "https://example.com")?;
-    let scope = Text::from_str(alloc, "openid")?;
-    let oauth = Oauth::new(issuer, scope, Box::new(alloc, OneToken)?);
+    let oauth = oauth_by(alloc, "https://example.com", "openid")?;
     let (generator, seat) = RandomPidSecretKeyGenerator::new(alloc)?;
     let handler = SASLAuthStartupHandler::<TwoPasswords, _, _, _>::new(Silent, generator);
     let handler = handler.with_oauth(oauth.with_skip_usermapping(true));
@@ -216,8 +220,7 @@ fn faults(rt: HostRuntime) -> Result<(), Fail> {
 
 // What comes of messages to a handler for both methods, with the issuer alone.
 fn by_both<R: Abort>(rt: &R, alloc: Global, steps: &[Step<'_>]) -> Result<Outcome, OutOfMemory> {
-    let issuer = Text::from_str(alloc, "https://example.com/.well-known/x")?;
-    let oauth = Oauth::new(issuer, Text::new(alloc), Box::new(alloc, OneToken)?);
+    let oauth = oauth_by(alloc, "https://example.com/.well-known/x", "")?;
     let (generator, seat) = RandomPidSecretKeyGenerator::new(alloc)?;
     let handler = SASLAuthStartupHandler::new(Silent, generator).with_scram(scram());
     let handler = handler.with_oauth(oauth);

@@ -178,7 +178,9 @@ fn hear<H: StartupHandler>(
     ensures { H.fits handler.now state.new }
 {
     let answer = answer_to(alloc, handler, client, out, state, step);
-    add_word(words, &answer)
+    let added = add_word(words, &answer);
+    drop(answer);
+    added
 }
 
 // Hears the messages, those behind a refusal too.
@@ -232,13 +234,20 @@ pub fn outcome_of<H: StartupHandler, R: Abort>(
         &mut words,
     );
     let_go(rt, state);
-    heard?;
     let number = number_of(&client);
-    Ok(Outcome {
+    drop(client);
+    let outcome = Outcome {
         words,
         sent: out.buffer,
         number,
-    })
+    };
+    match heard {
+        Ok(()) => Ok(outcome),
+        Err(error) => {
+            drop(outcome);
+            Err(error)
+        }
+    }
 }
 
 // Lets a login go that was registered nowhere.
@@ -266,6 +275,20 @@ fn joined(alloc: Global, parts: &[&[u8]]) -> Result<Vec<u8>, OutOfMemory> {
     Ok(all)
 }
 
+fn compare_all<R: Abort>(
+    rt: &R,
+    alloc: Global,
+    outcome: &Outcome,
+    words: &str,
+    sent: &[&[u8]],
+    number: i32,
+) -> Result<(), OutOfMemory> {
+    assert_eq!(rt; outcome.words.as_str().trim_end(), words);
+    assert_eq!(rt; outcome.sent.as_slice(), joined(alloc, sent)?.as_slice());
+    assert_eq!(rt; outcome.number, number);
+    Ok(())
+}
+
 /// Compares what comes of a case's messages with what is wanted.
 pub fn compare<R: Abort>(
     rt: &R,
@@ -275,10 +298,9 @@ pub fn compare<R: Abort>(
     sent: &[&[u8]],
     number: i32,
 ) -> Result<(), OutOfMemory> {
-    assert_eq!(rt; outcome.words.as_str().trim_end(), words);
-    assert_eq!(rt; outcome.sent.as_slice(), joined(alloc, sent)?.as_slice());
-    assert_eq!(rt; outcome.number, number);
-    Ok(())
+    let compared = compare_all(rt, alloc, &outcome, words, sent, number);
+    drop(outcome);
+    compared
 }
 
 fn oauth_words(fault: &OauthFault) -> &'static str {
