@@ -1,5 +1,8 @@
-//! A test of the program over a socket. The cases of `hothummei_cases` test all else.
+//! A test of the program over a socket, and of the large input from a number. The cases of `hothummei_cases` test all
+//! else.
 #![tactic(auto)]
 
 #[cfg(test)]
-mod tests;
+mod socket;
+#[cfg(test)]
+mod streams;

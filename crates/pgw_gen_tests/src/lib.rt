@@ -1,5 +1,0 @@
-//! Tests of the large input from a number.
-#![tactic(auto)]
-
-#[cfg(test)]
-mod streams;
