@@ -1,3 +1,5 @@
+//! The stream from a number.
+
 use pgw_gen::stream::stream;
 use std::alloc::Global;
 use std::test::Fail;
