@@ -43,13 +43,15 @@ fn failure(alloc: Global, section: &Section) -> Result<Option<String>> {
 fn is_right(rt: &HostRuntime, section: &Section) -> Result<bool> {
     let name = section.name.as_str();
     match failure(rt.alloc(), section)? {
-        Some(came) => println!(rt; "{name}: {came}")?,
+        Some(came) => {
+            println!(rt; "{name}: {came}")?;
+            Ok(false)
+        }
         None => {
             println!(rt; "{name} ok")?;
-            return Ok(true);
+            Ok(true)
         }
     }
-    Ok(false)
 }
 
 // How many cases there are, and how many of them failed.

@@ -57,8 +57,8 @@ fn nonce(rt: &HostRuntime) -> Result<[u8; 18]> {
 
 fn over_sockets(rt: &HostRuntime, text: &str) -> Result<Visit> {
     let alloc = rt.alloc();
-    let nonce = nonce(rt)?;
     let config = Config::parse(alloc, text)?;
+    let nonce = nonce(rt)?;
     let mut dialer = SocketDialer::new(rt, Timeouts::NONE);
     Ok(visit_server(alloc, &mut dialer, config, &nonce, LIMIT)?)
 }

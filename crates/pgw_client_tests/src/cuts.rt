@@ -106,7 +106,7 @@ fn link_of(alloc: Global, case: &Case<'_>, cut: usize) -> Result<MemoryLink, Out
     Ok(MemoryLink::new(alloc, server, cut, Listed::new(alloc), Listed::new(alloc)))
 }
 
-// It has no clause, since those of a session make what calls it dear.
+// A session over the link. It has no clause, since those of `run_session` make what calls it dear.
 fn session(
     alloc: Global,
     link: &mut MemoryLink,

@@ -9,6 +9,7 @@ ghost use Rattle.pgw_config.specs.HostAddr.{addr_of};
 ghost use Rattle.pgw_config.specs.Pieces.{pushed, read_onto};
 ghost use Rattle.pgw_conninfo.specs.Marks.{pieces_at};
 
+use crate::choices::put;
 use crate::config::{Config, Host, HostAddr};
 use crate::host_addr::read_addr;
 use crate::keys::ListKey;
@@ -112,17 +113,6 @@ fn read_addrs(
     Ok(all)
 }
 
-// Puts a list into its place, if there is one. Whether there is.
-fn put_list<T: Drop>(place: &mut Listed<T>, list: Option<Listed<T>>) -> bool
-    ensures { (with_it : List T → TheConfig) → with_value list with_it ≡ (if result then Some (with_it place.new) else None) }
-{
-    let Some(list) = list else {
-        return false;
-    };
-    *place = list;
-    true
-}
-
 /// Appends the elements of a list, where each is one that the key takes. Whether each is.
 pub(crate) fn extend(
     alloc: Global,
@@ -139,11 +129,11 @@ pub(crate) fn extend(
         }
         ListKey::HostAddr => {
             let earlier = replace(&mut config.hostaddr, Listed::new(alloc));
-            Ok(put_list(&mut config.hostaddr, read_addrs(alloc, earlier, value)?))
+            Ok(put(&mut config.hostaddr, read_addrs(alloc, earlier, value)?))
         }
         ListKey::Port => {
             let earlier = replace(&mut config.port, Listed::new(alloc));
-            Ok(put_list(&mut config.port, read_ports(alloc, earlier, value)?))
+            Ok(put(&mut config.port, read_ports(alloc, earlier, value)?))
         }
     }
 }

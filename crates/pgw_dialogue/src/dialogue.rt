@@ -41,7 +41,7 @@ pub struct Dialogue<'a> {
     ghost able: { able_while state (input_with config.now requests.now nonce) notes.stage ≡ true },
 }
 
-// Written out, so that for callers to let one go is a call.
+// Written out, so that a caller lets one go by one call.
 impl Drop for Dialogue<'_> {
     fn drop(self) {
         let Dialogue {

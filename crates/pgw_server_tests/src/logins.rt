@@ -29,7 +29,7 @@ fn server_core_ssl(rt: HostRuntime) -> Result<(), Fail> {
     for (bytes, answer, out) in ENCRYPTED {
         for cut in [1, 7, 100] {
             let said = server_says(&rt, rt.alloc(), Asks::Cleartext, bytes, cut)?;
-            compare(&rt, said, answer, out);
+            compare(&rt, said, answer, out, cut);
         }
     }
     Ok(())
@@ -46,7 +46,7 @@ const LET_IN_BY_MD5: &[u8] =
 fn md5_login(rt: HostRuntime) -> Result<(), Fail> {
     for cut in [1, 22, 100] {
         let said = server_says(&rt, rt.alloc(), Asks::Md5, MD5, cut)?;
-        compare(&rt, said, "finished", LET_IN_BY_MD5);
+        compare(&rt, said, "finished", LET_IN_BY_MD5, cut);
     }
     Ok(())
 }
@@ -102,7 +102,7 @@ const ENDS: &[(&[u8], usize, &str, &[u8])] = &[
 fn ends_stay(rt: HostRuntime) -> Result<(), Fail> {
     for (bytes, cut, answer, out) in ENDS {
         let said = server_says(&rt, rt.alloc(), Asks::Cleartext, bytes, *cut)?;
-        compare(&rt, said, answer, out);
+        compare(&rt, said, answer, out, *cut);
     }
     Ok(())
 }

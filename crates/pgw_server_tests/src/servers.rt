@@ -82,9 +82,9 @@ pub fn server_says<R: Abort>(
     }
 }
 
-/// Compares what a server says with what is wanted.
-pub fn compare<R: Abort>(rt: &R, said: Said, answer: &str, out: &[u8]) {
-    assert_eq!(rt; said.answer.as_str(), answer);
-    assert_eq!(rt; said.out.as_slice(), out);
+/// Compares what a server says with what is wanted, of bytes that came so many at a time.
+pub fn compare<R: Abort>(rt: &R, said: Said, answer: &str, out: &[u8], cut: usize) {
+    assert_eq!(rt; said.answer.as_str(), answer, "cut at {cut}");
+    assert_eq!(rt; said.out.as_slice(), out, "cut at {cut}");
     drop(said);
 }

@@ -88,7 +88,7 @@ fn agree<R: Abort>(
     let server = talked(rt, alloc, asks, config, cut)?;
     check_client(rt, alloc, config, &server, want)?;
     let said = server_says(rt, alloc, asks, want, cut)?;
-    compare(rt, said, "finished", server.as_slice());
+    compare(rt, said, "finished", server.as_slice(), cut);
     Ok(())
 }
 

@@ -126,7 +126,7 @@ fn take_all<H: StartupHandler>(
     requires { H.fits core.old.handler core.old.login }
     ensures { H.fits core.new.handler core.new.login }
 {
-    let mut answer = String::new(alloc);
+    let mut answer = String::from_str(alloc, "waiting")?;
     for piece in bytes.chunks(cut.max(1)) {
         answer = take(alloc, core, piece, out)?;
     }
