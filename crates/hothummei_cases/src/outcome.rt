@@ -1,5 +1,6 @@
 //! A run of the program.
-ghost use Rattle.std.specs.Prelude.{◌<◌};
+ghost use Rattle.std.specs.Prelude.{◌<◌, All, IfOk};
+ghost use Rattle.pgw_link.specs.MemoryDials.{IsUnused};
 
 use crate::case::{Call, Case};
 use anyhow::Result;
@@ -92,7 +93,9 @@ fn sink_of(alloc: Global, case: &Case, call: Call) -> Result<MemorySink> {
     Ok(MemorySink::new(alloc, cut_of(case.cut, 7), fail_writes))
 }
 
-fn link_of(alloc: Global, case: &Case) -> Result<MemoryLink> {
+fn link_of(alloc: Global, case: &Case) -> Result<MemoryLink>
+    ensures { IfOk result IsUnused }
+{
     let server = Octets::from_slice(alloc, &case.server)?;
     let fail_reads = case.numbers(alloc, Call::LinkRead)?;
     let fail_writes = case.numbers(alloc, Call::LinkWrite)?;
@@ -100,7 +103,9 @@ fn link_of(alloc: Global, case: &Case) -> Result<MemoryLink> {
 }
 
 // The links of a dialer: one, where the case has a server.
-fn links_of(alloc: Global, case: &Case) -> Result<Listed<MemoryLink>> {
+fn links_of(alloc: Global, case: &Case) -> Result<Listed<MemoryLink>>
+    ensures { IfOk result (All IsUnused) }
+{
     let mut links = Listed::new(alloc);
     if !case.server.is_empty() {
         links.push(link_of(alloc, case)?)?;
