@@ -2,12 +2,10 @@
 ghost use Rattle.pgw_client.specs.Session.{IoHasCause};
 
 use pgw_client::{
-    Config, DataRow, DataRowsReader, Dialer, ErrorResponse, ExecuteResult, FromSql, FromSqlText,
-    Link, Listed, Octets, PgWireClientError, PgWireClientResult, Response, Text,
+    Config, Dialer, ErrorResponse, ExecuteResult, FromSql, FromSqlText, Link, Listed, Octets,
+    PgWireClientError, PgWireClientResult, Response, Text,
 };
-use pgw_connection::{
-    ExtendedQueryClient, Outgoing, PgWireClient, PgWireFrontendMessage, Terminate,
-};
+use pgw_connection::{Outgoing, PgWireClient, PgWireFrontendMessage, Terminate};
 use pgw_default_handlers::{
     DefaultExtendedQueryHandler, DefaultSimpleQueryHandler, DefaultStartupHandler,
 };
@@ -27,15 +25,6 @@ pub struct Visit {
     pub again: Option<i32>,
 }
 
-// The first value of the first row, where there is a row.
-fn first_of<T: FromSql + FromSqlText>(
-    alloc: Global,
-    rows: &mut DataRowsReader,
-) -> Option<PgWireClientResult<Option<T>>> {
-    let mut row = rows.next_row()?;
-    Some(row.next_value::<T>(alloc))
-}
-
 // The first value of a query's first result.
 fn first_value<T: FromSql + FromSqlText>(
     alloc: Global,
@@ -43,10 +32,8 @@ fn first_value<T: FromSql + FromSqlText>(
 ) -> PgWireClientResult<Option<T>> {
     for response in responses.into_vec() {
         let mut rows = response.into_data_rows_reader(alloc);
-        let value = first_of(alloc, &mut rows);
-        drop(rows);
-        if let Some(value) = value {
-            return value;
+        if let Some(mut row) = rows.next_row() {
+            return row.next_value::<T>(alloc);
         }
     }
     Ok(None)
@@ -67,62 +54,10 @@ fn refusal<L: Link>(
     sql: &str,
 ) -> PgWireClientResult<Option<ErrorResponse>> {
     match ask(alloc, client, sql) {
-        Ok(responses) => {
-            drop(responses);
-            Ok(None)
-        }
+        Ok(_responses) => Ok(None),
         Err(PgWireClientError::RemoteError(error)) => Ok(Some(error)),
         Err(error) => Err(error),
     }
-}
-
-type Statements<'a, L> = ExtendedQueryClient<'a, L, DefaultExtendedQueryHandler>;
-
-// One parameter, as text.
-fn parameter(alloc: Global, value: &str) -> PgWireClientResult<Listed<Option<Octets>>> {
-    let mut parameters = Listed::new(alloc);
-    parameters.push(Some(Octets::from_slice(alloc, value.as_bytes())?))?;
-    Ok(parameters)
-}
-
-// How many rows came, and whether they are the last.
-fn part_of(executed: ExecuteResult<Listed<DataRow>>) -> (u64, bool) {
-    let part = match &executed {
-        ExecuteResult::Suspended(rows) => (rows.as_slice().len() as u64, false),
-        ExecuteResult::Complete(rows) => (rows.as_slice().len() as u64, true),
-    };
-    drop(executed);
-    part
-}
-
-// Takes the rows of the unnamed portal so many at a time; gives how many came in each part.
-fn parts<L: Link>(
-    alloc: Global,
-    statements: &mut Statements<'_, L>,
-    most: i32,
-) -> PgWireClientResult<Listed<u64>> {
-    let mut parts = Listed::new(alloc);
-    for _ in 0..u64::MAX {
-        let (count, is_last) = part_of(statements.execute(alloc, None, most)?);
-        parts.push(count)?;
-        if is_last {
-            break;
-        }
-    }
-    Ok(parts)
-}
-
-fn prepared_parts<L: Link>(
-    alloc: Global,
-    statements: &mut Statements<'_, L>,
-    sql: &str,
-    value: &str,
-    most: i32,
-) -> PgWireClientResult<Listed<u64>> {
-    drop(statements.prepare(alloc, None, sql, &[])?);
-    let parameters = parameter(alloc, value)?;
-    statements.bind(alloc, None, None, parameters, Listed::new(alloc))?;
-    parts(alloc, statements, most)
 }
 
 // Prepares a statement with one number, and takes its rows so many at a time; gives how many came in each part.
@@ -135,9 +70,21 @@ fn in_parts<L: Link>(
 ) -> PgWireClientResult<Listed<u64>> {
     let mut handler = DefaultExtendedQueryHandler::new();
     let mut statements = client.extended_query(&mut handler);
-    let parts = prepared_parts(alloc, &mut statements, sql, value, most);
-    drop(handler);
-    parts
+    statements.prepare(alloc, None, sql, &[])?;
+    let mut parameters = Listed::new(alloc);
+    parameters.push(Some(Octets::from_slice(alloc, value.as_bytes())?))?;
+    statements.bind(alloc, None, None, parameters, Listed::new(alloc))?;
+    let mut parts = Listed::new(alloc);
+    for _ in 0..u64::MAX {
+        match statements.execute(alloc, None, most)? {
+            ExecuteResult::Suspended(rows) => parts.push(rows.as_slice().len() as u64)?,
+            ExecuteResult::Complete(rows) => {
+                parts.push(rows.as_slice().len() as u64)?;
+                break;
+            }
+        }
+    }
+    Ok(parts)
 }
 
 // The number that a query gave.
@@ -149,8 +96,8 @@ fn number<L: Link>(
     first_value(alloc, ask(alloc, client, sql)?)
 }
 
-// Asks two queries, takes the rows of a prepared statement two at a time, asks what the server refuses, asks once
-// more, and ends the session.
+// Asks two queries, takes the rows of a prepared statement two at a time, asks what the server refuses, and asks once
+// more.
 fn ask_all<L: Link>(
     alloc: Global,
     client: &mut PgWireClient<L>,
@@ -162,10 +109,10 @@ fn ask_all<L: Link>(
     visit.parts = in_parts(alloc, client, sql, "5", 2)?;
     visit.refused = refusal(alloc, client, "SELECT no_such_column")?;
     visit.again = number(alloc, client, "SELECT 8")?;
-    client.send(PgWireFrontendMessage::Terminate(Terminate::new()))
+    Ok(())
 }
 
-// What a visit over a client comes to.
+// Visits over a client, and ends the session.
 fn visit_by<L: Link>(alloc: Global, client: &mut PgWireClient<L>) -> PgWireClientResult<Visit> {
     let mut visit = Visit {
         number: None,
@@ -174,13 +121,9 @@ fn visit_by<L: Link>(alloc: Global, client: &mut PgWireClient<L>) -> PgWireClien
         refused: None,
         again: None,
     };
-    match ask_all(alloc, client, &mut visit) {
-        Ok(()) => Ok(visit),
-        Err(error) => {
-            drop(visit);
-            Err(error)
-        }
-    }
+    ask_all(alloc, client, &mut visit)?;
+    client.send(PgWireFrontendMessage::Terminate(Terminate::new()))?;
+    Ok(visit)
 }
 
 /// Connects, asks, and ends the session.
@@ -193,7 +136,5 @@ pub fn visit_server<D: Dialer>(
 ) -> PgWireClientResult<Visit> {
     let handler = DefaultStartupHandler::new(*nonce);
     let mut client = PgWireClient::connect(alloc, config, handler, dialer, limit)?;
-    let visit = visit_by(alloc, &mut client);
-    drop(client);
-    visit
+    visit_by(alloc, &mut client)
 }

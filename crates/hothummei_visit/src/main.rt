@@ -19,46 +19,34 @@ use std::{env, io};
 /// The most bytes that are read of a server.
 const LIMIT: u64 = 1_000_000;
 
-// The bytes of the server that stands here.
-fn server_bytes(alloc: Global) -> Result<Octets> {
+/// A dialer with one link, to the server whose bytes stand here.
+fn memory_dialer(alloc: Global) -> Result<MemoryDialer> {
     let mut bytes = Vec::new(alloc);
     for message in SERVER {
         bytes.extend_from_slice(&hex::decode(alloc, message)?)?;
     }
-    Ok(Octets::from_slice(alloc, &bytes)?)
-}
-
-/// A dialer with one link, to the server whose bytes stand here.
-fn memory_dialer(alloc: Global) -> Result<MemoryDialer> {
-    let link = MemoryLink::new(
+    let mut links = Listed::new(alloc);
+    links.push(MemoryLink::new(
         alloc,
-        server_bytes(alloc)?,
+        Octets::from_slice(alloc, &bytes)?,
         1000,
         Listed::new(alloc),
         Listed::new(alloc),
-    );
-    let mut links = Listed::new(alloc);
-    links.push(link)?;
+    ))?;
     Ok(MemoryDialer::new(links, Listed::new(alloc)))
 }
 
 fn in_memory(alloc: Global) -> Result<Visit> {
     let config = Config::parse(alloc, "host=memory user=bob")?;
     let mut dialer = memory_dialer(alloc)?;
-    let visit = visit_server(alloc, &mut dialer, config, &[0; 18], LIMIT);
-    drop(dialer);
-    Ok(visit?)
-}
-
-fn nonce(rt: &HostRuntime) -> Result<[u8; 18]> {
-    let rng: io::Result<StdRng> = rand::make_rng(rt);
-    Ok(rng?.random())
+    Ok(visit_server(alloc, &mut dialer, config, &[0; 18], LIMIT)?)
 }
 
 fn over_sockets(rt: &HostRuntime, text: &str) -> Result<Visit> {
     let alloc = rt.alloc();
     let config = Config::parse(alloc, text)?;
-    let nonce = nonce(rt)?;
+    let rng: io::Result<StdRng> = rand::make_rng(rt);
+    let nonce: [u8; 18] = rng?.random();
     let mut dialer = SocketDialer::new(rt, Timeouts::NONE);
     Ok(visit_server(alloc, &mut dialer, config, &nonce, LIMIT)?)
 }
@@ -84,7 +72,5 @@ fn main(rt: HostRuntime) -> Result<()> {
         Some(text) => over_sockets(&rt, text.as_str())?,
         None => in_memory(rt.alloc())?,
     };
-    let printed = print(&rt, &visit);
-    drop(visit);
-    printed
+    print(&rt, &visit)
 }

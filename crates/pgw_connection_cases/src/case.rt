@@ -28,7 +28,6 @@ pub struct Case {
 
 impl Case {
     fn new(alloc: Global) -> Result<Case> {
-        let config = String::from_str(alloc, "user=bob host=a")?;
         Ok(Case {
             name: String::new(alloc),
             server: Vec::new(alloc),
@@ -39,37 +38,23 @@ impl Case {
             fail_second_writes: Vec::new(alloc),
             fail_flush: 0,
             limit: 100_000,
-            config,
+            config: String::from_str(alloc, "user=bob host=a")?,
         })
     }
 
     /// A name, settings and the server's bytes.
     pub fn read(alloc: Global, pieces: &Pieces, head: &str) -> Result<Case> {
         let mut case = Case::new(alloc)?;
-        match case.add_all(alloc, pieces, head) {
-            Ok(()) => Ok(case),
-            Err(error) => {
-                drop(case);
-                Err(error)
+        for word in head.split(' ') {
+            if case.name.is_empty() {
+                case.name.push_str(word)?;
+            } else if let Some((key, value)) = word.split_once('=') {
+                case.set(key, value)?;
+            } else {
+                pieces.append(alloc, word, &mut case.server)?;
             }
         }
-    }
-
-    fn add_all(&mut self, alloc: Global, pieces: &Pieces, head: &str) -> Result<()> {
-        for word in head.split(' ') {
-            self.add(alloc, pieces, word)?;
-        }
-        Ok(())
-    }
-
-    fn add(&mut self, alloc: Global, pieces: &Pieces, word: &str) -> Result<()> {
-        if self.name.is_empty() {
-            return Ok(self.name.push_str(word)?);
-        }
-        match word.split_once('=') {
-            Some((key, value)) => self.set(key, value),
-            None => pieces.append(alloc, word, &mut self.server),
-        }
+        Ok(case)
     }
 
     fn set(&mut self, key: &str, value: &str) -> Result<()> {
@@ -81,52 +66,41 @@ impl Case {
             "fail-flush" => self.fail_flush = value.parse::<u64>()?,
             "fail-dial" => self.fail_dials.push(value.parse::<u64>()?)?,
             "fail-second-write" => self.fail_second_writes.push(value.parse::<u64>()?)?,
-            _ => self.configure(key, value)?,
+            _ => {
+                self.config.push_str(" ")?;
+                self.config.push_str(key)?;
+                self.config.push_str("=")?;
+                self.config.push_str(value)?;
+            }
         }
-        Ok(())
-    }
-
-    fn configure(&mut self, key: &str, value: &str) -> Result<()> {
-        self.config.push_str(" ")?;
-        self.config.push_str(key)?;
-        self.config.push_str("=")?;
-        self.config.push_str(value)?;
         Ok(())
     }
 
     /// A dialer with a link to the server, and one to a server that says nothing.
     pub fn dialer(&self, alloc: Global) -> Result<CaseDialer> {
-        let links = self.links(alloc)?;
-        let fail_dials = numbers(alloc, &self.fail_dials)?;
-        Ok(CaseDialer::new(MemoryDialer::new(links, fail_dials), self.fail_flush))
+        Ok(CaseDialer::new(self.links(alloc)?, self.fail_flush))
     }
 
-    // The link to the server.
-    fn link(&self, alloc: Global) -> Result<MemoryLink> {
+    fn links(&self, alloc: Global) -> Result<MemoryDialer> {
+        let mut links = Listed::new(alloc);
         let server = Octets::from_slice(alloc, &self.server)?;
-        let fail_reads = numbers(alloc, &self.fail_reads)?;
-        let fail_writes = numbers(alloc, &self.fail_writes)?;
-        Ok(MemoryLink::new(alloc, server, cut_of(self.cut), fail_reads, fail_writes))
-    }
-
-    // The link to a server that says nothing.
-    fn silent_link(&self, alloc: Global) -> Result<MemoryLink> {
-        let server = Octets::from_slice(alloc, &[])?;
-        let fail_writes = numbers(alloc, &self.fail_second_writes)?;
-        Ok(MemoryLink::new(
+        let cut = cut_of(self.cut);
+        links.push(MemoryLink::new(
             alloc,
             server,
-            cut_of(self.cut),
+            cut,
+            numbers(alloc, &self.fail_reads)?,
+            numbers(alloc, &self.fail_writes)?,
+        ))?;
+        let silent = Octets::from_slice(alloc, &[])?;
+        links.push(MemoryLink::new(
+            alloc,
+            silent,
+            cut,
             Listed::new(alloc),
-            fail_writes,
-        ))
-    }
-
-    fn links(&self, alloc: Global) -> Result<Listed<MemoryLink>> {
-        let mut links = Listed::new(alloc);
-        links.push(self.link(alloc)?)?;
-        links.push(self.silent_link(alloc)?)?;
-        Ok(links)
+            numbers(alloc, &self.fail_second_writes)?,
+        ))?;
+        Ok(MemoryDialer::new(links, numbers(alloc, &self.fail_dials)?))
     }
 }
 

@@ -73,18 +73,6 @@ fn query(alloc: Global, lent: &mut Lent<'_>, sql: &str) -> Result<String> {
     told(alloc, lent.query(alloc, sql, &[23], parameters))
 }
 
-fn asked(alloc: Global, lent: &mut Lent<'_>, word: &str, text: &str) -> Result<String> {
-    match word {
-        "prepare" => prepare(alloc, lent, text),
-        "bind" => bind(alloc, lent, text),
-        "execute" => execute(alloc, lent, text),
-        "describe" => describe(alloc, lent, text),
-        "close" => close(alloc, lent, text),
-        "query" => query(alloc, lent, text),
-        _ => bail!("no call {word}"),
-    }
-}
-
 /// An extended call on a client, and what came of it.
 pub fn extended(
     alloc: Global,
@@ -94,7 +82,13 @@ pub fn extended(
 ) -> Result<String> {
     let mut handler = DefaultExtendedQueryHandler::new();
     let mut lent = client.extended_query(&mut handler);
-    let came = asked(alloc, &mut lent, word, text);
-    drop(handler);
-    came
+    match word {
+        "prepare" => prepare(alloc, &mut lent, text),
+        "bind" => bind(alloc, &mut lent, text),
+        "execute" => execute(alloc, &mut lent, text),
+        "describe" => describe(alloc, &mut lent, text),
+        "close" => close(alloc, &mut lent, text),
+        "query" => query(alloc, &mut lent, text),
+        _ => bail!("no call {word}"),
+    }
 }

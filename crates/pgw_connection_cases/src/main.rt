@@ -18,12 +18,6 @@ use std::alloc::Global;
 use std::io;
 use std::io::BufReader;
 
-fn answered(alloc: Global, case: &Case, calls: &str) -> Result<String> {
-    let answers = answers(alloc, case, calls)?;
-    let name = case.name.as_str();
-    Ok(format!(in alloc; "{name}: {answers}")?)
-}
-
 /// What is printed of a line, where something is.
 fn printed(alloc: Global, pieces: &mut Pieces, line: &str) -> Result<Option<String>> {
     if line.is_empty() || line.starts_with('#') {
@@ -38,9 +32,9 @@ fn printed(alloc: Global, pieces: &mut Pieces, line: &str) -> Result<Option<Stri
     }
     let (head, calls) = line.split_once(" : ").context("a line without calls")?;
     let case = Case::read(alloc, pieces, head)?;
-    let answered = answered(alloc, &case, calls);
-    drop(case);
-    Ok(Some(answered?))
+    let answers = answers(alloc, &case, calls)?;
+    let name = case.name.as_str();
+    Ok(Some(format!(in alloc; "{name}: {answers}")?))
 }
 
 fn main(rt: HostRuntime) -> Result<()> {

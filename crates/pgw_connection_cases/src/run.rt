@@ -6,7 +6,7 @@ use crate::link::{CaseDialer, CaseLink};
 use crate::own::{fill, poll, send};
 use crate::shown::{error_name, said, status_shown, told};
 use anyhow::Result;
-use pgw_client::{Config, PgWireClientError, PgWireClientResult};
+use pgw_client::{Config, PgWireClientResult};
 use pgw_connection::PgWireClient;
 use pgw_default_handlers::{DefaultSimpleQueryHandler, DefaultStartupHandler};
 use pgw_row_counter::RowCounter;
@@ -82,28 +82,24 @@ fn call_by(
 }
 
 // What a client was told, behind a call.
-fn state(client: &Client) -> &'static str {
+fn state(alloc: Global, client: &Client) -> Result<String> {
     if client.is_broken() {
-        "broken"
-    } else {
-        status_shown(client)
+        return Ok(String::from_str(alloc, "broken")?);
     }
+    Ok(String::from_str(alloc, status_shown(client))?)
 }
 
-// A client by the configuration. It has no clause, since those of a client make what calls it dear.
-fn connected(
+fn connect(
     alloc: Global,
-    config: Config,
+    case: &Case,
     dialer: &mut CaseDialer,
-    limit: u64,
-) -> PgWireClientResult<Client> {
+) -> Result<PgWireClientResult<Client>> {
+    let config = match Config::parse(alloc, case.config.as_str()) {
+        Ok(config) => config,
+        Err(e) => return Ok(Err(e)),
+    };
     let handler = DefaultStartupHandler::new([0; 18]);
-    PgWireClient::connect(alloc, config, handler, dialer, limit)
-}
-
-fn connect(alloc: Global, case: &Case, dialer: &mut CaseDialer) -> PgWireClientResult<Client> {
-    let config = Config::parse(alloc, case.config.as_str())?;
-    connected(alloc, config, dialer, case.limit)
+    Ok(PgWireClient::connect(alloc, config, handler, dialer, case.limit))
 }
 
 // The bytes that were sent over the link that was closed last.
@@ -115,61 +111,21 @@ fn closed(alloc: Global, dialer: &CaseDialer) -> Result<String> {
     }
 }
 
-// A call, what came of it, and what the client was told behind it.
-fn answer(
-    alloc: Global,
-    client: &mut Client,
-    dialer: &mut CaseDialer,
-    text: &str,
-) -> Result<String> {
-    let came = call_by(alloc, client, dialer, text)?;
-    Ok(format!(in alloc; "; {text} -> {came}, {}", state(client))?)
-}
-
-// What calls on a client come to, one behind the other.
-fn answers_of(
-    alloc: Global,
-    client: &mut Client,
-    dialer: &mut CaseDialer,
-    calls: &str,
-) -> Result<String> {
-    let mut answers = format!(in alloc; "connected {}", status_shown(client))?;
-    for text in calls.split(" ; ") {
-        answers.push_str(answer(alloc, client, dialer, text)?.as_str())?;
-    }
-    Ok(answers)
-}
-
-// What is told of a client that did not connect.
-fn refused(alloc: Global, dialer: &CaseDialer, error: &PgWireClientError) -> Result<String> {
-    let closed = closed(alloc, dialer)?;
-    Ok(format!(in alloc; "{}, closed {closed}", error_name(error))?)
-}
-
-fn answers_over(
-    alloc: Global,
-    case: &Case,
-    dialer: &mut CaseDialer,
-    calls: &str,
-) -> Result<String> {
-    match connect(alloc, case, dialer) {
-        Ok(mut client) => {
-            let answers = answers_of(alloc, &mut client, dialer, calls);
-            drop(client);
-            answers
-        }
-        Err(error) => {
-            let refused = refused(alloc, dialer, &error);
-            drop(error);
-            refused
-        }
-    }
-}
-
 /// What a case's calls come to, one behind the other.
 pub fn answers(alloc: Global, case: &Case, calls: &str) -> Result<String> {
     let mut dialer = case.dialer(alloc)?;
-    let answers = answers_over(alloc, case, &mut dialer, calls);
-    drop(dialer);
-    answers
+    let mut client = match connect(alloc, case, &mut dialer)? {
+        Ok(client) => client,
+        Err(e) => {
+            let closed = closed(alloc, &dialer)?;
+            return Ok(format!(in alloc; "{}, closed {closed}", error_name(&e))?);
+        }
+    };
+    let mut answers = format!(in alloc; "connected {}", status_shown(&client))?;
+    for text in calls.split(" ; ") {
+        let came = call_by(alloc, &mut client, &mut dialer, text)?;
+        let state = state(alloc, &client)?;
+        answers.push_str(format!(in alloc; "; {text} -> {came}, {state}")?.as_str())?;
+    }
+    Ok(answers)
 }

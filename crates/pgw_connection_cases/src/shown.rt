@@ -47,31 +47,16 @@ pub trait Shown: Drop {
 /// What came of a call: its answer, or the name of its error.
 pub fn told<T: Shown>(alloc: Global, came: PgWireClientResult<T>) -> Result<String> {
     match came {
-        Ok(answer) => {
-            let shown = answer.shown(alloc);
-            drop(answer);
-            shown
-        }
-        Err(error) => {
-            let name = error_name(&error);
-            drop(error);
-            Ok(String::from_str(alloc, name)?)
-        }
+        Ok(answer) => answer.shown(alloc),
+        Err(error) => Ok(String::from_str(alloc, error_name(&error))?),
     }
 }
 
 /// What came of a call whose answer is printed as this.
 pub fn said<T: Drop>(alloc: Global, came: PgWireClientResult<T>, shown: &str) -> Result<String> {
     match came {
-        Ok(answer) => {
-            drop(answer);
-            Ok(String::from_str(alloc, shown)?)
-        }
-        Err(error) => {
-            let name = error_name(&error);
-            drop(error);
-            Ok(String::from_str(alloc, name)?)
-        }
+        Ok(_) => Ok(String::from_str(alloc, shown)?),
+        Err(error) => Ok(String::from_str(alloc, error_name(&error))?),
     }
 }
 
