@@ -96,8 +96,19 @@ impl PgWireMessageClientCodec {
         ensures phase { OnOk result (self.new ≡ phase_behind item self.old) }
         ensures kept { OnErr result (self.new ≡ self.old) }
     {
+        let written = self.write(&item, dst);
+        drop(item);
+        written
+    }
+
+    // The same of a message that stays.
+    fn write(&mut self, item: &PgWireFrontendMessage, dst: &mut BytesMut) -> PgWireResult<()>
+        ensures exact { Appends result dst.old.items dst.new.items (encoding item.now) }
+        ensures phase { OnOk result (self.new ≡ phase_behind item.now self.old) }
+        ensures kept { OnErr result (self.new ≡ self.old) }
+    {
         item.encode(dst)?;
-        self.pass(&item);
+        self.pass(item);
         Ok(())
     }
 
