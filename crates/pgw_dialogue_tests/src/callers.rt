@@ -3,8 +3,8 @@
 use crate::pieces::{CLIENT, SERVER};
 use bytes::BytesMut;
 use pgw_client::{
-    Answer, Config, Listed, MemoryLink, Octets, PgWireClientError, PgWireClientResult, Request,
-    Response, SessionReport,
+    Answer, Config, Listed, MemoryLink, Octets, OutOfMemory, PgWireClientError, PgWireClientResult,
+    Request, Response, SessionReport,
 };
 use pgw_example::ask::ask;
 use pgw_example::push::over_pieces;
@@ -31,7 +31,10 @@ fn ending(answer: &PgWireClientResult<SessionReport>) -> &'static str {
 }
 
 fn asked(alloc: Global, link: &mut MemoryLink) -> &'static str {
-    ending(&ask(alloc, link, "user=bob", "SELECT 1", &[0; 18], 1000))
+    let answer = ask(alloc, link, "user=bob", "SELECT 1", &[0; 18], 1000);
+    let ended = ending(&answer);
+    drop(answer);
+    ended
 }
 
 #[test]
@@ -39,16 +42,43 @@ fn one_row(rt: HostRuntime) -> Result<(), Fail> {
     let alloc = rt.alloc();
     let server = Octets::from_slice(alloc, SERVER)?;
     let mut link = MemoryLink::new(alloc, server, 8192, Listed::new(alloc), Listed::new(alloc));
-    assert_eq!(rt; asked(alloc, &mut link), "one row");
+    let ended = asked(alloc, &mut link);
+    drop(link);
+    assert_eq!(rt; ended, "one row");
     Ok(())
+}
+
+fn ending_of(
+    alloc: Global,
+    asked: (&Config, &[Request]),
+    pieces: &[Octets],
+    out: &mut BytesMut,
+) -> &'static str {
+    let (config, requests) = asked;
+    let answer = over_pieces(alloc, config, requests, &[0; 18], 1000, pieces, out);
+    let ended = ending(&answer);
+    drop(answer);
+    ended
+}
+
+fn pushed_by(
+    alloc: Global,
+    config: &Config,
+    pieces: &[Octets],
+    out: &mut BytesMut,
+) -> Result<&'static str, OutOfMemory> {
+    let requests = [Request::simple(alloc, "SELECT 1")?];
+    let ended = ending_of(alloc, (config, &requests), pieces, out);
+    drop(requests);
+    Ok(ended)
 }
 
 // How a session over these pieces ends.
 fn pushed(alloc: Global, pieces: &[Octets], out: &mut BytesMut) -> Result<&'static str, Fail> {
     let config = Config::parse(alloc, "user=bob")?;
-    let requests = [Request::simple(alloc, "SELECT 1")?];
-    let answer = over_pieces(alloc, &config, &requests, &[0; 18], 1000, pieces, out);
-    Ok(ending(&answer))
+    let ended = pushed_by(alloc, &config, pieces, out);
+    drop(config);
+    Ok(ended?)
 }
 
 // Two pieces that cut a message, and the first alone.

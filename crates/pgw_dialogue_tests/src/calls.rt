@@ -6,6 +6,7 @@ use pgw_client::{
 };
 use pgw_dialogue::{Dialogue, DialoguePhase};
 use std::alloc::Global;
+use std::process::Abort;
 use std::test::Fail;
 
 // AuthenticationOk, ReadyForQuery; then a row of one field, its result and ReadyForQuery.
@@ -46,7 +47,10 @@ fn select_one(alloc: Global) -> Result<Vec<Request>, Fail> {
 }
 
 fn taken(dialogue: &mut Dialogue<'_>, piece: &[u8], out: &mut BytesMut) -> &'static str {
-    answer_of(&dialogue.take(piece, out))
+    let answer = dialogue.take(piece, out);
+    let name = answer_of(&answer);
+    drop(answer);
+    name
 }
 
 fn two_taken(
@@ -69,9 +73,33 @@ fn answers_to(
 ) -> PgWireClientResult<([&'static str; 2], [usize; 2])> {
     let (config, requests) = asked;
     match Dialogue::start(alloc, config, requests, &[0; 18], limit, out) {
-        Ok(mut dialogue) => Ok(two_taken(&mut dialogue, pieces, out)),
+        Ok(mut dialogue) => {
+            let taken = two_taken(&mut dialogue, pieces, out);
+            drop(dialogue);
+            Ok(taken)
+        }
         Err(error) => Err(error),
     }
+}
+
+fn answers_by(
+    alloc: Global,
+    config: &Config,
+    limit: u64,
+    pieces: [&[u8]; 2],
+) -> Result<([&'static str; 2], [usize; 2]), Fail> {
+    let requests = select_one(alloc)?;
+    let mut out = BytesMut::new(alloc);
+    let answers = answers_to(
+        alloc,
+        (config, requests.as_slice()),
+        limit,
+        pieces,
+        &mut out,
+    );
+    drop(requests);
+    drop(out);
+    Ok(answers?)
 }
 
 // What two pieces are answered, and how many bytes were put out behind each.
@@ -81,55 +109,66 @@ fn answers(
     pieces: [&[u8]; 2],
 ) -> Result<([&'static str; 2], [usize; 2]), Fail> {
     let config = Config::parse(alloc, "user=bob")?;
-    let requests = select_one(alloc)?;
-    let mut out = BytesMut::new(alloc);
-    let asked = (&config, requests.as_slice());
-    Ok(answers_to(alloc, asked, limit, pieces, &mut out)?)
+    let answers = answers_by(alloc, &config, limit, pieces);
+    drop(config);
+    answers
 }
+
+// What is compared of two pieces: what each is answered, and how many bytes were put out behind it.
+fn check<R: Abort>(
+    rt: &R,
+    alloc: Global,
+    limit: u64,
+    pieces: [&[u8]; 2],
+    names: [&str; 2],
+    counts: [usize; 2],
+) -> Result<(), Fail> {
+    let (answers, lengths) = answers(alloc, limit, pieces)?;
+    assert_eq!(rt; answers, names, "{limit}");
+    assert_eq!(rt; lengths, counts, "{limit}");
+    Ok(())
+}
+
+// All but the last byte.
+const BUT_ONE: &[u8] =
+    b"R\0\0\0\x08\0\0\0\0Z\0\0\0\x05IT\0\0\0\x1a\0\x01a\0\0\0\0\0\0\0\0\0\0\x17\0\x04\xff\xff\xff\xff\0\0D\0\0\0\x0b\0\x01\0\0\0\x011C\0\0\0\rSELECT 1\0Z\0\0\0\x05";
 
 // Phases within and behind the startup segment; the transcript whole, with bytes behind it in the same piece, and behind
 // that in another; a type byte that no message has, and the pieces behind it; a message cut within its length field.
+const ANSWERED: &[([&[u8]; 2], [&str; 2], [usize; 2])] = &[
+    (
+        [b"R\0\0\0\x08\0\0\0\0Z\0\0\0\x05", b"I"],
+        ["Waiting", "Ready"],
+        [STARTUP, WITH_QUERY],
+    ),
+    ([b"", b""], ["Waiting", "Waiting"], [STARTUP, STARTUP]),
+    ([BUT_ONE, b"I"], ["Ready", "Done"], [WITH_QUERY, WITH_QUERY]),
+    (
+        [SERVER, b"?\0\0\0\x04"],
+        ["Done", "Done"],
+        [WITH_QUERY, WITH_QUERY],
+    ),
+    (
+        [b"?\0\0\0\x04", SERVER],
+        ["PgWireError", "Broken"],
+        [STARTUP, STARTUP],
+    ),
+    (
+        [b"R\0\0\0\x08\0\0\0\0Z\0\0\0\x05I?\0\0\0\x04", b""],
+        ["PgWireError", "Broken"],
+        [WITH_QUERY, WITH_QUERY],
+    ),
+    (
+        [b"R\0\0", b"\0\x08\0\0\0\0Z\0\0\0\x05I"],
+        ["Waiting", "Ready"],
+        [STARTUP, WITH_QUERY],
+    ),
+];
+
 #[test]
 fn pieces_are_answered(rt: HostRuntime) -> Result<(), Fail> {
-    let alloc = rt.alloc();
-    let server = SERVER;
-    let cases: [([&[u8]; 2], [&str; 2], [usize; 2]); 7] = [
-        (
-            [&server[..14], &server[14..15]],
-            ["Waiting", "Ready"],
-            [STARTUP, WITH_QUERY],
-        ),
-        ([&[], &[]], ["Waiting", "Waiting"], [STARTUP, STARTUP]),
-        (
-            [&server[..73], &server[73..]],
-            ["Ready", "Done"],
-            [WITH_QUERY, WITH_QUERY],
-        ),
-        (
-            [SERVER, b"?\0\0\0\x04"],
-            ["Done", "Done"],
-            [WITH_QUERY, WITH_QUERY],
-        ),
-        (
-            [b"?\0\0\0\x04", SERVER],
-            ["PgWireError", "Broken"],
-            [STARTUP, STARTUP],
-        ),
-        (
-            [b"R\0\0\0\x08\0\0\0\0Z\0\0\0\x05I?\0\0\0\x04", b""],
-            ["PgWireError", "Broken"],
-            [WITH_QUERY, WITH_QUERY],
-        ),
-        (
-            [&server[..3], &server[3..15]],
-            ["Waiting", "Ready"],
-            [STARTUP, WITH_QUERY],
-        ),
-    ];
-    for (pieces, names, counts) in cases {
-        let (answers, lengths) = answers(alloc, 1000, pieces)?;
-        assert_eq!(rt; answers, names);
-        assert_eq!(rt; lengths, counts);
+    for (pieces, names, counts) in ANSWERED {
+        check(&rt, rt.alloc(), 1000, *pieces, *names, *counts)?;
     }
     Ok(())
 }
@@ -137,17 +176,14 @@ fn pieces_are_answered(rt: HostRuntime) -> Result<(), Fail> {
 // What a dialogue with this limit answers to all the bytes of the server, and then to none.
 #[test]
 fn limits_are_kept(rt: HostRuntime) -> Result<(), Fail> {
-    let alloc = rt.alloc();
     for limit in 0..76 {
-        let (names, lengths) = answers(alloc, limit, [SERVER, b""])?;
-        let want = if limit < 74 {
+        let names = if limit < 74 {
             ["ReadLimit", "Broken"]
         } else {
             ["Done", "Done"]
         };
         let count = if limit < 15 { STARTUP } else { WITH_QUERY };
-        assert_eq!(rt; names, want, "{limit}");
-        assert_eq!(rt; lengths, [count, count], "{limit}");
+        check(&rt, rt.alloc(), limit, [SERVER, b""], names, [count, count])?;
     }
     Ok(())
 }
@@ -158,7 +194,12 @@ fn end_of(
     out: &mut BytesMut,
 ) -> Result<&'static str, Fail> {
     match dialogue.take(bytes, out)? {
-        DialoguePhase::Waiting | DialoguePhase::Ready => Ok(name_of(&dialogue.at_end())),
+        DialoguePhase::Waiting | DialoguePhase::Ready => {
+            let error = dialogue.at_end();
+            let name = name_of(&error);
+            drop(error);
+            Ok(name)
+        }
         DialoguePhase::Done => Ok("Done"),
     }
 }
@@ -171,37 +212,50 @@ fn end_behind_these(
     out: &mut BytesMut,
 ) -> Result<&'static str, Fail> {
     let mut dialogue = Dialogue::start(alloc, config, requests, &[0; 18], 1000, out)?;
-    end_of(&mut dialogue, bytes, out)
+    let end = end_of(&mut dialogue, bytes, out);
+    drop(dialogue);
+    end
+}
+
+fn end_by(alloc: Global, config: &Config, bytes: &[u8]) -> Result<&'static str, Fail> {
+    let requests = select_one(alloc)?;
+    let mut out = BytesMut::new(alloc);
+    let end = end_behind_these(alloc, config, requests.as_slice(), bytes, &mut out);
+    drop(requests);
+    drop(out);
+    end
 }
 
 // What the link's end means behind these bytes.
 fn end_behind(alloc: Global, bytes: &[u8]) -> Result<&'static str, Fail> {
     let config = Config::parse(alloc, "user=bob")?;
-    let requests = select_one(alloc)?;
-    let mut out = BytesMut::new(alloc);
-    end_behind_these(alloc, &config, requests.as_slice(), bytes, &mut out)
+    let end = end_by(alloc, &config, bytes);
+    drop(config);
+    end
 }
 
 // No byte; a message begun; an error of the server; a message that has no place in a simple query, before its
 // ReadyForQuery.
+const ENDS: &[(&[u8], &str)] = &[
+    (b"", "UnexpectedEOF"),
+    (
+        b"R\0\0\0\x08\0\0\0\0Z\0\0\0\x05IT\0\0\0\x1a",
+        "UnexpectedEOF",
+    ),
+    (
+        b"R\0\0\0\x08\0\0\0\0Z\0\0\0\x05IE\0\0\0\x0cC42601\0\0",
+        "RemoteError",
+    ),
+    (
+        b"R\0\0\0\x08\0\0\0\0Z\0\0\0\x05I2\0\0\0\x04",
+        "UnexpectedMessage",
+    ),
+];
+
 #[test]
 fn ends_have_meanings(rt: HostRuntime) -> Result<(), Fail> {
-    let alloc = rt.alloc();
-    let server = SERVER;
-    let cases: [(&[u8], &str); 4] = [
-        (b"", "UnexpectedEOF"),
-        (&server[..20], "UnexpectedEOF"),
-        (
-            b"R\0\0\0\x08\0\0\0\0Z\0\0\0\x05IE\0\0\0\x0cC42601\0\0",
-            "RemoteError",
-        ),
-        (
-            b"R\0\0\0\x08\0\0\0\0Z\0\0\0\x05I2\0\0\0\x04",
-            "UnexpectedMessage",
-        ),
-    ];
-    for (bytes, want) in cases {
-        assert_eq!(rt; end_behind(alloc, bytes)?, want);
+    for (bytes, want) in ENDS {
+        assert_eq!(rt; end_behind(rt.alloc(), bytes)?, *want);
     }
     Ok(())
 }
@@ -209,7 +263,11 @@ fn ends_have_meanings(rt: HostRuntime) -> Result<(), Fail> {
 fn name_of_start(alloc: Global, config: &Config, out: &mut BytesMut) -> &'static str {
     match Dialogue::start(alloc, config, &[], &[0; 18], 1000, out).err() {
         None => "begun",
-        Some(error) => name_of(&error),
+        Some(error) => {
+            let name = name_of(&error);
+            drop(error);
+            name
+        }
     }
 }
 
@@ -217,21 +275,28 @@ fn name_of_start(alloc: Global, config: &Config, out: &mut BytesMut) -> &'static
 fn refused(alloc: Global, config: &Config) -> (&'static str, usize) {
     let mut out = BytesMut::new(alloc);
     let name = name_of_start(alloc, config, &mut out);
-    (name, out.len())
+    let count = out.len();
+    drop(out);
+    (name, count)
 }
 
 // Encryption is demanded, or a login bound to it; a user name that has a zero byte; and nothing of these.
-#[test]
-fn beginnings_are_refused(rt: HostRuntime) -> Result<(), Fail> {
-    let alloc = rt.alloc();
-    let mut config = Config::new(alloc);
-    assert_eq!(rt; refused(alloc, &config), ("begun", 9));
+fn check_beginnings<R: Abort>(rt: &R, alloc: Global, config: &mut Config) -> Result<(), Fail> {
+    assert_eq!(rt; refused(alloc, config), ("begun", 9));
     config.set_user(alloc, "a\0b")?;
-    assert_eq!(rt; refused(alloc, &config), ("PgWireError", 0));
+    assert_eq!(rt; refused(alloc, config), ("PgWireError", 0));
     config.channel_binding = ChannelBinding::Require;
-    assert_eq!(rt; refused(alloc, &config), ("InvalidConfig", 0));
+    assert_eq!(rt; refused(alloc, config), ("InvalidConfig", 0));
     config.channel_binding = ChannelBinding::Prefer;
     config.ssl_mode = SslMode::Require;
-    assert_eq!(rt; refused(alloc, &config), ("InvalidConfig", 0));
+    assert_eq!(rt; refused(alloc, config), ("InvalidConfig", 0));
     Ok(())
+}
+
+#[test]
+fn beginnings_are_refused(rt: HostRuntime) -> Result<(), Fail> {
+    let mut config = Config::new(rt.alloc());
+    let checked = check_beginnings(&rt, rt.alloc(), &mut config);
+    drop(config);
+    checked
 }

@@ -2,7 +2,10 @@
 ghost use Rattle.std.specs.Prelude.{◌<◌};
 
 use bytes::BytesMut;
-use pgw_client::{Config, Listed, MemoryLink, Octets, Request, Text, run_session};
+use pgw_client::{
+    Config, Listed, MemoryLink, Octets, PgWireClientResult, Request, SessionReport, Text,
+    run_session,
+};
 use pgw_dialogue::{Dialogue, DialoguePhase};
 use std::alloc::{AllocError, Global};
 use std::fmt;
@@ -22,23 +25,46 @@ fn select_one(alloc: Global) -> Result<Vec<Request>, Fail> {
 }
 
 // A value as text.
-fn shown<T: fmt::Debug>(alloc: Global, value: &T) -> Result<String, AllocError> {
+fn shown<T: fmt::Debug + Drop>(alloc: Global, value: T) -> Result<String, AllocError> {
     format!(in alloc; "{value:?}")
+}
+
+// A session over the link. It has no clause, since those of a session make what calls it dear.
+fn session(
+    alloc: Global,
+    link: &mut MemoryLink,
+    config: &Config,
+    requests: &[Request],
+) -> PgWireClientResult<SessionReport> {
+    run_session(alloc, link, config, requests, &[0; 18], 1000)
+}
+
+fn report_by(alloc: Global, link: &mut MemoryLink, config: &Config) -> Result<String, Fail> {
+    let requests = select_one(alloc)?;
+    let report = session(alloc, link, config, &requests);
+    drop(requests);
+    Ok(shown(alloc, report?)?)
 }
 
 fn report_over(alloc: Global, link: &mut MemoryLink) -> Result<String, Fail> {
     let config = Config::parse(alloc, "user=bob")?;
-    let requests = select_one(alloc)?;
-    let report = run_session(alloc, link, &config, &requests, &[0; 18], 1000)?;
-    Ok(shown(alloc, &report)?)
+    let report = report_by(alloc, link, &config);
+    drop(config);
+    report
+}
+
+fn written_over(alloc: Global, link: &mut MemoryLink) -> Result<(Vec<u8>, String), Fail> {
+    let report = report_over(alloc, link)?;
+    Ok((link.written().to_vec(alloc)?, report))
 }
 
 // What a session over a link writes, and its report as text.
 fn over_link(alloc: Global) -> Result<(Vec<u8>, String), Fail> {
     let server = Octets::from_slice(alloc, SERVER)?;
     let mut link = MemoryLink::new(alloc, server, 50, Listed::new(alloc), Listed::new(alloc));
-    let report = report_over(alloc, &mut link)?;
-    Ok((link.written().to_vec(alloc)?, report))
+    let written = written_over(alloc, &mut link);
+    drop(link);
+    written
 }
 
 // The report of a dialogue that is given pieces of this size, as text.
@@ -53,12 +79,30 @@ fn report_in_pieces(
 {
     let mut dialogue = Dialogue::start(alloc, config, requests, &[0; 18], 1000, out)?;
     for piece in SERVER.chunks(size) {
-        match dialogue.take(piece, out)? {
-            DialoguePhase::Waiting | DialoguePhase::Ready => {}
-            DialoguePhase::Done => return Ok(shown(alloc, &dialogue.report())?),
+        match dialogue.take(piece, out) {
+            Ok(DialoguePhase::Waiting | DialoguePhase::Ready) => {}
+            Ok(DialoguePhase::Done) => return Ok(shown(alloc, dialogue.report())?),
+            Err(error) => {
+                drop(dialogue);
+                return Err(Fail::from(error));
+            }
         }
     }
+    drop(dialogue);
     Ok(String::new(alloc))
+}
+
+fn in_pieces_by(alloc: Global, config: &Config, size: usize) -> Result<(Vec<u8>, String), Fail>
+    requires { 0 < size }
+{
+    let requests = select_one(alloc)?;
+    let mut out = BytesMut::new(alloc);
+    let report = report_in_pieces(alloc, config, requests.as_slice(), size, &mut out);
+    drop(requests);
+    let written = out.as_slice().to_vec(alloc);
+    drop(out);
+    let report = report?;
+    Ok((written?, report))
 }
 
 // What such a dialogue puts out, and its report.
@@ -66,10 +110,9 @@ fn in_pieces(alloc: Global, size: usize) -> Result<(Vec<u8>, String), Fail>
     requires { 0 < size }
 {
     let config = Config::parse(alloc, "user=bob")?;
-    let requests = select_one(alloc)?;
-    let mut out = BytesMut::new(alloc);
-    let report = report_in_pieces(alloc, &config, requests.as_slice(), size, &mut out)?;
-    Ok((out.as_slice().to_vec(alloc)?, report))
+    let written = in_pieces_by(alloc, &config, size);
+    drop(config);
+    written
 }
 
 #[test]
