@@ -13,3 +13,4 @@ pub mod listed;
 pub mod memory;
 pub mod octets;
 pub mod text;
+mod told;
