@@ -47,7 +47,7 @@ fn any_refused(methods: &[Text]) -> bool
     methods.iter().any(|t| is_refused_method(t))
 }
 
-fn is_refused_method(method: &Text) -> bool
+pub(crate) fn is_refused_method(method: &Text) -> bool
     ensures { result ≡ is_method_refused method.now }
 {
     method.is_empty() || has_zero(method)

@@ -6,6 +6,7 @@ ghost use Rattle.pgw_wire.specs.Writing.{text, refused_if};
 ghost use Rattle.pgw_startup.specs.Login.{is_method_refused};
 ghost use Rattle.pgw_startup.specs.Password.{data_at, data_written, initial_response_of, initial_response, response_of};
 
+use crate::authentication::is_refused_method;
 use crate::password::MESSAGE_TYPE_BYTE_PASSWORD_MESSAGE_FAMILY;
 use pgw_types::context::DecodeContext;
 use pgw_types::error::{PgWireError, PgWireResult};
@@ -16,7 +17,7 @@ use pgw_types::text::Text;
 use pgw_wire::framing::Framing;
 use pgw_wire::message::Message;
 use pgw_wire::reader::FieldReader;
-use pgw_wire::writer::{Writer, has_zero, put_i32, put_text, refused_if};
+use pgw_wire::writer::{Writer, put_i32, put_text, refused_if};
 use std::alloc::Global;
 use std::fmt;
 
@@ -124,7 +125,7 @@ impl Message for SASLInitialResponse {
     }
 
     fn refusal(&self) -> Option<PgWireError> {
-        refused_if(self.auth_method.is_empty() || has_zero(&self.auth_method))
+        refused_if(is_refused_method(&self.auth_method))
     }
 
     fn put_body(&self, out: &mut Writer) -> Result<(), OutOfMemory> {
