@@ -1,5 +1,5 @@
 //! The answer of a request, by what its segment gave.
-ghost use Rattle.std.specs.Prelude.{◌≡◌, ◌++◌, map, IfOk, OnOk};
+ghost use Rattle.std.specs.Prelude.{◌≡◌, [], ◌++◌, map, Some, IfOk, OnOk};
 ghost use Rattle.pgw_backend.specs.Fields.{field_info_of, type_of};
 ghost use Rattle.pgw_session.specs.Answers.{answer_by, columns_of, executed_of, no_tally, noted, result_of, rows_until, tally_after, with_end, with_row, response_of};
 
@@ -60,6 +60,30 @@ pub fn types(alloc: Global, oids: &[u32]) -> Result<Listed<PgType>, OutOfMemory>
     Ok(types)
 }
 
+// A result opens, with these columns.
+fn note_columns(
+    alloc: Global,
+    tally: &mut Tally,
+    fields: Vec<FieldDescription>,
+) -> Result<(), OutOfMemory>
+    ensures { OnOk result (tally.new ≡ record tally.old { opened = Some (record { fields = map field_info_of fields.items; rows = [] }) }) }
+{
+    let fields = columns(alloc, fields)?;
+    tally.opened = Some(Opened {
+        fields,
+        rows: DataRows::new(alloc),
+    });
+    Ok(())
+}
+
+// The types of a statement's parameters.
+fn note_types(alloc: Global, tally: &mut Tally, oids: Listed<u32>) -> Result<(), OutOfMemory>
+    ensures { OnOk result (tally.new ≡ record tally.old { param_types = map type_of oids }) }
+{
+    tally.param_types = types(alloc, oids.as_slice())?;
+    Ok(())
+}
+
 // Notes a row behind no error.
 fn note_row(tally: &mut Tally, row: DataRow) -> Result<(), OutOfMemory>
     ensures { OnOk result (tally.new ≡ with_row tally.old.opened tally.old row) }
@@ -118,6 +142,15 @@ fn note_command(
     Ok(())
 }
 
+// An empty query ends the portal too.
+fn note_empty(alloc: Global, tally: &mut Tally) -> Result<(), OutOfMemory>
+    ensures { OnOk result (tally.new ≡ noted tally.old (PgWireBackendMessage.EmptyQueryResponse (record {}))) }
+{
+    tally.responses.push(Response::EmptyQuery)?;
+    complete(alloc, tally);
+    Ok(())
+}
+
 /// Notes a message. Behind an error nothing more is noted.
 pub fn note(
     alloc: Global,
@@ -131,45 +164,24 @@ pub fn note(
         return Ok(());
     }
     match message {
-        PgWireBackendMessage::RowDescription(m) => {
-            let fields = columns(alloc, m.fields.into_vec())?;
-            tally.opened = Some(Opened {
-                fields,
-                rows: DataRows::new(alloc),
-            });
+        PgWireBackendMessage::RowDescription(m) => note_columns(alloc, tally, m.fields.into_vec()),
+        PgWireBackendMessage::ParameterDescription(m) => note_types(alloc, tally, m.types),
+        PgWireBackendMessage::DataRow(row) => note_row(tally, row),
+        PgWireBackendMessage::CommandComplete(command) => note_command(alloc, tally, command),
+        PgWireBackendMessage::EmptyQueryResponse(_empty) => note_empty(alloc, tally),
+        PgWireBackendMessage::PortalSuspended(_suspended) => {
+            suspend(alloc, tally);
+            Ok(())
         }
-        PgWireBackendMessage::ParameterDescription(m) => {
-            tally.param_types = types(alloc, m.types.as_slice())?;
+        PgWireBackendMessage::ErrorResponse(error) => {
+            tally.remote = Some(error);
+            Ok(())
         }
-        PgWireBackendMessage::DataRow(row) => note_row(tally, row)?,
-        PgWireBackendMessage::CommandComplete(command) => note_command(alloc, tally, command)?,
-        PgWireBackendMessage::EmptyQueryResponse(_) => {
-            tally.responses.push(Response::EmptyQuery)?;
-            complete(alloc, tally);
+        other => {
+            drop(other);
+            Ok(())
         }
-        PgWireBackendMessage::PortalSuspended(_) => suspend(alloc, tally),
-        PgWireBackendMessage::ErrorResponse(error) => tally.remote = Some(error),
-        PgWireBackendMessage::Authentication(request) => drop(request),
-        PgWireBackendMessage::ParameterStatus(parameter) => drop(parameter),
-        PgWireBackendMessage::BackendKeyData(key) => drop(key),
-        PgWireBackendMessage::NegotiateProtocolVersion(version) => drop(version),
-        PgWireBackendMessage::ReadyForQuery(_ready) => {}
-        PgWireBackendMessage::NoticeResponse(notice) => drop(notice),
-        PgWireBackendMessage::NotificationResponse(notification) => drop(notification),
-        PgWireBackendMessage::CopyData(data) => drop(data),
-        PgWireBackendMessage::CopyFail(reason) => drop(reason),
-        PgWireBackendMessage::CopyInResponse(formats) => drop(formats),
-        PgWireBackendMessage::CopyOutResponse(formats) => drop(formats),
-        PgWireBackendMessage::CopyBothResponse(formats) => drop(formats),
-        PgWireBackendMessage::SslResponse(_)
-        | PgWireBackendMessage::GssEncResponse(_)
-        | PgWireBackendMessage::ParseComplete(_)
-        | PgWireBackendMessage::BindComplete(_)
-        | PgWireBackendMessage::CloseComplete(_)
-        | PgWireBackendMessage::NoData(_)
-        | PgWireBackendMessage::CopyDone(_) => {}
     }
-    Ok(())
 }
 
 // ---- the answer

@@ -117,10 +117,7 @@ fn with_end(
 ) -> Result<Sends, OutOfMemory>
     ensures { IfOk result (λ v. v.items ≡ first ∷ end ∷ []) }
 {
-    let mut sends = Vec::new(alloc);
-    sends.push(first)?;
-    sends.push(end)?;
-    Ok(sends)
+    Ok(Vec::from_array(alloc, [first, end])?)
 }
 
 fn of_simple(alloc: Global, query: &Text) -> Result<Sends, OutOfMemory>

@@ -1,7 +1,10 @@
 //! What a message does at a stage of the open segment.
 ghost use Rattle.std.specs.Prelude.{◌≡◌, true, IfOk};
 ghost use Rattle.std.specs.Str.{is_utf8};
-ghost use Rattle.pgw_session.specs.Logins.{password_of};
+ghost use Rattle.pgw_scram.specs.Answers.{AnswersClient};
+ghost use Rattle.pgw_scram.specs.Base64.{nonce_text};
+ghost use Rattle.pgw_scram.specs.Client.{replied};
+ghost use Rattle.pgw_session.specs.Logins.{password_of, scram_user};
 ghost use Rattle.pgw_session.specs.Requests.{behind_error, role};
 ghost use Rattle.pgw_session.specs.Segments.{is_news, is_ready};
 ghost use Rattle.pgw_session.specs.Table.{after, by_final, by_first, by_login, by_role, by_welcome};
@@ -19,7 +22,7 @@ use pgw_backend::client_error::{PgWireClientError, ScramFault};
 use pgw_frontend::frontend::PgWireFrontendMessage;
 use pgw_hash::saslprep::saslprep;
 use pgw_query::response::ErrorResponse;
-use pgw_scram::exchange::client_final;
+use pgw_scram::exchange::{ClientReply, client_final};
 use pgw_scram::nonce::random_nonce;
 use pgw_session::stage::{Kind, Next, Role, Stage};
 use pgw_startup::authentication::Authentication;
@@ -237,21 +240,33 @@ fn by_login(
     }
 }
 
-// The server's first text.
-fn by_server_first(alloc: Global, input: &Input<'_>, first: &Octets) -> Result<Next, OutOfMemory>
+// The reply to the server's first text, where that is not refused.
+fn reply_to(
+    alloc: Global,
+    input: &Input<'_>,
+    first: &Octets,
+) -> Result<ClientReply, PgWireClientError>
     requires { is_utf8 (password_of (input_of input.now)) ≡ true }
-    ensures { IfOk result (λ n. n ≡ by_first (input_of input.now) (PgWireBackendMessage.Authentication (Authentication.SASLContinue first.now))) }
+    ensures { AnswersClient result (replied (scram_user (input_of input.now)) (password_of (input_of input.now)) (nonce_text (input_of input.now).nonce) first.now) }
 {
     let user = scram_user(alloc, input)?;
     let nonce = random_nonce(alloc, input.nonce)?;
     let password = str::from_utf8(password_of(input)).unwrap();
-    match client_final(
+    client_final(
         alloc,
         user.as_str(),
         password,
         nonce.as_str(),
         first.as_slice(),
-    ) {
+    )
+}
+
+// The server's first text.
+fn by_server_first(alloc: Global, input: &Input<'_>, first: &Octets) -> Result<Next, OutOfMemory>
+    requires { is_utf8 (password_of (input_of input.now)) ≡ true }
+    ensures { IfOk result (λ n. n ≡ by_first (input_of input.now) (PgWireBackendMessage.Authentication (Authentication.SASLContinue first.now))) }
+{
+    match reply_to(alloc, input, first) {
         Ok(reply) => {
             let expected = Octets::from_slice(alloc, &reply.signature)?;
             let sent = response_message(alloc, &reply.message)?;

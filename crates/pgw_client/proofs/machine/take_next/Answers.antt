@@ -22,6 +22,11 @@ returns-in-Err-clause-step c =
           ),
     )
 
+pub returns-in-Ok-None-clause-step : goal.returns-in-Ok-None-clause-step
+returns-in-Ok-None-clause-step c =
+    let w = rw c.in-Ok-None.field-0-is at c.in-Ok-None.ensures.decoded in
+    (refl, refl, w.0, w.1)
+
 pub returns-in-Ok-true-clause-step : goal.returns-in-Ok-true-clause-step
 returns-in-Ok-true-clause-step c =
     let w = rw c.in-Ok-Some.field-0-is at c.in-Ok-Some.ensures.decoded in

@@ -3,6 +3,21 @@ use Rattle.pgw_client.proofs.DemandLaws.{not_io}
 use Rattle.pgw_client.proofs.SessionTurnLaws.{settled, broke, finished, waited, read_on, ended, unread}
 use Rattle.pgw_client.proofs.session.converse.Goals as goal
 
+pub returns-in-Err-clause-kept : goal.returns-in-Err-clause-kept
+returns-in-Err-clause-kept g c = c.take_all.ensures.kept ∙ c.reads.invariant.kept
+
+pub returns-then-done-clause-kept : goal.returns-then-done-clause-kept
+returns-then-done-clause-kept g c = c.take_all.ensures.kept ∙ c.reads.invariant.kept
+
+pub returns-then-read-limit-clause-kept : goal.returns-then-read-limit-clause-kept
+returns-then-read-limit-clause-kept g c = c.take_all.ensures.kept ∙ c.reads.invariant.kept
+
+pub returns-in-Err-fill-clause-kept : goal.returns-in-Err-fill-clause-kept
+returns-in-Err-fill-clause-kept g c = c.fill.ensures.kept ∙ c.take_all.ensures.kept ∙ c.reads.invariant.kept
+
+pub returns-then-n-eq0-clause-kept : goal.returns-then-n-eq0-clause-kept
+returns-then-n-eq0-clause-kept g c = c.fill.ensures.kept ∙ c.take_all.ensures.kept ∙ c.reads.invariant.kept
+
 pub returns-in-Err-clause-talks : goal.returns-in-Err-clause-talks
 returns-in-Err-clause-talks g c t f =
     let reading = c.reads.invariant.reading t f in

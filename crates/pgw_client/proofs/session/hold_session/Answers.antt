@@ -1,6 +1,13 @@
+use Rattle.std.proofs.Common.{◌∙◌}
 use Rattle.pgw_client.specs.Input.{input_of}
 use Rattle.pgw_client.proofs.MachineTalkLaws.{lift_err, lift_ok, unstarted, unsent_start}
 use Rattle.pgw_client.proofs.session.hold_session.Goals as goal
+
+pub returns-in-Ok-converse-clause-kept : goal.returns-in-Ok-converse-clause-kept
+returns-in-Ok-converse-clause-kept g c = c.converse.ensures.kept ∙ c.send.ensures.kept
+
+pub returns-clause-kept : goal.returns-clause-kept
+returns-clause-kept g c = c.converse.ensures.kept ∙ c.send.ensures.kept
 
 pub returns-in-Err-clause-session : goal.returns-in-Err-clause-session
 returns-in-Err-clause-session g c t = unstarted (input_of c.args.input.now) c.args.limit _ c.start.new.out.items c.in-Err.e c.in-Err.ensures.start
