@@ -8,53 +8,56 @@ use pgw_types::error::PgWireError;
 use pgw_types::memory::OutOfMemory;
 
 #[tactic(auto, unfolding(crate::specs::ErrorNames::wire_name))]
+fn wire_name(error: &PgWireError) -> &'static str
+    ensures { result.now ≡ wire_name error.now }
+{
+    match error {
+        PgWireError::UnsupportedProtocolVersion(..) => "UnsupportedProtocolVersion",
+        PgWireError::InvalidCancelRequest => "InvalidCancelRequest",
+        PgWireError::InvalidSecretKey => "InvalidSecretKey",
+        PgWireError::InvalidMessageType(..) => "InvalidMessageType",
+        PgWireError::MessageTooLarge(..) => "MessageTooLarge",
+        PgWireError::InvalidElementCount(..) => "InvalidElementCount",
+        PgWireError::InvalidTargetType(..) => "InvalidTargetType",
+        PgWireError::InvalidTransactionStatus(..) => "InvalidTransactionStatus",
+        PgWireError::InvalidSSLRequestMessage => "InvalidSSLRequestMessage",
+        PgWireError::InvalidGssEncRequestMessage => "InvalidGssEncRequestMessage",
+        PgWireError::InvalidStartupMessage => "InvalidStartupMessage",
+        PgWireError::InvalidAuthenticationMessageCode(..) => "InvalidAuthenticationMessageCode",
+        PgWireError::UnsupportedSASLAuthMethod(..) => "UnsupportedSASLAuthMethod",
+        PgWireError::InvalidScramMessage(..) => "InvalidScramMessage",
+        PgWireError::NotReadyForQuery => "NotReadyForQuery",
+        PgWireError::InvalidOauthMessage(..) => "InvalidOauthMessage",
+        PgWireError::OAuthAuthenticationFailed(..) => "OAuthAuthenticationFailed",
+        PgWireError::OAuthValidationError(..) => "OAuthValidationError",
+        PgWireError::InvalidMessageBody => "InvalidMessageBody",
+        PgWireError::FailedToCoercePasswordMessage => "FailedToCoercePasswordMessage",
+        PgWireError::InvalidSASLState => "InvalidSASLState",
+        PgWireError::SaltRequired => "SaltRequired",
+        PgWireError::PidsExhausted => "PidsExhausted",
+        PgWireError::RegistryExhausted => "RegistryExhausted",
+        PgWireError::IoError => "IoError",
+        PgWireError::InvalidPassword(..) => "InvalidPassword",
+        PgWireError::UserNameRequired => "UserNameRequired",
+        PgWireError::OauthAuthzIdError(..) => "OauthAuthzIdError",
+        PgWireError::OutOfMemory => "OutOfMemory",
+        PgWireError::PortalNotFound(..) => "PortalNotFound",
+        PgWireError::StatementNotFound(..) => "StatementNotFound",
+        PgWireError::PortalNotStarted => "PortalNotStarted",
+        PgWireError::ApiError(..) => "ApiError",
+        PgWireError::ParameterIndexOutOfBound(..) => "ParameterIndexOutOfBound",
+        PgWireError::InvalidRustTypeForParameter(..) => "InvalidRustTypeForParameter",
+        PgWireError::InvalidOptionValue(..) => "InvalidOptionValue",
+        PgWireError::FailedToParseParameter(..) => "FailedToParseParameter",
+        PgWireError::QueryCanceled => "QueryCanceled",
+        PgWireError::UserError(..) => "UserError",
+    }
+}
+
 pub fn put_wire_name(out: &mut Vec<u8>, error: &PgWireError) -> Result<(), OutOfMemory>
     ensures { OnOk result (out.new.items ≡ out.old.items ++ wire_name error.now) }
 {
-    match error {
-        PgWireError::UnsupportedProtocolVersion(..) => put(out, b"UnsupportedProtocolVersion"),
-        PgWireError::InvalidCancelRequest => put(out, b"InvalidCancelRequest"),
-        PgWireError::InvalidSecretKey => put(out, b"InvalidSecretKey"),
-        PgWireError::InvalidMessageType(..) => put(out, b"InvalidMessageType"),
-        PgWireError::MessageTooLarge(..) => put(out, b"MessageTooLarge"),
-        PgWireError::InvalidElementCount(..) => put(out, b"InvalidElementCount"),
-        PgWireError::InvalidTargetType(..) => put(out, b"InvalidTargetType"),
-        PgWireError::InvalidTransactionStatus(..) => put(out, b"InvalidTransactionStatus"),
-        PgWireError::InvalidSSLRequestMessage => put(out, b"InvalidSSLRequestMessage"),
-        PgWireError::InvalidGssEncRequestMessage => put(out, b"InvalidGssEncRequestMessage"),
-        PgWireError::InvalidStartupMessage => put(out, b"InvalidStartupMessage"),
-        PgWireError::InvalidAuthenticationMessageCode(..) => put(
-            out,
-            b"InvalidAuthenticationMessageCode",
-        ),
-        PgWireError::UnsupportedSASLAuthMethod(..) => put(out, b"UnsupportedSASLAuthMethod"),
-        PgWireError::InvalidScramMessage(..) => put(out, b"InvalidScramMessage"),
-        PgWireError::NotReadyForQuery => put(out, b"NotReadyForQuery"),
-        PgWireError::InvalidOauthMessage(..) => put(out, b"InvalidOauthMessage"),
-        PgWireError::OAuthAuthenticationFailed(..) => put(out, b"OAuthAuthenticationFailed"),
-        PgWireError::OAuthValidationError(..) => put(out, b"OAuthValidationError"),
-        PgWireError::InvalidMessageBody => put(out, b"InvalidMessageBody"),
-        PgWireError::FailedToCoercePasswordMessage => put(out, b"FailedToCoercePasswordMessage"),
-        PgWireError::InvalidSASLState => put(out, b"InvalidSASLState"),
-        PgWireError::SaltRequired => put(out, b"SaltRequired"),
-        PgWireError::PidsExhausted => put(out, b"PidsExhausted"),
-        PgWireError::RegistryExhausted => put(out, b"RegistryExhausted"),
-        PgWireError::IoError => put(out, b"IoError"),
-        PgWireError::InvalidPassword(..) => put(out, b"InvalidPassword"),
-        PgWireError::UserNameRequired => put(out, b"UserNameRequired"),
-        PgWireError::OauthAuthzIdError(..) => put(out, b"OauthAuthzIdError"),
-        PgWireError::OutOfMemory => put(out, b"OutOfMemory"),
-        PgWireError::PortalNotFound(..) => put(out, b"PortalNotFound"),
-        PgWireError::StatementNotFound(..) => put(out, b"StatementNotFound"),
-        PgWireError::PortalNotStarted => put(out, b"PortalNotStarted"),
-        PgWireError::ApiError(..) => put(out, b"ApiError"),
-        PgWireError::ParameterIndexOutOfBound(..) => put(out, b"ParameterIndexOutOfBound"),
-        PgWireError::InvalidRustTypeForParameter(..) => put(out, b"InvalidRustTypeForParameter"),
-        PgWireError::InvalidOptionValue(..) => put(out, b"InvalidOptionValue"),
-        PgWireError::FailedToParseParameter(..) => put(out, b"FailedToParseParameter"),
-        PgWireError::QueryCanceled => put(out, b"QueryCanceled"),
-        PgWireError::UserError(..) => put(out, b"UserError"),
-    }
+    put(out, wire_name(error).as_bytes())
 }
 
 #[tactic(auto, unfolding(crate::specs::ErrorNames::client_name))]

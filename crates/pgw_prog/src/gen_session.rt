@@ -72,5 +72,8 @@ pub fn gen_session<L: Link>(
 {
     let config = config(alloc)?;
     let requests = [request(alloc)?];
-    summed(run_session(alloc, link, &config, &requests, nonce, limit))
+    let outcome = run_session(alloc, link, &config, &requests, nonce, limit);
+    drop(requests);
+    drop(config);
+    summed(outcome)
 }

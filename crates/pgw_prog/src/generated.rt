@@ -70,6 +70,9 @@ pub fn generate(
     let len = bytes.len() as u64;
     match hold(alloc, Octets::from_bytes(bytes), nonce) {
         Ok(summary) => says(alloc, &summary, len),
-        Err(_) => Err(OutOfMemory),
+        Err(error) => {
+            drop(error);
+            Err(OutOfMemory)
+        }
     }
 }

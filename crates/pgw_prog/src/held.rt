@@ -90,7 +90,9 @@ fn run(
     ensures { IfOk result (PrintsSession (record { config = config.now; requests = requests.now; nonce = nonce.now }) limit (making_of link.old)) }
 {
     let outcome = hold_over(alloc, link, config, requests, nonce, limit);
-    print_outcome(alloc, link, &outcome)
+    let printed = print_outcome(alloc, link, &outcome);
+    drop(outcome);
+    printed
 }
 
 // The link of a script: what its server sends, and which calls fail.

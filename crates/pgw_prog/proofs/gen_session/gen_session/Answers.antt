@@ -39,12 +39,12 @@ returns-in_err-request g c =
 
 pub returns : goal.returns
 returns g c =
-    let e = rw (c.in_ok-config.ensures, c.in_ok-request.ensures) at c.run_session.ensures in
+    let e = rw (c.in_ok-config.ensures, c.in_ok-request.ensures) at c.run_session-outcome.ensures in
     let nonce = c.args.nonce.now in
     let limit = c.args.limit in
     let old = g.L.Link.tape c.args.link.now in
-    let new = g.L.Link.tape c.run_session.new.link in
-    let outcome = c.run_session.result in
+    let new = g.L.Link.tape c.run_session-outcome.new.link in
+    let outcome = c.run_session-outcome.result in
     let result = c.summed.result in
     let told = c.summed.ensures in
     record {
