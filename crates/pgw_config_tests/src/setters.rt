@@ -94,14 +94,33 @@ fn set_all(alloc: Global, config: &mut Config) -> Result<(), OutOfMemory> {
     Ok(())
 }
 
+// Whether no user is set at first, and a copy of what is then set is the same and keeps each kind of it: the texts, the
+// places, the choices and the numbers.
+fn keeps_all(alloc: Global, config: &mut Config) -> Result<[bool; 6], OutOfMemory> {
+    let is_unset = config.get_user().is_none();
+    set_all(alloc, config)?;
+    let copy = config.duplicate()?;
+    let told = [
+        is_unset,
+        copy == *config,
+        keeps_texts(&copy),
+        keeps_places(&copy),
+        keeps_choices(&copy),
+        keeps_numbers(&copy),
+    ];
+    drop(copy);
+    Ok(told)
+}
+
+fn kept(alloc: Global) -> Result<[bool; 6], OutOfMemory> {
+    let mut config = Config::new(alloc);
+    let told = keeps_all(alloc, &mut config);
+    drop(config);
+    told
+}
+
 #[test]
 fn setters_keep(rt: HostRuntime) -> Result<(), Fail> {
-    let mut config = Config::new(rt.alloc());
-    assert_eq!(rt; config.get_user(), None);
-    set_all(rt.alloc(), &mut config)?;
-    let copy = config.duplicate()?;
-    assert!(rt; copy == config);
-    assert!(rt; keeps_texts(&copy) && keeps_places(&copy));
-    assert!(rt; keeps_choices(&copy) && keeps_numbers(&copy));
+    assert_eq!(rt; kept(rt.alloc())?, [true; 6]);
     Ok(())
 }

@@ -1,5 +1,5 @@
 //! Vectors of the public documents.
-use crate::shared::same;
+use crate::shared::{same, same_text};
 use pgw_hash::hmac::hmac_sha256;
 use pgw_hash::md5_password::hash_md5_password;
 use pgw_hash::pbkdf2::{gen_salted_password, hi};
@@ -138,7 +138,6 @@ fn saslprep_forms(rt: HostRuntime) -> Result<(), Fail> {
 #[test]
 fn md5_passwords(rt: HostRuntime) -> Result<(), Fail> {
     let salt = [0x14, 0xf7, 0x6b, 0xf9];
-    let password = hash_md5_password(rt.alloc(), "zmjiang", "themanwhochangedchina", &salt)?;
-    assert_eq!(rt; password.as_str(), "md521fe459d77d3e3ea9c9fcd5c11030d30");
-    Ok(())
+    let password = hash_md5_password(rt.alloc(), "zmjiang", "themanwhochangedchina", &salt);
+    same_text(password, "md521fe459d77d3e3ea9c9fcd5c11030d30")
 }

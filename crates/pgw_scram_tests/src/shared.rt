@@ -14,6 +14,22 @@ pub fn same<E: Debug + Drop>(found: Result<String, E>, want: &str) -> Result<(),
     Err(Fail::new(format_args!("{} and not {want}", found.as_str())))
 }
 
+/// The same of a text of the protocol's.
+pub fn same_text<E: Debug + Drop>(found: Result<Text, E>, want: &str) -> Result<(), Fail> {
+    same(found.map(Text::into_string), want)
+}
+
+/// That a client's last message and the signature are those that are wanted.
+pub fn same_reply<E: Debug + Drop>(
+    found: Result<(Text, [u8; 44]), E>,
+    message: &str,
+    signature: &str,
+) -> Result<(), Fail> {
+    let (text, bytes) = found?;
+    same_text::<E>(Ok(text), message)?;
+    same_bytes(&bytes, signature)
+}
+
 /// That bytes are those of the text that is wanted.
 pub fn same_bytes(found: &[u8], want: &str) -> Result<(), Fail> {
     if found == want.as_bytes() {

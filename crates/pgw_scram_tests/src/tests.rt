@@ -1,5 +1,5 @@
 //! Vectors of the public documents, and what each end refuses.
-use crate::shared::{same, same_bytes, sent, told};
+use crate::shared::{same, same_bytes, same_reply, same_text, sent, told};
 use pgw_backend::client_error::PgWireClientResult;
 use pgw_hash::pbkdf2::gen_salted_password;
 use pgw_scram::client::{
@@ -100,9 +100,8 @@ fn replied(
 #[test]
 fn replies(rt: HostRuntime) -> Result<(), Fail> {
     for (password, nonce, first, message, signature) in REPLIES {
-        let reply = replied(rt.alloc(), password, nonce, first)?;
-        assert_eq!(rt; reply.0.as_str(), *message);
-        same_bytes(&reply.1, signature)?;
+        let reply = replied(rt.alloc(), password, nonce, first);
+        same_reply(reply, message, signature)?;
     }
     Ok(())
 }
@@ -119,7 +118,7 @@ const NONCES: &[(&[u8; 18], &str)] = &[
 #[test]
 fn nonce_text(rt: HostRuntime) -> Result<(), Fail> {
     for (bytes, text) in NONCES {
-        assert_eq!(rt; random_nonce(rt.alloc(), bytes)?.as_str(), *text);
+        same_text(random_nonce(rt.alloc(), bytes), text)?;
     }
     Ok(())
 }
@@ -252,11 +251,10 @@ fn user_names(rt: HostRuntime) -> Result<(), Fail> {
 
 #[test]
 fn first_messages(rt: HostRuntime) -> Result<(), Fail> {
-    let bare = client_first_bare(rt.alloc(), "bob", "abc")?;
-    assert_eq!(rt; bare.as_str(), "n=bob,r=abc");
-    let first = client_first(rt.alloc(), "bob", "abc")?;
-    assert_eq!(rt; first.as_str(), "n,,n=bob,r=abc");
-    Ok(())
+    let bare = client_first_bare(rt.alloc(), "bob", "abc");
+    same_text(bare, "n=bob,r=abc")?;
+    let first = client_first(rt.alloc(), "bob", "abc");
+    same_text(first, "n,,n=bob,r=abc")
 }
 
 /// What both ends say of a name and a password that are not ASCII, and of which the password cannot be prepared. The proof
@@ -366,12 +364,27 @@ fn kept(alloc: Global, password: &str, salt: &[u8], count: u32) -> PgWireResult<
     Ok(Password::new(Some(salt), Octets::from_slice(alloc, &salted)?))
 }
 
+fn kept_copy(alloc: Global) -> PgWireResult<Password> {
+    let password = kept(alloc, PASSWORD, b"bar", 12)?;
+    let copy = password.duplicate();
+    drop(password);
+    Ok(copy?)
+}
+
+// Whether the salt is kept, and how many bytes the password has.
+fn copy_told(alloc: Global) -> PgWireResult<(bool, usize)> {
+    let copy = kept_copy(alloc)?;
+    let told = (
+        copy.salt() == Some(b"bar".as_slice()),
+        copy.password().len(),
+    );
+    drop(copy);
+    Ok(told)
+}
+
 #[test]
 fn passwords_are_kept(rt: HostRuntime) -> Result<(), Fail> {
-    let password = kept(rt.alloc(), PASSWORD, b"bar", 12)?.duplicate()?;
-    assert_eq!(rt; password.salt(), Some(b"bar".as_slice()));
-    assert_eq!(rt; password.password().len(), 32);
-    Ok(())
+    same(told(rt.alloc(), copy_told(rt.alloc())), "Ok((true, 32))")
 }
 
 // What a server answers to a client's last message.
@@ -397,27 +410,25 @@ fn offered(alloc: Global) -> PgWireResult<String> {
     let password = kept(alloc, PASSWORD, b"bar", 12)?;
     let server = twelve_rounds();
     let offered = server.on_client_first_message(alloc, FIRST.as_bytes(), &password, &[1; 18]);
+    drop(server);
+    drop(password);
     Ok(sent(alloc, offered)?)
 }
 
 fn accepted(alloc: Global) -> PgWireResult<Text> {
     let password = kept(alloc, PASSWORD, b"bar", 12)?;
-    answered(
-        alloc,
-        &twelve_rounds(),
-        &password,
-        FIRST.as_bytes(),
-        &[1; 18],
-        LAST.as_bytes(),
-    )
+    let server = twelve_rounds();
+    let (first, last) = (FIRST.as_bytes(), LAST.as_bytes());
+    let answer = answered(alloc, &server, &password, first, &[1; 18], last);
+    drop(server);
+    drop(password);
+    answer
 }
 
 #[test]
 fn server_accepts(rt: HostRuntime) -> Result<(), Fail> {
     same(offered(rt.alloc()), OFFER)?;
-    let accepted = accepted(rt.alloc())?;
-    assert_eq!(rt; accepted.as_str(), ACCEPTED);
-    Ok(())
+    same_text(accepted(rt.alloc()), ACCEPTED)
 }
 
 /// A client's first message, and what a server answers that keeps no salt.
@@ -427,9 +438,12 @@ const UNSALTED: &[(&[u8], &str)] = &[
 ];
 
 fn unsalted(alloc: Global, first: &[u8]) -> PgWireResult<String> {
-    let password = Password::new(None, Octets::from_slice(alloc, b"baz")?);
+    let octets = Octets::from_slice(alloc, b"baz")?;
+    let password = Password::new(None, octets);
     let server = ScramServerAuth::new();
     let offered = server.on_client_first_message(alloc, first, &password, &[0; 18]);
+    drop(server);
+    drop(password);
     Ok(sent(alloc, offered)?)
 }
 
@@ -461,7 +475,10 @@ fn baz(alloc: Global) -> Result<Password, OutOfMemory> {
 fn answer_of_baz(alloc: Global, last: &[u8]) -> PgWireResult<Text> {
     let password = baz(alloc)?;
     let server = ScramServerAuth::new();
-    answered(alloc, &server, &password, b"n,,n=foo,r=a", &[0; 18], last)
+    let answer = answered(alloc, &server, &password, b"n,,n=foo,r=a", &[0; 18], last);
+    drop(server);
+    drop(password);
+    answer
 }
 
 #[test]
@@ -489,10 +506,23 @@ fn with_hash(alloc: Global) -> Result<ScramServerAuth, OutOfMemory> {
     Ok(server)
 }
 
-fn bound(alloc: Global, first: &[u8], last: &[u8]) -> PgWireResult<Text> {
+fn bound_by(
+    alloc: Global,
+    server: &ScramServerAuth,
+    first: &[u8],
+    last: &[u8],
+) -> PgWireResult<Text> {
     let password = kept(alloc, "bar", b"salt", 2)?;
+    let answer = answered(alloc, server, &password, first, &[0; 18], last);
+    drop(password);
+    answer
+}
+
+fn bound(alloc: Global, first: &[u8], last: &[u8]) -> PgWireResult<Text> {
     let server = with_hash(alloc)?;
-    answered(alloc, &server, &password, first, &[0; 18], last)
+    let answer = bound_by(alloc, &server, first, last);
+    drop(server);
+    answer
 }
 
 #[test]

@@ -41,13 +41,15 @@ fn tag_written(alloc: Global, text: &str) -> Result<String, OutOfMemory> {
     Ok(message.tag.into_string())
 }
 
+const PRINTED_TAGS: &[&str] = &["BEGIN", "SELECT 3", "INSERT 0 5"];
+
 #[test]
 fn tags(rt: HostRuntime) -> Result<(), Fail> {
     let alloc = rt.alloc();
     for (text, want) in TAGS {
         same(tag_shown(alloc, text), want)?;
     }
-    for text in ["BEGIN", "SELECT 3", "INSERT 0 5"] {
+    for text in PRINTED_TAGS {
         same(tag_written(alloc, text), text)?;
     }
     Ok(())

@@ -32,7 +32,9 @@ fn long_tag(alloc: Global) -> Result<PgWireBackendMessage, OutOfMemory> {
 }
 
 fn append_of_server(message: PgWireBackendMessage, buf: &mut BytesMut) -> PgWireResult<()> {
-    message.encode(buf)
+    let written = message.encode(buf);
+    drop(message);
+    written
 }
 
 fn long_tag_refused(alloc: Global) -> Result<String, OutOfMemory> {
@@ -43,7 +45,9 @@ fn long_tag_refused(alloc: Global) -> Result<String, OutOfMemory> {
 
 /// Writes one message of a client.
 pub fn append(message: PgWireFrontendMessage, buf: &mut BytesMut) -> PgWireResult<()> {
-    message.encode(buf)
+    let written = message.encode(buf);
+    drop(message);
+    written
 }
 
 // A user name of 10000 bytes.

@@ -1,6 +1,6 @@
 //! Texts, bytes, lists, parameters and keys.
 
-use crate::tests::shared::same;
+use crate::tests::shared::{same, told};
 use pgw_types::boxed::Boxed;
 use pgw_types::listed::{Duplicate, Listed};
 use pgw_types::memory::OutOfMemory;
@@ -21,10 +21,18 @@ fn cut(alloc: Global) -> Result<Octets, OutOfMemory> {
     octets.slice(1, 3)
 }
 
-fn cut_shown(alloc: Global) -> Result<String, OutOfMemory> {
+fn cut_copy(alloc: Global) -> Result<Octets, OutOfMemory> {
     let octets = cut(alloc)?;
-    let copy = octets.duplicate()?;
-    Ok(format!(in alloc; "{:?}", copy.as_slice())?)
+    let copy = octets.duplicate();
+    drop(octets);
+    copy
+}
+
+fn cut_shown(alloc: Global) -> Result<String, OutOfMemory> {
+    let copy = cut_copy(alloc)?;
+    let shown = told(alloc, copy.as_slice());
+    drop(copy);
+    shown
 }
 
 fn list(alloc: Global) -> Result<Listed<Option<u16>>, OutOfMemory> {
