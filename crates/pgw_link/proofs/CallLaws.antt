@@ -1,8 +1,9 @@
 -- What one call more reaches.
-use Rattle.std.proofs.Common.{◌≡◌, ℕ, ◌+◌, ◌<◌, ◌≤◌, List, [], ◌∷◌, Bool, true, false, ◌&&◌, ◌||◌, ◌==◌, nat_lt, nat_le, refl, arith}
+use Rattle.std.proofs.Common.{◌≡◌, ℕ, ◌+◌, ◌<◌, ◌≤◌, List, [], ◌∷◌, Bool, true, false, ◌&&◌, ◌||◌, ◌==◌, nat_lt, nat_le, refl, ap, ◌∙◌, arith}
 use Rattle.std.specs.List.{list_any}
 use Rattle.std.proofs.lemmas.Bool.Decides.{nat_tests}
-use Rattle.pgw_link.specs.Calls.{is_reached}
+use Rattle.pgw_link.specs.Tape.{counted}
+use Rattle.pgw_link.specs.Calls.{is_listed, is_reached, number_of}
 
 none : (n : ℕ) → (nat_lt 0 n && nat_le n 0) ≡ false
 none n = grind (arith, nat_tests)
@@ -31,3 +32,12 @@ or_true false = refl
 pub or_false : (a : Bool) → (a || false) ≡ a
 or_false true = refl
 or_false false = refl
+
+-- ---- the number of the next call
+
+pub numbered : (made next calls : ℕ) → made ≡ number_of calls → next ≡ counted made → next ≡ number_of (calls + 1)
+numbered made next calls was is = omega (arith, was, is)
+
+-- what the real count says of a call, by the number of calls
+pub listed : (numbers : List ℕ) (made next calls : ℕ) (fails : Bool) → fails ≡ list_any (λ n. n == next) numbers → made ≡ number_of calls → next ≡ counted made → fails ≡ is_listed numbers (calls + 1)
+listed numbers made next calls fails is was on = is ∙ ap (λ (k : ℕ). list_any (λ n. n == k) numbers) (numbered made next calls was on)

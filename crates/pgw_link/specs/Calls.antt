@@ -1,5 +1,14 @@
 -- Calls of one kind, counted from 1, some of which are to fail.
-use Rattle.std.specs.Prelude.{ℕ, List, [], ◌∷◌, Bool, false, ◌&&◌, ◌||◌, nat_lt, nat_le}
+use Rattle.std.specs.Prelude.{ℕ, ◌-◌, ◌^◌, min, List, [], ◌∷◌, Bool, false, ◌&&◌, ◌||◌, ◌==◌, nat_lt, nat_le}
+use Rattle.std.specs.List.{list_any}
+
+-- the number by which the last of so many calls is listed: it stays at the greatest u64
+abbrev pub number_of : ℕ → ℕ
+number_of made = min made (2 ^ 64 - 1)
+
+-- whether the last of so many calls is listed
+abbrev pub is_listed : List ℕ → ℕ → Bool
+is_listed numbers made = list_any (λ n. n == number_of made) numbers
 
 -- whether one of the listed calls was made
 abbrev pub is_reached : List ℕ → ℕ → Bool

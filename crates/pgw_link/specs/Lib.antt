@@ -1,8 +1,12 @@
 pub mod Tape
+pub mod Foresight
+pub mod Log
 pub mod Stream
 pub mod Calls
 pub mod Memory
 pub mod MemoryStream
 pub mod Dials
+pub mod DialLog
+pub mod MemoryLinks
 pub mod MemoryDials
 pub mod Sockets

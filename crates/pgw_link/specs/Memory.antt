@@ -1,6 +1,7 @@
 -- What a link in memory is made with, and what it tells.
 use Rattle.std.specs.Prelude.{◌+◌, ℕ, List, drop}
 use Rattle.pgw_link.specs.Tape.{Tape}
+use Rattle.pgw_link.specs.Log.{tape_of}
 use Rattle.pgw_link.specs.declared.memory.MemoryLink.{MemoryLink}
 
 -- the server's bytes; how many bytes a call moves at most; the numbers of the reads and of the writes that are to fail
@@ -10,8 +11,12 @@ pub record Making : Type 0 where
   pub reads : List ℕ
   pub writes : List ℕ
 
-abbrev pub tape_of : MemoryLink → Tape
-tape_of m = record { left = drop m.at m.server; wrote = m.written.items; flushed = m.flushed; ended = m.ended; reads = m.reads.made; writes = m.writes.made }
+abbrev pub memory_tape : MemoryLink → Tape
+memory_tape m = tape_of m.log
+
+-- the server's bytes that are still to come
+abbrev pub memory_left : MemoryLink → List ℕ
+memory_left m = drop m.at m.server
 
 -- the listed calls that failed, and the writes that found no memory
 abbrev pub faults_of : MemoryLink → ℕ

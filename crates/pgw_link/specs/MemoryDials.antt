@@ -1,27 +1,20 @@
 -- What a dialer in memory tells.
-use Rattle.std.specs.Prelude.{◌≡◌, ℕ, ◌+◌, List, [], ◌∷◌, Bool, true, false, ◌||◌, ◌==◌, Option, Some, None}
-use Rattle.std.specs.List.{list_any}
-use Rattle.pgw_link.specs.Tape.{Tape, counted}
-use Rattle.pgw_link.specs.Dials.{DialTape, IsFresh}
-use Rattle.pgw_link.specs.Memory.{tape_of, faults_of}
+use Rattle.std.specs.Prelude.{ℕ, ◌+◌, List, [], ◌∷◌, Bool, true, false, ◌||◌}
+use Rattle.pgw_link.specs.Tape.{counted}
+use Rattle.pgw_link.specs.Calls.{is_listed}
+use Rattle.pgw_link.specs.Dials.{DialTape}
+use Rattle.pgw_link.specs.DialLog.{dial_tape_of}
+use Rattle.pgw_link.specs.Memory.{memory_left}
 use Rattle.pgw_link.specs.declared.memory.MemoryLink.{MemoryLink}
 use Rattle.pgw_link.specs.declared.memory_dialer.MemoryDialer.{MemoryDialer}
 
--- a link with no fault, to which nothing was written, and whose end was not answered
-abbrev pub IsUnused : MemoryLink → Type 0
-IsUnused link = (faults_of link ≡ 0) × IsFresh (tape_of link).left (tape_of link)
-
--- the bytes that the first link has left; none where there is no link
+-- the bytes that the first link has to come; none where there is no link
 abbrev pub offer_of : List MemoryLink → List ℕ
 offer_of [] = []
-offer_of (link ∷ more) = (tape_of link).left
-
-abbrev pub shut_of : Option MemoryLink → Option Tape
-shut_of None = None
-shut_of (Some link) = Some (tape_of link)
+offer_of (link ∷ more) = memory_left link
 
 abbrev pub dial_tape : MemoryDialer → DialTape
-dial_tape d = record { dials = d.dials.made; address = d.address; offer = offer_of d.links.items; shut = shut_of d.shut }
+dial_tape d = dial_tape_of d.log
 
 -- the listed dials, those that found no link, and the links that were closed with a fault
 abbrev pub dial_faults : MemoryDialer → ℕ
@@ -37,4 +30,4 @@ is_none (link ∷ more) = false
 
 -- the next dial is listed, or there is no link left
 abbrev pub is_refused : MemoryDialer → Bool
-is_refused d = list_any (λ n. n == counted d.dials.made) d.dials.numbers || is_none d.links.items
+is_refused d = is_listed d.dials.numbers (counted d.dials.made) || is_none d.links.items

@@ -1,13 +1,15 @@
 //! What a client reads from and writes to.
 //!
 //! To a session above it promises what each call of a link moves, what a dialer dialled and closed, and that a fault is
-//! answered only where its count rose. The forms in memory tell their bytes; a socket and standard input and output
-//! tell nothing of theirs.
+//! answered only where its count rose. All of them tell what their calls did, sockets and standard input and output
+//! too; the forms in memory also tell what is still to come.
 #![tactic(auto)]
 
 pub mod calls;
+pub mod dial_log;
 pub mod dialer;
 pub mod link;
+pub mod log;
 pub mod memory;
 pub mod memory_dialer;
 pub mod memory_stream;

@@ -1,11 +1,12 @@
 //! A link in memory.
-ghost use Rattle.std.specs.Prelude.{◌≡◌, ◌<◌, ◌≤◌, ◌+◌, ◌*◌, ◌||◌, ◌⊎◌, ◌==◌, nat_lt, [], length, take, None, IfOk, IsOk, OnOk, OnErr, is_err, true, false, refl};
-ghost use Rattle.std.specs.List.{list_any};
-ghost use Rattle.pgw_link.specs.Tape.{Tape, counted, end_of, HasCause, Rose, Took, Put, Flushed, Failed, Idle};
-ghost use Rattle.pgw_link.specs.Calls.{is_reached};
+ghost use Rattle.std.specs.Prelude.{◌≡◌, ◌<◌, ◌≤◌, ◌+◌, ◌*◌, ◌||◌, ◌⊎◌, ℕ, nat_lt, length, take, Some, IfOk, IsOk, OnOk, OnErr, is_err, true, false};
+ghost use Rattle.std.specs.Io.KnownBytes.{Keeps, ReadConsumes, WriteAppends};
+ghost use Rattle.pgw_link.specs.Tape.{new_tape, HasCause, Rose, Took, Put, Flushed, Failed, Idle};
+ghost use Rattle.pgw_link.specs.Calls.{is_listed, is_reached, number_of};
 
 use crate::calls::Calls;
 use crate::link::{Link, LinkFault};
+use crate::log::{Log, Note};
 use crate::piece::copy_from;
 use pgw_types::listed::Listed;
 use pgw_types::octets::Octets;
@@ -19,20 +20,22 @@ pub struct MemoryLink {
     at: usize,
     cut: usize,
     written: Vec<u8>,
-    flushed: usize,
-    ended: Option<usize>,
     reads: Calls,
     writes: Calls,
     wanting: u64,
+    log: Log,
     ghost within: { at ≤ length server },
     ghost moves: { 0 < cut },
-    ghost flushed_in: { flushed ≤ length written.items },
-    ghost read_in_cuts: { at ≤ cut * reads.made },
-    ghost wrote_in_cuts: { length written.items ≤ cut * writes.made },
+    ghost is_written: { log.wrote ≡ written.items },
+    ghost flushed_in: { log.flushed ≤ length log.wrote },
+    ghost reads_counted: { reads.made ≡ number_of log.reads },
+    ghost writes_counted: { writes.made ≡ number_of log.writes },
+    ghost read_in_cuts: { at ≤ cut * log.reads },
+    ghost wrote_in_cuts: { length written.items ≤ cut * log.writes },
 }
 
 impl MemoryLink {
-    ghost use Rattle.pgw_link.specs.Memory.{tape_of, faults_of, making_of};
+    ghost use Rattle.pgw_link.specs.Memory.{memory_tape, memory_left, faults_of, making_of};
 
     /// A link with the server's bytes to come.
     pub fn new(
@@ -43,7 +46,8 @@ impl MemoryLink {
         fail_writes: Listed<u64>,
     ) -> MemoryLink
         requires { 0 < cut }
-        ensures tape { tape_of result ≡ record { left = server; wrote = []; flushed = 0; ended = None; reads = 0; writes = 0 } }
+        ensures tape { memory_tape result ≡ new_tape }
+        ensures left { memory_left result ≡ server }
         ensures faults { faults_of result ≡ 0 }
         ensures making { making_of result ≡ record { server = server; cut = cut; reads = fail_reads; writes = fail_writes } }
     {
@@ -52,19 +56,19 @@ impl MemoryLink {
             at: 0,
             cut,
             written: Vec::new(alloc),
-            flushed: 0,
-            ended: None,
             reads: Calls::new(fail_reads),
             writes: Calls::new(fail_writes),
             wanting: 0,
+            log: Log::new(),
         }
     }
 
     /// What was written. The calls made bound how many bytes have moved.
     pub fn written(&self) -> &[u8]
-        ensures value { result.now ≡ (tape_of self.now).wrote }
-        ensures taken { length (making_of self.now).server ≤ length (tape_of self.now).left + (making_of self.now).cut * (tape_of self.now).reads }
-        ensures sent { length (tape_of self.now).wrote ≤ (making_of self.now).cut * (tape_of self.now).writes }
+        ensures value { result.now ≡ (memory_tape self.now).wrote }
+        ensures taken { length (making_of self.now).server
+            ≤ length (memory_left self.now) + (making_of self.now).cut * (memory_tape self.now).reads }
+        ensures sent { length (memory_tape self.now).wrote ≤ (making_of self.now).cut * (memory_tape self.now).writes }
     {
         self.written.as_slice()
     }
@@ -72,7 +76,10 @@ impl MemoryLink {
     /// Whether a write found no memory. With that a link has a fault exactly where a listed call was made.
     pub fn was_short_of_memory(&self) -> bool
         ensures value { result ≡ nat_lt 0 self.now.wanting }
-        ensures causes { nat_lt 0 (faults_of self.now) ≡ (is_reached (making_of self.now).reads (tape_of self.now).reads || is_reached (making_of self.now).writes (tape_of self.now).writes || result) }
+        ensures causes { nat_lt 0 (faults_of self.now)
+            ≡ (is_reached (making_of self.now).reads (number_of (memory_tape self.now).reads)
+            || is_reached (making_of self.now).writes (number_of (memory_tape self.now).writes)
+            || result) }
     {
         self.wanting > 0
     }
@@ -83,26 +90,26 @@ impl MemoryLink {
     {
         self.reads.have_failed() || self.writes.have_failed() || self.wanting > 0
     }
-}
 
-/// What was flushed by the link's end, where this read answered it or an earlier one did.
-fn ended_after(ended: Option<usize>, flushed: usize, count: usize, room: usize) -> Option<usize>
-    ensures at_end { 0 < room → count ≡ 0 → result ≡ end_of ended flushed }
-    ensures goes_on { 0 < count → result ≡ ended }
-    ensures no_room { room ≡ 0 → result ≡ ended }
-{
-    match ended {
-        None if count == 0 && room > 0 => Some(flushed),
-        known => known,
+    /// What its calls did.
+    pub fn log(&self) -> &Log
+        ensures { result.now ≡ self.now.log }
+    {
+        &self.log
     }
 }
 
 impl Link for MemoryLink {
-    ghost use Rattle.pgw_link.specs.Memory.{tape_of, faults_of, making_of, Making};
+    ghost use Rattle.std.specs.Prelude.{refl};
+    ghost use Rattle.pgw_link.specs.Memory.{memory_tape, memory_left, faults_of, making_of, Making};
 
-    ghost tells = { Unit {0} };
+    ghost tape = { memory_tape };
 
-    ghost tape = { tape_of };
+    ghost left = { λ m. Some (memory_left m) };
+
+    ghost foretells = { Unit {0} };
+
+    ghost held = { λ m. Some m.written.items };
 
     ghost faults = { faults_of };
 
@@ -110,25 +117,30 @@ impl Link for MemoryLink {
 
     ghost plan = { making_of };
 
-    ghost flushed_in = { λ t m. m.flushed_in };
+    ghost knows = { λ t m. refl };
+
+    ghost flushed_in = { λ m. m.flushed_in };
 
     fn read(&mut self, buf: &mut [u8]) -> Result<usize, LinkFault>
         ensures bound { IfOk result (λ n. n ≤ length buf.new) }
         ensures cut { IfOk result (λ n. n ≤ self.old.cut) }
-        ensures fails { is_err result ≡ list_any (λ n. n == (tape_of self.new).reads) (making_of self.old).reads }
-        ensures moved { 0 < length buf.old → IfOk result (λ n. Took (tape_of self.old) (tape_of self.new) (take n buf.new)) }
-        ensures no_room { length buf.old ≡ 0 → OnOk result (Idle (tape_of self.old) (tape_of self.new)) }
-        ensures failed { OnErr result (Failed (tape_of self.old) (tape_of self.new) (counted (tape_of self.old).reads) (tape_of self.old).writes) }
+        ensures fails { is_err result ≡ is_listed (making_of self.old).reads (memory_tape self.new).reads }
+        ensures moved { 0 < length buf.old → IfOk result (λ n. Took (memory_tape self.old) (memory_tape self.new) (take n buf.new)) }
+        ensures no_room { length buf.old ≡ 0 → OnOk result (Idle (memory_tape self.old) (memory_tape self.new)) }
+        ensures failed { OnErr result (Failed (memory_tape self.old) (memory_tape self.new)
+            ((memory_tape self.old).reads + 1) (memory_tape self.old).writes) }
+        ensures drawn { ReadConsumes (Some (memory_left self.old)) (Some (memory_left self.new)) result buf.new }
         ensures cause { HasCause (faults_of self.old) (faults_of self.new) result }
         ensures no_fault { OnOk result (faults_of self.new ≡ faults_of self.old) }
         ensures kept { making_of self.new ≡ making_of self.old }
     {
         if self.reads.is_failing() {
+            self.log = self.log.then(&Note::Unread);
             return Err(LinkFault);
         }
         let count = copy_from(self.server.as_slice(), self.at, self.cut, buf);
-        self.ended = ended_after(self.ended, self.flushed, count, buf.len());
         self.at += count;
+        self.log = self.log.then(&Note::Read(buf, count));
         Ok(count)
     }
 
@@ -137,21 +149,30 @@ impl Link for MemoryLink {
         ensures some { IfOk result (λ n. 0 < n) }
         ensures bound { IfOk result (λ n. n ≤ length piece.now) }
         ensures cut { IfOk result (λ n. n ≤ self.old.cut) }
-        ensures goes { OnOk result (list_any (λ n. n == (tape_of self.new).writes) (making_of self.old).writes ≡ false) }
-        ensures fails { OnErr result (list_any (λ n. n == (tape_of self.new).writes) (making_of self.old).writes ≡ true ⊎ Rose self.old.wanting self.new.wanting) }
-        ensures moved { IfOk result (λ n. Put (tape_of self.old) (tape_of self.new) (take n piece.now)) }
-        ensures failed { OnErr result (Failed (tape_of self.old) (tape_of self.new) (tape_of self.old).reads (counted (tape_of self.old).writes)) }
+        ensures goes { OnOk result (is_listed (making_of self.old).writes (memory_tape self.new).writes ≡ false) }
+        ensures fails { OnErr result (is_listed (making_of self.old).writes (memory_tape self.new).writes ≡ true
+            ⊎ Rose self.old.wanting self.new.wanting) }
+        ensures moved { IfOk result (λ n. Put (memory_tape self.old) (memory_tape self.new) (take n piece.now)) }
+        ensures failed { OnErr result (Failed (memory_tape self.old) (memory_tape self.new)
+            (memory_tape self.old).reads ((memory_tape self.old).writes + 1)) }
+        ensures poured { WriteAppends (Some self.old.written.items) (Some self.new.written.items) result piece.now }
+        ensures left { memory_left self.new ≡ memory_left self.old }
         ensures cause { HasCause (faults_of self.old) (faults_of self.new) result }
         ensures no_fault { OnOk result (faults_of self.new ≡ faults_of self.old) }
         ensures kept { making_of self.new ≡ making_of self.old }
     {
         if self.writes.is_failing() {
+            self.log = self.log.then(&Note::Unwritten);
             return Err(LinkFault);
         }
         let count = piece.len().min(self.cut);
         match self.written.extend_from_slice(&piece[..count]) {
-            Ok(()) => Ok(count),
+            Ok(()) => {
+                self.log = self.log.then(&Note::Wrote(piece, count));
+                Ok(count)
+            }
             Err(_) => {
+                self.log = self.log.then(&Note::Unwritten);
                 self.wanting = self.wanting.saturating_add(1);
                 Err(LinkFault)
             }
@@ -161,13 +182,16 @@ impl Link for MemoryLink {
     fn flush(&mut self) -> Result<(), LinkFault>
         // A flush finds all in memory, so it never fails.
         ensures never { IsOk result }
-        ensures done { OnOk result (Flushed (tape_of self.old) (tape_of self.new)) }
-        ensures failed { OnErr result (Failed (tape_of self.old) (tape_of self.new) (tape_of self.old).reads (tape_of self.old).writes) }
+        ensures done { OnOk result (Flushed (memory_tape self.old) (memory_tape self.new)) }
+        ensures failed { OnErr result (Failed (memory_tape self.old) (memory_tape self.new)
+            (memory_tape self.old).reads (memory_tape self.old).writes) }
+        ensures held { self.new.written.items ≡ self.old.written.items }
+        ensures left { memory_left self.new ≡ memory_left self.old }
         ensures cause { HasCause (faults_of self.old) (faults_of self.new) result }
         ensures no_fault { OnOk result (faults_of self.new ≡ faults_of self.old) }
         ensures kept { making_of self.new ≡ making_of self.old }
     {
-        self.flushed = self.written.len();
+        self.log = self.log.then(&Note::Flushed);
         Ok(())
     }
 }

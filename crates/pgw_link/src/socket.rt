@@ -1,11 +1,13 @@
 //! A client's socket, over TCP or of the system.
 ghost use Rattle.std.specs.Prelude.{◌≡◌};
+ghost use Rattle.pgw_link.specs.Log.{tape_of};
 
 use crate::link::{Link, LinkFault};
+use crate::log::Log;
 use crate::stream_link::{TcpLink, UnixLink};
 use std::io;
 
-/// The socket of a client. It tells nothing of its bytes.
+/// The socket of a client. It tells its history.
 #[derive(Drop)]
 pub enum ClientSocket {
     Plain(TcpLink),
@@ -13,7 +15,7 @@ pub enum ClientSocket {
 }
 
 impl ClientSocket {
-    ghost use Rattle.pgw_link.specs.Sockets.{socket_faults};
+    ghost use Rattle.pgw_link.specs.Sockets.{socket_faults, socket_tape};
 
     /// How often a call has failed.
     pub fn faults(&self) -> u64
@@ -25,8 +27,18 @@ impl ClientSocket {
         }
     }
 
-    /// Closes the socket, and says why a call failed last.
-    pub fn into_failure(self) -> Option<io::Error> {
+    /// Why a call failed last.
+    pub fn failure(&self) -> Option<&io::Error> {
+        match self {
+            ClientSocket::Plain(link) => link.failure(),
+            ClientSocket::Unix(link) => link.failure(),
+        }
+    }
+
+    /// Closes the socket. Gives what its calls did, and why one failed last.
+    pub fn into_failure(self) -> (Log, Option<io::Error>)
+        ensures { tape_of result.0 ≡ socket_tape self }
+    {
         match self {
             ClientSocket::Plain(link) => link.into_failure(),
             ClientSocket::Unix(link) => link.into_failure(),
@@ -35,12 +47,12 @@ impl ClientSocket {
 }
 
 impl Link for ClientSocket {
-    ghost use Rattle.std.specs.Prelude.{[], None};
-    ghost use Rattle.pgw_link.specs.Sockets.{socket_faults};
+    ghost use Rattle.std.specs.Prelude.{ℕ};
+    ghost use Rattle.pgw_link.specs.Sockets.{socket_tape, socket_faults, socket_flushed_in};
 
-    ghost tells = { ⊥ };
+    ghost tape = { socket_tape };
 
-    ghost tape = { λ s. record { left = []; wrote = []; flushed = 0; ended = None; reads = 0; writes = 0 } };
+    ghost foretells = { ⊥ };
 
     ghost faults = { socket_faults };
 
@@ -48,7 +60,9 @@ impl Link for ClientSocket {
 
     ghost plan = { λ s. tt };
 
-    ghost flushed_in = { λ t s. absurd t };
+    ghost knows = { λ t s. absurd t };
+
+    ghost flushed_in = { socket_flushed_in };
 
     fn read(&mut self, buf: &mut [u8]) -> Result<usize, LinkFault> {
         match self {

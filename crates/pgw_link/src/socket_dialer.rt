@@ -1,6 +1,10 @@
 //! A dialer over the system's sockets.
 ghost use Rattle.std.specs.Prelude.{◌≡◌, IfOk};
+ghost use Rattle.pgw_link.specs.Tape.{new_tape};
+ghost use Rattle.pgw_link.specs.Dials.{new_dials};
+ghost use Rattle.pgw_link.specs.DialLog.{dial_tape_of};
 
+use crate::dial_log::{DialLog, DialNote};
 use crate::dialer::{DialError, Dialer};
 use crate::socket::ClientSocket;
 use crate::stream_link::StreamLink;
@@ -11,8 +15,8 @@ use std::net::{IpAddr, Ipv4Addr, Ipv6Addr, Net, SocketAddr, TcpStream, ToSocketA
 use std::os::unix::net::UnixStream;
 use std::time::Duration;
 
-/// A dialer over the system's sockets. It tells nothing of what they carry. Why a dial failed, or a call of a link, it
-/// says on standard error.
+/// A dialer over the system's sockets. It tells what it dialled and what its sockets' calls did. Why a dial failed, or a
+/// call of a link, it says on standard error.
 ///
 /// Host names are looked up by the system, and the addresses found are tried in turn within one dial.
 #[derive(Drop)]
@@ -20,6 +24,7 @@ pub struct SocketDialer<R: Net<Stream = TcpStream> + Eprint + Drop> {
     rt: R,
     timeouts: Timeouts,
     faults: u64,
+    log: DialLog,
 }
 
 /// How long to wait for a connection to each address, for a read and for a write; without end where it is None or zero.
@@ -52,15 +57,17 @@ fn ip_of(addr: HostAddr) -> IpAddr {
 }
 
 impl<R: Net<Stream = TcpStream> + Eprint + Drop> SocketDialer<R> {
-    ghost use Rattle.pgw_link.specs.Sockets.{socket_faults};
+    ghost use Rattle.pgw_link.specs.Sockets.{socket_faults, socket_tape};
 
     pub fn new(rt: R, timeouts: Timeouts) -> SocketDialer<R>
-        ensures { result.faults ≡ 0 }
+        ensures faults { result.faults ≡ 0 }
+        ensures tape { dial_tape_of result.log ≡ new_dials }
     {
         SocketDialer {
             rt,
             timeouts,
             faults: 0,
+            log: DialLog::new(),
         }
     }
 
@@ -78,7 +85,7 @@ impl<R: Net<Stream = TcpStream> + Eprint + Drop> SocketDialer<R> {
     }
 
     fn open_tcp(&self, addr: SocketAddr) -> io::Result<ClientSocket>
-        ensures { IfOk result (λ s. socket_faults s ≡ 0) }
+        ensures { IfOk result (λ s. (socket_faults s ≡ 0) × (socket_tape s ≡ new_tape)) }
     {
         let stream = self.connect(addr)?;
         self.set_up(&stream)?;
@@ -86,7 +93,7 @@ impl<R: Net<Stream = TcpStream> + Eprint + Drop> SocketDialer<R> {
     }
 
     fn open_host(&self, name: &str, port: u16) -> io::Result<ClientSocket>
-        ensures { IfOk result (λ s. socket_faults s ≡ 0) }
+        ensures { IfOk result (λ s. (socket_faults s ≡ 0) × (socket_tape s ≡ new_tape)) }
     {
         let mut last = io::Error::new(ErrorKind::NotFound, "the name has no address");
         for addr in (name, port).to_socket_addrs(&self.rt)? {
@@ -99,7 +106,7 @@ impl<R: Net<Stream = TcpStream> + Eprint + Drop> SocketDialer<R> {
     }
 
     fn open_unix(&self, path: &str) -> io::Result<ClientSocket>
-        ensures { IfOk result (λ s. socket_faults s ≡ 0) }
+        ensures { IfOk result (λ s. (socket_faults s ≡ 0) × (socket_tape s ≡ new_tape)) }
     {
         let stream = UnixStream::connect(&self.rt, path)?;
         stream.set_read_timeout(unless_zero(self.timeouts.read))?;
@@ -108,7 +115,7 @@ impl<R: Net<Stream = TcpStream> + Eprint + Drop> SocketDialer<R> {
     }
 
     fn open(&self, address: &Address) -> io::Result<ClientSocket>
-        ensures { IfOk result (λ s. socket_faults s ≡ 0) }
+        ensures { IfOk result (λ s. (socket_faults s ≡ 0) × (socket_tape s ≡ new_tape)) }
     {
         match address {
             Address::Ip(addr, port) => self.open_tcp(SocketAddr::new(ip_of(*addr), *port)),
@@ -143,20 +150,20 @@ impl<R: Net<Stream = TcpStream> + Eprint + Drop> SocketDialer<R> {
 }
 
 impl<R: Net<Stream = TcpStream> + Eprint + Drop> Dialer for SocketDialer<R> {
-    ghost use Rattle.std.specs.Prelude.{[], None};
-
     type Link = ClientSocket;
 
-    ghost tells = { ⊥ };
+    ghost tape = { λ s. dial_tape_of s.log };
 
-    ghost tape = { λ s. record { dials = 0; address = None; offer = []; shut = None } };
+    ghost foretells = { ⊥ };
 
     ghost faults = { λ s. s.faults };
 
-    ghost links_tell = { λ t. t };
+    ghost links_foretell = { λ t. t };
 
     fn dial(&mut self, address: &Address) -> Result<ClientSocket, DialError> {
-        match self.open(address) {
+        let opened = self.open(address);
+        self.log = self.log.then(&DialNote::Dialled(address, opened.is_ok()));
+        match opened {
             Ok(socket) => Ok(socket),
             Err(error) if error.kind() == ErrorKind::OutOfMemory => Err(DialError::OutOfMemory),
             Err(error) => {
@@ -172,7 +179,9 @@ impl<R: Net<Stream = TcpStream> + Eprint + Drop> Dialer for SocketDialer<R> {
             self.faults = self.faults.saturating_add(1);
         }
         // The socket is closed before anything is said: it may have the number of standard error.
-        if let Some(error) = used.into_failure() {
+        let (log, failure) = used.into_failure();
+        self.log = self.log.then(&DialNote::Shut(&log));
+        if let Some(error) = failure {
             self.say("the connection failed", error);
         }
     }

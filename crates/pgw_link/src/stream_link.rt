@@ -1,19 +1,28 @@
 //! Links over the system's streams.
-ghost use Rattle.std.specs.Prelude.{◌<◌, ◌≤◌, ◌≡◌, length, None, IfOk};
-ghost use Rattle.pgw_link.specs.Tape.{Rose};
+ghost use Rattle.std.specs.Prelude.{◌<◌, ◌≤◌, ◌≡◌, length, IfOk};
+ghost use Rattle.std.specs.Io.KnownBytes.{ReadConsumes, WriteAppends};
+ghost use Rattle.pgw_link.specs.Tape.{Rose, new_tape};
+ghost use Rattle.pgw_link.specs.Log.{tape_of};
 
 use crate::link::{Link, LinkFault};
+use crate::log::{Log, Note};
 use std::io;
 use std::io::{ErrorKind, Read, Write};
 use std::net::TcpStream;
 use std::os::unix::net::UnixStream;
 
-/// A link over a stream of the system. It tells nothing of its bytes.
+/// A link over a stream, as the system's. It tells its history.
+///
+/// The one impl serves every stream. So what it tells of a read and hands to its caller are the bytes that the stream
+/// gave, for each stream that states its bytes. A socket's stream states none, and is served by the same code. All
+/// contact with a stream stays in here: what a link tells is a note of its calls, and only this ties it to a stream.
 #[derive(Drop)]
 pub struct StreamLink<S: Read + Write + Drop> {
     stream: S,
+    log: Log,
     faults: u64,
     failure: Option<io::Error>,
+    ghost flushed_in: { log.flushed ≤ length log.wrote },
 }
 
 /// A link over TCP.
@@ -24,10 +33,13 @@ pub type UnixLink = StreamLink<UnixStream>;
 
 impl<S: Read + Write + Drop> StreamLink<S> {
     pub fn new(stream: S) -> StreamLink<S>
-        ensures { result.faults ≡ 0 }
+        ensures faults { result.faults ≡ 0 }
+        ensures tape { tape_of result.log ≡ new_tape }
+        ensures stream { result.stream ≡ stream }
     {
         StreamLink {
             stream,
+            log: Log::new(),
             faults: 0,
             failure: None,
         }
@@ -40,15 +52,24 @@ impl<S: Read + Write + Drop> StreamLink<S> {
         self.faults
     }
 
-    /// Closes the stream, and says why a call failed last.
-    pub fn into_failure(self) -> Option<io::Error> {
-        let StreamLink { failure, .. } = self;
-        failure
+    /// Why a call failed last.
+    pub fn failure(&self) -> Option<&io::Error> {
+        self.failure.as_ref()
+    }
+
+    /// Closes the stream. Gives what its calls did, and why one failed last.
+    pub fn into_failure(self) -> (Log, Option<io::Error>)
+        ensures { result.0 ≡ self.log }
+    {
+        let StreamLink { log, failure, .. } = self;
+        (log, failure)
     }
 
     fn fail(&mut self, error: io::Error) -> LinkFault
         ensures later { self.old.faults ≤ self.new.faults }
         ensures rose { Rose self.old.faults self.new.faults }
+        ensures log { self.new.log ≡ self.old.log }
+        ensures stream { self.new.stream ≡ self.old.stream }
     {
         self.faults = self.faults.saturating_add(1);
         self.failure = Some(error);
@@ -58,9 +79,10 @@ impl<S: Read + Write + Drop> StreamLink<S> {
 
 /// Reads once. A call that a signal interrupted is made again.
 fn read_some<S: Read>(stream: &mut S, buf: &mut [u8]) -> io::Result<usize>
-    ensures { IfOk result (λ n. n ≤ length buf.new) }
+    ensures bound { IfOk result (λ n. n ≤ length buf.new) }
+    ensures bytes { ReadConsumes (S.remaining stream.old) (S.remaining stream.new) result buf.new }
 {
-    for _ in 0..u64::MAX {
+    'tries: for _ in 0..u64::MAX {
         match stream.read(buf) {
             Err(error) if error.kind() == ErrorKind::Interrupted => {}
             answer => return answer,
@@ -73,8 +95,9 @@ fn read_some<S: Read>(stream: &mut S, buf: &mut [u8]) -> io::Result<usize>
 fn write_some<S: Write>(stream: &mut S, piece: &[u8]) -> io::Result<usize>
     ensures some { IfOk result (λ n. 0 < n) }
     ensures bound { IfOk result (λ n. n ≤ length piece.now) }
+    ensures bytes { WriteAppends (S.contents stream.old) (S.contents stream.new) result piece.now }
 {
-    for _ in 0..u64::MAX {
+    'tries: for _ in 0..u64::MAX {
         match stream.write(piece) {
             Ok(0) => return Err(io::Error::from(ErrorKind::WriteZero)),
             Err(error) if error.kind() == ErrorKind::Interrupted => {}
@@ -84,12 +107,18 @@ fn write_some<S: Write>(stream: &mut S, piece: &[u8]) -> io::Result<usize>
     Err(io::Error::from(ErrorKind::Interrupted))
 }
 
+// A method touches its own half of the stream alone: a write within `read`, or a read within `write` or `flush`, is
+// refused, since the stream's traits do not say what it leaves of the other half.
 impl<S: Read + Write + Drop> Link for StreamLink<S> {
-    ghost use Rattle.std.specs.Prelude.{[]};
+    ghost use Rattle.pgw_link.specs.Log.{tape_of};
 
-    ghost tells = { ⊥ };
+    ghost tape = { λ s. tape_of s.log };
 
-    ghost tape = { λ s. record { left = []; wrote = []; flushed = 0; ended = None; reads = 0; writes = 0 } };
+    ghost left = { λ s. S.remaining s.stream };
+
+    ghost foretells = { ⊥ };
+
+    ghost held = { λ s. S.contents s.stream };
 
     ghost faults = { λ s. s.faults };
 
@@ -97,25 +126,42 @@ impl<S: Read + Write + Drop> Link for StreamLink<S> {
 
     ghost plan = { λ s. tt };
 
-    ghost flushed_in = { λ t s. absurd t };
+    ghost knows = { λ t s. absurd t };
+
+    ghost flushed_in = { λ s. s.flushed_in };
 
     fn read(&mut self, buf: &mut [u8]) -> Result<usize, LinkFault> {
         match read_some(&mut self.stream, buf) {
-            Ok(count) => Ok(count),
-            Err(error) => Err(self.fail(error)),
+            Ok(count) => {
+                self.log = self.log.then(&Note::Read(buf, count));
+                Ok(count)
+            }
+            Err(error) => {
+                self.log = self.log.then(&Note::Unread);
+                Err(self.fail(error))
+            }
         }
     }
 
     fn write(&mut self, piece: &[u8]) -> Result<usize, LinkFault> {
         match write_some(&mut self.stream, piece) {
-            Ok(count) => Ok(count),
-            Err(error) => Err(self.fail(error)),
+            Ok(count) => {
+                self.log = self.log.then(&Note::Wrote(piece, count));
+                Ok(count)
+            }
+            Err(error) => {
+                self.log = self.log.then(&Note::Unwritten);
+                Err(self.fail(error))
+            }
         }
     }
 
     fn flush(&mut self) -> Result<(), LinkFault> {
         match self.stream.flush() {
-            Ok(()) => Ok(()),
+            Ok(()) => {
+                self.log = self.log.then(&Note::Flushed);
+                Ok(())
+            }
             Err(error) => Err(self.fail(error)),
         }
     }

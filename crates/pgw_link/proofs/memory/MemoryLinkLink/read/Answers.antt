@@ -1,26 +1,30 @@
-use Rattle.std.proofs.Common.{◌≡◌, length, take, arith, refl}
-use Rattle.pgw_link.proofs.PieceLaws.{taken, taken_length, nothing_left}
+use Rattle.std.proofs.Common.{◌≡◌, ◌<◌, ◌≤◌, ◌+◌, ◌*◌, ℕ, length, take, arith, sym, ap, subst, ◌∙◌}
+use Rattle.pgw_link.specs.Tape.{Tape}
+use Rattle.pgw_link.specs.Calls.{number_of}
+use Rattle.pgw_link.proofs.CallLaws.{numbered}
+use Rattle.pgw_link.proofs.LogLaws.{after_reads, in_cuts, nothing_left, taken}
 use Rattle.pgw_link.proofs.memory.MemoryLinkLink.read.Goals as goal
 
-pub returns-then-is_failing-clause-cause : goal.returns-then-is_failing-clause-cause
-returns-then-is_failing-clause-cause c = let e = rw c.if-is_failing.true at c.is_failing.ensures.failed in record { later = omega (arith, e); failed = omega (arith, e) }
+pub invariant_of-self-2-clause-reads_counted : goal.invariant_of-self-2-clause-reads_counted
+invariant_of-self-2-clause-reads_counted c =
+    let s = c.args.self.now in
+    let reads = ap (λ (t : Tape). t.reads) c.then-self-2.ensures ∙ after_reads _ c.copy_from-count.new.buf c.copy_from-count.result in
+    numbered s.reads.made c.is_failing.new.self.made s.log.reads s.reads_counted c.is_failing.ensures.made ∙ ap number_of (sym reads)
 
-pub returns-clause-moved : goal.returns-clause-moved
-returns-clause-moved c = λ room.
+pub invariant_of-self-2-clause-read_in_cuts : goal.invariant_of-self-2-clause-read_in_cuts
+invariant_of-self-2-clause-read_in_cuts c =
+    let s = c.args.self.now in
+    let n = c.copy_from-count.result in
+    let reads = ap (λ (t : Tape). t.reads) c.then-self-2.ensures ∙ after_reads _ c.copy_from-count.new.buf n in
+    subst (λ (r : ℕ). s.at + n ≤ s.cut * r) (sym reads) (in_cuts s.at n s.cut s.log.reads s.read_in_cuts (omega (arith, c.copy_from-count.ensures.count)))
+
+pub returns-clause-drawn : goal.returns-clause-drawn
+returns-clause-drawn c =
     let bytes = c.args.self.now.server in
     let at = c.args.self.now.at in
     let n = c.copy_from-count.result in
-    let piece = take n c.copy_from-count.new.buf in
     let is = rw c.as_slice.ensures at c.copy_from-count.ensures.piece in
-    let count = rw c.as_slice.ensures at c.copy_from-count.ensures.count in
-    let long : length piece ≡ n = taken_length bytes piece at n is (omega (arith, count)) in
-    record {
-      left = taken bytes piece at n is;
-      at_end = λ e. nothing_left bytes at n (length c.args.buf.now) c.args.self.now.cut count room c.args.self.now.moves (omega (arith, long, e));
-      wrote = refl;
-      flushed = refl;
-      ended = λ e. c.ended_after-self.ensures.at_end (omega (arith, room, c.copy_from-count.auto.buf)) (omega (arith, long, e));
-      goes_on = λ e. c.ended_after-self.ensures.goes_on (omega (arith, long, e));
-      reads = c.is_failing.ensures.made;
-      writes = refl;
-    }
+    let count = rw c.as_slice.ensures at c.copy_from-count.ensures.count in (
+      taken bytes (take n c.copy_from-count.new.buf) at n is,
+      λ none room. nothing_left bytes at n (length c.args.buf.now) c.args.self.now.cut count (omega (arith, room, c.copy_from-count.auto.buf)) c.args.self.now.moves none,
+    )

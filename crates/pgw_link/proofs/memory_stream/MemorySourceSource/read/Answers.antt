@@ -1,21 +1,14 @@
-use Rattle.std.proofs.Common.{◌≡◌, length, take, arith}
-use Rattle.pgw_link.proofs.PieceLaws.{taken, taken_length, nothing_left}
+use Rattle.std.proofs.Common.{length, take, arith}
+use Rattle.pgw_link.proofs.LogLaws.{nothing_left, taken}
 use Rattle.pgw_link.proofs.memory_stream.MemorySourceSource.read.Goals as goal
 
-pub returns-then-is_failing-clause-cause : goal.returns-then-is_failing-clause-cause
-returns-then-is_failing-clause-cause c = let e = rw c.if-is_failing.true at c.is_failing.ensures.failed in record { later = omega (arith, e); failed = omega (arith, e) }
-
-pub returns-clause-moved : goal.returns-clause-moved
-returns-clause-moved c = λ room.
+pub returns-clause-drawn : goal.returns-clause-drawn
+returns-clause-drawn c =
     let bytes = c.args.self.now.bytes in
     let at = c.args.self.now.at in
     let n = c.copy_from-count.result in
-    let piece = take n c.copy_from-count.new.buf in
     let is = rw c.as_slice.ensures at c.copy_from-count.ensures.piece in
-    let count = rw c.as_slice.ensures at c.copy_from-count.ensures.count in
-    let long : length piece ≡ n = taken_length bytes piece at n is (omega (arith, count)) in
-    record {
-      left = taken bytes piece at n is;
-      at_end = λ e. nothing_left bytes at n (length c.args.buf.now) c.args.self.now.cut count room c.args.self.now.moves (omega (arith, long, e));
-      reads = c.is_failing.ensures.made;
-    }
+    let count = rw c.as_slice.ensures at c.copy_from-count.ensures.count in (
+      taken bytes (take n c.copy_from-count.new.buf) at n is,
+      λ none room. nothing_left bytes at n (length c.args.buf.now) c.args.self.now.cut count (omega (arith, room, c.copy_from-count.auto.buf)) c.args.self.now.moves none,
+    )
