@@ -4,12 +4,12 @@ use Rattle.std.proofs.lemmas.List.{append-nil}
 use Rattle.std.specs.Prelude.{IfErr, codes}
 use Rattle.pgw_backend.specs.declared.client_error.PgWireClientError.{PgWireClientError as ClientError}
 use Rattle.pgw_backend.specs.declared.client_error.PgWireClientError.TheVariants as client
-use Rattle.pgw_link.specs.Tape.{Tape}
+use Rattle.pgw_link.specs.Tape.{Tape, MovedBy}
 use Rattle.pgw_session.specs.Input.{Input}
 use Rattle.pgw_session.specs.Demands.{refused_config}
 use Rattle.pgw_client.specs.Demands.{Checked, IsInvalidConfig}
 use Rattle.pgw_client.specs.Wire.{IsNoDemand}
-use Rattle.pgw_client.specs.Session.{Causes, ErrorCause, InLockstep, KeepsPace, MovedBy}
+use Rattle.pgw_client.specs.Session.{Causes, ErrorCause, InLockstep, KeepsPace}
 
 -- which key a refusal names
 pub refused_key : (o : Option (List ℕ)) (e : ClientError) → Checked o (Err e) → (key : List ℕ) × (o ≡ Some key) × IsInvalidConfig key e
@@ -37,11 +37,11 @@ key_not_io e key (inr a) is = cc
 -- ---- nothing was read or written
 
 moved_none : (tape : Tape) (fact : List ℕ → List ℕ → Type 0) → fact [] [] → MovedBy tape tape fact
-moved_none tape fact holds = ([], [], refl, sym (append-nil tape.wrote), holds)
+moved_none tape fact holds = ([], [], sym (append-nil tape.took), sym (append-nil tape.wrote), holds)
 
 pub refused_causes : (input : Input) (limit : ℕ) (tape : Tape) (e : ClientError) (key : List ℕ) → refused_config input.config ≡ Some key → IsInvalidConfig key e → Causes input limit tape tape (Err e)
 refused_causes input limit tape e key is (inl named) =
-    subst (λ x. Causes input limit tape tape (Err x)) (sym named) (moved_none tape (λ taken sent. ErrorCause input limit (length tape.wrote) tape taken sent (client.InvalidConfig key)) (inl (is, refl, refl)))
+    subst (λ x. Causes input limit tape tape (Err x)) (sym named) (moved_none tape (λ taken sent. ErrorCause input limit tape tape taken sent (client.InvalidConfig key)) (inl (is, refl, refl)))
 refused_causes input limit tape e key is (inr memory) =
     subst (λ x. Causes input limit tape tape (Err x)) (sym memory) (moved_none tape (λ taken sent. Unit {0}) tt)
 
@@ -49,7 +49,7 @@ pub refused_paced : (limit : ℕ) (tape : Tape) → MovedBy tape tape (KeepsPace
 refused_paced limit tape = moved_none tape (KeepsPace limit tape tape) (record { within = omega arith; reads = omega arith; writes = omega arith })
 
 pub refused_lockstep : (input : Input) (tape : Tape) → InLockstep input tape tape
-refused_lockstep input tape none n some = absurd (let e : None ≡ Some n = sym none ∙ some in cc)
+refused_lockstep input tape = inl refl
 
 -- ---- IoError
 

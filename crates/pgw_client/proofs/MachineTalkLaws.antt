@@ -104,19 +104,22 @@ lift_stopping input conv before grew (memory is) = memory is
 lift_stopping input conv before grew (unsent io short) = unsent io (omega (arith, short, ap length (sent_in input before conv), length-append before (sent_of conv)))
 lift_stopping input conv before grew (stopped end is why) = let o = over_at input conv before is grew in stopped o.0 o.1 (ap (λ (s : End Notes). error_of s.outcome) o.2 ∙ why)
 
-lift_reason : (input : Input) (conv : Course Talk Ending) (before : List ℕ) {new : Tape} {w m taken : List ℕ} {limit : ℕ} {e : ClientError} → w ≡ before ++ m
-    → Reason notes_end (told input before conv) w 0 taken limit new e → Reason talk_end conv m (length before) taken limit new e
-lift_reason input conv before grew (failed s) = failed (lift_stopping input conv before grew s)
-lift_reason input conv before grew (unread io waiting) = unread io (waiting_at input conv before waiting grew)
-lift_reason input conv before grew (at_limit is waiting at) = at_limit is (waiting_at input conv before waiting grew) at
-lift_reason input conv before {w = w} {m = m} grew (at_end notes pending is none end) =
+lift_reason : (input : Input) (conv : Course Talk Ending) (before : List ℕ) {old mid new : Tape} {w m taken : List ℕ} {limit : ℕ} {e : ClientError} → w ≡ before ++ m → mid.ended ≡ old.ended
+    → Reason notes_end (told input before conv) w 0 taken limit mid new e → Reason talk_end conv m (length before) taken limit old new e
+lift_reason input conv before grew same (failed s) = failed (lift_stopping input conv before grew s)
+lift_reason input conv before grew same (unread io waiting) = unread io (waiting_at input conv before waiting grew)
+lift_reason input conv before grew same (at_limit is waiting at) = at_limit is (waiting_at input conv before waiting grew) at
+lift_reason input conv before {w = w} {m = m} grew same (at_end notes pending is met end) =
     let o = waits_in input before conv notes w pending is in
-    at_end o.0 pending (o.2 ∙ ap (λ (s : List ℕ). Waits o.0 s pending) (cancel before o.1 m (sym o.3 ∙ grew))) none (end ∙ ap notes_end o.4)
+    let asked = met.asked in
+    at_end o.0 pending (o.2 ∙ ap (λ (s : List ℕ). Waits o.0 s pending) (cancel before o.1 m (sym o.3 ∙ grew)))
+    (record { below = met.below; asked = (asked.0, asked.1 ∙ ap (λ (e : List ℕ). e ++ asked.0 ∷ []) same) }) (end ∙ ap notes_end o.4)
 
 lift_paused : (input : Input) (conv : Course Talk Ending) (before : List ℕ) (old mid new : Tape) {w m : List ℕ} → w ≡ before ++ m → mid.ended ≡ old.ended → Paused (told input before conv) w mid new → Paused conv m old new
-lift_paused input conv before old mid new grew same paused none n some =
-    let p = paused (same ∙ none) n some in
-    (p.0, waiting_at input conv before p.1 grew)
+lift_paused input conv before old mid new grew same paused = elim paused [
+  | inl still ↦ inl (still ∙ same)
+  | inr p ↦ inr (p.0 ∙ ap (λ (e : List ℕ). e ++ length new.wrote ∷ []) same, waiting_at input conv before p.1 grew)
+]
 
 -- ---- a session
 
@@ -125,21 +128,22 @@ pub lift_err : {next : Notes} {old mid new : Tape} (input : Input) (notes : Note
 lift_err {next} {old} {mid} {new} input notes limit out e start wrote conversed =
     let conv = conversation input conversed.taken in
     let is = course_is input notes old.wrote out mid.wrote conversed.taken start wrote.wrote in
-    let why = subst (λ c. Because c conversed.taken limit new e) is conversed.answered in
+    let why = subst (λ c. Because c conversed.taken limit mid new e) is conversed.answered in
     let len_mid : length mid.wrote ≡ length old.wrote + length out = ap length wrote.wrote ∙ length-append old.wrote out in
     let grew = prefix_split old.wrote new.wrote (sent_of conv) why.begins.0 (sym (sent_in input old.wrote conv) ∙ why.begins.1) (omega (arith, len_mid, conversed.no_shorter)) in
     let len_new : length new.wrote ≡ length old.wrote + length grew.0 = ap length grew.1 ∙ length-append old.wrote grew.0 in
     let r = wrote.reads_nothing in
     record {
       taken = conversed.taken;
-      left = sym r.left ∙ conversed.left;
+      took = conversed.took ∙ ap (λ (t : List ℕ). t ++ conversed.taken) r.took;
       within = conversed.within;
       sent = grew.0;
       wrote = grew.1;
-      held = record { begins = (why.begins.0, grew.2); reason = lift_reason input conv old.wrote grew.1 why.reason };
+      held = record { begins = (why.begins.0, grew.2); reason = lift_reason input conv old.wrote grew.1 r.ended why.reason };
       reads = omega (arith, conversed.reads, r.reads);
       writes = omega (arith, conversed.writes, wrote.writes, len_mid, len_new);
       paused = lift_paused input conv old.wrote old mid new grew.1 r.ended (subst (λ c. Paused c new.wrote mid new) is conversed.paused);
+      flushed = λ no. inr (conversed.flushed (λ io. no (cc)));
     }
 
 whole_report : (input : Input) (e : Ending) → (e.notes).open_events ≡ [] → (e.notes).passed ≡ [] → report_at (view input e.notes) ≡ report_of input (e.notes).closed
@@ -164,7 +168,7 @@ lift_ok {next} {old} {mid} {new} input notes limit out done report start wrote c
     let whole : Cause input (o.0).notes final.rest Complete = subst (Cause input (o.0).notes final.rest) outcome final.cause in
     record {
       taken = conversed.taken;
-      left = sym r.left ∙ conversed.left;
+      took = conversed.took ∙ ap (λ (t : List ℕ). t ++ conversed.taken) r.took;
       within = conversed.within;
       sent = o.1;
       wrote = o.4;
@@ -176,12 +180,10 @@ lift_ok {next} {old} {mid} {new} input notes limit out done report start wrote c
       reads = omega (arith, conversed.reads, r.reads);
       writes = omega (arith, conversed.writes, wrote.writes, len_mid, len_new);
       paused = lift_paused input conv old.wrote old mid new o.4 r.ended (subst (λ c. Paused c new.wrote mid new) is conversed.paused);
+      flushed = λ no. inr (conversed.flushed (λ io. no (cc)));
     }
 
 -- ---- the startup message
-
-none_some : {n : ℕ} (ended : Option ℕ) → ended ≡ None → ended ≡ Some n → ⊥
-none_some ended none some = cc
 
 -- it could not be made
 pub unstarted : (input : Input) (limit : ℕ) (tape : Tape) (out : List ℕ) (e : ClientError) → Started input out (Err e) → Session input limit tape tape (Err e)
@@ -189,7 +191,7 @@ unstarted input limit tape out e start =
     let conv = conversation input [] in
     record {
       taken = [];
-      left = refl;
+      took = sym (append-nil tape.took);
       within = omega arith;
       sent = [];
       wrote = sym (append-nil tape.wrote);
@@ -205,7 +207,8 @@ unstarted input limit tape out e start =
       };
       reads = omega arith;
       writes = omega arith;
-      paused = λ none n some. absurd (none_some tape.ended none some);
+      paused = inl refl;
+      flushed = λ no. inl (refl, refl);
     }
 
 -- what is written of a message takes a byte at least
@@ -237,7 +240,7 @@ unsent_start {old} {new} input notes limit out flushed_in start wrote =
     let k = wrote.count in
     record {
       taken = [];
-      left = sym r.left;
+      took = r.took ∙ sym (append-nil old.took);
       within = omega arith;
       sent = take k out;
       wrote = wrote.wrote;
@@ -247,5 +250,6 @@ unsent_start {old} {new} input notes limit out flushed_in start wrote =
       };
       reads = omega (arith, r.reads);
       writes = omega (arith, wrote.writes, length-take-le k out wrote.count_in);
-      paused = λ none n some. absurd (none_some new.ended (r.ended ∙ none) some);
+      paused = inl r.ended;
+      flushed = λ no. absurd (no refl);
     }

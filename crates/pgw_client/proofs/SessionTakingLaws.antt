@@ -36,6 +36,7 @@ refused {input} {old_notes} {notes} {old} {new} {old_buffer} {buffer} e going st
   reads_nothing = going.reads_nothing;
   begins = begins_at input notes new.wrote buffer _ going.course;
   stopping = elim (memory_or e) [ inl is ↦ memory is | inr ne ↦ let s = step ne in stopped s.0 (going.course ∙ s.2 new.wrote) s.1 ];
+  flushed = λ no. going.flushed;
   no_shorter = going.no_shorter;
   writes = omega (arith, going.writes);
 }
@@ -60,8 +61,9 @@ unsent {input} {old_notes} {notes} {old} {mid} {new} {old_buffer} {buffer} rest 
     let len_wrote : length new.wrote ≡ length mid.wrote + k = ap length wrote.wrote ∙ length-append mid.wrote (take k out) ∙ ap (λ n. length mid.wrote + n) (length-take-le k out wrote.count_in) in
     let len_sent : length (sent_of course) ≡ length mid.wrote + length out + length all.0 = ap length all.1 ∙ length-append (mid.wrote ++ out) all.0 ∙ ap (λ n. n + length all.0) (length-append mid.wrote out) in
     record {
-      reads_nothing = record { left = r.left ∙ q.left; ended = r.ended ∙ q.ended; reads = r.reads ∙ q.reads };
+      reads_nothing = record { took = r.took ∙ q.took; ended = r.ended ∙ q.ended; reads = r.reads ∙ q.reads };
       begins = (drop k out ++ all.0, all.1 ∙ split);
+      flushed = λ no. absurd (no refl);
       stopping = outcomes.unsent refl (omega (arith, len_sent, wrote.flushed, going.flushed, some));
       no_shorter = omega (arith, going.no_shorter, len_wrote);
       writes = omega (arith, going.writes, wrote.writes, len_wrote);
@@ -76,7 +78,7 @@ sent_on {input} {old_notes} {notes} {old} {mid} {new} rest next out going step w
     let q = going.reads_nothing in
     let len : length new.wrote ≡ length mid.wrote + length out = ap length wrote.wrote ∙ length-append mid.wrote out in
     record {
-      reads_nothing = record { left = r.left ∙ q.left; ended = r.ended ∙ q.ended; reads = r.reads ∙ q.reads };
+      reads_nothing = record { took = r.took ∙ q.took; ended = r.ended ∙ q.ended; reads = r.reads ∙ q.reads };
       course = going.course ∙ step mid.wrote ∙ ap (λ (w : List ℕ). runs input next w rest) (sym wrote.wrote);
       flushed = wrote.flushed;
       no_shorter = omega (arith, going.no_shorter, len);

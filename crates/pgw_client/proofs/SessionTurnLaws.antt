@@ -1,7 +1,11 @@
 -- How a session over a link goes on with a read, and how it ends.
 use Rattle.std.proofs.Common.{◌≡◌, ◌<◌, ◌≤◌, ℕ, ◌+◌, List, [], ◌∷◌, ◌++◌, length, Option, Some, None, Ok, Err, Bool, true, false, inl, inr, arith, refl, ◌∙◌, ap, sym, subst, append_assoc, length-append}
 use Rattle.std.proofs.lemmas.List.{append-nil, nil_from_length}
-use Rattle.pgw_link.specs.Tape.{Tape, Took, Failed, counted, end_of}
+use Rattle.std.specs.Io.KnownBytes.{Keeps}
+use Rattle.std.specs.Prelude.{IsSome}
+use Rattle.pgw_link.specs.Tape.{Tape, Took, Failed}
+use Rattle.pgw_link.specs.Foresight.{Ends, Foreseen}
+use Rattle.pgw_link.proofs.LogLaws.{ends_further, ends_on, foreseen_kept, foreseen_on}
 use Rattle.pgw_backend.specs.Front.{front, More}
 use Rattle.pgw_backend.specs.declared.client_error.PgWireClientError.{PgWireClientError as ClientError}
 use Rattle.pgw_backend.specs.declared.client_error.PgWireClientError.TheVariants as client
@@ -20,26 +24,26 @@ use Rattle.pgw_client.proofs.SessionTakingLaws.{begins_at, memory_or}
 
 -- ---- the link's end
 
-never_ended : {n : ℕ} (ended : Option ℕ) → ended ≡ None → ended ≡ Some n → ⊥
-never_ended ended none some = cc
-
--- it has not been answered
-unpaused : (course : NotesCourse) (sent : List ℕ) (old new : Tape) → (old.ended ≡ None → new.ended ≡ None) → Paused course sent old new
-unpaused course sent old new not none n some = absurd (never_ended new.ended (not none) some)
-
-first_end : (ended after : Option ℕ) (flushed n : ℕ) → ended ≡ None → after ≡ end_of ended flushed → after ≡ Some n → n ≡ flushed
-first_end ended after flushed n none is some = let e : end_of ended flushed ≡ Some flushed = ap (λ o. end_of o flushed) none in cc
-
-any_end : (ended : Option ℕ) (flushed : ℕ) → (n : ℕ) × (end_of ended flushed ≡ Some n)
-any_end None flushed = (flushed, refl)
-any_end (Some n) flushed = (n, refl)
-
--- a read came to it where the course waits
-paused_at : (course : NotesCourse) (old mid new : Tape) (piece : List ℕ) → Took mid new piece → (old.ended ≡ None → mid.ended ≡ None) → mid.flushed ≡ length mid.wrote → (length piece ≡ 0 → Waiting course new.wrote)
+-- a read came to it where the course waits, or brought bytes
+paused_at : (course : NotesCourse) (old mid new : Tape) (piece : List ℕ) → Took mid new piece → mid.ended ≡ old.ended → mid.flushed ≡ length mid.wrote → (length piece ≡ 0 → Waiting course new.wrote)
     → Paused course new.wrote old new
-paused_at course old mid new [] moved not flushed waiting none n some =
-    (first_end mid.ended new.ended mid.flushed n (not none) (moved.ended refl) some ∙ flushed ∙ ap length (sym moved.wrote), waiting refl)
-paused_at course old mid new (b ∷ piece) moved not flushed waiting none n some = absurd (never_ended new.ended (moved.goes_on (omega arith) ∙ not none) some)
+paused_at course old mid new [] moved not flushed waiting =
+    let all = flushed ∙ ap length (sym moved.wrote) in
+    inr (moved.ended refl ∙ ap (λ (e : List ℕ). e ++ mid.flushed ∷ []) not ∙ ap (λ (n : ℕ). old.ended ++ n ∷ []) all, waiting refl)
+paused_at course old mid new (b ∷ piece) moved not flushed waiting = inl (moved.goes_on (omega arith) ∙ not)
+
+-- what a read took is taken behind what was taken before
+took_on : {mid new : Tape} {piece : List ℕ} (old : Tape) (taken : List ℕ) → mid.took ≡ old.took ++ taken → Took mid new piece → new.took ≡ old.took ++ (taken ++ piece)
+took_on {mid} {new} {piece} old taken was moved = moved.took ∙ ap (λ (t : List ℕ). t ++ piece) was ∙ append_assoc old.took taken piece
+
+-- ---- what was foreseen
+
+-- calls that read nothing
+pub foreseen_quiet : (a b c : Option (List ℕ)) (t u v : Tape) → Foreseen a b t u → Keeps b c → ReadsNothing u v → Foreseen a c t v
+foreseen_quiet a b c t u v f k r = foreseen_on a b c t u v f (foreseen_kept b c u v r.took k)
+
+pub ends_quiet : (a b : Option (List ℕ)) (t u v : Tape) → IsSome a → Ends a t u → Keeps a b → ReadsNothing u v → Ends b t v
+ends_quiet a b t u v some e k r = ends_further a b t u v some e (foreseen_kept a b u v r.took k) (ends_on b u v r.ended)
 
 -- ---- between reads
 
@@ -54,13 +58,13 @@ settled {input} {old_notes} {notes} {next} {old} {mid} {new} {buffer} {rest} {co
       record {
         taken = reading.taken;
         counts = reading.counts;
-        left = reading.left ∙ ap (λ (l : List ℕ). reading.taken ++ l) (sym r.left);
+        took = r.took ∙ reading.took;
         course = reading.course ∙ came.0;
         flushed = s.flushed;
         reads = omega (arith, reading.reads, r.reads);
         no_shorter = omega (arith, reading.no_shorter, s.no_shorter);
         writes = omega (arith, reading.writes, s.writes);
-        not_ended = λ none. r.ended ∙ reading.not_ended none;
+        not_ended = r.ended ∙ reading.not_ended;
       },
       came.1,
     )
@@ -79,13 +83,14 @@ broke {input} {old_notes} {notes} {old} {mid} {new} {buffer} {count} next limit 
     let all = subst (λ c. Broke c mid new e) (sym reading.course) b in
     record {
       taken = reading.taken;
-      left = reading.left ∙ ap (λ (l : List ℕ). reading.taken ++ l) (sym r.left);
+      took = r.took ∙ reading.took;
       within = omega (arith, reading.counts);
       answered = record { begins = all.begins; reason = failed all.stopping };
+      flushed = λ no. b.flushed (λ io. no (ap Err io));
       reads = omega (arith, reading.reads, r.reads);
       no_shorter = omega (arith, reading.no_shorter, b.no_shorter);
       writes = omega (arith, reading.writes, b.writes);
-      paused = unpaused _ new.wrote old new (λ none. r.ended ∙ reading.not_ended none);
+      paused = inl (r.ended ∙ reading.not_ended);
     }
 
 -- the session was whole
@@ -97,13 +102,14 @@ finished {input} {old_notes} {notes} {next} {old} {mid} {new} {buffer} {rest} {c
     let r = s.reads_nothing in
     record {
       taken = reading.taken;
-      left = reading.left ∙ ap (λ (l : List ℕ). reading.taken ++ l) (sym r.left);
+      took = r.took ∙ reading.took;
       within = omega (arith, reading.counts);
       answered = (came.0, reading.course ∙ came.1, came.2);
+      flushed = λ no. s.flushed;
       reads = omega (arith, reading.reads, r.reads);
       no_shorter = omega (arith, reading.no_shorter, s.no_shorter);
       writes = omega (arith, reading.writes, s.writes);
-      paused = unpaused _ new.wrote old new (λ none. r.ended ∙ reading.not_ended none);
+      paused = inl (r.ended ∙ reading.not_ended);
     }
 
 -- an answer while the course waits, with nothing moved since
@@ -113,16 +119,17 @@ waited {input} {old_notes} {notes} {old} {new} {buffer} {count} next limit readi
     let w = waits reading more in
     record {
       taken = reading.taken;
-      left = reading.left;
+      took = reading.took;
       within = omega (arith, reading.counts, at);
       answered = record {
         begins = ([], ap sent_of w ∙ sym (append-nil new.wrote));
         reason = at_limit refl (notes, buffer, w) (reading.counts ∙ at);
       };
+      flushed = λ no. reading.flushed;
       reads = omega (arith, reading.reads);
       no_shorter = reading.no_shorter;
       writes = omega (arith, reading.writes);
-      paused = unpaused _ new.wrote old new reading.not_ended;
+      paused = inl reading.not_ended;
     }
 
 -- ---- a read
@@ -144,33 +151,34 @@ pub read_on : {input : Input} {old_notes notes : Notes} {old mid new : Tape} {bu
 read_on {input} {old_notes} {notes} {old} {mid} {new} {buffer} {now} {count} piece n reading moved len some now_is = record {
   taken = reading.taken ++ piece;
   counts = omega (arith, length-append reading.taken piece, reading.counts, len);
-  left = reading.left ∙ ap (λ (l : List ℕ). reading.taken ++ l) moved.left ∙ sym (append_assoc reading.taken piece new.left);
+  took = took_on old reading.taken reading.took moved;
   course = took piece reading moved ∙ ap (λ (b : List ℕ). runs input notes new.wrote b) (sym now_is);
   flushed = moved.flushed ∙ reading.flushed ∙ ap length (sym moved.wrote);
   reads = omega (arith, reading.reads, moved.reads, length-append reading.taken piece, len, some);
   no_shorter = omega (arith, reading.no_shorter, ap length moved.wrote);
   writes = omega (arith, reading.writes, moved.writes, ap length moved.wrote);
-  not_ended = λ none. moved.goes_on (omega (arith, len, some)) ∙ reading.not_ended none;
+  not_ended = moved.goes_on (omega (arith, len, some)) ∙ reading.not_ended;
 }
 
 -- it failed
 unread_io : {input : Input} {old_notes notes : Notes} {old mid new : Tape} {buffer : List ℕ} {count : ℕ} (next : Notes) (limit : ℕ) (e : ClientError)
-    → Reading input old_notes notes old mid buffer count → front notes.standing.version buffer ≡ More → count ≤ limit → e ≡ client.IoError → Failed mid new (counted mid.reads) mid.writes
+    → Reading input old_notes notes old mid buffer count → front notes.standing.version buffer ≡ More → count ≤ limit → e ≡ client.IoError → Failed mid new (mid.reads + 1) mid.writes
     → Conversed input old_notes next limit old new (Err e)
 unread_io {input} {old_notes} {notes} {old} {mid} {new} {buffer} {count} next limit e reading more within is_io fault =
     let w = waits reading more ∙ ap (λ (o : List ℕ). Waits notes o buffer) (sym fault.wrote) in
     record {
       taken = reading.taken;
-      left = reading.left ∙ ap (λ (l : List ℕ). reading.taken ++ l) (sym fault.left);
+      took = fault.took ∙ reading.took;
       within = omega (arith, reading.counts);
       answered = record {
         begins = ([], ap sent_of w ∙ sym (append-nil new.wrote));
         reason = outcomes.unread is_io (notes, buffer, w);
       };
+      flushed = λ no. absurd (no (ap Err is_io));
       reads = omega (arith, reading.reads, fault.reads);
       no_shorter = omega (arith, reading.no_shorter, ap length fault.wrote);
       writes = omega (arith, reading.writes, fault.writes, ap length fault.wrote);
-      paused = unpaused _ new.wrote old new (λ none. fault.ended ∙ reading.not_ended none);
+      paused = inl (fault.ended ∙ reading.not_ended);
     }
 
 -- where it brought nothing, the course waits as before
@@ -188,12 +196,13 @@ unkept : {input : Input} {old_notes notes : Notes} {old mid new : Tape} {buffer 
     → Conversed input old_notes next limit old new (Err e)
 unkept {input} {old_notes} {notes} {old} {mid} {new} {buffer} {count} next limit e piece reading more within is moved = record {
   taken = reading.taken ++ piece;
-  left = reading.left ∙ ap (λ (l : List ℕ). reading.taken ++ l) moved.left ∙ sym (append_assoc reading.taken piece new.left);
+  took = took_on old reading.taken reading.took moved;
   within = omega (arith, length-append reading.taken piece, reading.counts);
   answered = record {
     begins = begins_at input notes new.wrote (buffer ++ piece) _ (took piece reading moved);
     reason = failed (memory is);
   };
+  flushed = λ no. moved.flushed ∙ reading.flushed ∙ ap length (sym moved.wrote);
   reads = omega (arith, reading.reads, moved.reads, length-append reading.taken piece);
   no_shorter = omega (arith, reading.no_shorter, ap length moved.wrote);
   writes = omega (arith, reading.writes, moved.writes, ap length moved.wrote);
@@ -206,10 +215,9 @@ pub ended : {input : Input} {old_notes notes : Notes} {old mid new : Tape} {buff
     → Conversed input old_notes next limit old new (Err e)
 ended {input} {old_notes} {notes} {old} {mid} {new} {buffer} {count} next limit piece e reading more within moved none is =
     let w = still_waits piece reading more moved none in
-    let end = any_end mid.ended mid.flushed in
     record {
       taken = reading.taken ++ piece;
-      left = reading.left ∙ ap (λ (l : List ℕ). reading.taken ++ l) moved.left ∙ sym (append_assoc reading.taken piece new.left);
+      took = took_on old reading.taken reading.took moved;
       within = omega (arith, length-append reading.taken piece, reading.counts, within, none);
       answered = record {
         begins = ([], ap sent_of w ∙ sym (append-nil new.wrote));
@@ -218,13 +226,13 @@ ended {input} {old_notes} {notes} {old} {mid} {new} {buffer} {count} next limit 
           | inr ne ↦
               at_end notes buffer w
               (record {
-                nothing_left = sym (moved.left ∙ ap (λ (p : List ℕ). p ++ new.left) (nil_from_length piece none)) ∙ moved.at_end none;
                 below = omega (arith, length-append reading.taken piece, reading.counts, within, none);
-                asked = (end.0, moved.ended none ∙ end.1);
+                asked = (mid.flushed, moved.ended none ∙ ap (λ (e : List ℕ). e ++ mid.flushed ∷ []) reading.not_ended);
               })
               (is ne)
         ];
       };
+      flushed = λ no. moved.flushed ∙ reading.flushed ∙ ap length (sym moved.wrote);
       reads = omega (arith, reading.reads, moved.reads, length-append reading.taken piece);
       no_shorter = omega (arith, reading.no_shorter, ap length moved.wrote);
       writes = omega (arith, reading.writes, moved.writes, ap length moved.wrote);

@@ -1,6 +1,6 @@
 -- What a session over a link answers, and why.
-use Rattle.std.specs.Prelude.{◌≡◌, ◌⊎◌, ◌<◌, ◌≤◌, ℕ, ◌+◌, List, [], ◌++◌, length, Some, None, Result, Ok, Err, IsErrOf}
-use Rattle.pgw_link.specs.Tape.{Tape, Rose}
+use Rattle.std.specs.Prelude.{◌≡◌, ◌⊎◌, ◌<◌, ◌≤◌, ℕ, ◌+◌, List, [], ◌∷◌, ◌++◌, length, Some, None, Result, Ok, Err, IsErrOf}
+use Rattle.pgw_link.specs.Tape.{Tape, Rose, MovedBy}
 use Rattle.pgw_backend.specs.declared.client_error.PgWireClientError.{PgWireClientError as ClientError}
 use Rattle.pgw_backend.specs.declared.client_error.PgWireClientError.TheVariants as client
 use Rattle.pgw_session.specs.declared.types.SessionReport.{SessionReport}
@@ -12,10 +12,6 @@ use Rattle.pgw_session.specs.Failures.{Told, HasNoPlace, FailsAtStartup, LeftWit
 pub record IoHasCause {T : Type 0} (before now : ℕ) (result : Result T ClientError) : Type 0 where
   pub later : before ≤ now
   pub io : IsErrOf result client.IoError → Rose before now
-
--- a fact of the bytes that a call took from its link and of those that it wrote
-abbrev pub MovedBy : Tape → Tape → (List ℕ → List ℕ → Type 0) → Type 0
-MovedBy old new fact = (taken sent : List ℕ) × (old.left ≡ taken ++ new.left) × (new.wrote ≡ old.wrote ++ sent) × fact taken sent
 
 -- the answer is this report, or memory was wanting
 abbrev pub Reports : SessionReport → Result SessionReport ClientError → Type 0
@@ -40,17 +36,25 @@ LeavesUnsent result unsent = unsent ≡ []
 abbrev pub Tells : Input → Result SessionReport ClientError → List ℕ → List ℕ → Type 0
 Tells input result taken sent = (unsent : List ℕ) × Told input taken (sent ++ unsent) × LeavesUnsent result unsent
 
--- where the link's end was first answered, all that is written had been flushed, and a message was still awaited
+-- what a call wrote was flushed, if it wrote anything
+abbrev pub IsFlushed : Tape → Tape → Type 0
+IsFlushed old new = ((new.wrote ≡ old.wrote) × (new.flushed ≡ old.flushed)) ⊎ (new.flushed ≡ length new.wrote)
+
+-- whatever the answer, but after IoError
+abbrev pub LeavesFlushed : {T : Type 0} → Tape → Tape → Result T ClientError → Type 0
+LeavesFlushed old new result = (IsErrOf result client.IoError → ⊥) → IsFlushed old new
+
+-- the link's end was not answered; or it was once, all that is written had been flushed, and a message was still awaited
 abbrev pub InLockstep : Input → Tape → Tape → Type 0
-InLockstep input old new = old.ended ≡ None → (n : ℕ) → new.ended ≡ Some n → (n ≡ length new.wrote) × MovedBy old new (WaitsStill input)
+InLockstep input old new =
+    (new.ended ≡ old.ended) ⊎ ((new.ended ≡ old.ended ++ length new.wrote ∷ []) × MovedBy old new (WaitsStill input))
 
 -- ---- causes
 
--- the link has ended: it was asked for more, since fewer bytes than the limit were taken, and had none
-pub record HasEnded (limit : ℕ) (taken : List ℕ) (new : Tape) : Type 0 where
-  pub nothing_left : new.left ≡ []
+-- the link has ended: it was asked for more, since fewer bytes than the limit were taken, and answered its end
+pub record HasEnded (limit : ℕ) (taken : List ℕ) (old new : Tape) : Type 0 where
   pub below : length taken < limit
-  pub asked : (n : ℕ) × (new.ended ≡ Some n)
+  pub asked : (n : ℕ) × (new.ended ≡ old.ended ++ n ∷ [])
 
 -- not all that the bytes taken make due was written and flushed; before is how many bytes were written before the call
 abbrev pub Unflushed : Input → List ℕ → List ℕ → ℕ → ℕ → Type 0
@@ -61,22 +65,22 @@ abbrev pub IsRefused : Input → List ℕ → List ℕ → ClientError → Type 
 IsRefused input taken sent e = FailsAtStartup input taken sent e × IsHopeless input taken
 
 -- The cause of each error, where these bytes were taken and written. No other error comes.
-abbrev pub ErrorCause : Input → ℕ → ℕ → Tape → List ℕ → List ℕ → ClientError → Type 0
-ErrorCause input limit before new taken sent client.OutOfMemory = Unit {0}
-ErrorCause input limit before new taken sent (client.InvalidConfig key) =
+abbrev pub ErrorCause : Input → ℕ → Tape → Tape → List ℕ → List ℕ → ClientError → Type 0
+ErrorCause input limit old new taken sent client.OutOfMemory = Unit {0}
+ErrorCause input limit old new taken sent (client.InvalidConfig key) =
     ((refused_config input.config ≡ Some key) × (taken ≡ []) × (sent ≡ [])) ⊎ ((refused_config input.config ≡ None) × IsRefused input taken sent (client.InvalidConfig key))
-ErrorCause input limit before new taken sent client.UnexpectedEOF = LeftWith input taken sent None × IsUnfinished input taken × HasEnded limit taken new
-ErrorCause input limit before new taken sent client.IoError = Unflushed input taken sent before new.flushed ⊎ WaitsStill input taken sent
-ErrorCause input limit before new taken sent client.ReadLimit = WaitsStill input taken sent × (length taken ≡ limit)
-ErrorCause input limit before new taken sent (client.PgWireError why) =
+ErrorCause input limit old new taken sent client.UnexpectedEOF = LeftWith input taken sent None × IsUnfinished input taken × HasEnded limit taken old new
+ErrorCause input limit old new taken sent client.IoError = Unflushed input taken sent (length old.wrote) new.flushed ⊎ WaitsStill input taken sent
+ErrorCause input limit old new taken sent client.ReadLimit = WaitsStill input taken sent × (length taken ≡ limit)
+ErrorCause input limit old new taken sent (client.PgWireError why) =
     ((Unreadable input taken sent why ⊎ Unsendable input taken sent why) × IsHopeless input taken) ⊎ IsRefused input taken sent (client.PgWireError why)
-ErrorCause input limit before new taken sent (client.UnexpectedMessage m) = HasNoPlace input (HasEnded limit taken new) taken sent m × IsHopeless input taken
-ErrorCause input limit before new taken sent (client.RemoteError e) =
-    IsRefused input taken sent (client.RemoteError e) ⊎ (LeftWith input taken sent (Some e) × IsUnfinished input taken × HasEnded limit taken new)
-ErrorCause input limit before new taken sent (client.ScramError fault) = IsRefused input taken sent (client.ScramError fault)
-ErrorCause input limit before new taken sent (client.UnsupportedSASLAuthMethods methods) = IsRefused input taken sent (client.UnsupportedSASLAuthMethods methods)
-ErrorCause input limit before new taken sent e = ⊥
+ErrorCause input limit old new taken sent (client.UnexpectedMessage m) = HasNoPlace input (HasEnded limit taken old new) taken sent m × IsHopeless input taken
+ErrorCause input limit old new taken sent (client.RemoteError e) =
+    IsRefused input taken sent (client.RemoteError e) ⊎ (LeftWith input taken sent (Some e) × IsUnfinished input taken × HasEnded limit taken old new)
+ErrorCause input limit old new taken sent (client.ScramError fault) = IsRefused input taken sent (client.ScramError fault)
+ErrorCause input limit old new taken sent (client.UnsupportedSASLAuthMethods methods) = IsRefused input taken sent (client.UnsupportedSASLAuthMethods methods)
+ErrorCause input limit old new taken sent e = ⊥
 
 abbrev pub Causes : Input → ℕ → Tape → Tape → Result SessionReport ClientError → Type 0
 Causes input limit old new (Ok report) = Unit {0}
-Causes input limit old new (Err e) = MovedBy old new (λ taken sent. ErrorCause input limit (length old.wrote) new taken sent e)
+Causes input limit old new (Err e) = MovedBy old new (λ taken sent. ErrorCause input limit old new taken sent e)

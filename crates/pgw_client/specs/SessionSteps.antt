@@ -1,8 +1,8 @@
 -- What the calls over a link leave. Of the clauses of `run_session` only `session` cites it, and none on transcripts; the
 -- claims on dialogues rest on it.
-use Rattle.std.specs.Prelude.{◌≡◌, ◌⊎◌, ◌<◌, ◌≤◌, ℕ, ◌+◌, List, ◌++◌, length, take, Some, None, Result, Ok, Err, true, false, Bool}
+use Rattle.std.specs.Prelude.{◌≡◌, ◌⊎◌, ◌<◌, ◌≤◌, ℕ, ◌+◌, List, [], ◌∷◌, ◌++◌, length, take, Some, None, Result, Ok, Err, IsErrOf, true, false, Bool}
 use Rattle.pgw_backend.specs.Front.{front, More}
-use Rattle.pgw_link.specs.Tape.{Tape, Took, Failed, counted}
+use Rattle.pgw_link.specs.Tape.{Tape, Took, Failed}
 use Rattle.pgw_backend.specs.declared.client_error.PgWireClientError.{PgWireClientError as ClientError}
 use Rattle.pgw_backend.specs.declared.client_error.PgWireClientError.TheVariants as client
 use Rattle.pgw_course.specs.Course.{Course, Waits, Over, sent_of}
@@ -14,13 +14,13 @@ use Rattle.pgw_session.specs.Transcript.{report_of}
 use Rattle.pgw_session.specs.Machine.{End, Complete, error_of, end_with}
 use Rattle.pgw_session.specs.Talk.{Talk, Ending, conversation, first_passed}
 use Rattle.pgw_client.specs.Machine.{NotesCourse, IsWhole, notes_end, report_at, runs}
-use Rattle.pgw_client.specs.Session.{HasEnded}
+use Rattle.pgw_client.specs.Session.{HasEnded, LeavesFlushed}
 
 -- ---- single calls
 
 -- nothing was read
 pub record ReadsNothing (old new : Tape) : Type 0 where
-  pub left : new.left ≡ old.left
+  pub took : new.took ≡ old.took
   pub ended : new.ended ≡ old.ended
   pub reads : new.reads ≡ old.reads
 
@@ -43,7 +43,7 @@ pub record WroteSome (old new : Tape) (bytes : List ℕ) : Type 0 where
 -- why a read into a buffer failed: the link's, and nothing moved, or its bytes could not be kept
 abbrev pub FillFails : Tape → Tape → ℕ → ClientError → Type 0
 FillFails old new room e =
-    ((e ≡ client.IoError) × Failed old new (counted old.reads) old.writes) ⊎ ((e ≡ client.OutOfMemory) × (piece : List ℕ) × (length piece ≤ room) × Took old new piece)
+    ((e ≡ client.IoError) × Failed old new (old.reads + 1) old.writes) ⊎ ((e ≡ client.OutOfMemory) × (piece : List ℕ) × (length piece ≤ room) × Took old new piece)
 
 abbrev pub Filled : Tape → Tape → List ℕ → List ℕ → ℕ → Result ℕ ClientError → Type 0
 Filled old new was now room (Ok n) = (piece : List ℕ) × (length piece ≡ n) × Took old new piece × (now ≡ was ++ piece)
@@ -66,19 +66,20 @@ pub data Stopping {N : Type 0} (course : Course N (End N)) (sent : List ℕ) (be
   stopped : (end : End N) → course ≡ Over end sent → error_of end.outcome ≡ Some e → Stopping course sent before new e
 
 -- Why a session did, where these bytes were taken; `means` says what the link's end means.
-pub data Reason {N : Type 0} (means : N → ClientError) (course : Course N (End N)) (sent : List ℕ) (before : ℕ) (taken : List ℕ) (limit : ℕ) (new : Tape) (e : ClientError) : Type 0 where
-  failed : Stopping course sent before new e → Reason means course sent before taken limit new e
-  unread : e ≡ client.IoError → Waiting course sent → Reason means course sent before taken limit new e
-  at_limit : e ≡ client.ReadLimit → Waiting course sent → length taken ≡ limit → Reason means course sent before taken limit new e
-  at_end : (state : N) → (pending : List ℕ) → course ≡ Waits state sent pending → HasEnded limit taken new → e ≡ means state → Reason means course sent before taken limit new e
+pub data Reason {N : Type 0} (means : N → ClientError) (course : Course N (End N)) (sent : List ℕ) (before : ℕ) (taken : List ℕ) (limit : ℕ) (old new : Tape) (e : ClientError) : Type 0 where
+  failed : Stopping course sent before new e → Reason means course sent before taken limit old new e
+  unread : e ≡ client.IoError → Waiting course sent → Reason means course sent before taken limit old new e
+  at_limit : e ≡ client.ReadLimit → Waiting course sent → length taken ≡ limit → Reason means course sent before taken limit old new e
+  at_end : (state : N) → (pending : List ℕ) → course ≡ Waits state sent pending → HasEnded limit taken old new → e ≡ means state → Reason means course sent before taken limit old new e
 
 -- what the link's end means in a conversation
 abbrev pub talk_end : Talk → ClientError
 talk_end t = end_with (first_passed t.passed) (tally_of t.open_events).remote
 
--- where the end was first answered, all had been flushed, and the course waits
+-- the end was not answered; or it was once, all had been flushed, and the course waits
 abbrev pub Paused : {S R : Type 0} → Course S R → List ℕ → Tape → Tape → Type 0
-Paused course sent old new = old.ended ≡ None → (n : ℕ) → new.ended ≡ Some n → (n ≡ length new.wrote) × Waiting course sent
+Paused course sent old new =
+    (new.ended ≡ old.ended) ⊎ ((new.ended ≡ old.ended ++ length new.wrote ∷ []) × Waiting course sent)
 
 -- ---- the messages at a buffer's front
 
@@ -98,6 +99,7 @@ pub record Broke (course : NotesCourse) (old new : Tape) (e : ClientError) : Typ
   pub reads_nothing : ReadsNothing old new
   pub begins : Begins course new.wrote
   pub stopping : Stopping course new.wrote 0 new e
+  pub flushed : (e ≡ client.IoError → ⊥) → new.flushed ≡ length new.wrote
   pub no_shorter : length old.wrote ≤ length new.wrote
   pub writes : new.writes + length old.wrote ≤ old.writes + length new.wrote + 1
 
@@ -120,29 +122,30 @@ pub record Going (input : Input) (old_notes notes : Notes) (old new : Tape) (old
 pub record Reading (input : Input) (old_notes notes : Notes) (old new : Tape) (buffer : List ℕ) (count : ℕ) : Type 0 where
   pub taken : List ℕ
   pub counts : length taken ≡ count
-  pub left : old.left ≡ taken ++ new.left
+  pub took : new.took ≡ old.took ++ taken
   pub course : runs input old_notes old.wrote taken ≡ runs input notes new.wrote buffer
   pub flushed : new.flushed ≡ length new.wrote
   pub reads : new.reads ≤ old.reads + length taken
   pub no_shorter : length old.wrote ≤ length new.wrote
   pub writes : new.writes + length old.wrote ≤ old.writes + length new.wrote
-  pub not_ended : old.ended ≡ None → new.ended ≡ None
+  pub not_ended : new.ended ≡ old.ended
 
 -- why a session ended with an error
-pub record Because (course : NotesCourse) (taken : List ℕ) (limit : ℕ) (new : Tape) (e : ClientError) : Type 0 where
+pub record Because (course : NotesCourse) (taken : List ℕ) (limit : ℕ) (old new : Tape) (e : ClientError) : Type 0 where
   pub begins : Begins course new.wrote
-  pub reason : Reason notes_end course new.wrote 0 taken limit new e
+  pub reason : Reason notes_end course new.wrote 0 taken limit old new e
 
-abbrev pub Answered : NotesCourse → Notes → List ℕ → ℕ → Tape → Result Unit ClientError → Type 0
-Answered course notes taken limit new (Ok done) = (end : End Notes) × (course ≡ Over end new.wrote) × IsWhole end (report_at notes)
-Answered course notes taken limit new (Err e) = Because course taken limit new e
+abbrev pub Answered : NotesCourse → Notes → List ℕ → ℕ → Tape → Tape → Result Unit ClientError → Type 0
+Answered course notes taken limit old new (Ok done) = (end : End Notes) × (course ≡ Over end new.wrote) × IsWhole end (report_at notes)
+Answered course notes taken limit old new (Err e) = Because course taken limit old new e
 
 -- a session over a link, from its first read on
 pub record Conversed (input : Input) (old_notes notes : Notes) (limit : ℕ) (old new : Tape) (result : Result Unit ClientError) : Type 0 where
   pub taken : List ℕ
-  pub left : old.left ≡ taken ++ new.left
+  pub took : new.took ≡ old.took ++ taken
   pub within : length taken ≤ limit
-  pub answered : Answered (runs input old_notes old.wrote taken) notes taken limit new result
+  pub answered : Answered (runs input old_notes old.wrote taken) notes taken limit old new result
+  pub flushed : (IsErrOf result client.IoError → ⊥) → new.flushed ≡ length new.wrote
   pub reads : new.reads ≤ old.reads + length taken + 1
   pub no_shorter : length old.wrote ≤ length new.wrote
   pub writes : new.writes + length old.wrote ≤ old.writes + length new.wrote + 1
@@ -151,7 +154,7 @@ pub record Conversed (input : Input) (old_notes notes : Notes) (limit : ℕ) (ol
 -- why a session ended with an error, by the conversation of the bytes taken
 pub record Caused (conv : Course Talk Ending) (taken : List ℕ) (limit : ℕ) (sent : List ℕ) (old new : Tape) (e : ClientError) : Type 0 where
   pub begins : Begins conv sent
-  pub reason : Reason talk_end conv sent (length old.wrote) taken limit new e
+  pub reason : Reason talk_end conv sent (length old.wrote) taken limit old new e
 
 abbrev pub Held : Input → Course Talk Ending → List ℕ → ℕ → List ℕ → Tape → Tape → Result SessionReport ClientError → Type 0
 Held input conv taken limit sent old new (Ok report) = (talk : Talk) × (conv ≡ Over (record { notes = talk; outcome = Complete }) sent) × (report ≡ report_of input talk.closed)
@@ -160,7 +163,7 @@ Held input conv taken limit sent old new (Err e) = Caused conv taken limit sent 
 -- what a session over a link leaves, whatever it answers: it took bytes and wrote others, as the conversation says
 pub record Session (input : Input) (limit : ℕ) (old new : Tape) (result : Result SessionReport ClientError) : Type 0 where
   pub taken : List ℕ
-  pub left : old.left ≡ taken ++ new.left
+  pub took : new.took ≡ old.took ++ taken
   pub within : length taken ≤ limit
   pub sent : List ℕ
   pub wrote : new.wrote ≡ old.wrote ++ sent
@@ -168,3 +171,4 @@ pub record Session (input : Input) (limit : ℕ) (old new : Tape) (result : Resu
   pub reads : new.reads ≤ old.reads + length taken + 1
   pub writes : new.writes ≤ old.writes + length sent + 1
   pub paused : Paused (conversation input taken) sent old new
+  pub flushed : LeavesFlushed old new result

@@ -1,15 +1,17 @@
 //! A session over a link.
-ghost use Rattle.std.specs.Prelude.{◌≡◌, ◌⊎◌, ◌<◌, ◌≤◌, ◌++◌, ℕ, List, codes, false, length, Some, None, Err, IfOk, IfErr, IfSome, IsErrOf, OnOk, OnErr};
-ghost use Rattle.pgw_link.specs.Tape.{HasCause, Rose};
+ghost use Rattle.std.specs.Prelude.{◌≡◌, ◌⊎◌, ◌<◌, ◌≤◌, ◌++◌, ℕ, List, codes, false, length, min, Some, None, Err, IfOk, IfErr, IfSome, IsErrOf, OnOk, OnErr};
+ghost use Rattle.std.specs.Io.KnownBytes.{Keeps};
+ghost use Rattle.pgw_link.specs.Tape.{HasCause, MovedBy, Rose};
+ghost use Rattle.pgw_link.specs.Foresight.{Ends, Foreseen};
 ghost use Rattle.pgw_session.specs.Demands.{refused_config};
 ghost use Rattle.pgw_session.specs.Events.{Event};
 ghost use Rattle.pgw_session.specs.Transcript.{Completed, Completes, report_of};
 ghost use Rattle.pgw_client.specs.Demands.{Refuses};
-ghost use Rattle.pgw_client.specs.Session.{IoHasCause, Causes, InLockstep, KeepsPace, MovedBy, Reports, Tells};
+ghost use Rattle.pgw_client.specs.Session.{IoHasCause, Causes, InLockstep, KeepsPace, LeavesFlushed, Reports, Tells};
 ghost use Rattle.pgw_client.specs.Wire.{IsNoDemand};
 ghost use Rattle.pgw_client.specs.Input.{input_of, input_with};
 ghost use Rattle.pgw_client.specs.Machine.{IsAble};
-ghost use Rattle.pgw_client.specs.SessionSteps.{Conversed, Filled, Session, TookAll, Wrote, WroteSome};
+ghost use Rattle.pgw_client.specs.SessionSteps.{Conversed, Filled, ReadsNothing, Session, TookAll, Wrote, WroteSome};
 
 use crate::demands::check_config;
 use crate::inbox::Inbox;
@@ -29,10 +31,11 @@ const CHUNK: usize = 8192;
 /// Writes the bytes, all of them, and flushes.
 pub fn send<L: Link>(link: &mut L, bytes: &[u8]) -> Result<(), LinkFault>
     ensures cause { HasCause (L.faults link.old) (L.faults link.new) result }
-    ensures clean { L.tells → OnOk result (L.faults link.new ≡ L.faults link.old) }
+    ensures clean { OnOk result (L.faults link.new ≡ L.faults link.old) }
     ensures kept { L.plan link.new ≡ L.plan link.old }
-    ensures sent { L.tells → OnOk result (Wrote (L.tape link.old) (L.tape link.new) bytes.now) }
-    ensures failed { L.tells → OnErr result (WroteSome (L.tape link.old) (L.tape link.new) bytes.now) }
+    ensures left { L.foretells → Keeps (L.left link.old) (L.left link.new) }
+    ensures sent { OnOk result (Wrote (L.tape link.old) (L.tape link.new) bytes.now) }
+    ensures failed { OnErr result (WroteSome (L.tape link.old) (L.tape link.new) bytes.now) }
 {
     let mut at = 0;
     while at < bytes.len() {
@@ -54,9 +57,11 @@ fn take_all<L: Link>(
     ensures able { IfOk result (λ done. done ≡ false → IsAble (input_of input.now) notes.new.stage) }
     ensures cause { IoHasCause (L.faults link.old) (L.faults link.new) result }
     ensures talk { IfErr result IsNoDemand }
-    ensures clean { L.tells → (IsErrOf result PgWireClientError.IoError → ⊥) → L.faults link.new ≡ L.faults link.old }
+    ensures clean { (IsErrOf result PgWireClientError.IoError → ⊥) → L.faults link.new ≡ L.faults link.old }
     ensures kept { L.plan link.new ≡ L.plan link.old }
-    ensures talks { L.tells → (L.tape link.old).flushed ≡ length (L.tape link.old).wrote →
+    ensures left { L.foretells → Keeps (L.left link.old) (L.left link.new) }
+    ensures quiet { ReadsNothing (L.tape link.old) (L.tape link.new) }
+    ensures talks { (L.tape link.old).flushed ≡ length (L.tape link.old).wrote →
         TookAll (input_of input.now) notes.old notes.new (L.tape link.old) (L.tape link.new) buffer.old buffer.new result }
 {
     let mut out = BytesMut::new(alloc);
@@ -78,12 +83,9 @@ fn take_all<L: Link>(
     }
 }
 
-/// How many bytes one read asks for.
+/// How many bytes one read asks for: 8192, or what there is room for.
 pub fn chunk_size(room: u64) -> usize
-    requires { 0 < room }
-    ensures some { 0 < result }
-    ensures in_room { result ≤ room }
-    ensures in_chunk { result ≤ 8192 }
+    ensures { result ≡ min 8192 room }
 {
     if room < 8192 { room as usize } else { CHUNK }
 }
@@ -94,9 +96,11 @@ pub fn fill<L: Link>(link: &mut L, buffer: &mut Inbox, room: u64) -> PgWireClien
     ensures bound { IfOk result (λ n. n ≤ room) }
     ensures cause { IoHasCause (L.faults link.old) (L.faults link.new) result }
     ensures talk { IfErr result IsNoDemand }
-    ensures clean { L.tells → (IsErrOf result PgWireClientError.IoError → ⊥) → L.faults link.new ≡ L.faults link.old }
+    ensures clean { (IsErrOf result PgWireClientError.IoError → ⊥) → L.faults link.new ≡ L.faults link.old }
     ensures kept { L.plan link.new ≡ L.plan link.old }
-    ensures filled { L.tells → Filled (L.tape link.old) (L.tape link.new) buffer.old buffer.new room result }
+    ensures foreseen { L.foretells → Foreseen (L.left link.old) (L.left link.new) (L.tape link.old) (L.tape link.new) }
+    ensures ends { L.foretells → Ends (L.left link.new) (L.tape link.old) (L.tape link.new) }
+    ensures filled { Filled (L.tape link.old) (L.tape link.new) buffer.old buffer.new room result }
 {
     let mut chunk = [0u8; CHUNK];
     let size = chunk_size(room);
@@ -121,9 +125,11 @@ fn converse<L: Link>(
     requires { IsAble (input_of input.now) notes.old.stage }
     ensures cause { IoHasCause (L.faults link.old) (L.faults link.new) result }
     ensures talk { IfErr result IsNoDemand }
-    ensures clean { L.tells → (IsErrOf result PgWireClientError.IoError → ⊥) → L.faults link.new ≡ L.faults link.old }
+    ensures clean { (IsErrOf result PgWireClientError.IoError → ⊥) → L.faults link.new ≡ L.faults link.old }
     ensures kept { L.plan link.new ≡ L.plan link.old }
-    ensures talks { L.tells → (L.tape link.old).flushed ≡ length (L.tape link.old).wrote →
+    ensures foreseen { L.foretells → Foreseen (L.left link.old) (L.left link.new) (L.tape link.old) (L.tape link.new) }
+    ensures ends { L.foretells → Ends (L.left link.new) (L.tape link.old) (L.tape link.new) }
+    ensures talks { (L.tape link.old).flushed ≡ length (L.tape link.old).wrote →
         Conversed (input_of input.now) notes.old notes.new limit (L.tape link.old) (L.tape link.new) result }
 {
     let mut buffer = Inbox::new(alloc);
@@ -159,9 +165,11 @@ fn hold_session<L: Link>(
 ) -> PgWireClientResult<SessionReport>
     ensures cause { IoHasCause (L.faults link.old) (L.faults link.new) result }
     ensures talk { IfErr result IsNoDemand }
-    ensures clean { L.tells → (IsErrOf result PgWireClientError.IoError → ⊥) → L.faults link.new ≡ L.faults link.old }
+    ensures clean { (IsErrOf result PgWireClientError.IoError → ⊥) → L.faults link.new ≡ L.faults link.old }
     ensures kept { L.plan link.new ≡ L.plan link.old }
-    ensures session { L.tells → Session (input_of input.now) limit (L.tape link.old) (L.tape link.new) result }
+    ensures foreseen { L.foretells → Foreseen (L.left link.old) (L.left link.new) (L.tape link.old) (L.tape link.new) }
+    ensures ends { L.foretells → Ends (L.left link.new) (L.tape link.old) (L.tape link.new) }
+    ensures session { Session (input_of input.now) limit (L.tape link.old) (L.tape link.new) result }
 {
     let mut out = BytesMut::new(alloc);
     let mut notes = match start(alloc, input, &mut out) {
@@ -204,32 +212,37 @@ pub fn run_session<L: Link>(
     // IoError comes only where a call of the link failed.
     ensures cause { IoHasCause (L.faults link.old) (L.faults link.new) result }
     // Where a call of the link failed, IoError is the answer.
-    ensures failing { L.tells → L.faults link.old < L.faults link.new → IsErrOf result PgWireClientError.IoError }
+    ensures failing { L.faults link.old < L.faults link.new → IsErrOf result PgWireClientError.IoError }
     // What the link was made with stays.
     ensures kept { L.plan link.new ≡ L.plan link.old }
     // The answer is that of a completed session: a transcript for this input, whose bytes were read and written.
-    ensures completed { L.tells → IfOk result (λ report. MovedBy (L.tape link.old) (L.tape link.new)
+    ensures completed { IfOk result (λ report. MovedBy (L.tape link.old) (L.tape link.new)
         (λ taken sent. Completed (input_with config.now requests.now nonce.now) taken sent report)) }
     // Each error has its cause, and no other comes.
-    ensures causes { L.tells → Causes (input_with config.now requests.now nonce.now) limit (L.tape link.old) (L.tape link.new) result }
+    ensures causes { Causes (input_with config.now requests.now nonce.now) limit (L.tape link.old) (L.tape link.new) result }
     // Where nothing is demanded that is refused, whatever the answer: the bytes taken are those of a legal prefix. What
     // was written are the encodings of the messages sent in it, all of them, or a front of them after IoError and want of
     // memory.
-    ensures told { L.tells → refused_config config.now ≡ None → MovedBy (L.tape link.old) (L.tape link.new) (Tells (input_with config.now requests.now nonce.now) result) }
+    ensures told { refused_config config.now ≡ None → MovedBy (L.tape link.old) (L.tape link.new) (Tells (input_with config.now requests.now nonce.now) result) }
     // It is within the limit, in few calls.
-    ensures paced { L.tells → MovedBy (L.tape link.old) (L.tape link.new) (KeepsPace limit (L.tape link.old) (L.tape link.new)) }
-    // Where the link's end was first answered in this call then, whatever the answer, all that was written had been
-    // flushed, the bytes taken complete no transcript and end within a message, and nothing is due. No body can know
-    // which of its reads the end will answer. So this refuses every read that waits for nothing wanted: one before a
-    // message that is due was written and flushed, and one behind the last ReadyForQuery.
-    ensures lockstep { L.tells → InLockstep (input_with config.now requests.now nonce.now) (L.tape link.old) (L.tape link.new) }
+    ensures paced { MovedBy (L.tape link.old) (L.tape link.new) (KeepsPace limit (L.tape link.old) (L.tape link.new)) }
+    // The link's end is answered at most once, behind it nothing is asked for any more. Then, whatever the answer, all
+    // that was written had been flushed, the bytes taken complete no transcript and end within a message, and nothing is
+    // due. No body can know which of its reads the end will answer. So this refuses every read that waits for nothing
+    // wanted: one before a message that is due was written and flushed, and one behind the last ReadyForQuery.
+    ensures lockstep { InLockstep (input_with config.now requests.now nonce.now) (L.tape link.old) (L.tape link.new) }
+    // Where nothing is demanded that is refused, what was written was flushed, but after IoError.
+    ensures flushed { refused_config config.now ≡ None → LeavesFlushed (L.tape link.old) (L.tape link.new) result }
     // Where nothing is demanded that is refused, it is a session by the record that laws cite: as that a dialogue which is
     // given the same bytes puts out the same and answers the same.
-    ensures session { L.tells → refused_config config.now ≡ None → Session (input_with config.now requests.now nonce.now) limit (L.tape link.old) (L.tape link.new) result }
-    // Where nothing is demanded that is refused, the bytes to come complete a transcript within the limit and no call of
-    // the link failed, its report is the answer.
-    ensures reports { L.tells → refused_config config.now ≡ None → (segments : List (List Event)) →
-        Completes (input_with config.now requests.now nonce.now) limit (L.tape link.old).left segments →
+    ensures session { refused_config config.now ≡ None → Session (input_with config.now requests.now nonce.now) limit (L.tape link.old) (L.tape link.new) result }
+    // Of a link that knows what is to come: the bytes taken are its front, and the end is answered behind the last byte.
+    ensures foreseen { L.foretells → Foreseen (L.left link.old) (L.left link.new) (L.tape link.old) (L.tape link.new) }
+    ensures ends { L.foretells → Ends (L.left link.new) (L.tape link.old) (L.tape link.new) }
+    // Where nothing is demanded that is refused, the bytes to come are known and complete a transcript within the limit, and
+    // no call of the link failed, its report is the answer.
+    ensures reports { L.foretells → refused_config config.now ≡ None → (whole : List ℕ) → L.left link.old ≡ Some whole → (segments : List (List Event)) →
+        Completes (input_with config.now requests.now nonce.now) limit whole segments →
         (Rose (L.faults link.old) (L.faults link.new) → ⊥) → Reports (report_of (input_with config.now requests.now nonce.now) segments) result }
 {
     match check_config(alloc, config) {

@@ -1,11 +1,11 @@
 -- What a log tells of one call more, and known bytes over several calls.
-use Rattle.std.proofs.Common.{◌≡◌, ◌<◌, ◌≤◌, ◌+◌, ◌-◌, ◌*◌, min, drop, length-drop, append_assoc, ℕ, zero, suc, List, [], ◌∷◌, ◌++◌, length, take, Option, Some, None, Result, Ok, Err, refl, sym, subst, ap, ◌∙◌, arith}
-use Rattle.std.proofs.lemmas.List.{take-append-drop, drop-drop, nil_from_length, take_all}
+use Rattle.std.proofs.Common.{◌≡◌, ◌<◌, ◌≤◌, ◌+◌, ◌-◌, ◌*◌, min, drop, length-append, length-drop, append_assoc, ℕ, zero, suc, List, [], ◌∷◌, ◌++◌, length, take, Option, Some, None, IsSome, Result, Ok, Err, refl, sym, subst, ap, ◌∙◌, arith}
+use Rattle.std.proofs.lemmas.List.{append-nil, take-append-drop, drop-drop, nil_from_length, take_all}
 use Rattle.std.proofs.Math.Seq.{take-add}
-use Rattle.std.specs.Io.KnownBytes.{Consumes, Keeps, Appends, ReadConsumes, WriteAppends}
+use Rattle.std.specs.Io.KnownBytes.{Consumes, IsAtEnd, Keeps, Appends, ReadConsumes, WriteAppends}
 use Rattle.pgw_link.specs.Tape.{Tape, Took, Put, Failed}
 use Rattle.pgw_link.specs.Log.{after_read}
-use Rattle.pgw_link.specs.Foresight.{Foreseen}
+use Rattle.pgw_link.specs.Foresight.{Ends, Foreseen}
 
 -- ---- what a note of a read tells, whatever the buffer is
 
@@ -102,4 +102,45 @@ keeps_consumes (Some p) None c xs h k = absurd h
 keeps_consumes (Some p) (Some q) c xs h k = subst (λ z. Consumes (Some z) c xs) h k
 
 pub foreseen_on : (a b c : Option (List ℕ)) (t u v : Tape) → Foreseen a b t u → Foreseen b c u v → Foreseen a c t v
-foreseen_on a b c t u v f g = (f.0 ++ g.0, g.1 ∙ ap (λ (z : List ℕ). z ++ g.0) f.1 ∙ append_assoc t.took f.0 g.0, consumes_on a b c f.0 g.0 f.2 g.2)
+foreseen_on a b c t u v f g = record {
+  taken = f.taken ++ g.taken;
+  took = g.took ∙ ap (λ (z : List ℕ). z ++ g.taken) f.took ∙ append_assoc t.took f.taken g.taken;
+  consumes = consumes_on a b c f.taken g.taken f.consumes g.consumes;
+}
+
+-- no call was made of the link
+pub foreseen_still : (a : Option (List ℕ)) (t : Tape) → Foreseen a a t t
+foreseen_still None t = record { taken = []; took = sym (append-nil t.took); consumes = tt }
+foreseen_still (Some xs) t = record { taken = []; took = sym (append-nil t.took); consumes = refl }
+
+-- calls that took nothing
+pub foreseen_kept : (a b : Option (List ℕ)) (t u : Tape) → u.took ≡ t.took → Keeps a b → Foreseen a b t u
+foreseen_kept None b t u same k = record { taken = []; took = same ∙ sym (append-nil t.took); consumes = tt }
+foreseen_kept (Some xs) None t u same k = absurd k
+foreseen_kept (Some xs) (Some ys) t u same k = record { taken = []; took = same ∙ sym (append-nil t.took); consumes = sym k }
+
+-- ---- the end over several calls
+
+pub ends_still : (a : Option (List ℕ)) (t : Tape) → Ends a t t
+ends_still a t = record { answers = []; ended = sym (append-nil t.ended); at_end = λ some. absurd (omega (arith, some)) }
+
+-- calls that did not meet the end
+pub ends_on : (a : Option (List ℕ)) (t u : Tape) → u.ended ≡ t.ended → Ends a t u
+ends_on a t u same = record { answers = []; ended = same ∙ sym (append-nil t.ended); at_end = λ some. absurd (omega (arith, some)) }
+
+-- where nothing was to come, nothing is
+at_end_on : (a b : Option (List ℕ)) (xs : List ℕ) → IsSome a → Consumes a b xs → IsAtEnd a → IsAtEnd b
+at_end_on None b xs some c at = absurd (cc)
+at_end_on (Some p) None xs some c at = absurd c
+at_end_on (Some p) (Some q) xs some c at = nil_from_length q (omega (arith, length-append xs q, ap length c, ap length at))
+
+either : {P : Type 0} (xs ys : List ℕ) → 0 < length (xs ++ ys) → (0 < length xs → P) → (0 < length ys → P) → P
+either [] ys any first second = second any
+either (x ∷ xs) ys any first second = first (omega arith)
+
+pub ends_further : (a b : Option (List ℕ)) (t u v : Tape) → IsSome a → Ends a t u → Foreseen a b u v → Ends b u v → Ends b t v
+ends_further a b t u v some e f g = record {
+  answers = e.answers ++ g.answers;
+  ended = g.ended ∙ ap (λ (z : List ℕ). z ++ g.answers) e.ended ∙ append_assoc t.ended e.answers g.answers;
+  at_end = λ any. either e.answers g.answers any (λ early. at_end_on a b f.taken some f.consumes (e.at_end early)) g.at_end;
+}

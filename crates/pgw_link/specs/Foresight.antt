@@ -4,9 +4,13 @@ use Rattle.std.specs.Io.KnownBytes.{Consumes, IsAtEnd}
 use Rattle.pgw_link.specs.Tape.{Tape}
 
 -- what was taken is the front of what was to come
-abbrev pub Foreseen : Option (List ℕ) → Option (List ℕ) → Tape → Tape → Type 0
-Foreseen was is old new = (taken : List ℕ) × (new.took ≡ old.took ++ taken) × Consumes was is taken
+pub record Foreseen (was is : Option (List ℕ)) (old new : Tape) : Type 0 where
+  pub taken : List ℕ
+  pub took : new.took ≡ old.took ++ taken
+  pub consumes : Consumes was is taken
 
 -- where the end was answered, nothing is to come any more
-abbrev pub Ends : Option (List ℕ) → Tape → Tape → Type 0
-Ends is old new = (ends : List ℕ) × (new.ended ≡ old.ended ++ ends) × (0 < length ends → IsAtEnd is)
+pub record Ends (is : Option (List ℕ)) (old new : Tape) : Type 0 where
+  pub answers : List ℕ
+  pub ended : new.ended ≡ old.ended ++ answers
+  pub at_end : 0 < length answers → IsAtEnd is

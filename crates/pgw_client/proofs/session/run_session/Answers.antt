@@ -1,4 +1,5 @@
 use Rattle.std.proofs.Common.{inl, inr, refl, arith}
+use Rattle.pgw_link.proofs.LogLaws.{ends_still, foreseen_still}
 use Rattle.pgw_session.specs.Demands.{refused_config}
 use Rattle.pgw_client.specs.Input.{input_with}
 use Rattle.pgw_client.proofs.SessionLaws.{causes, told, paced, lockstep, completed, reports}
@@ -19,15 +20,18 @@ returns-in-Err g c =
       refused = rw is (named.2, refl);
       demands = λ other same. inl (same_key (refused_config config) e key other is named.2 (cc));
       cause = record { later = omega arith; io = λ io. absurd (key_not_io e key named.2 (cc)) };
-      failing = λ t more. absurd (omega (arith, more));
+      failing = λ more. absurd (omega (arith, more));
       kept = refl;
-      completed = λ t. tt;
-      causes = λ t. refused_causes input limit old e key is named.2;
-      told = λ t none. absurd (cc);
-      paced = λ t. refused_paced limit old;
-      lockstep = λ t. refused_lockstep input old;
-      session = λ t none. absurd (cc);
-      reports = λ t none segments completes no_rise. absurd (cc);
+      completed = tt;
+      causes = refused_causes input limit old e key is named.2;
+      told = λ none. absurd (cc);
+      paced = refused_paced limit old;
+      lockstep = refused_lockstep input old;
+      flushed = λ none. absurd (cc);
+      session = λ none. absurd (cc);
+      foreseen = λ t. foreseen_still (g.L.Link.left c.args.link.now) old;
+      ends = λ t. ends_still (g.L.Link.left c.args.link.now) old;
+      reports = λ t none whole known segments completes no_rise. absurd (cc);
     }
 
 pub returns : goal.returns
@@ -41,13 +45,17 @@ returns g c =
       refused = rw none tt;
       demands = λ key is. inr (only_user r key held.talk is);
       cause = held.cause;
-      failing = λ t more. io_where r (λ no. let same = held.clean t no in omega (arith, more, same));
+      failing = λ more. io_where r (λ no. let same = held.clean no in omega (arith, more, same));
       kept = held.kept;
-      completed = λ t. completed input _ _ _ r (held.session t);
-      causes = λ t. causes input _ _ _ r none (held.session t);
-      told = λ t clear. told input _ _ _ r (held.session t);
-      paced = λ t. paced input _ _ _ r (held.session t);
-      lockstep = λ t. lockstep input _ _ _ r (held.session t);
-      session = λ t clear. held.session t;
-      reports = λ t clear segments completes no_rise. reports input _ _ _ r segments (held.session t) completes (λ io. no_rise (held.cause.io io));
+      completed = completed input _ _ _ r held.session;
+      causes = causes input _ _ _ r none held.session;
+      told = λ clear. told input _ _ _ r held.session;
+      paced = paced input _ _ _ r held.session;
+      lockstep = lockstep input _ _ _ r held.session;
+      flushed = λ clear. held.session.flushed;
+      session = λ clear. held.session;
+      foreseen = held.foreseen;
+      ends = held.ends;
+      reports = λ t clear whole known segments completes no_rise.
+          reports input _ _ _ _ _ r whole segments held.session known (held.foreseen t) (held.ends t) completes (λ io. no_rise (held.cause.io io));
     }

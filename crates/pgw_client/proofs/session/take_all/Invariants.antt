@@ -1,7 +1,8 @@
 use Rattle.std.proofs.Common.{◌≡◌, ◌≤◌, [], length}
+use Rattle.std.specs.Io.KnownBytes.{Keeps}
 use Rattle.pgw_client.specs.Input.{input_of}
 use Rattle.pgw_client.specs.Machine.{IsAble}
-use Rattle.pgw_client.specs.SessionSteps.{Going}
+use Rattle.pgw_client.specs.SessionSteps.{Going, ReadsNothing}
 use Rattle.pgw_client.proofs.session.take_all.Given as goal
 
 abbrev pub invariant-messages : goal.invariant-messages
@@ -9,9 +10,11 @@ invariant-messages g l = record {
   able : IsAble (input_of l.fn.input) l.notes.stage;
   kept : g.L.Link.plan l.link ≡ g.L.Link.plan l.fn.link;
   later : g.L.Link.faults l.fn.link ≤ g.L.Link.faults l.link;
-  clean : g.L.Link.tells → g.L.Link.faults l.link ≡ g.L.Link.faults l.fn.link;
+  clean : g.L.Link.faults l.link ≡ g.L.Link.faults l.fn.link;
   empty : l.out.items ≡ [];
-  going : g.L.Link.tells → (g.L.Link.tape l.fn.link).flushed ≡ length (g.L.Link.tape l.fn.link).wrote →
+  left : g.L.Link.foretells → Keeps (g.L.Link.left l.fn.link) (g.L.Link.left l.link);
+  quiet : ReadsNothing (g.L.Link.tape l.fn.link) (g.L.Link.tape l.link);
+  going : (g.L.Link.tape l.fn.link).flushed ≡ length (g.L.Link.tape l.fn.link).wrote →
       Going (input_of l.fn.input) l.fn.notes l.notes (g.L.Link.tape l.fn.link) (g.L.Link.tape l.link) l.fn.buffer l.buffer;
 }
 
