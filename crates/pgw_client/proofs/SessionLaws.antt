@@ -132,12 +132,12 @@ completed input limit old new (Ok report) s =
     (s.taken, s.sent, s.took, s.wrote, subst (Completed input s.taken s.sent) (sym h.2) done)
 
 -- what was taken is the front of what was to come, and the rest is known
-known_rest : {old new : Tape} {is : Option (List ℕ)} (whole taken : List ℕ) → Foreseen (Some whole) is old new → new.took ≡ old.took ++ taken → (rest : List ℕ) × (is ≡ Some rest) × (whole ≡ taken ++ rest)
+pub known_rest : {old new : Tape} {is : Option (List ℕ)} (whole taken : List ℕ) → Foreseen (Some whole) is old new → new.took ≡ old.took ++ taken → (rest : List ℕ) × (is ≡ Some rest) × (whole ≡ taken ++ rest)
 known_rest {old} {new} {is = None} whole taken f took = absurd f.consumes
 known_rest {old} {new} {is = Some rest} whole taken f took = (rest, refl, subst (λ (t : List ℕ). whole ≡ t ++ rest) (append_cancel_left old.took f.taken taken (sym f.took ∙ took)) f.consumes)
 
 -- where the end was answered, nothing is to come any more
-nothing_left : {old new : Tape} {rest : List ℕ} (limit : ℕ) (taken : List ℕ) → Ends (Some rest) old new → HasEnded limit taken old new → rest ≡ []
+pub nothing_left : {old new : Tape} {rest : List ℕ} (limit : ℕ) (taken : List ℕ) → Ends (Some rest) old new → HasEnded limit taken old new → rest ≡ []
 nothing_left {old} {new} limit taken ends end =
     let same = append_cancel_left old.ended ends.answers ((end.asked).0 ∷ []) (sym ends.ended ∙ (end.asked).1) in
     ends.at_end (omega (arith, ap length same))

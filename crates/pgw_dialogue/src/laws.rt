@@ -1,10 +1,11 @@
 //! What holds of dialogues.
-ghost use Rattle.std.specs.Prelude.{◌≡◌, ◌⊎◌, ◌<◌, ℕ, List, [], ◌++◌, length, Result, IsErrOf};
+ghost use Rattle.std.specs.Prelude.{◌≡◌, ◌⊎◌, ◌<◌, ℕ, List, [], ◌++◌, length, Option, Some, Result, IsErrOf};
 ghost use Rattle.pgw_backend.specs.declared.client_error.PgWireClientError.{PgWireClientError as ClientError};
 ghost use Rattle.pgw_backend.specs.declared.client_error.PgWireClientError.TheVariants as client;
 ghost use Rattle.pgw_client.specs.Machine.{report_at};
 ghost use Rattle.pgw_client.specs.SessionSteps.{Session};
 ghost use Rattle.pgw_link.specs.Tape.{Tape as TheTape};
+ghost use Rattle.pgw_link.specs.Foresight.{Ends, Foreseen};
 ghost use Rattle.pgw_session.specs.declared.types.SessionReport.{SessionReport as TheReport};
 ghost use Rattle.pgw_session.specs.Failures.{Told, WaitsStill};
 ghost use Rattle.pgw_session.specs.Input.{Input as TheInput};
@@ -31,11 +32,22 @@ pub fn cuts_do_not_matter()
         (IsStarved one → ⊥) → (IsStarved other → ⊥) → put ≡ too }
 {}
 
-/// A session over a link, and a dialogue that was given all the bytes that the link has, in whatever pieces: where no call
-/// of the link failed and memory sufficed they write the same, and answer the same.
+/// A session over a link, and a dialogue that was given some bytes in whatever pieces, of which the session took a front,
+/// and all of them where it met the link's end: where no call of the link failed and memory sufficed they write the same,
+/// and answer the same. So it is of the bytes that the session took from a socket, and of all that a link in memory has.
 pub fn dialogues_are_sessions()
-    ensures sent { (input : TheInput) (limit : ℕ) (old new : TheTape) (result : Result TheReport ClientError) (d : TheDialogue) (put : List ℕ) → Session input limit old new result →
-        (IsErrOf result client.IoError → ⊥) → (IsErrOf result client.OutOfMemory → ⊥) → Stands input limit d old.left put → (IsStarved d → ⊥) → new.wrote ≡ old.wrote ++ put }
-    ensures answered { (input : TheInput) (limit : ℕ) (old new : TheTape) (result : Result TheReport ClientError) (d : TheDialogue) (put : List ℕ) → Session input limit old new result →
-        (IsErrOf result client.IoError → ⊥) → (IsErrOf result client.OutOfMemory → ⊥) → Stands input limit d old.left put → (IsStarved d → ⊥) → Agrees input limit d old.left result }
+    ensures sent {
+        (input : TheInput) (limit : ℕ) (old new : TheTape) (result : Result TheReport ClientError) →
+        (d : TheDialogue) (given put : List ℕ) (left : Option (List ℕ)) → Session input limit old new result →
+        Foreseen (Some given) left old new → Ends left old new →
+        (IsErrOf result client.IoError → ⊥) → (IsErrOf result client.OutOfMemory → ⊥) →
+        Stands input limit d given put → (IsStarved d → ⊥) → new.wrote ≡ old.wrote ++ put
+    }
+    ensures answered {
+        (input : TheInput) (limit : ℕ) (old new : TheTape) (result : Result TheReport ClientError) →
+        (d : TheDialogue) (given put : List ℕ) (left : Option (List ℕ)) → Session input limit old new result →
+        Foreseen (Some given) left old new → Ends left old new →
+        (IsErrOf result client.IoError → ⊥) → (IsErrOf result client.OutOfMemory → ⊥) →
+        Stands input limit d given put → (IsStarved d → ⊥) → Agrees input limit d given result
+    }
 {}

@@ -1,6 +1,7 @@
 //! One query over a link.
 ghost use Rattle.std.specs.Prelude.{IfOk};
-ghost use Rattle.pgw_client.specs.Session.{IoHasCause, MovedBy};
+ghost use Rattle.pgw_link.specs.Tape.{MovedBy};
+ghost use Rattle.pgw_client.specs.Session.{IoHasCause};
 ghost use Rattle.pgw_example.specs.Ask.{Asked};
 
 use pgw_client::{Config, Link, PgWireClientResult, Request, SessionReport, run_session};
@@ -19,7 +20,10 @@ pub fn ask<L: Link>(
     // IoError comes only where a call of the link failed.
     ensures cause { IoHasCause (L.faults link.old) (L.faults link.new) result }
     // The report is that of a completed session with this query, under the configuration that the text gives.
-    ensures asked { L.tells → IfOk result (λ report. MovedBy (L.tape link.old) (L.tape link.new) (λ taken sent. Asked text.now sql.now nonce.now taken sent report)) }
+    ensures asked {
+        IfOk result (λ report. MovedBy (L.tape link.old) (L.tape link.new)
+            (λ taken sent. Asked text.now sql.now nonce.now taken sent report))
+    }
 {
     let config = Config::parse(alloc, text)?;
     let requests = [Request::simple(alloc, sql)?];

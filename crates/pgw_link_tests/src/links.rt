@@ -230,8 +230,9 @@ fn links_over_streams(rt: HostRuntime) {
         assert_eq!(rt; writes(&mut link, b"abc"), *wrote);
         assert!(rt; link.flush().is_ok());
         assert_eq!(rt; link.faults(), *faults);
-        let why = link.into_failure().map(|error| error.kind());
-        assert_eq!(rt; why, Some(ErrorKind::ConnectionReset));
+        assert_eq!(rt; link.failure().map(|error| error.kind()), Some(ErrorKind::ConnectionReset));
+        let (_, why) = link.into_failure();
+        assert_eq!(rt; why.map(|error| error.kind()), Some(ErrorKind::ConnectionReset));
     }
 }
 
