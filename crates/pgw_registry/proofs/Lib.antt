@@ -1,3 +1,4 @@
+pub mod Shares
 pub mod Totals
 pub mod Draws
 pub mod Maps

@@ -86,6 +86,14 @@ pub held_front : (n : ℕ) (xs ys : List ℕ) → held n xs ≡ true → held n 
 held_front n [] ys h = absurd (true≢false (sym h))
 held_front n (x ∷ xs) ys h = held_front_by (eqb x n) n xs ys (held_front n xs ys) h
 
+held_back_by : (b : Bool) (n : ℕ) (xs ys : List ℕ) → held n (xs ++ ys) ≡ true → (b || held n (xs ++ ys)) ≡ true
+held_back_by true n xs ys r = refl
+held_back_by false n xs ys r = r
+
+pub held_back : (n : ℕ) (xs ys : List ℕ) → held n ys ≡ true → held n (xs ++ ys) ≡ true
+held_back n [] ys h = h
+held_back n (x ∷ xs) ys h = held_back_by (eqb x n) n xs ys (held_back n xs ys h)
+
 pub held_one : (n x : ℕ) → held n (x ∷ []) ≡ true → x ≡ n
 held_one n x h = go (eqb x n) refl h
   where
@@ -113,6 +121,15 @@ not_first false k l h e = e
 pub places_none : (k : ℕ) (ns : List ℕ) (xs : Log) → ((i : ℕ) (e : Entry) → slice_get xs i ≡ Some e → held e.by ns ≡ true → ⊥) → places_from k ns xs ≡ []
 places_none k ns [] h = refl
 places_none k ns (e ∷ xs) h = not_first (held e.by ns) k (places_from (k + 1) ns xs) (λ is. h 0 e refl is) (places_none (k + 1) ns xs (λ i x at. h (suc i) x at))
+
+all_first : (b : Bool) (k n : ℕ) (l : List ℕ) → b ≡ true → length l ≡ n → length (cond b (k ∷ l) l) ≡ suc n
+all_first true k n l is e = ap suc e
+all_first false k n l is e = absurd (true≢false (sym is))
+
+-- where each call is of these, there are as many places as calls
+pub places_all : (k : ℕ) (ns : List ℕ) (xs : Log) → ((i : ℕ) (e : Entry) → slice_get xs i ≡ Some e → held e.by ns ≡ true) → length (places_from k ns xs) ≡ length xs
+places_all k ns [] h = refl
+places_all k ns (e ∷ xs) h = all_first (held e.by ns) k (length xs) (places_from (k + 1) ns xs) (h 0 e refl) (places_all (k + 1) ns xs (λ i x at. h (suc i) x at))
 
 -- where each call of these stands in the front, the places are those of the front
 pub places_same : (ns : List ℕ) (seen log : Log) → Begins seen log → ((k : ℕ) (e : Entry) → slice_get log k ≡ Some e → held e.by ns ≡ true → k < length seen)

@@ -1,5 +1,5 @@
 -- Each step keeps the rule.
-use Rattle.std.proofs.Common.{◌≡◌, ◌≢◌, ⊎_elim, ℕ, zero, suc, ◌+◌, ◌%◌, ◌^◌, ◌<◌, ◌≤◌, Bool, true, false, true≢false, cond, eqb, List, [], ◌∷◌, ◌++◌, length, set, get_or, Some, slice_get, Option, refl, sym, ap, ◌∙◌, subst, arith, append-nil, length-append, length-set}
+use Rattle.std.proofs.Common.{◌≡◌, ◌≢◌, ◌⊎◌, inl, inr, ⊎_elim, ℕ, zero, suc, ◌+◌, ◌%◌, ◌^◌, ◌<◌, ◌≤◌, Bool, true, false, true≢false, cond, eqb, List, [], ◌∷◌, ◌++◌, length, set, get_or, Some, slice_get, Option, refl, sym, ap, ◌∙◌, subst, arith, append-nil, length-append, length-set}
 use Rattle.std.proofs.lemmas.Bool.Decides.{nat_tests}
 use mathlib.Core.Logic.{dite}
 use mathlib.Core.Option as math
@@ -7,15 +7,17 @@ use mathlib.Core.Option.{some-injective, some-ne-none}
 use native.Mathlib.Decide.{ℕ_discrete}
 use lib.ListN.{get_elem?}
 use Rattle.atomic_table.specs.Table.{State, step, keeps, takes, gives, stepped, Allows, Splits, Joins, opening, rest}
-use Rattle.atomic_table.proofs.Lists.{at_set, set_again, set_else}
+use Rattle.atomic_table.proofs.Lists.{at_set, at_longer, set_again, set_here, set_else}
 use Rattle.pgw_registry.specs.declared.call.Call.{Call}
 use Rattle.pgw_registry.specs.declared.call.Entry.{Entry}
 use Rattle.pgw_registry.specs.declared.sight.Sight.{Sight}
 use Rattle.pgw_registry.specs.declared.sight.Old.{Old}
 use Rattle.pgw_registry.specs.Sequential.{Book, nothing, next, reply_of, state_after, IsLegal}
 use Rattle.pgw_registry.specs.Numbers.{weight}
-use Rattle.pgw_registry.specs.History.{Log, Begins, entry, held, turns, founder, newcomer, spent, no_old, both_of, holding, at_rest, saw, named, appended, Stands, Fits, Kept, Ruled, Sat, Grown, Later, Took, Left, Looked, Named, Appended}
-use Rattle.pgw_registry.proofs.Logs.{state_after-append, legal_snoc, begins_same, begins_none, begins_later, begins_longer, longer_first, longer_second, get_front, get_within, get_snoc, held_append, held_one, places_none, places_same, places_more, turns_set, turns_snoc, turns_has, turns_two, at_within, at_end, set_only}
+use Rattle.pgw_registry.specs.Shares.{IsPart}
+use Rattle.pgw_registry.proofs.Shares.{together_part, same_share, divided, joined, nothing_beside}
+use Rattle.pgw_registry.specs.History.{Log, Begins, entry, held, turns, founder, newcomer, spent, no_old, both_of, holding, at_rest, saw, halved, named, appended, Stands, Fits, Kept, Ruled, Sat, Grown, Later, HasAll, Took, Left, Looked, Named, Appended}
+use Rattle.pgw_registry.proofs.Logs.{state_after-append, legal_snoc, begins_same, begins_none, begins_later, begins_longer, longer_first, longer_second, get_front, get_within, get_snoc, held_append, held_front, held_back, held_one, held_self, places_none, places_all, places_same, places_more, turns_set, turns_snoc, turns_has, turns_two, at_within, at_end, set_only}
 
 abbrev Owner : Type 0
 Owner = ℕ → math.Option ℕ
@@ -103,16 +105,51 @@ stands_by : (log : Log) (owner owner' : Owner) (id id' : ℕ) (seen : Log) (numb
     → ((n : ℕ) → held n numbers ≡ true → owner n ≡ math.some id → owner' n ≡ math.some id') → Stands log owner' id' seen numbers
 stands_by log owner owner' id id' seen numbers f h = record { begins = f.begins; calls = f.calls; owns = λ n is. h n is (f.owns n is) }
 
-later_of : (log : Log) (owner : Owner) (id : ℕ) (v : Sight) → IsLegal log → Fits log owner id v → Later v log
-later_of log owner id v legal f = (grown log owner id v.seen v.numbers f.now, legal)
+-- ---- whose numbers are whose
+
+abbrev Owned : Owner → List Sight → Type 0
+Owned owner views = (n id : ℕ) → owner n ≡ math.some id → (v : Sight) × At views id v × (held n v.numbers ≡ true)
+
+-- the numbers of one view are its own
+held_at : (owner : Owner) (views : List Sight) (id : ℕ) (v : Sight) → At views id v → Owned owner views → (n : ℕ) → owner n ≡ math.some id → held n v.numbers ≡ true
+held_at owner views id v at o n is = let t = o n id is in subst (λ (u : Sight). held n u.numbers ≡ true) (some-injective t.0 v (sym t.1 ∙ at)) t.2
+
+owned_by : (owner now : Owner) (views : List Sight) (id : ℕ) (v w : Sight) → At views id v → Owned owner views
+    → ((n : ℕ) → now n ≡ math.some id → held n w.numbers ≡ true) → ((n j : ℕ) → j ≢ id → now n ≡ math.some j → owner n ≡ math.some j) → Owned now (set views id w)
+owned_by owner now views id v w at o here others n j is = dite (ℕ_discrete j id)
+    (λ (e : j ≡ id). (w, subst (λ (m : ℕ). At (set views id w) m w) (sym e) (set_here views id w (at_within views id v at)), here n (is ∙ ap math.some e)))
+    (λ (ne : j ≢ id). let t = o n j (others n j ne is) in (t.0, set_else views id j w ne ∙ t.1, t.2))
+
+-- the view that is changed has the same numbers
+owned_same : (owner : Owner) (views : List Sight) (id : ℕ) (v w : Sight) → At views id v → w.numbers ≡ v.numbers → Owned owner views → Owned owner (set views id w)
+owned_same owner views id v w at same o = owned_by owner owner views id v w at o
+    (λ n is. ap (held n) same ∙ held_at owner views id v at o n is) (λ n j ne is. is)
+
+-- a choice that is some number
+chosen_is : (b : Bool) (x j : ℕ) (y : math.Option ℕ) → cond b (math.some x) y ≡ math.some j → ((b ≡ true) × (x ≡ j)) ⊎ ((b ≡ false) × (y ≡ math.some j))
+chosen_is true x j y e = inl (refl, some-injective x j e)
+chosen_is false x j y e = inr (refl, e)
+
+-- beside the whole share there are no other calls
+has_all : (words : List ℕ) (homes : Homes) (views : List Sight) (id : ℕ) (v : Sight) (k : Kept words homes views) → At views id v → HasAll v.share v.numbers k.log
+has_all words homes views id v k at whole = places_all 0 v.numbers k.log (λ i e gets. by e (k.owner e.by) refl (λ none. k.unowned e.by none i e gets refl))
+  where
+    by : (e : Entry) (o : math.Option ℕ) → k.owner e.by ≡ o → (k.owner e.by ≡ math.none → ⊥) → held e.by v.numbers ≡ true
+    by e math.none is some_one = absurd (some_one is)
+    by e (math.some j) is some_one = let t = k.owned e.by j is in dite (ℕ_discrete j id)
+        (λ (same : j ≡ id). held_at k.owner views id v at k.owned e.by (is ∙ ap math.some same))
+        (λ (ne : j ≢ id). off (sym (ap (held e.by) ((k.each j t.0 t.1).spare (nothing_beside (λ (u : Sight). u.share) views k.shares id v at whole j t.0 ne t.1))) ∙ t.2))
+
+later_of : (words : List ℕ) (homes : Homes) (views : List Sight) (id : ℕ) (v : Sight) (k : Kept words homes views) → At views id v → Later v k.log
+later_of words homes views id v k at = (grown k.log k.owner id v.seen v.numbers (k.each id v at).now, k.legal, has_all words homes views id v k at)
 
 -- the view that is changed keeps its numbers
 module _ (log : Log) (owner : Owner) (id : ℕ) (v : Sight) (f : Fits log owner id v) where
   fits_holding : Fits log owner id (holding v log)
-  fits_holding = record { now = stands_whole log owner id v.seen v.numbers f.now; one = f.one; two = f.two; apart = f.apart; fresh = f.fresh; whole = λ _. (refl, refl) }
+  fits_holding = record { now = stands_whole log owner id v.seen v.numbers f.now; one = f.one; two = f.two; apart = f.apart; fresh = f.fresh; spare = f.spare; whole = λ _. (refl, refl) }
 
   fits_at_rest : Fits log owner id (at_rest v)
-  fits_at_rest = record { now = f.now; one = f.one; two = f.two; apart = f.apart; fresh = f.fresh; whole = λ e. off e }
+  fits_at_rest = record { now = f.now; one = f.one; two = f.two; apart = f.apart; fresh = f.fresh; spare = f.spare; whole = λ e. off e }
 
   fits_saw : Fits log owner id (saw v log)
   fits_saw = record {
@@ -121,6 +158,7 @@ module _ (log : Log) (owner : Owner) (id : ℕ) (v : Sight) (f : Fits log owner 
     two = stands_none log owner id [] (begins_none log);
     apart = λ n a b. off a;
     fresh = f.fresh;
+    spare = f.spare;
     whole = λ e. (refl, (f.whole e).1);
   }
 
@@ -136,6 +174,8 @@ took_turn words homes views id v k at none = let w : Sight = holding v k.log in 
       legal = k.legal;
       home = λ e. absurd (omega arith);
       each = each_set (Fits k.log k.owner) views id w (λ j u _ e. k.each j u e) (fits_holding k.log k.owner id v (k.each id v at));
+      shares = same_share (λ (u : Sight). u.share) views k.shares id v at w refl;
+      owned = owned_same k.owner views id v w at refl k.owned;
       beyond = λ n h. k.beyond n (let l = length-set views id w in omega arith);
       unowned = k.unowned;
     }
@@ -144,12 +184,12 @@ pub takes_turn : (slots id : ℕ) (me : Sat) → Allows Ruled slots id me 0 (λ 
 takes_turn slots id me s k _ at _ = let n : ℕ = get_or s.words 0 0 in let v : Sight = me.0 in
     let is : n ≡ turns s.views = ap (λ (l : List ℕ). get_or l 0 0) k.counts in
     dite (ℕ_discrete n 0)
-    (λ (e : n ≡ 0). let none : turns s.views ≡ 0 = sym is ∙ e in let f = k.each id v at in (
+    (λ (e : n ≡ 0). let none : turns s.views ≡ 0 = sym is ∙ e in (
       holding v k.log,
       takes 0 (Some (state_after nothing k.log)),
       ap (λ (h : Homes). get_elem? h 0) (k.home none),
       took_turn s.words s.homes s.views id v k at none,
-      ((λ _. (k.log, later_of k.log k.owner id v k.legal f, refl, refl)), λ ne. absurd (ne e)),
+      ((λ _. (k.log, later_of s.words s.homes s.views id v k at, refl, refl)), λ ne. absurd (ne e)),
     ))
     (λ (ne : n ≢ 0). let o = k.one_turn in let one : turns s.views ≡ 1 = omega arith in (
       v,
@@ -172,6 +212,8 @@ left_turn words homes views id v k at turn single = let w : Sight = at_rest v in
       legal = k.legal;
       home = λ e. set_only homes (math.some (Some v.state)) single ∙ ap (λ (x : Book). math.some (Some x) ∷ []) (f.whole turn).1;
       each = each_set (Fits k.log k.owner) views id w (λ j u _ e. k.each j u e) (fits_at_rest k.log k.owner id v f);
+      shares = same_share (λ (u : Sight). u.share) views k.shares id v at w refl;
+      owned = owned_same k.owner views id v w at refl k.owned;
       beyond = λ n h. k.beyond n (let l = length-set views id w in omega arith);
       unowned = k.unowned;
     }
@@ -203,15 +245,17 @@ looks slots id me s k _ at _ = let v : Sight = me.0 in let w : Sight = saw v k.l
         legal = k.legal;
         home = λ e. k.home (sym same ∙ e);
         each = each_set (Fits k.log k.owner) s.views id w (λ j u _ e. k.each j u e) (fits_saw k.log k.owner id v f);
+        shares = same_share (λ (u : Sight). u.share) s.views k.shares id v at w refl;
+        owned = owned_same k.owner s.views id v w at refl k.owned;
         beyond = λ m h. k.beyond m (let l = length-set s.views id w in omega arith);
         unowned = k.unowned;
       },
-      (k.log, later_of k.log k.owner id v k.legal f, refl, refl, is, grown k.log k.owner id v.one.seen v.one.numbers f.one, grown k.log k.owner id v.two.seen v.two.numbers f.two, f.apart, λ e. sym (f.whole e).0),
+      (k.log, later_of s.words s.homes s.views id v k at, refl, refl, is, grown k.log k.owner id v.one.seen v.one.numbers f.one, grown k.log k.owner id v.two.seen v.two.numbers f.two, f.apart, λ e. sym (f.whole e).0),
     )
 
 -- a seat is told its number, which no one else has
-pub names : (slots id : ℕ) (me : Sat) → me.0.named ≡ false → Allows Ruled slots id me 1 (λ n. n) (Named (step slots 1 0 0 math.none) me)
-names slots id me new s k _ at _ = let v : Sight = me.0 in let w : Sight = named v id in let f = k.each id v at in let t = turns_set s.views id v w at in
+pub names : (slots id : ℕ) (me : Sat) → me.0.named ≡ false → me.0.numbers ≡ [] → 0 < me.0.share.parts → Allows Ruled slots id me 1 (λ n. n) (Named (step slots 1 0 0 math.none) me)
+names slots id me new bare part s k _ at _ = let v : Sight = me.0 in let w : Sight = named v id in let f = k.each id v at in let t = turns_set s.views id v w at in
     let same : turns (set s.views id w) ≡ turns s.views = omega arith in
     let owner : Owner = one_more k.owner id in
     let alone : k.owner id ≡ math.none = f.fresh new in
@@ -236,6 +280,7 @@ names slots id me new s k _ at _ = let v : Sight = me.0 in let w : Sight = named
               two = stands_by k.log k.owner owner j j u.two.seen u.two.numbers g.two (same_owner u.two.numbers);
               apart = g.apart;
               fresh = λ e. chosen (eqb j id) (math.some id) (k.owner j) math.none (λ hit. absurd (ne (eqb_is j id hit))) (λ _. g.fresh e);
+              spare = g.spare;
               whole = g.whole;
             })
             (let no_more : (numbers : List ℕ) → (n : ℕ) → held n numbers ≡ true → k.owner n ≡ math.some id → owner n ≡ math.some id = λ numbers n is was. chosen (eqb n id) (math.some id) (k.owner n) (math.some id) (λ _. refl) (λ _. was) in record {
@@ -248,8 +293,19 @@ names slots id me new s k _ at _ = let v : Sight = me.0 in let w : Sight = named
               two = stands_by k.log k.owner owner id id v.two.seen v.two.numbers f.two (no_more v.two.numbers);
               apart = f.apart;
               fresh = λ e. on e;
+              spare = λ none. absurd (omega arith);
               whole = f.whole;
             });
+        shares = same_share (λ (u : Sight). u.share) s.views k.shares id v at w refl;
+        owned = owned_by k.owner owner s.views id v w at k.owned
+            (λ n is. ⊎_elim
+            (λ (t : (eqb n id ≡ true) × (id ≡ id)). subst (λ (m : ℕ). held n (m ∷ []) ≡ true) (eqb_is n id t.0) (held_self n))
+            (λ (t : (eqb n id ≡ false) × (k.owner n ≡ math.some id)). off (sym (ap (held n) bare) ∙ held_at k.owner s.views id v at k.owned n t.1))
+            (chosen_is (eqb n id) id id (k.owner n) is))
+            (λ n j ne is. ⊎_elim
+            (λ (t : (eqb n id ≡ true) × (id ≡ j)). absurd (ne (sym t.1)))
+            (λ (t : (eqb n id ≡ false) × (k.owner n ≡ math.some j)). t.1)
+            (chosen_is (eqb n id) id j (k.owner n) is));
         beyond = λ n h. (let l = length-set s.views id w in let i = at_within s.views id v at in
             chosen (eqb n id) (math.some id) (k.owner n) math.none (λ hit. let z = eqb_is n id hit in absurd (omega arith)) (λ _. k.beyond n (omega arith)));
         unowned = λ n e. k.unowned n (not_chosen (eqb n id) id (k.owner n) e).1;
@@ -286,6 +342,7 @@ append_one words homes views id v c k at turn own no_one no_two room = let w : S
             two = stands_later k.log k.owner j u.two.seen u.two.numbers e g.two (λ theirs. ne (two_owners (k.owner v.own) j id theirs mine));
             apart = g.apart;
             fresh = g.fresh;
+            spare = g.spare;
             whole = λ both. absurd (idle both);
           })
           (record {
@@ -298,8 +355,11 @@ append_one words homes views id v c k at turn own no_one no_two room = let w : S
             two = subst (λ (z : Old). Stands log k.owner id z.seen z.numbers) (sym no_two) (stands_none log k.owner id [] (begins_none log));
             apart = λ n a b. off (sym (ap (λ (z : Old). held n z.numbers) no_one) ∙ a);
             fresh = f.fresh;
+            spare = f.spare;
             whole = λ _. (all, ap (λ (z : Book). next z c) state ∙ sym (state_after-append nothing k.log (e ∷ [])));
           });
+      shares = same_share (λ (u : Sight). u.share) views k.shares id v at w refl;
+      owned = owned_same k.owner views id v w at refl k.owned;
       beyond = λ n h. k.beyond n (let l = length-set views id w in omega arith);
       unowned = λ n none j x gets. ⊎_elim (λ (was : slice_get k.log j ≡ Some x). k.unowned n none j x was)
           (λ (here : (j ≡ length k.log) × (e ≡ x)). λ (is : x.by ≡ n). no_owner (k.owner v.own) id mine (ap k.owner (ap (λ (y : Entry). y.by) here.1 ∙ is) ∙ none))
@@ -327,33 +387,37 @@ appends slots id me c turn own no_one no_two room s k _ at _ = let v : Sight = m
       ),
     )
 
-pub forks : (id : ℕ) (v : Sight) → Splits Ruled id v v (newcomer v.seen)
-forks id v s k at = let w : Sight = newcomer v.seen in let same : s.views ≡ set s.views id v = sym (set_again s.views id v at) in let f = k.each id v at in
-    re_kept s.words s.words s.homes s.homes (s.views ++ w ∷ []) (set s.views id v ++ w ∷ []) refl refl (ap (λ (l : List Sight). l ++ w ∷ []) same) (record {
+pub forks : (id : ℕ) (v : Sight) → Splits Ruled id v (halved v) (newcomer v)
+forks id v s k at = let w : Sight = newcomer v in let left : Sight = halved v in let views : List Sight = set s.views id left in let f = k.each id v at in
+    let t = turns_set s.views id v left at in let t' = turns_snoc views w in let long = length-set s.views id left in
+    let more : turns s.views ≡ turns (views ++ w ∷ []) = omega arith in
+    let held_still : Owned k.owner views = owned_same k.owner s.views id v left at refl k.owned in record {
       log = k.log;
       owner = k.owner;
       counts = k.counts ∙ ap (λ (m : ℕ). m ∷ length k.log ∷ []) more;
-      one_turn = (let o = k.one_turn in let m = more in omega arith);
+      one_turn = (let o = k.one_turn in omega arith);
       legal = k.legal;
       home = λ e. k.home (more ∙ e);
-      each = λ j u there. ⊎_elim (λ (was : At s.views j u). k.each j u was)
-          (λ (here : (j ≡ length s.views) × (w ≡ u)). subst (Fits k.log k.owner j) here.1 (record {
+      each = λ j u there. ⊎_elim
+          (each_set (Fits k.log k.owner) s.views id left (λ i y _ e. k.each i y e)
+          (record { now = f.now; one = f.one; two = f.two; apart = f.apart; fresh = f.fresh; spare = f.spare; whole = f.whole }) j u)
+          (λ (here : (j ≡ length views) × (w ≡ u)). subst (Fits k.log k.owner j) here.1 (record {
             now = stands_none k.log k.owner j v.seen f.now.begins;
             one = stands_none k.log k.owner j [] (begins_none k.log);
             two = stands_none k.log k.owner j [] (begins_none k.log);
             apart = λ n a b. off a;
             fresh = λ _. k.beyond j (let h = here.0 in omega arith);
+            spare = λ _. refl;
             whole = λ e. off e;
-          })) (at_end s.views w u j there);
-      beyond = λ n h. k.beyond n (let l = length-append s.views (w ∷ []) in omega arith);
+          })) (at_end views w u j there);
+      shares = divided (λ (u : Sight). u.share) s.views k.shares id v at left w refl refl;
+      owned = λ n j is. (let o = held_still n j is in (o.0, at_longer views (w ∷ []) j o.0 o.1, o.2));
+      beyond = λ n h. k.beyond n (let l = length-append views (w ∷ []) in omega arith);
       unowned = k.unowned;
-    })
-  where
-    more : turns s.views ≡ turns (s.views ++ newcomer v.seen ∷ [])
-    more = let t = turns_snoc s.views (newcomer v.seen) in omega arith
+    }
 
-pub merges : (id other : ℕ) (v u : Sight) → v.turn ≡ false → u.turn ≡ false → Joins Ruled id v other u (both_of v u) spent
-merges id other v u idle idle' s k at apart there = let w : Sight = both_of v u in let mid : List Sight = set s.views id w in
+pub merges : (id other : ℕ) (v u : Sight) → v.turn ≡ false → u.turn ≡ false → IsPart v.share → IsPart u.share → Joins Ruled id v other u (both_of v u) spent
+merges id other v u idle idle' part part' s k at apart there = let w : Sight = both_of v u in let mid : List Sight = set s.views id w in
     let was : At s.views other u = sym (set_else s.views id other w apart) ∙ there in
     let f = k.each id v at in let g = k.each other u was in
     let t = turns_set s.views id v w at in let t' = turns_set mid other u spent there in let z = ap weight idle in let z' = ap weight idle' in
@@ -377,6 +441,7 @@ merges id other v u idle idle' s k at apart there = let w : Sight = both_of v u 
             two = stands_by k.log k.owner owner i i y.two.seen y.two.numbers h.two (others' i far y.two.numbers);
             apart = h.apart;
             fresh = λ e. chosen (held i u.numbers) (math.some id) (k.owner i) math.none (λ hit. no_owner (k.owner i) other (g.now.owns i hit) (h.fresh e)) (λ _. h.fresh e);
+            spare = h.spare;
             whole = h.whole;
           })
           (λ far. record {
@@ -390,6 +455,7 @@ merges id other v u idle idle' s k at apart there = let w : Sight = both_of v u 
             two = stands_by k.log k.owner owner other id u.seen u.numbers g.now (λ n is _. theirs n is);
             apart = λ n a b. apart (two_owners (k.owner n) other id (g.now.owns n b) (f.now.owns n a));
             fresh = λ e. chosen (held id u.numbers) (math.some id) (k.owner id) math.none (λ hit. no_owner (k.owner id) other (g.now.owns id hit) (f.fresh e)) (λ _. f.fresh e);
+            spare = λ none. absurd (let z = (together_part v.share u.share part part').0 in omega arith);
             whole = λ e. absurd (true≢false (sym e ∙ idle));
           })
           j x gets ne)
@@ -399,8 +465,22 @@ merges id other v u idle idle' s k at apart there = let w : Sight = both_of v u 
             two = stands_none k.log owner other [] (begins_none k.log);
             apart = λ n a b. off a;
             fresh = λ e. on e;
+            spare = λ _. refl;
             whole = λ e. off e;
           });
+      shares = joined (λ (y : Sight). y.share) s.views k.shares id v at other u w spent apart was refl refl;
+      owned = λ n j is. ⊎_elim
+          (λ (t : (held n u.numbers ≡ true) × (id ≡ j)). (
+            w,
+            subst (λ (m : ℕ). At (set mid other spent) m w) t.1 (set_else mid other id spent far_id ∙ set_here s.views id w (at_within s.views id v at)),
+            held_back n v.numbers u.numbers t.0,
+          ))
+          (λ (t : (held n u.numbers ≡ false) × (k.owner n ≡ math.some j)).
+          let far : j ≢ other = λ e. on (sym (held_at k.owner s.views other u was k.owned n (t.1 ∙ ap math.some e)) ∙ t.0) in
+          let o = owned_by k.owner k.owner s.views id v w at k.owned
+          (λ m mine. held_front m v.numbers u.numbers (held_at k.owner s.views id v at k.owned m mine)) (λ m i ne e. e) n j t.1 in
+          (o.0, set_else mid other j spent far ∙ o.1, o.2))
+          (chosen_is (held n u.numbers) id j (k.owner n) is);
       beyond = λ n h. (let a = length-set mid other spent in let b = length-set s.views id w in let none = k.beyond n (omega arith) in
           chosen (held n u.numbers) (math.some id) (k.owner n) math.none (λ hit. no_owner (k.owner n) other (g.now.owns n hit) none) (λ _. none));
       unowned = λ n e. k.unowned n (not_chosen (held n u.numbers) id (k.owner n) e).1;
@@ -416,6 +496,7 @@ alone_at_start zero v e = subst (Fits [] first_owner 0) (some-injective _ _ e) (
   two = stands_none [] first_owner 0 [] (begins_same []);
   apart = λ n a b. off a;
   fresh = λ e. on e;
+  spare = λ none. absurd (omega arith);
   whole = λ e. off e;
 })
 alone_at_start (suc i) v e = absurd (some-ne-none v (sym e))
@@ -430,6 +511,11 @@ begins = record {
   legal = (omega arith, tt);
   home = λ _. refl;
   each = alone_at_start;
+  shares = record { units = 1; some = omega arith; all = (1, 0, refl, (refl, omega arith), refl) };
+  owned = λ n id is. ⊎_elim
+      (λ (t : (eqb n 0 ≡ true) × (0 ≡ id)). (founder, ap (get_elem? (founder ∷ [])) (sym t.1), subst (λ (m : ℕ). held n (m ∷ []) ≡ true) (eqb_is n 0 t.0) (held_self n)))
+      (λ (t : (eqb n 0 ≡ false) × (math.none ≡ math.some id)). absurd (some-ne-none id (sym t.1)))
+      (chosen_is (eqb n 0) 0 id math.none is);
   beyond = λ n h. chosen (eqb n 0) (math.some 0) math.none math.none (λ hit. let z = eqb_is n 0 hit in absurd (omega arith)) (λ _. refl);
   unowned = λ n e k x gets. absurd (cc);
 }

@@ -7,6 +7,8 @@ use Rattle.pgw_registry.specs.declared.call.Call.{Call}
 use Rattle.pgw_registry.specs.declared.call.Entry.{Entry}
 use Rattle.pgw_registry.specs.declared.sight.Sight.{Sight}
 use Rattle.pgw_registry.specs.declared.sight.Old.{Old}
+use Rattle.pgw_registry.specs.declared.share.Share.{Share}
+use Rattle.pgw_registry.specs.Shares.{IsWhole, everything, none, half, together, AddUp}
 use Rattle.pgw_registry.specs.Sequential.{Book, nothing, next, reply_of, state_after, IsLegal}
 use Rattle.pgw_registry.specs.Numbers.{weight}
 use Rattle.pgw_registry.specs.declared.call.Reply.{Reply}
@@ -46,39 +48,44 @@ old seen numbers = record { seen = seen; numbers = numbers }
 abbrev pub no_old : Old
 no_old = old [] []
 
-abbrev pub sight : Log → ℕ → Bool → List ℕ → Old → Old → Bool → Book → Sight
-sight seen own named numbers one two turn state = record { seen = seen; own = own; named = named; numbers = numbers; one = one; two = two; turn = turn; state = state }
+abbrev pub sight : Log → ℕ → Bool → List ℕ → Share → Old → Old → Bool → Book → Sight
+sight seen own named numbers share one two turn state =
+    record { seen = seen; own = own; named = named; numbers = numbers; share = share; one = one; two = two; turn = turn; state = state }
 
 abbrev pub founder : Sight
-founder = sight [] 0 true (0 ∷ []) no_old no_old false nothing
+founder = sight [] 0 true (0 ∷ []) everything no_old no_old false nothing
 
-abbrev pub newcomer : Log → Sight
-newcomer seen = sight seen 0 false [] no_old no_old false nothing
+-- a seat that is cut from another, with half of its share
+abbrev pub newcomer : Sight → Sight
+newcomer v = sight v.seen 0 false [] (half v.share) no_old no_old false nothing
+
+abbrev pub halved : Sight → Sight
+halved v = sight v.seen v.own v.named v.numbers (half v.share) v.one v.two v.turn v.state
 
 abbrev pub spent : Sight
-spent = sight [] 0 true [] no_old no_old false nothing
+spent = sight [] 0 true [] none no_old no_old false nothing
 
 abbrev pub longer : Log → Log → Log
 longer xs ys = cond (leb (length ys) (length xs)) xs ys
 
 abbrev pub both_of : Sight → Sight → Sight
-both_of v w = sight (longer v.seen w.seen) v.own v.named (v.numbers ++ w.numbers) (old v.seen v.numbers) (old w.seen w.numbers) v.turn v.state
+both_of v w = sight (longer v.seen w.seen) v.own v.named (v.numbers ++ w.numbers) (together v.share w.share) (old v.seen v.numbers) (old w.seen w.numbers) v.turn v.state
 
 -- with the turn, the whole history was seen
 abbrev pub holding : Sight → Log → Sight
-holding v log = sight log v.own v.named v.numbers v.one v.two true (state_after nothing log)
+holding v log = sight log v.own v.named v.numbers v.share v.one v.two true (state_after nothing log)
 
 abbrev pub at_rest : Sight → Sight
-at_rest v = sight v.seen v.own v.named v.numbers v.one v.two false v.state
+at_rest v = sight v.seen v.own v.named v.numbers v.share v.one v.two false v.state
 
 abbrev pub saw : Sight → Log → Sight
-saw v log = sight log v.own v.named v.numbers no_old no_old v.turn v.state
+saw v log = sight log v.own v.named v.numbers v.share no_old no_old v.turn v.state
 
 abbrev pub named : Sight → ℕ → Sight
-named v n = sight v.seen n true (n ∷ []) v.one v.two v.turn v.state
+named v n = sight v.seen n true (n ∷ []) v.share v.one v.two v.turn v.state
 
 abbrev pub appended : Sight → Call → Sight
-appended v c = sight (v.seen ++ entry v.own c (reply_of v.state c) ∷ []) v.own v.named v.numbers v.one v.two v.turn (next v.state c)
+appended v c = sight (v.seen ++ entry v.own c (reply_of v.state c) ∷ []) v.own v.named v.numbers v.share v.one v.two v.turn (next v.state c)
 
 -- no number is among both
 abbrev pub Apart : List ℕ → List ℕ → Type 0
@@ -97,10 +104,12 @@ pub record Fits (log : Log) (owner : ℕ → math.Option ℕ) (id : ℕ) (v : Si
   pub two : Stands log owner id v.two.seen v.two.numbers
   pub apart : Apart v.one.numbers v.two.numbers
   pub fresh : v.named ≡ false → owner id ≡ math.none
+  pub spare : v.share.parts ≡ 0 → v.numbers ≡ []
   pub whole : v.turn ≡ true → (v.seen ≡ log) × (v.state ≡ state_after nothing log)
 
 -- There is one legal history. The first word is the number of views with the turn, and the second the length of the history.
--- While no view has the turn, the slot is at home, with the state after the history
+-- While no view has the turn, the slot is at home, with the state after the history. The views share all calls, and each number
+-- that has an owner is among those of its view
 pub record Kept (words : List ℕ) (homes : List (math.Option (Option Book))) (views : List Sight) : Type 0 where
   pub log : Log
   pub owner : ℕ → math.Option ℕ
@@ -109,6 +118,8 @@ pub record Kept (words : List ℕ) (homes : List (math.Option (Option Book))) (v
   pub legal : IsLegal log
   pub home : turns views ≡ 0 → homes ≡ math.some (Some (state_after nothing log)) ∷ []
   pub each : (id : ℕ) (v : Sight) → get_elem? views id ≡ math.some v → Fits log owner id v
+  pub shares : AddUp (λ (v : Sight). v.share) views
+  pub owned : (n id : ℕ) → owner n ≡ math.some id → (v : Sight) × (get_elem? views id ≡ math.some v) × (held n v.numbers ≡ true)
   pub beyond : (n : ℕ) → length views ≤ n → owner n ≡ math.none
   pub unowned : (n : ℕ) → owner n ≡ math.none → (k : ℕ) (e : Entry) → slice_get log k ≡ Some e → e.by ≢ n
 
@@ -125,8 +136,12 @@ Stp = Step (Option Book)
 abbrev pub Grown : Log → List ℕ → Log → Type 0
 Grown seen numbers log = Begins seen log × (places numbers log ≡ places numbers seen)
 
+-- with the whole share, each call of the list is of these numbers
+abbrev pub HasAll : Share → List ℕ → Log → Type 0
+HasAll share numbers log = IsWhole share → length (places numbers log) ≡ length log
+
 abbrev pub Later : Sight → Log → Type 0
-Later v log = Grown v.seen v.numbers log × IsLegal log
+Later v log = Grown v.seen v.numbers log × IsLegal log × HasAll v.share v.numbers log
 
 abbrev pub Took : Stp → Sat → ℕ → Sat → Type 0
 Took s m n w =

@@ -1,3 +1,4 @@
+pub mod Shares
 pub mod Numbers
 pub mod Seats
 pub mod Key

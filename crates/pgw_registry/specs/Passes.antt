@@ -11,13 +11,16 @@ use Rattle.pgw_registry.specs.declared.error.RegistryError.{RegistryError}
 use Rattle.pgw_registry.specs.declared.error.RegistryError.TheVariants.{Gone, Exhausted, OutOfMemory}
 use Rattle.pgw_registry.specs.declared.sight.Sight.{Sight}
 use Rattle.pgw_registry.specs.Sequential.{IsLegal}
-use Rattle.pgw_registry.specs.History.{Apart, Begins, entry, places, held}
+use Rattle.pgw_registry.specs.declared.share.Share.{Share}
+use Rattle.pgw_registry.specs.Shares.{IsPart, everything, half, together}
+use Rattle.pgw_registry.specs.History.{Apart, Begins, HasAll, entry, places, held}
 
--- whose pass it is, its number, the numbers of the calls that count as its own, and the history that it has seen
+-- whose pass it is, its number, the numbers of the calls that count as its own, its share of all calls, and the history that it has seen
 pub record Known : Type 0 where
   pub of : TableId
   pub own : ℕ
   pub numbers : List ℕ
+  pub share : Share
   pub seen : List Entry
 
 -- the places of its own calls
@@ -25,28 +28,37 @@ abbrev pub mine : Known → List ℕ
 mine p = places p.numbers p.seen
 
 abbrev pub IsPass : Sight → Type 0
-IsPass v = (v.turn ≡ false) × (v.named ≡ true) × (held v.own v.numbers ≡ true) × IsLegal v.seen
+IsPass v = (v.turn ≡ false) × (v.named ≡ true) × (held v.own v.numbers ≡ true) × IsLegal v.seen × IsPart v.share
+
+-- with the whole share, it counts each call of the history as its own
+abbrev pub CountsAll : Known → Type 0
+CountsAll p = HasAll p.share p.numbers p.seen
 
 -- the same pass
 abbrev pub IsSame : Known → Known → Type 0
-IsSame v w = (w.of ≡ v.of) × (w.own ≡ v.own) × (w.numbers ≡ v.numbers)
+IsSame v w = (w.of ≡ v.of) × (w.own ≡ v.own) × (w.numbers ≡ v.numbers) × (w.share ≡ v.share)
 
 -- no call was made. What was seen is a legal history that begins with what had been seen
 abbrev pub Sees : Known → Known → Type 0
-Sees v w = IsSame v w × Begins v.seen w.seen × (mine w ≡ mine v) × IsLegal w.seen
+Sees v w = IsSame v w × Begins v.seen w.seen × (mine w ≡ mine v) × IsLegal w.seen × CountsAll w
 
 -- the call was made, with this reply: it is the last of a legal history that begins with what had been seen, and the one more of its own calls
 abbrev pub Makes : Call → Reply → Known → Known → Type 0
 Makes c r v w =
     IsSame v w × IsLegal w.seen
     × ((before : List Entry) × (length before < 18446744073709551615) × Begins v.seen before × (w.seen ≡ before ++ entry v.own c r ∷ []) × (mine w ≡ mine v ++ length before ∷ []))
+    × CountsAll w
 
 -- the table has two words and one slot
 abbrev pub IsDesk : TableId → Type 0
 IsDesk t = (t.words ≡ 2) × (t.slots ≡ 1)
 
 abbrev pub first_pass : TableId → Known
-first_pass t = record { of = t; own = 0; numbers = 0 ∷ []; seen = [] }
+first_pass t = record { of = t; own = 0; numbers = 0 ∷ []; share = everything; seen = [] }
+
+-- the pass gave half of its share away
+abbrev pub halved : Known → Known
+halved v = record v { share = half v.share }
 
 -- Gone is a reply. The count is full, or memory was wanting: then no call was made
 abbrev pub Refused : RegistryError → Call → Known → Known → Type 0
@@ -80,6 +92,7 @@ NotLooked look.Exhausted c v w = Full v w
 -- v took u in and became w: it has seen what both had seen, in one legal history, which has those calls of either that had stood in what it had seen
 abbrev pub Meets : Known → Known → Known → Type 0
 Meets v u w =
-    (w.of ≡ v.of) × (w.own ≡ v.own) × (w.numbers ≡ v.numbers ++ u.numbers) × IsLegal w.seen
+    (w.of ≡ v.of) × (w.own ≡ v.own) × (w.numbers ≡ v.numbers ++ u.numbers) × (w.share ≡ together v.share u.share) × IsLegal w.seen
     × Begins v.seen w.seen × Begins u.seen w.seen
     × Apart v.numbers u.numbers × (places v.numbers w.seen ≡ mine v) × (places u.numbers w.seen ≡ mine u)
+    × CountsAll w

@@ -14,5 +14,6 @@ mod numbered;
 mod numbers;
 mod pairs;
 pub mod registry;
+mod share;
 mod sight;
 mod turn;

@@ -1,9 +1,10 @@
 //! The registry that threads share.
-ghost use Rattle.std.specs.Prelude.{◌≡◌, [], ◌∷◌, length, ◌⊎◌, IfOk, IfErr, MatchBool};
+ghost use Rattle.std.specs.Prelude.{◌≡◌, [], ◌∷◌, length, ◌⊎◌, IsOk, IfOk, IfErr, MatchBool};
 ghost use Rattle.std.specs.Arc.{arc_value};
 ghost use Rattle.pgw_wire.specs.Keys.{key_bytes};
+ghost use Rattle.pgw_registry.specs.Shares.{half};
 ghost use Rattle.pgw_registry.specs.declared.error.RegistryError.TheVariants.{OutOfMemory as NoMemory};
-ghost use Rattle.pgw_registry.specs.Passes.{Known, Sees, Makes, mine, Refused, Grew, OnlyFull, Struck, NotLooked, Full, first_pass, Meets};
+ghost use Rattle.pgw_registry.specs.Passes.{Known, Sees, Makes, mine, Refused, Grew, OnlyFull, Struck, NotLooked, Full, first_pass, halved, Meets};
 ghost use Rattle.pgw_registry.specs.declared.call.Call.TheVariants.{Cancel, CancelHandle, StartQuery, NewHandle, CloseHandle, Look, Finish, Register, Release};
 ghost use Rattle.pgw_registry.specs.declared.call.Reply.TheVariants.{Canceled, Started, Handled, Done, Looked};
 
@@ -52,7 +53,7 @@ impl Model for Pass {
 
     ghost Value = { Known };
 
-    ghost view = { λ p. record { of = p.place.table_id; own = p.place.me.0.own; numbers = p.place.me.0.numbers; seen = p.place.me.0.seen } };
+    ghost view = { λ p. record { of = p.place.table_id; own = p.place.me.0.own; numbers = p.place.me.0.numbers; share = p.place.me.0.share; seen = p.place.me.0.seen } };
 
     ghost invariant = { λ p. (p.place.me.1 ≡ []) × IsPass p.place.me.0 };
 }
@@ -87,11 +88,13 @@ impl ConnectionManager {
         }
     }
 
-    /// A new pass, which has seen as much as `from` and has made no calls.
+    /// A new pass, which has seen as much as `from` and has made no calls. Each has half of the
+    /// share that `from` had. It takes no memory.
     pub fn pass(&self, from: &mut Pass) -> Result<Pass, OutOfMemory>
         requires { from.old.of ≡ self.now }
-        ensures from { from.new ≡ from.old }
-        ensures made { IfOk result (λ p. (p.of ≡ self.now) × (p.seen ≡ from.old.seen) × (p.numbers ≡ p.own ∷ []) × (mine p ≡ [])) }
+        ensures done { IsOk result }
+        ensures from { from.new ≡ halved from.old }
+        ensures made { IfOk result (λ p. (p.of ≡ self.now) × (p.seen ≡ from.old.seen) × (p.numbers ≡ p.own ∷ []) × (mine p ≡ []) × (p.share ≡ half from.old.share)) }
     {
         Ok(Pass {
             place: cut(&self.desk, &mut from.place),
@@ -283,11 +286,11 @@ impl ConnectionManager {
 }
 
 impl Pass {
-    /// Takes in another pass. Its calls count as this one's.
+    /// Takes in another pass. Its calls and its share count as this one's. It takes no memory.
     pub fn meet(&mut self, manager: &ConnectionManager, other: Pass) -> Result<(), Pass>
         requires { (self.old.of ≡ manager.now) × (other.of ≡ manager.now) }
+        ensures done { IsOk result }
         ensures ok { IfOk result (λ _. Meets self.old other self.new) }
-        ensures err { IfErr result (λ p. (p ≡ other) × (self.new ≡ self.old)) }
     {
         let Pass { place } = other;
         take_in(&manager.desk, &mut self.place, place);

@@ -1,6 +1,7 @@
 //! What a pass knows, and the steps on the two words.
 use crate::call::Entry;
 use crate::registry::Registry;
+use crate::share::Share;
 use atomic_table::{Join, Play, Seat, Split, Table, TableRule};
 use std::alloc::Global;
 use std::collections::LinkedList;
@@ -21,6 +22,8 @@ pub struct Sight {
     pub named: bool,
     /// Its number, and those of the passes that it took in.
     pub numbers: LinkedList<u64>,
+    /// Its share of all calls.
+    pub share: Share,
     /// What was seen before a join, until the next load.
     pub one: Old,
     pub two: Old,
@@ -102,11 +105,11 @@ impl<C: Asked> Play<Option<Registry>, Sight> for Appends<C> {
 pub struct Passes;
 
 impl Split<Sight> for Passes {
-    ghost use Rattle.pgw_registry.specs.History.{newcomer};
+    ghost use Rattle.pgw_registry.specs.History.{halved, newcomer};
 
-    ghost left = { λ v. v };
+    ghost left = { halved };
 
-    ghost right = { λ v. newcomer v.seen };
+    ghost right = { newcomer };
 }
 
 impl Join<Sight> for Passes {

@@ -1,8 +1,9 @@
 //! The steps of one pass on the turn, the slot and the count.
 ghost use Rattle.std.specs.Prelude.{◌≡◌, ℕ, ◌+◌, ◌<◌, true, false, [], ◌∷◌, ◌++◌, length, Some, None};
 ghost use Rattle.pgw_registry.specs.Sequential.{Book, nothing, state_after, IsLegal};
-ghost use Rattle.pgw_registry.specs.History.{Apart, Grown, Later, Log, holding, at_rest, saw, named, newcomer, both_of, appended, no_old, held, places};
+ghost use Rattle.pgw_registry.specs.History.{Apart, Grown, Later, HasAll, Log, holding, at_rest, saw, halved, named, newcomer, both_of, appended, no_old, held, places};
 ghost use Rattle.pgw_registry.specs.Passes.{IsDesk};
+ghost use Rattle.pgw_registry.specs.Shares.{IsPart};
 
 use crate::registry::Registry;
 use crate::sight::{Appends, Asked, Desk, LeavesTurn, Looks, Names, Passes, Place, TakesTurn};
@@ -57,6 +58,7 @@ pub(crate) fn commit<C: Asked>(desk: &Desk, place: &mut Place, number: u64, pid:
     requires room { length place.old.me.0.seen < 18446744073709551615 }
     ensures desk { (place.new.table_id ≡ place.old.table_id) × (place.new.me.0 ≡ appended place.old.me.0 C.call) × (place.new.me.1 ≡ place.old.me.1) }
     ensures legal { IsLegal place.new.me.0.seen }
+    ensures all { HasAll place.old.me.0.share place.old.me.0.numbers place.old.me.0.seen → HasAll place.new.me.0.share place.new.me.0.numbers place.new.me.0.seen }
     ensures mine { places place.old.me.0.numbers place.new.me.0.seen ≡ places place.old.me.0.numbers place.old.me.0.seen ++ length place.old.me.0.seen ∷ [] }
 {
     let _ = (number, pid);
@@ -84,11 +86,12 @@ pub(crate) fn look(desk: &Desk, place: &mut Place) -> u64
     desk.shared.load::<Looks>(place, 1)
 }
 
-/// A new seat, which has seen as much and has its own number.
+/// A new seat, which has seen as much and has its own number. Each has half of the share.
 pub(crate) fn cut(desk: &Desk, place: &mut Place) -> Place
     requires desk { IsDesk desk.now.shared.table_id × (place.old.table_id ≡ desk.now.shared.table_id) }
-    ensures desk { (place.new.table_id ≡ place.old.table_id) × (place.new.me ≡ place.old.me) }
-    ensures made { (result.table_id ≡ place.old.table_id) × (result.me.1 ≡ []) × ((by : ℕ) × (result.me.0 ≡ named (newcomer place.old.me.0.seen) by) × (places (by ∷ []) place.old.me.0.seen ≡ [])) }
+    requires part { 0 < place.old.me.0.share.parts }
+    ensures desk { (place.new.table_id ≡ place.old.table_id) × (place.new.me.0 ≡ halved place.old.me.0) × (place.new.me.1 ≡ place.old.me.1) }
+    ensures made { (result.table_id ≡ place.old.table_id) × (result.me.1 ≡ []) × ((by : ℕ) × (result.me.0 ≡ named (newcomer place.old.me.0) by) × (places (by ∷ []) place.old.me.0.seen ≡ [])) }
 {
     let mut made = desk.shared.split_seat::<Passes>(place);
     desk.shared.load::<Names>(&mut made, 1);
@@ -99,6 +102,7 @@ pub(crate) fn cut(desk: &Desk, place: &mut Place) -> Place
 pub(crate) fn take_in(desk: &Desk, place: &mut Place, other: Place)
     requires desk { IsDesk desk.now.shared.table_id × (place.old.table_id ≡ desk.now.shared.table_id) × (other.table_id ≡ desk.now.shared.table_id) }
     requires idle { (place.old.me.0.turn ≡ false) × (other.me.0.turn ≡ false) × (other.me.1 ≡ []) }
+    requires parts { IsPart place.old.me.0.share × IsPart other.me.0.share }
     ensures desk { (place.new.table_id ≡ place.old.table_id) × (place.new.me.1 ≡ place.old.me.1) }
     ensures met { (log : Log) × Later (both_of place.old.me.0 other.me.0) log × (place.new.me.0 ≡ saw (both_of place.old.me.0 other.me.0) log) × Grown place.old.me.0.seen place.old.me.0.numbers log × Grown other.me.0.seen other.me.0.numbers log × Apart place.old.me.0.numbers other.me.0.numbers }
 {
