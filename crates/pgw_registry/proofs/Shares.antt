@@ -95,6 +95,9 @@ module _ {A : Type 0} (share_of : A → Share) where
       (t.0, t.1, λ l y. (let w = t.2 l y in omega arith))
 
   module _ (xs : List A) (h : AddUp share_of xs) (i : ℕ) (v : A) (at : get_elem? xs i ≡ some v) where
+    pub has_whole : 0 < (share_of v).whole
+    has_whole = (parted h.units h.units xs i v h.all at).units.1
+
     -- the share is not changed
     pub same_share : (w : A) → share_of w ≡ share_of v → AddUp share_of (set xs i w)
     same_share w e = let t = parted h.units h.units xs i v h.all at in record {

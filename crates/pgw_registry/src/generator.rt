@@ -1,11 +1,15 @@
 //! Process numbers and keys, which threads draw through seats of their own.
-ghost use Rattle.std.specs.Prelude.{◌≡◌, ◌⊎◌, ℕ, ◌+◌, ◌<◌, ◌≤◌, Bool, true, false, leb, List, [], ◌∷◌, ◌++◌, IfOk, IfErr, pos, ◌≤ℤ◌};
+ghost use Rattle.std.specs.Prelude.{◌≡◌, ◌⊎◌, ℕ, ◌+◌, ◌<◌, ◌≤◌, Bool, true, false, leb, List, [], ◌∷◌, ◌++◌, IsOk, IfOk, IfErr, Result, ℤ, pos, ◌≤ℤ◌};
 ghost use Rattle.pgw_types.specs.declared.context.ProtocolVersion.TheVariants.{PROTOCOL3_0};
 ghost use Rattle.pgw_registry.specs.declared.error.PidError.TheVariants.{PidsExhausted};
-ghost use Rattle.pgw_registry.specs.Numbers.{IsDistinct, NoneBelow, above, saw, drew, settled, newcomer, both_of};
+ghost use Rattle.pgw_registry.specs.Numbers.{IsDistinct, NoneBelow, DrewAll, above, saw, drew, settled, newcomer, both_of};
 ghost use Rattle.pgw_registry.specs.Seats.{Numbers as Listing};
 ghost use Rattle.pgw_registry.specs.Key.{key_of};
-ghost use Rattle.pgw_registry.specs.Generator.{unused, NoNumber, NoSeat, with_seat, met};
+ghost use Rattle.pgw_registry.specs.Shares.{IsPart, half};
+ghost use Rattle.pgw_registry.specs.Generator.{unused, cut_from, IsNext, NoNumber, Generates, NoSeat, with_seat, met};
+ghost use Rattle.pgw_registry.specs.declared.error.PidError.{PidError as Refusal};
+ghost use Rattle.pgw_types.specs.declared.context.ProtocolVersion.{ProtocolVersion as Version};
+ghost use Rattle.pgw_wire.specs.declared.secret_key.SecretKey.{SecretKey as Key};
 
 use crate::error::PidError;
 use crate::key::key_for;
@@ -50,7 +54,7 @@ impl Model for PidSeat {
 
     ghost Value = { Numbers };
 
-    ghost view = { λ s. record { of = s.place.table_id; begins = s.place.me.0.begins; drawn = s.place.me.0.drawn; seen = s.place.me.0.seen; owes = s.place.me.0.owes } };
+    ghost view = { λ s. record { of = s.place.table_id; begins = s.place.me.0.begins; drawn = s.place.me.0.drawn; seen = s.place.me.0.seen; owes = s.place.me.0.owes; share = s.place.me.0.share } };
 
     ghost invariant = { λ s. IsSeated s.place.me s.owes };
 }
@@ -59,6 +63,9 @@ impl Model for PidSeat {
 pub trait PidSecretKeyGenerator {
     /// The seat comes from this generator.
     ghost fits: { Self → Listing → Type 0 };
+
+    /// What a call may answer and make of a seat, for a version and words.
+    ghost generates: { Self → Listing → Version → List ℕ → Listing → Result (ℤ × Key) Refusal → Type 0 };
 
     /// A process number that no other connection has, and a key made of the words, which are to be
     /// random.
@@ -72,14 +79,17 @@ pub trait PidSecretKeyGenerator {
         ensures fits { fits self.now seat.new }
         ensures distinct { IsDistinct seat.new.drawn }
         ensures low { NoneBelow seat.new.begins seat.new.drawn }
-        ensures kept { (seat.new.of ≡ seat.old.of) × (seat.new.begins ≡ seat.old.begins) × (seat.new.owes ≡ seat.old.owes) × (seat.old.seen ≤ seat.new.seen) }
+        ensures kept { (seat.new.of ≡ seat.old.of) × (seat.new.begins ≡ seat.old.begins) × (seat.new.owes ≡ seat.old.owes) × (seat.new.share ≡ seat.old.share) × (seat.old.seen ≤ seat.new.seen) }
         ensures ok { IfOk result (λ r. (r.0 ≡ pos seat.new.seen) × (seat.old.begins ≤ seat.new.seen) × (seat.new.seen ≤ 2147483647) × (seat.new.drawn ≡ seat.old.drawn ++ seat.new.seen ∷ []) × (r.1 ≡ key_of version words.now)) }
         ensures err { IfErr result (λ e. NoNumber e seat.old seat.new) }
-        ensures free { version ≡ PROTOCOL3_0 → IfErr result (λ e. e ≡ PidsExhausted) };
+        ensures free { version ≡ PROTOCOL3_0 → IfErr result (λ e. e ≡ PidsExhausted) }
+        ensures generates { generates self.now seat.old version words.now seat.new result };
 }
 
 impl PidSecretKeyGenerator for RandomPidSecretKeyGenerator {
     ghost fits = { λ g s. s.of ≡ g };
+
+    ghost generates = { λ g v version words w answer. Generates v version words w answer };
 
     fn generate(
         &self,
@@ -124,13 +134,13 @@ impl RandomPidSecretKeyGenerator {
     }
 
     /// A new seat, for which `from` draws one number, unless it has drawn one for a seat that was
-    /// not made.
+    /// not made. Each has half of the share that `from` had. It takes no memory.
     pub fn seat(&self, from: &mut PidSeat) -> Result<PidSeat, PidError>
         requires { from.old.of ≡ self.now }
         ensures kept { (from.new.of ≡ from.old.of) × (from.new.begins ≡ from.old.begins) × (from.old.seen ≤ from.new.seen) }
         ensures distinct { IsDistinct from.new.drawn }
         ensures low { NoneBelow from.new.begins from.new.drawn }
-        ensures ok { IfOk result (λ s. (s ≡ unused self.now from.old.begins) × (from.new.owes ≡ false) × (from.new.seen ≤ 2147483647) × (from.new.drawn ≡ with_seat from.old from.new.seen)) }
+        ensures ok { IfOk result (λ s. (s ≡ cut_from from.old) × (from.new.share ≡ half from.old.share) × (from.new.owes ≡ false) × (from.new.seen ≤ 2147483647) × (from.new.drawn ≡ with_seat from.old from.new.seen)) }
         ensures err { IfErr result (λ e. NoSeat e from.old from.new) }
     {
         if look(&self.word, &mut from.place) > MOST {
@@ -150,15 +160,15 @@ impl RandomPidSecretKeyGenerator {
 }
 
 impl PidSeat {
-    /// Takes in the numbers of another seat.
+    /// Takes in the numbers and the share of another seat. It takes no memory.
     pub fn meet(
         &mut self,
         generator: &RandomPidSecretKeyGenerator,
         other: PidSeat,
     ) -> Result<(), PidSeat>
         requires { (self.old.of ≡ generator.now) × (other.of ≡ generator.now) }
+        ensures done { IsOk result }
         ensures ok { IfOk result (λ _. (self.new ≡ met self.old other) × IsDistinct self.new.drawn × NoneBelow self.new.begins self.new.drawn) }
-        ensures err { IfErr result (λ s. (s ≡ other) × (self.new ≡ self.old)) }
     {
         let PidSeat { place, owes } = other;
         take_in(&generator.word, &mut self.place, place);
@@ -171,7 +181,7 @@ impl PidSeat {
 fn look(word: &Word, place: &mut Place) -> u64
     requires { (word.now.shared.table_id.words ≡ 1) × (place.old.table_id ≡ word.now.shared.table_id) }
     ensures place { (place.new.table_id ≡ place.old.table_id) × (place.new.me.1 ≡ place.old.me.1) × (place.new.me.0 ≡ saw place.old.me.0 result) }
-    ensures told { (place.old.me.0.seen ≤ result) × (result ≤ 2147483647 → above place.old.me.0.drawn ≡ 0) }
+    ensures told { (place.old.me.0.seen ≤ result) × (result ≤ 2147483647 → above place.old.me.0.drawn ≡ 0) × DrewAll place.old.me.0.begins place.old.me.0.drawn place.old.me.0.share result }
 {
     word.shared.load::<Looks>(place, 0)
 }
@@ -179,9 +189,9 @@ fn look(word: &Word, place: &mut Place) -> u64
 // Draws the number of the word.
 fn draw(word: &Word, place: &mut Place) -> u64
     requires table { (word.now.shared.table_id.words ≡ 1) × (place.old.table_id ≡ word.now.shared.table_id) }
-    requires room { (0 < place.old.me.0.seats) × (above place.old.me.0.drawn ≡ 0) }
+    requires room { (0 < place.old.me.0.seats) × (above place.old.me.0.drawn ≡ 0) × (0 < place.old.me.0.share.parts) }
     ensures place { (place.new.table_id ≡ place.old.table_id) × (place.new.me.1 ≡ place.old.me.1) × (place.new.me.0 ≡ drew place.old.me.0 result place.old.me.0.owes) }
-    ensures told { (place.old.me.0.seen ≤ result) × IsDistinct place.new.me.0.drawn × NoneBelow place.new.me.0.begins place.new.me.0.drawn × (place.old.me.0.begins ≤ result) }
+    ensures told { (place.old.me.0.seen ≤ result) × IsDistinct place.new.me.0.drawn × NoneBelow place.new.me.0.begins place.new.me.0.drawn × (place.old.me.0.begins ≤ result) × DrewAll place.old.me.0.begins place.old.me.0.drawn place.old.me.0.share result }
 {
     word.shared.fetch_add::<Draws>(place, 0, 1)
 }
@@ -189,9 +199,9 @@ fn draw(word: &Word, place: &mut Place) -> u64
 // Draws the number of the word for a seat, and marks that the seat is owed, if it is a process number.
 fn draw_for_seat(word: &Word, place: &mut Place) -> u64
     requires table { (word.now.shared.table_id.words ≡ 1) × (place.old.table_id ≡ word.now.shared.table_id) }
-    requires room { (0 < place.old.me.0.seats) × (above place.old.me.0.drawn ≡ 0) }
+    requires room { (0 < place.old.me.0.seats) × (above place.old.me.0.drawn ≡ 0) × (0 < place.old.me.0.share.parts) }
     ensures place { (place.new.table_id ≡ place.old.table_id) × (place.new.me.1 ≡ place.old.me.1) × (place.new.me.0 ≡ drew place.old.me.0 result (leb result 2147483647)) }
-    ensures told { (place.old.me.0.seen ≤ result) × IsDistinct place.new.me.0.drawn × NoneBelow place.new.me.0.begins place.new.me.0.drawn × (place.old.me.0.begins ≤ result) }
+    ensures told { (place.old.me.0.seen ≤ result) × IsDistinct place.new.me.0.drawn × NoneBelow place.new.me.0.begins place.new.me.0.drawn × (place.old.me.0.begins ≤ result) × DrewAll place.old.me.0.begins place.old.me.0.drawn place.old.me.0.share result }
 {
     word.shared.fetch_add::<DrawsForSeat>(place, 0, 1)
 }
@@ -201,7 +211,7 @@ fn cut(word: &Word, place: &mut Place) -> Place
     requires table { (word.now.shared.table_id.words ≡ 1) × (place.old.table_id ≡ word.now.shared.table_id) }
     requires owes { place.old.me.0.owes ≡ true }
     ensures place { (place.new.table_id ≡ place.old.table_id) × (place.new.me.1 ≡ place.old.me.1) × (place.new.me.0 ≡ settled place.old.me.0) }
-    ensures made { (result.table_id ≡ place.old.table_id) × (result.me.1 ≡ []) × (result.me.0 ≡ newcomer place.old.me.0.begins) }
+    ensures made { (result.table_id ≡ place.old.table_id) × (result.me.1 ≡ []) × (result.me.0 ≡ newcomer place.old.me.0) }
 {
     word.shared.split_seat::<Seats>(place)
 }
@@ -210,6 +220,7 @@ fn cut(word: &Word, place: &mut Place) -> Place
 fn take_in(word: &Word, place: &mut Place, other: Place)
     requires table { (word.now.shared.table_id.words ≡ 1) × (place.old.table_id ≡ word.now.shared.table_id) × (other.table_id ≡ word.now.shared.table_id) }
     requires other { other.me.1 ≡ [] }
+    requires parts { IsPart place.old.me.0.share × IsPart other.me.0.share }
     ensures place { (place.new.table_id ≡ place.old.table_id) × (place.new.me.1 ≡ place.old.me.1) × (place.new.me.0 ≡ both_of place.old.me.0 other.me.0) }
     ensures told { IsDistinct place.new.me.0.drawn × NoneBelow place.new.me.0.begins place.new.me.0.drawn }
 {

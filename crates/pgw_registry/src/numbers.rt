@@ -1,6 +1,7 @@
 //! What a seat knows of the numbers, the rule of the word, and the steps on it.
 ghost use Rattle.std.specs.Prelude.{ℕ};
 
+use crate::share::Share;
 use atomic_table::{Join, Play, Seat, Split, Table, TableRule};
 use std::alloc::Global;
 use std::collections::LinkedList;
@@ -17,17 +18,19 @@ pub struct Hand {
     pub seats: u64,
     /// It has drawn a number for a seat that is still to be made.
     pub owes: bool,
+    /// Its share of all numbers.
+    pub share: Share,
 }
 
 /// The rule that each number is drawn once. Its key is the first number.
 pub struct EachOnce;
 
 impl TableRule<(), Hand, u64> for EachOnce {
-    ghost use Rattle.pgw_registry.specs.Numbers.{Ruled, newcomer};
+    ghost use Rattle.pgw_registry.specs.Numbers.{Ruled, founder};
 
     ghost holds = { Ruled };
 
-    ghost first = { newcomer };
+    ghost first = { founder };
 }
 
 /// The word from which numbers are drawn.
@@ -80,7 +83,7 @@ impl Split<Hand> for Seats {
 
     ghost left = { settled };
 
-    ghost right = { λ v. newcomer v.begins };
+    ghost right = { newcomer };
 }
 
 impl Join<Hand> for Seats {
