@@ -1,5 +1,5 @@
 -- A map of pairs as a map by number of maps by key.
-use Rattle.std.specs.Prelude.{ℕ, ℤ, List, [], ◌∷◌, ◌++◌, map, Option, None, Some, Vec}
+use Rattle.std.specs.Prelude.{◌≡◌, ◌≢◌, ℕ, ℤ, List, [], ◌∷◌, ◌++◌, map, Option, None, Some, Vec}
 use Rattle.std.specs.declared.alloc.Global.{Global}
 use Rattle.std.specs.Ordering.{int_cmp}
 use Rattle.std.specs.BTreeMap.{BTreeMap, is_at}
@@ -26,6 +26,10 @@ at_key keys key = lookup (is_at (λ k. bytes_cmp key k.items)) keys
 unfoldable pub in_number : Option (BTreeMap Key ℕ) → List ℕ → Option ℕ
 in_number None key = None
 in_number (Some keys) key = at_key keys.entries key
+
+-- a number that has a map has a key in it
+abbrev pub NoneEmpty : List (ℤ × BTreeMap Key ℕ) → Type 0
+NoneEmpty numbers = (pid : ℤ) (keys : BTreeMap Key ℕ) → lookup (is_at (int_cmp pid)) numbers ≡ Some keys → keys.entries ≢ []
 
 -- what stands at the number and the key
 unfoldable pub at_pair : List (ℤ × BTreeMap Key ℕ) → ℤ → List ℕ → Option ℕ

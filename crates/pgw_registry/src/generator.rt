@@ -1,4 +1,5 @@
-//! Process numbers and keys, which threads draw through seats of their own.
+//! Process numbers and keys, which threads draw through seats of their own. No number stands twice in what a seat drew,
+//! those of the seats that it took in among them.
 ghost use Rattle.std.specs.Prelude.{◌≡◌, ◌⊎◌, ℕ, ◌+◌, ◌<◌, ◌≤◌, Bool, true, false, leb, List, [], ◌∷◌, ◌++◌, IsOk, IfOk, IfErr, Result, ℤ, pos, ◌≤ℤ◌};
 ghost use Rattle.pgw_types.specs.declared.context.ProtocolVersion.TheVariants.{PROTOCOL3_0};
 ghost use Rattle.pgw_registry.specs.declared.error.PidError.TheVariants.{PidsExhausted};
@@ -24,7 +25,7 @@ use std::marker::Model;
 /// The greatest process number.
 pub const MOST: u64 = 2147483647;
 
-/// Draws process numbers in turn, each once. A contract sees which generator it is.
+/// Draws process numbers in turn. A contract sees which generator it is.
 #[derive(Drop)]
 pub struct RandomPidSecretKeyGenerator {
     word: Word,
@@ -67,7 +68,7 @@ pub trait PidSecretKeyGenerator {
     /// What a call may answer and make of a seat, for a version and words.
     ghost generates: { Self → Listing → Version → List ℕ → Listing → Result (ℤ × Key) Refusal → Type 0 };
 
-    /// A process number that no other connection has, and a key made of the words, which are to be
+    /// A process number that the seat has not drawn yet, and a key made of the words, which are to be
     /// random.
     fn generate(
         &self,

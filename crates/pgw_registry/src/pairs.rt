@@ -1,11 +1,11 @@
 //! Process numbers with keys.
-ghost use Rattle.std.specs.Prelude.{◌≡◌, ℕ, ℤ, true, List, [], IfOk, OnOk, OnErr, Some, None, cond};
+ghost use Rattle.std.specs.Prelude.{◌≡◌, ◌≢◌, ◌↔◌, ℕ, ℤ, true, List, [], IfOk, OnOk, OnErr, Some, None, cond};
 ghost use Rattle.std.specs.Ordering.{int_cmp, eq_by_cmp};
 ghost use Rattle.std.specs.FinMap as map;
 ghost use Rattle.std.specs.BTreeMap.{IsOrdered, is_at};
 ghost use Rattle.std.specs.Map.{lookup};
 ghost use Rattle.pgw_registry.specs.Pairs.{bytes_cmp, pair_cmp};
-ghost use Rattle.pgw_registry.specs.Nested.{at_key, at_pair};
+ghost use Rattle.pgw_registry.specs.Nested.{at_key, at_pair, NoneEmpty};
 
 use pgw_types::memory::OutOfMemory;
 use pgw_types::octets::Octets;
@@ -14,7 +14,7 @@ use std::collections::BTreeMap;
 use std::marker::Model;
 
 /// A process number and a key.
-#[derive(Debug, Drop, PartialEq, Eq)]
+#[derive(Drop)]
 pub struct Pair {
     pub pid: i32,
     pub key: Octets,
@@ -36,7 +36,7 @@ impl Model for Pairs {
     ghost use Rattle.std.specs.FinMap as map;
     ghost use Rattle.std.specs.BTreeMap.{IsOrdered};
     ghost use Rattle.pgw_registry.specs.Pairs.{pair_cmp};
-    ghost use Rattle.pgw_registry.specs.Nested.{flat};
+    ghost use Rattle.pgw_registry.specs.Nested.{flat, NoneEmpty};
 
     ghost Value = { map.FinMap pair_cmp ℕ };
 
@@ -44,7 +44,7 @@ impl Model for Pairs {
 
     ghost view = { λ p. map.from_entries (flat p.numbers.entries) };
 
-    ghost invariant = { λ p. IsOrdered int_cmp p.numbers };
+    ghost invariant = { λ p. IsOrdered int_cmp p.numbers × NoneEmpty p.numbers.entries };
 }
 
 impl Pairs {
@@ -113,6 +113,7 @@ fn add_to(
     ensures ok { OnOk result ((p : ℤ) (k : List ℕ) → at_pair numbers.new.entries p k ≡ cond (eq_by_cmp pair_cmp (pid.now, key.items) (p, k)) (Some handle) (at_pair numbers.old.entries p k)) }
     ensures err { OnErr result ((p : ℤ) (k : List ℕ) → at_pair numbers.new.entries p k ≡ at_pair numbers.old.entries p k) }
     ensures ordered { IsOrdered int_cmp numbers.new }
+    ensures kept { NoneEmpty numbers.old.entries → NoneEmpty numbers.new.entries }
 {
     match numbers.get_mut(pid) {
         Some(keys) => add_key(keys, key, handle),
@@ -132,6 +133,7 @@ fn add_number(
     ensures ok { OnOk result ((p : ℤ) (k : List ℕ) → at_pair numbers.new.entries p k ≡ cond (eq_by_cmp pair_cmp (pid.now, key.items) (p, k)) (Some handle) (at_pair numbers.old.entries p k)) }
     ensures err { OnErr result (numbers.new.entries ≡ numbers.old.entries) }
     ensures ordered { IsOrdered int_cmp numbers.old → IsOrdered int_cmp numbers.new }
+    ensures kept { NoneEmpty numbers.old.entries → NoneEmpty numbers.new.entries }
 {
     let number = *pid;
     let mut keys = BTreeMap::new(alloc);
@@ -143,6 +145,7 @@ fn add_number(
 fn add_key(keys: &mut Keys, key: Vec<u8>, handle: u64) -> Result<(), OutOfMemory>
     ensures ok { OnOk result ((k : List ℕ) → at_key keys.new.entries k ≡ cond (eq_by_cmp bytes_cmp key.items k) (Some handle) (at_key keys.old.entries k)) }
     ensures err { OnErr result (keys.new.entries ≡ keys.old.entries) }
+    ensures some { OnOk result (keys.new.entries ≢ []) }
 {
     keys.insert(key, handle)?;
     Ok(())
@@ -152,6 +155,7 @@ fn add_key(keys: &mut Keys, key: Vec<u8>, handle: u64) -> Result<(), OutOfMemory
 fn take_from(numbers: &mut BTreeMap<i32, Keys>, pid: &i32, key: &[u8])
     ensures taken { (p : ℤ) (k : List ℕ) → at_pair numbers.new.entries p k ≡ cond (eq_by_cmp pair_cmp (pid.now, key.now) (p, k)) None (at_pair numbers.old.entries p k) }
     ensures ordered { IsOrdered int_cmp numbers.new }
+    ensures kept { NoneEmpty numbers.old.entries → NoneEmpty numbers.new.entries }
 {
     let Some(keys) = numbers.get_mut(pid) else {
         return;
@@ -164,7 +168,7 @@ fn take_from(numbers: &mut BTreeMap<i32, Keys>, pid: &i32, key: &[u8])
 // Takes a key, and tells whether none is left.
 fn is_last(keys: &mut Keys, key: &[u8]) -> bool
     ensures taken { (k : List ℕ) → at_key keys.new.entries k ≡ cond (eq_by_cmp bytes_cmp key.now k) None (at_key keys.old.entries k) }
-    ensures last { result ≡ true → keys.new.entries ≡ [] }
+    ensures last { (result ≡ true) ↔ (keys.new.entries ≡ []) }
 {
     keys.remove(key);
     keys.is_empty()

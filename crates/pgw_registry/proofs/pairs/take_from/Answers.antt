@@ -20,7 +20,7 @@ returns-then-is_last-clause-taken c =
     let outer = ((c.get_mut.follows.holds now).3 (subst IsSome there refl)).0 in
     changed c.args.numbers.now.entries c.remove.new.self.entries c.args.pid.now c.args.key.now None None
     (λ p. c.remove.ensures.updates.0 p ∙ ap (cond (is_at (int_cmp c.args.pid.now) p) None) (outer p) ∙ forgotten (is_at (int_cmp c.args.pid.now) p) (Some now) (lookup (is_at (int_cmp p)) c.args.numbers.now.entries))
-    (λ q. in_none q ∙ sym (ap (λ ks. at_key ks q) (c.is_last.ensures.last c.if-is_last.true) ∙ at_nothing q) ∙ c.is_last.ensures.taken q
+    (λ q. in_none q ∙ sym (ap (λ ks. at_key ks q) (c.is_last.ensures.last.0 c.if-is_last.true) ∙ at_nothing q) ∙ c.is_last.ensures.taken q
     ∙ ap (cond (eq_by_cmp bytes_cmp c.args.key.now q) None) (sym (in_some c.in-Some.keys.now q) ∙ ap (λ o. in_number o q) there))
 
 pub returns-else-is_last-clause-taken : goal.returns-else-is_last-clause-taken

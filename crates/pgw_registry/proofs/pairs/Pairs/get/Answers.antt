@@ -13,5 +13,5 @@ returns c =
     let entries = c.self.inside.numbers.entries in
     c.find_in.ensures
     ∙ ap (λ n. at_pair entries n c.args.key.now) fits
-    ∙ sym (map.get-from_entries pair_cmp_total (flat entries) (c.args.pid, c.args.key.now) ∙ at_flat entries c.self.invariant c.args.pid c.args.key.now)
+    ∙ sym (map.get-from_entries pair_cmp_total (flat entries) (c.args.pid, c.args.key.now) ∙ at_flat entries c.self.invariant.0 c.args.pid c.args.key.now)
     ∙ ap (λ m. map.get m (c.args.pid, c.args.key.now)) c.self.view_is

@@ -21,7 +21,7 @@ returns-clause-ok c =
     (λ q. at_flat new c.add_to.ensures.ordered q.0 q.1
     ∙ written q.0 q.1
     ∙ ap (λ z. cond (eq_by_cmp pair_cmp z q) (Some c.args.handle) (at_pair old q.0 q.1)) pair
-    ∙ ap (cond (eq_by_cmp pair_cmp (c.args.pid, c.args.key.items) q) (Some c.args.handle)) (sym (at_flat old c.self.invariant q.0 q.1)))
+    ∙ ap (cond (eq_by_cmp pair_cmp (c.args.pid, c.args.key.items) q) (Some c.args.handle)) (sym (at_flat old c.self.invariant.0 q.0 q.1)))
     ∙ ap (λ m. map.insert m (c.args.pid, c.args.key.items) c.args.handle) c.self.view_is)
     c.add_to.ensures.ok
 
@@ -34,6 +34,6 @@ returns-clause-err c =
     (λ q. map.get-from_entries pair_cmp_total (flat new) q
     ∙ at_flat new c.add_to.ensures.ordered q.0 q.1
     ∙ same q.0 q.1
-    ∙ sym (map.get-from_entries pair_cmp_total (flat old) q ∙ at_flat old c.self.invariant q.0 q.1))
+    ∙ sym (map.get-from_entries pair_cmp_total (flat old) q ∙ at_flat old c.self.invariant.0 q.0 q.1))
     ∙ c.self.view_is)
     c.add_to.ensures.err

@@ -19,5 +19,5 @@ returns c =
     (λ q. at_flat new c.take_from.ensures.ordered q.0 q.1
     ∙ c.take_from.ensures.taken q.0 q.1
     ∙ ap (λ n. cond (eq_by_cmp pair_cmp (n, c.args.key.now) q) None (at_pair old q.0 q.1)) fits
-    ∙ ap (cond (eq_by_cmp pair_cmp (c.args.pid, c.args.key.now) q) None) (sym (at_flat old c.self.invariant q.0 q.1)))
+    ∙ ap (cond (eq_by_cmp pair_cmp (c.args.pid, c.args.key.now) q) None) (sym (at_flat old c.self.invariant.0 q.0 q.1)))
     ∙ ap (λ m. map.remove m (c.args.pid, c.args.key.now)) c.self.view_is
