@@ -1,6 +1,7 @@
 -- Acts, one after the other.
-use Rattle.std.proofs.Common.{◌≡◌, ℕ, List, [], ◌∷◌, ◌++◌, fold, Option, inl, inr, Ok, Err, OnOk, OnErr, IfErr, refl, sym, ◌∙◌, ap, subst}
+use Rattle.std.proofs.Common.{◌≡◌, ◌≤◌, ℕ, List, [], ◌∷◌, ◌++◌, fold, Option, inl, inr, Ok, Err, OnOk, OnErr, IfErr, refl, sym, ◌∙◌, ap, subst}
 use Rattle.std.proofs.lemmas.List.Sums.{fold-append}
+use Rattle.std.proofs.Math.Nat.{le_refl, le_trans}
 use Rattle.pgw_types.specs.declared.error.PgWireError.{PgWireError}
 use Rattle.pgw_backend.specs.declared.backend.PgWireBackendMessage.{PgWireBackendMessage as Message}
 use Rattle.pgw_login.specs.Client.{Client, with_metadata}
@@ -19,18 +20,19 @@ pub did_then : {S : Type 0} {add : S → Message → S} {s0 s1 s2 : S} {first ne
 did_then {add = add} {s0 = s0} {before = before} {mid = mid} {after = after} {answer = answer} a b = record {
   sent = a.sent ++ b.sent;
   told = b.told ∙ ap (λ s. fold add s b.sent) a.told ∙ sym (fold-append add s0 a.sent b.sent);
+  later = le_trans a.later b.later;
   done = goes before mid after a.sent b.sent answer a.done b.done;
 }
 
 -- the first was refused
 pub did_halt : {S : Type 0} {add : S → Message → S} {s0 s1 : S} {first next : Standing → Standing → List Message → Answer → Type 0} {before after : Standing} {e : PgWireError} →
     Did add s0 s1 first before after (Err e) → Did add s0 s1 (Then first next) before after (Err e)
-did_halt {before = before} {after = after} {e = e} a = record { sent = a.sent; told = a.told; done = halts before after a.sent e a.done }
+did_halt {before = before} {after = after} {e = e} a = record { sent = a.sent; told = a.told; later = a.later; done = halts before after a.sent e a.done }
 
 -- nothing was sent
-pub did_quiet : {S : Type 0} {add : S → Message → S} {s : S} {act : Standing → Standing → List Message → Answer → Type 0} {before after : Standing} {answer : Answer} →
-    act before after [] answer → Did add s s act before after answer
-did_quiet h = record { sent = []; told = refl; done = h }
+pub did_quiet : {S : Type 0} {add : S → Message → S} {s : S} {act : Standing → Standing → List Message → Answer → Type 0} {c d : Client} {a b : LoginState} {faults : ℕ} {answer : Answer} →
+    act (standing c a faults) (standing d b faults) [] answer → Did add s s act (standing c a faults) (standing d b faults) answer
+did_quiet {faults = faults} h = record { sent = []; told = refl; later = le_refl faults; done = h }
 
 -- the client was changed, or the login
 pub did_set : {S : Type 0} {add : S → Message → S} {s : S} {c d : Client} (f : Client → Client) (login : LoginState) (faults : ℕ) → d ≡ f c → Did add s s (Sets f) (standing c login faults) (standing d login faults) (Ok tt)
@@ -39,36 +41,40 @@ did_set f login faults e = did_quiet (ap (λ x. standing x login faults) e, refl
 pub did_mark : {S : Type 0} {add : S → Message → S} {s : S} {a b : LoginState} (f : LoginState → LoginState) (client : Client) (faults : ℕ) → b ≡ f a → Did add s s (Marks f) (standing client a faults) (standing client b faults) (Ok tt)
 did_mark f client faults e = did_quiet (ap (λ x. standing client x faults) e, refl, refl)
 
+-- a count that stays
+as_calm : {f0 f1 : ℕ} → f1 ≡ f0 → f0 ≤ f1
+as_calm {f0 = f0} {f1 = f1} e = subst (λ (f : ℕ). f0 ≤ f) (sym e) (le_refl f0)
+
 -- a message was sent, or not taken
 pub did_send : {S : Type 0} {add : S → Message → S} {s0 s1 : S} (m : Message) (f0 f1 : ℕ) (r : Answer) → OnOk r (s1 ≡ add s0 m) → OnOk r (f1 ≡ f0) → OnErr r (s1 ≡ s0) → IfErr r (λ e. NotTaken m f0 f1 e) →
     (client : Client) (login : LoginState) → Did add s0 s1 (Sends (m ∷ [])) (standing client login f0) (standing client login f1) r
-did_send m f0 f1 (Ok x) taken calm kept cause client login = record { sent = m ∷ []; told = taken; done = (ap (standing client login) calm, refl) }
-did_send m f0 f1 (Err e) taken calm kept cause client login = record { sent = []; told = kept; done = (m, [], refl, refl, cause) }
+did_send m f0 f1 (Ok x) taken calm kept cause client login = record { sent = m ∷ []; told = taken; later = as_calm calm; done = (ap (standing client login) calm, refl) }
+did_send m f0 f1 (Err e) taken calm kept cause client login = record { sent = []; told = kept; later = cause.later; done = (m, [], refl, refl, cause) }
 
 -- all were sent
 pub did_all : {S : Type 0} {add : S → Message → S} {s0 s1 : S} (ms : List Message) (f0 f1 : ℕ) → s1 ≡ fold add s0 ms → f1 ≡ f0 → (client : Client) (login : LoginState) → Did add s0 s1 (Sends ms) (standing client login f0) (standing client login f1) (Ok tt)
-did_all ms f0 f1 told calm client login = record { sent = ms; told = told; done = (ap (standing client login) calm, refl) }
+did_all ms f0 f1 told calm client login = record { sent = ms; told = told; later = as_calm calm; done = (ap (standing client login) calm, refl) }
 
 -- a front was sent, and the next was not taken
 pub did_some : {S : Type 0} {add : S → Message → S} {s0 s1 s2 : S} (front : List Message) (m : Message) (rest ms : List Message) (f0 f1 f2 : ℕ) (e : PgWireError) → ms ≡ front ++ m ∷ rest → s1 ≡ fold add s0 front → f1 ≡ f0 → s2 ≡ s1 → NotTaken m f1 f2 e →
     (client : Client) (login : LoginState) → Did add s0 s2 (Sends ms) (standing client login f0) (standing client login f2) (Err e)
 did_some front m rest ms f0 f1 f2 e cut told calm kept cause client login =
     let why : NotTaken m f0 f2 e = subst (λ (f : ℕ). NotTaken m f f2 e) calm cause in
-    record { sent = front; told = kept ∙ told; done = (m, rest, cut, refl, why) }
+    record { sent = front; told = kept ∙ told; later = why.later; done = (m, rest, cut, refl, why) }
 
 -- after a refusal the login has failed
 pub did_settle : {S : Type 0} {add : S → Message → S} {s0 s1 : S} {act : Standing → Standing → List Message → Answer → Type 0} {before : Standing} {client : Client} {login login2 : LoginState} {faults : ℕ} (answer : Answer) →
     login2 ≡ settled answer login → Did add s0 s1 act before (standing client login faults) answer → Did add s0 s1 (OrFails act) before (standing client login2 faults) answer
 did_settle {act = act} {before = before} {client = client} {faults = faults} (Ok x) e d =
-    record { sent = d.sent; told = d.told; done = subst (λ l. act before (standing client l faults) d.sent (Ok x)) (sym e) d.done }
+    record { sent = d.sent; told = d.told; later = d.later; done = subst (λ l. act before (standing client l faults) d.sent (Ok x)) (sym e) d.done }
 did_settle {client = client} {login = login} {faults = faults} (Err why) e d =
-    record { sent = d.sent; told = d.told; done = (standing client login faults, d.done, ap (λ l. standing client l faults) e) }
+    record { sent = d.sent; told = d.told; later = d.later; done = (standing client login faults, d.done, ap (λ l. standing client l faults) e) }
 
 -- the client was told what the provider gives, or a part
 pub did_introduce : {S : Type 0} {add : S → Message → S} {s0 s1 : S} {client : Client} {login : LoginState} {f0 f1 : ℕ} {ms : List Message} {answer : Answer} (P : Client → Option Held → Type 0) (parameters : Option Held) → P client parameters → ms ≡ introduction client parameters →
     Did add s0 s1 (Sends ms) (standing client login f0) (standing client login f1) answer → Did add s0 s1 (Introduces P) (standing client login f0) (standing client login f1) answer
 did_introduce {client = client} {login = login} {f0 = f0} {f1 = f1} {answer = answer} P parameters provided is d =
-    record { sent = d.sent; told = d.told; done = inr (parameters, provided, subst (λ (due : List Message). Sends due (standing client login f0) (standing client login f1) d.sent answer) is d.done) }
+    record { sent = d.sent; told = d.told; later = d.later; done = inr (parameters, provided, subst (λ (due : List Message). Sends due (standing client login f0) (standing client login f1) d.sent answer) is d.done) }
 
 -- parameters were saved, or memory ran out
 pub did_saved : {S : Type 0} {add : S → Message → S} {x : S} {c d : Client} (s : Startup) (login : LoginState) (faults : ℕ) → d ≡ with_metadata (saved c.metadata s.parameters) c → Did add x x (Saves s) (standing c login faults) (standing d login faults) (Ok tt)

@@ -1,5 +1,5 @@
 -- What a server does with a message: acts, one after the other.
-use Rattle.std.specs.Prelude.{◌≡◌, ◌⊎◌, ◌<◌, ℕ, Bool, true, false, List, [], ◌∷◌, ◌++◌, fold, Option, Some, None, Result, Ok, Err, if◌then◌else◌}
+use Rattle.std.specs.Prelude.{◌≡◌, ◌⊎◌, ◌≤◌, ℕ, Bool, true, false, List, [], ◌∷◌, ◌++◌, fold, Option, Some, None, Result, Ok, Err, if◌then◌else◌}
 use Rattle.pgw_types.specs.declared.error.PgWireError.{PgWireError}
 use Rattle.pgw_types.specs.declared.error.PgWireError.TheVariants.{OutOfMemory, InvalidSASLState}
 use Rattle.pgw_backend.specs.declared.backend.PgWireBackendMessage.{PgWireBackendMessage as Message}
@@ -88,10 +88,14 @@ is_initial OauthStateError = false
 is_initial Finished = false
 is_initial Failed = false
 
--- a login begins once
+-- a login begins once, and only where no message of it was refused
+abbrev pub StartsFrom : Bool → Standing → Standing → List Message → Answer → Type 0
+StartsFrom true = Marks with_started
+StartsFrom false = Refuses InvalidSASLState
+
 abbrev pub StartsAt : Bool → Standing → Standing → List Message → Answer → Type 0
-StartsAt true = Refuses InvalidSASLState
-StartsAt false = Marks with_started
+StartsAt true before = Refuses InvalidSASLState before
+StartsAt false before = StartsFrom (is_initial before.login.sasl) before
 
 abbrev pub Starts : Standing → Standing → List Message → Answer → Type 0
 Starts before = StartsAt before.login.started before
@@ -113,8 +117,9 @@ IsSameSource old new = (new.seat ≡ old.seat) × (new.pass ≡ old.pass)
 
 -- ---- what an outbox is told
 
--- the act was done, with the messages that it sends taken one after the other
+-- the act was done, with the messages that it sends taken one after the other; the count of faults never falls
 pub record Did {S : Type 0} (add : S → Message → S) (old new : S) (act : Standing → Standing → List Message → Answer → Type 0) (before after : Standing) (answer : Answer) : Type 0 where
   pub sent : List Message
   pub told : new ≡ fold add old sent
+  pub later : before.faults ≤ after.faults
   pub done : act before after sent answer

@@ -4,6 +4,7 @@ use Rattle.std.specs.FinMap as finite
 use Rattle.pgw_types.specs.declared.error.PgWireError.{PgWireError}
 use Rattle.pgw_types.specs.declared.error.PgWireError.TheVariants.{PidsExhausted, RegistryExhausted, OutOfMemory}
 use Rattle.pgw_types.specs.declared.context.ProtocolVersion.{ProtocolVersion}
+use Rattle.pgw_types.specs.declared.context.ProtocolVersion.TheVariants.{PROTOCOL3_0}
 use Rattle.pgw_wire.specs.Pairs.{Held}
 use Rattle.pgw_wire.specs.declared.secret_key.SecretKey.{SecretKey}
 use Rattle.pgw_startup.specs.declared.authentication.Authentication.TheVariants as auth
@@ -11,7 +12,7 @@ use Rattle.pgw_query.specs.declared.response.TransactionStatus.TheVariants.{Idle
 use Rattle.pgw_backend.specs.declared.backend.PgWireBackendMessage.{PgWireBackendMessage as Message}
 use Rattle.pgw_backend.specs.declared.backend.PgWireBackendMessage.TheVariants as backend
 use Rattle.pgw_registry.specs.Key.{key_of}
-use Rattle.pgw_registry.specs.Numbers.{IsDistinct}
+use Rattle.pgw_registry.specs.Numbers.{IsDistinct, NoneBelow}
 use Rattle.pgw_registry.specs.Seats.{Numbers}
 use Rattle.pgw_registry.specs.Generator.{NoNumber}
 use Rattle.pgw_registry.specs.Passes.{Known}
@@ -31,22 +32,34 @@ use Rattle.pgw_login.specs.declared.state.SASLState.TheVariants.{Finished}
 abbrev pub with_seat : Numbers → LoginState → LoginState
 with_seat seat s = record s { seat = seat }
 
--- one more number was drawn, which no list of a seat has yet, and the key is made of the words
-abbrev pub IsDrawn : ProtocolVersion → List ℕ → Numbers → Numbers → ℤ → SecretKey → Type 0
-IsDrawn version words old new number key =
-    (new.of ≡ old.of) × (new.begins ≡ old.begins) × (new.owes ≡ old.owes) × (new.drawn ≡ old.drawn ++ new.seen ∷ []) × IsDistinct new.drawn
-    × (old.seen ≤ new.seen) × (old.begins ≤ new.seen) × (new.seen ≤ 2147483647) × (number ≡ pos new.seen) × (key ≡ key_of version words)
+-- whose seat it is and where its numbers begin stays, it has seen no less, and in it no number stands twice, and none is
+-- below the first
+abbrev pub IsSameSeat : Numbers → Numbers → Type 0
+IsSameSeat old new = (new.of ≡ old.of) × (new.begins ≡ old.begins) × (new.owes ≡ old.owes) × (old.seen ≤ new.seen) × IsDistinct new.drawn × NoneBelow new.begins new.drawn
+
+-- the number is the seat's one more, and the key is made of the words; or there is none, at 3.0 only where all are spent
+abbrev pub IsDrawn : ProtocolVersion → List ℕ → Numbers → Numbers → Result (ℤ × SecretKey) PidError → Type 0
+IsDrawn version words old new (Ok (number, key)) =
+    (new.drawn ≡ old.drawn ++ new.seen ∷ []) × (old.begins ≤ new.seen) × (new.seen ≤ 2147483647) × (number ≡ pos new.seen) × (key ≡ key_of version words)
+IsDrawn version words old new (Err why) = NoNumber why old new × (version ≡ PROTOCOL3_0 → why ≡ pid.PidsExhausted)
+
+-- a draw: what becomes of a seat, and is answered, for a version and words
+abbrev pub Drawn : ProtocolVersion → List ℕ → Numbers → Numbers → Result (ℤ × SecretKey) PidError → Type 0
+Drawn version words old new answer = IsSameSeat old new × IsDrawn version words old new answer
 
 abbrev pub pid_refusal : PidError → PgWireError
 pid_refusal pid.PidsExhausted = PidsExhausted
 pid_refusal pid.OutOfMemory = OutOfMemory
 
+abbrev pub DrawsFor : Standing → LoginState → Result (ℤ × SecretKey) PidError → Type 0
+DrawsFor before login = Drawn before.client.protocol_version before.login.words before.login.seat login.seat
+
 -- they are drawn and set in the client
 abbrev pub Draws : Standing → Standing → List Message → Answer → Type 0
-Draws before after sent (Ok done) = (sent ≡ []) × ((number : ℤ) × (key : SecretKey) × IsDrawn before.client.protocol_version before.login.words before.login.seat after.login.seat number key
+Draws before after sent (Ok done) = (sent ≡ []) × ((number : ℤ) × (key : SecretKey) × DrawsFor before after.login (Ok (number, key))
     × (after ≡ record before { client = with_key number key before.client; login = with_seat after.login.seat before.login }))
 Draws before after sent (Err e) = (sent ≡ []) × (after ≡ record before { login = with_seat after.login.seat before.login })
-    × ((why : PidError) × (e ≡ pid_refusal why) × NoNumber why before.login.seat after.login.seat)
+    × ((why : PidError) × (e ≡ pid_refusal why) × DrawsFor before after.login (Err why))
 
 -- ---- the registry
 

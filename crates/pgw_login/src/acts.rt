@@ -1,5 +1,5 @@
 //! Sending, as an act.
-ghost use Rattle.std.specs.Prelude.{◌≡◌, ◌∷◌, []};
+ghost use Rattle.std.specs.Prelude.{◌≡◌, OnOk, ◌∷◌, []};
 ghost use Rattle.pgw_login.specs.Acts.{standing, Sends, Did};
 ghost use Rattle.pgw_login.specs.declared.state.LoginState.{LoginState as TheState};
 ghost use Rattle.pgw_login.specs.Client.{Client};
@@ -20,7 +20,8 @@ pub fn feed_all<O: Outbox>(out: &mut O, messages: Vec<PgWireBackendMessage>) -> 
 
 /// Sends a message on, with all that wait.
 pub fn send<O: Outbox>(out: &mut O, message: PgWireBackendMessage) -> PgWireResult<()>
-    ensures { (client : Client) (login : TheState) → Did O.add (O.sent out.old) (O.sent out.new) (Sends (message ∷ [])) (standing client login (O.faults out.old)) (standing client login (O.faults out.new)) result }
+    ensures sent { (client : Client) (login : TheState) → Did O.add (O.sent out.old) (O.sent out.new) (Sends (message ∷ [])) (standing client login (O.faults out.old)) (standing client login (O.faults out.new)) result }
+    ensures flushed { OnOk result (O.waiting out.new ≡ 0) }
 {
     out.send(message)
 }

@@ -1,5 +1,5 @@
 //! Logins by a password in clear text.
-ghost use Rattle.std.specs.Prelude.{◌≡◌, ◌⊎◌, Result, Err};
+ghost use Rattle.std.specs.Prelude.{◌≡◌, ◌⊎◌, OnOk, Result, Err};
 ghost use Rattle.std.specs.Option.{option_copied};
 ghost use Rattle.pgw_login.specs.Logins.{login_of};
 ghost use Rattle.pgw_login.specs.Acts.{standing, Did, Then, Awaits};
@@ -116,6 +116,7 @@ where
         requires { G.fits self.now.generator state.old.seat × M.fits self.now.registry state.old.pass }
         ensures fits { G.fits self.now.generator state.new.seat × M.fits self.now.registry state.new.pass }
         ensures checked { Did O.add (O.sent out.old) (O.sent out.new) (Then Awaits (Then (Checks (A.answers self.now.auth_source) message) (Finishes (P.provides self.now.parameter_provider) (M.registers self.now.registry)))) (standing (C.sight client.old) state.old (O.faults out.old)) (standing (C.sight client.new) state.new (O.faults out.new)) result }
+        ensures flushed { OnOk result (O.waiting out.new ≡ 0) }
     {
         state.await_password()?;
         self.verify(alloc, &LoginInfo::from_client_info(client), message)?;
@@ -142,6 +143,7 @@ where
         requires { G.fits self.now.generator state.old.seat × M.fits self.now.registry state.old.pass }
         ensures fits { G.fits self.now.generator state.new.seat × M.fits self.now.registry state.new.pass }
         ensures answered { Did O.add (O.sent out.old) (O.sent out.new) (CleartextOn (A.answers self.now.auth_source) (P.provides self.now.parameter_provider) (M.registers self.now.registry) message) (standing (C.sight client.old) state.old (O.faults out.old)) (standing (C.sight client.new) state.new (O.faults out.new)) result }
+        ensures flushed { O.waiting out.old ≡ 0 → OnOk result (O.waiting out.new ≡ 0) }
     {
         match message {
             Heard::Startup(startup) => {

@@ -149,7 +149,8 @@ pub fn introduce<C: ClientInfo, O: Outbox, P: ServerParameterProvider>(
 
 /// Tells the client that it may ask.
 pub fn ready<C: ClientInfo, O: Outbox>(client: &mut C, out: &mut O) -> PgWireResult<()>
-    ensures { (login : TheState) → Did O.add (O.sent out.old) (O.sent out.new) (Readies ready) (standing (C.sight client.old) login (O.faults out.old)) (standing (C.sight client.new) login (O.faults out.new)) result }
+    ensures readied { (login : TheState) → Did O.add (O.sent out.old) (O.sent out.new) (Readies ready) (standing (C.sight client.old) login (O.faults out.old)) (standing (C.sight client.new) login (O.faults out.new)) result }
+    ensures flushed { OnOk result (O.waiting out.new ≡ 0) }
 {
     let ready = ReadyForQuery {
         status: TransactionStatus::Idle,
@@ -167,7 +168,8 @@ pub fn finish_authentication<C: ClientInfo, O: Outbox, P: ServerParameterProvide
     out: &mut O,
     provider: &P,
 ) -> PgWireResult<()>
-    ensures { (login : TheState) → Did O.add (O.sent out.old) (O.sent out.new) (FinishesAuthentication (P.provides provider.now)) (standing (C.sight client.old) login (O.faults out.old)) (standing (C.sight client.new) login (O.faults out.new)) result }
+    ensures finished { (login : TheState) → Did O.add (O.sent out.old) (O.sent out.new) (FinishesAuthentication (P.provides provider.now)) (standing (C.sight client.old) login (O.faults out.old)) (standing (C.sight client.new) login (O.faults out.new)) result }
+    ensures flushed { OnOk result (O.waiting out.new ≡ 0) }
 {
     introduce(alloc, client, out, provider)?;
     ready(client, out)
@@ -192,6 +194,7 @@ where
     requires { G.fits generator.now state.old.seat × M.fits registry.now state.old.pass }
     ensures fits { G.fits generator.now state.new.seat × M.fits registry.now state.new.pass }
     ensures finished { Did O.add (O.sent out.old) (O.sent out.new) (Finishes (P.provides provider.now) (M.registers registry.now)) (standing (C.sight client.old) state.old (O.faults out.old)) (standing (C.sight client.new) state.new (O.faults out.new)) result }
+    ensures flushed { OnOk result (O.waiting out.new ≡ 0) }
 {
     accept(alloc, client, state, generator, registry)?;
     finish_authentication(alloc, client, out, provider)?;

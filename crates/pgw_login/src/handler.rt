@@ -1,5 +1,5 @@
 //! What handles a client's messages up to its login.
-ghost use Rattle.std.specs.Prelude.{◌≡◌, List};
+ghost use Rattle.std.specs.Prelude.{◌≡◌, OnOk, List};
 ghost use Rattle.pgw_frontend.specs.declared.frontend.PgWireFrontendMessage.{PgWireFrontendMessage as TheMessage};
 ghost use Rattle.pgw_backend.specs.declared.backend.PgWireBackendMessage.{PgWireBackendMessage as Backend};
 ghost use Rattle.pgw_login.specs.Acts.{Standing, standing, Answer, Did};
@@ -68,5 +68,7 @@ pub trait StartupHandler {
     ) -> PgWireResult<()>
         requires { fits self.now state.old }
         ensures fits { fits self.now state.new }
-        ensures means { Did O.add (O.sent out.old) (O.sent out.new) (means self.now message) (standing (C.sight client.old) state.old (O.faults out.old)) (standing (C.sight client.new) state.new (O.faults out.new)) result };
+        ensures means { Did O.add (O.sent out.old) (O.sent out.new) (means self.now message) (standing (C.sight client.old) state.old (O.faults out.old)) (standing (C.sight client.new) state.new (O.faults out.new)) result }
+        // Where nothing waited in the outbox before, nothing waits there behind an answer that is Ok.
+        ensures flushed { O.waiting out.old ≡ 0 → OnOk result (O.waiting out.new ≡ 0) };
 }

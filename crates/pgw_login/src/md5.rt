@@ -1,5 +1,5 @@
 //! Logins by a password that MD5 is taken of.
-ghost use Rattle.std.specs.Prelude.{◌≡◌, ◌⊎◌, Ok, Err};
+ghost use Rattle.std.specs.Prelude.{◌≡◌, ◌⊎◌, OnOk, Ok, Err};
 ghost use Rattle.pgw_login.specs.Logins.{login_of};
 ghost use Rattle.pgw_login.specs.Acts.{standing, Did, Then, Awaits, IsSameSource};
 ghost use Rattle.std.specs.Arc.{arc_value};
@@ -114,6 +114,7 @@ where
     ) -> PgWireResult<()>
         ensures source { IsSameSource state.old state.new }
         ensures challenged { Did O.add (O.sent out.old) (O.sent out.new) (Challenges (A.answers self.now.auth_source)) (standing (C.sight client.now) state.old (O.faults out.old)) (standing (C.sight client.now) state.new (O.faults out.new)) result }
+        ensures flushed { OnOk result (O.waiting out.new ≡ 0) }
     {
         let (salt, password) = self.salted(alloc, &LoginInfo::from_client_info(client))?;
         state.kept = Some(password);
@@ -131,6 +132,7 @@ where
     ) -> PgWireResult<()>
         ensures source { IsSameSource state.old state.new }
         ensures opened { Did O.add (O.sent out.old) (O.sent out.new) (Then (Opens startup.now) (Challenges (A.answers self.now.auth_source))) (standing (C.sight client.old) state.old (O.faults out.old)) (standing (C.sight client.new) state.new (O.faults out.new)) result }
+        ensures flushed { OnOk result (O.waiting out.new ≡ 0) }
     {
         open_login(alloc, client, out, state, startup)?;
         self.challenge(alloc, client, out, state)
@@ -147,6 +149,7 @@ where
         requires { G.fits self.now.generator state.old.seat × M.fits self.now.registry state.old.pass }
         ensures fits { G.fits self.now.generator state.new.seat × M.fits self.now.registry state.new.pass }
         ensures checked { Did O.add (O.sent out.old) (O.sent out.new) (Then Awaits (Then (Matches message) (Finishes (P.provides self.now.parameter_provider) (M.registers self.now.registry)))) (standing (C.sight client.old) state.old (O.faults out.old)) (standing (C.sight client.new) state.new (O.faults out.new)) result }
+        ensures flushed { OnOk result (O.waiting out.new ≡ 0) }
     {
         state.await_password()?;
         compare(
@@ -178,6 +181,7 @@ where
         requires { G.fits self.now.generator state.old.seat × M.fits self.now.registry state.old.pass }
         ensures fits { G.fits self.now.generator state.new.seat × M.fits self.now.registry state.new.pass }
         ensures answered { Did O.add (O.sent out.old) (O.sent out.new) (Md5On (A.answers self.now.auth_source) (P.provides self.now.parameter_provider) (M.registers self.now.registry) message) (standing (C.sight client.old) state.old (O.faults out.old)) (standing (C.sight client.new) state.new (O.faults out.new)) result }
+        ensures flushed { O.waiting out.old ≡ 0 → OnOk result (O.waiting out.new ≡ 0) }
     {
         match message {
             Heard::Startup(startup) => self.open(alloc, client, out, state, &startup),

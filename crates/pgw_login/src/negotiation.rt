@@ -51,7 +51,8 @@ fn negotiation(
 
 // Tells what is to be told.
 fn tell<O: Outbox>(out: &mut O, offer: Option<PgWireBackendMessage>) -> PgWireResult<()>
-    ensures { (client : Client) (login : TheState) → Did O.add (O.sent out.old) (O.sent out.new) (Sends (told offer)) (standing client login (O.faults out.old)) (standing client login (O.faults out.new)) result }
+    ensures told { (client : Client) (login : TheState) → Did O.add (O.sent out.old) (O.sent out.new) (Sends (told offer)) (standing client login (O.faults out.old)) (standing client login (O.faults out.new)) result }
+    ensures flushed { O.waiting out.old ≡ 0 → OnOk result (O.waiting out.new ≡ 0) }
 {
     match offer {
         Some(message) => send(out, message),
@@ -67,7 +68,8 @@ pub fn protocol_negotiation<C: ClientInfo, O: Outbox>(
     out: &mut O,
     startup: &Startup,
 ) -> PgWireResult<()>
-    ensures { (login : TheState) → Did O.add (O.sent out.old) (O.sent out.new) (Negotiates startup.now) (standing (C.sight client.old) login (O.faults out.old)) (standing (C.sight client.new) login (O.faults out.new)) result }
+    ensures negotiated { (login : TheState) → Did O.add (O.sent out.old) (O.sent out.new) (Negotiates startup.now) (standing (C.sight client.old) login (O.faults out.old)) (standing (C.sight client.new) login (O.faults out.new)) result }
+    ensures flushed { O.waiting out.old ≡ 0 → OnOk result (O.waiting out.new ≡ 0) }
 {
     let (version, offer) = negotiation(alloc, startup)?;
     tell(out, offer)?;
@@ -109,6 +111,7 @@ pub fn begin<C: ClientInfo, O: Outbox>(
 ) -> PgWireResult<()>
     ensures source { IsSameSource state.old state.new }
     ensures begun { Did O.add (O.sent out.old) (O.sent out.new) (Begins startup.now) (standing (C.sight client.old) state.old (O.faults out.old)) (standing (C.sight client.new) state.new (O.faults out.new)) result }
+    ensures flushed { O.waiting out.old ≡ 0 → OnOk result (O.waiting out.new ≡ 0) }
 {
     state.start()?;
     protocol_negotiation(alloc, client, out, startup)?;
@@ -126,6 +129,7 @@ pub fn open_login<C: ClientInfo, O: Outbox>(
 ) -> PgWireResult<()>
     ensures source { IsSameSource state.old state.new }
     ensures opened { Did O.add (O.sent out.old) (O.sent out.new) (Opens startup.now) (standing (C.sight client.old) state.old (O.faults out.old)) (standing (C.sight client.new) state.new (O.faults out.new)) result }
+    ensures flushed { O.waiting out.old ≡ 0 → OnOk result (O.waiting out.new ≡ 0) }
 {
     begin(alloc, client, out, state, startup)?;
     client.set_state(PgWireConnectionState::AuthenticationInProgress);
@@ -143,6 +147,7 @@ pub fn ask<C: ClientInfo, O: Outbox>(
 ) -> PgWireResult<()>
     ensures source { IsSameSource state.old state.new }
     ensures asked { Did O.add (O.sent out.old) (O.sent out.new) (Then (Opens startup.now) (Sends (PgWireBackendMessage.Authentication request ∷ []))) (standing (C.sight client.old) state.old (O.faults out.old)) (standing (C.sight client.new) state.new (O.faults out.new)) result }
+    ensures flushed { OnOk result (O.waiting out.new ≡ 0) }
 {
     open_login(alloc, client, out, state, startup)?;
     send(out, PgWireBackendMessage::Authentication(request))

@@ -1,5 +1,5 @@
 //! Logins that ask for nothing.
-ghost use Rattle.std.specs.Prelude.{◌≡◌, List};
+ghost use Rattle.std.specs.Prelude.{◌≡◌, OnOk, List};
 ghost use Rattle.pgw_frontend.specs.declared.frontend.PgWireFrontendMessage.{PgWireFrontendMessage as TheMessage};
 ghost use Rattle.pgw_backend.specs.declared.backend.PgWireBackendMessage.{PgWireBackendMessage as Backend};
 ghost use Rattle.pgw_login.specs.Acts.{Standing, standing, Answer, Did, Passes};
@@ -76,6 +76,7 @@ fn welcome<H: NoopStartupHandler, C: ClientInfo, O: Outbox>(
     requires { H.Generator.fits (H.generator handler.now) state.old.seat × H.Registry.fits (H.registry handler.now) state.old.pass }
     ensures fits { H.Generator.fits (H.generator handler.now) state.new.seat × H.Registry.fits (H.registry handler.now) state.new.pass }
     ensures welcomed { Did O.add (O.sent out.old) (O.sent out.new) (Welcomes (H.posts handler.now) (H.Registry.registers (H.registry handler.now)) startup) (standing (C.sight client.old) state.old (O.faults out.old)) (standing (C.sight client.new) state.new (O.faults out.new)) result }
+    ensures flushed { OnOk result (O.waiting out.new ≡ 0) }
 {
     begin(alloc, client, out, state, &startup)?;
     let generator = handler.pid_secret_key_generator();
@@ -104,6 +105,7 @@ fn answer<H: NoopStartupHandler, C: ClientInfo, O: Outbox>(
     requires { H.Generator.fits (H.generator handler.now) state.old.seat × H.Registry.fits (H.registry handler.now) state.old.pass }
     ensures fits { H.Generator.fits (H.generator handler.now) state.new.seat × H.Registry.fits (H.registry handler.now) state.new.pass }
     ensures answered { Did O.add (O.sent out.old) (O.sent out.new) (NoopOn (H.posts handler.now) (H.Registry.registers (H.registry handler.now)) message) (standing (C.sight client.old) state.old (O.faults out.old)) (standing (C.sight client.new) state.new (O.faults out.new)) result }
+    ensures flushed { O.waiting out.old ≡ 0 → OnOk result (O.waiting out.new ≡ 0) }
 {
     match message {
         Heard::Startup(startup) => welcome(handler, alloc, client, out, state, startup),
@@ -124,6 +126,7 @@ pub fn noop_startup<H: NoopStartupHandler, C: ClientInfo, O: Outbox>(
     requires { H.Generator.fits (H.generator handler.now) state.old.seat × H.Registry.fits (H.registry handler.now) state.old.pass }
     ensures fits { H.Generator.fits (H.generator handler.now) state.new.seat × H.Registry.fits (H.registry handler.now) state.new.pass }
     ensures means { Did O.add (O.sent out.old) (O.sent out.new) (NoopMeans (H.posts handler.now) (H.Registry.registers (H.registry handler.now)) message) (standing (C.sight client.old) state.old (O.faults out.old)) (standing (C.sight client.new) state.new (O.faults out.new)) result }
+    ensures flushed { O.waiting out.old ≡ 0 → OnOk result (O.waiting out.new ≡ 0) }
 {
     let answer = answer(handler, alloc, client, out, state, Heard::of(message));
     state.settle(answer)

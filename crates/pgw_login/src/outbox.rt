@@ -1,5 +1,5 @@
 //! Where a server's messages go.
-ghost use Rattle.std.specs.Prelude.{◌≡◌, ℕ, OnOk, OnErr, IfErr, Ok, []};
+ghost use Rattle.std.specs.Prelude.{◌≡◌, ◌≤◌, ℕ, ◌+◌, OnOk, OnErr, IfErr, Ok, []};
 ghost use Rattle.pgw_backend.specs.declared.backend.PgWireBackendMessage.{PgWireBackendMessage as TheMessage};
 ghost use Rattle.pgw_login.specs.Sending.{NotTaken, and_encoding};
 
@@ -21,9 +21,13 @@ pub trait Outbox {
     /// How many of its calls failed.
     ghost faults: { Self → ℕ };
 
+    /// How many of the messages that were taken wait here, and are not sent on yet.
+    ghost waiting: { Self → ℕ };
+
     /// Takes a message. It may wait here for those that follow.
     fn feed(&mut self, message: PgWireBackendMessage) -> PgWireResult<()>
         ensures taken { OnOk result (sent self.new ≡ add (sent self.old) message) }
+        ensures waits { waiting self.new ≤ waiting self.old + 1 }
         ensures calm { OnOk result (faults self.new ≡ faults self.old) }
         ensures kept { OnErr result (sent self.new ≡ sent self.old) }
         ensures cause { IfErr result (λ e. NotTaken message (faults self.old) (faults self.new) e) };
@@ -31,6 +35,7 @@ pub trait Outbox {
     /// Takes a message and sends it on, with all that wait.
     fn send(&mut self, message: PgWireBackendMessage) -> PgWireResult<()>
         ensures taken { OnOk result (sent self.new ≡ add (sent self.old) message) }
+        ensures flushed { OnOk result (waiting self.new ≡ 0) }
         ensures calm { OnOk result (faults self.new ≡ faults self.old) }
         ensures kept { OnErr result (sent self.new ≡ sent self.old) }
         ensures cause { IfErr result (λ e. NotTaken message (faults self.old) (faults self.new) e) };
@@ -63,6 +68,8 @@ impl Outbox for ByteOutbox {
     ghost add = { and_encoding };
 
     ghost faults = { λ o. 0 };
+
+    ghost waiting = { λ o. 0 };
 
     fn feed(&mut self, message: PgWireBackendMessage) -> PgWireResult<()> {
         let written = message.encode(&mut self.buffer);

@@ -80,16 +80,18 @@ impl LoginState {
         &self.nonce
     }
 
-    /// Begins the login, which can be done once.
+    /// Begins the login, which can be done once, and not where a message of it was refused.
     pub fn start(&mut self) -> PgWireResult<()>
         ensures source { IsSameSource self.old self.new }
         ensures started { (client : Client) (faults : ℕ) → Starts (standing client self.old faults) (standing client self.new faults) [] result }
     {
-        if self.started {
-            return Err(PgWireError::InvalidSASLState);
+        match &self.sasl {
+            SASLState::Initial if !self.started => {
+                self.started = true;
+                Ok(())
+            }
+            _ => Err(PgWireError::InvalidSASLState),
         }
-        self.started = true;
-        Ok(())
     }
 
     /// Whether a first password message may come. It may come once.

@@ -5,11 +5,11 @@ use Rattle.pgw_login.specs.Client.{with_version, with_state}
 use Rattle.pgw_login.specs.declared.client_info.PgWireConnectionState.TheVariants.{AuthenticationInProgress, ReadyForQuery}
 use Rattle.pgw_login.proofs.finish.ready.Goals as goal
 
-pub returns-in_err-send : goal.returns-in_err-send
-returns-in_err-send g c =
+pub returns-in_err-send-clause-readied : goal.returns-in_err-send-clause-readied
+returns-in_err-send-clause-readied g c =
     let p = err_from_is_err_and c.from_residual.result c.from_residual.ensures.1 in
-    λ login. rw (p.1, p.2) (did_halt (c.in_err-send.ensures (g.C.ClientInfo.sight c.args.client.now) login))
+    λ login. rw (p.1, p.2) (did_halt (c.in_err-send.ensures.sent (g.C.ClientInfo.sight c.args.client.now) login))
 
-pub returns : goal.returns
-returns g c =
-    λ login. did_then (c.in_ok-send.ensures (g.C.ClientInfo.sight c.args.client.now) login) (did_set (with_state ReadyForQuery) login _ c.set_state.ensures)
+pub returns-clause-readied : goal.returns-clause-readied
+returns-clause-readied g c =
+    λ login. did_then (c.in_ok-send.ensures.sent (g.C.ClientInfo.sight c.args.client.now) login) (did_set (with_state ReadyForQuery) login _ c.set_state.ensures)

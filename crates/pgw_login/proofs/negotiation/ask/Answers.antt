@@ -10,4 +10,4 @@ returns-in_err-open_login-clause-asked g c =
 
 pub returns-clause-asked : goal.returns-clause-asked
 returns-clause-asked g c =
-    did_then c.in_ok-open_login.ensures.opened (c.send.ensures _ _)
+    did_then c.in_ok-open_login.ensures.opened (c.send.ensures.sent _ _)

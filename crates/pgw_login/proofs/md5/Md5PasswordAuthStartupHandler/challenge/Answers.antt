@@ -12,4 +12,4 @@ returns-in_err-salt-clause-challenged g c =
 
 pub returns-clause-challenged : goal.returns-clause-challenged
 returns-clause-challenged g c =
-    did_challenge (g.A.AuthSource.answers c.args.self.now.auth_source) (Ok (c.in_ok-salt.salt, c.in_ok-salt.password)) (rw c.from_client_info.ensures at c.in_ok-salt.ensures) (did_then (did_mark (with_kept c.in_ok-salt.password) _ _ refl) (c.send.ensures _ _))
+    did_challenge (g.A.AuthSource.answers c.args.self.now.auth_source) (Ok (c.in_ok-salt.salt, c.in_ok-salt.password)) (rw c.from_client_info.ensures at c.in_ok-salt.ensures) (did_then (did_mark (with_kept c.in_ok-salt.password) _ _ refl) (c.send.ensures.sent _ _))
