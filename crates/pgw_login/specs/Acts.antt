@@ -5,6 +5,7 @@ use Rattle.pgw_types.specs.declared.error.PgWireError.TheVariants.{OutOfMemory, 
 use Rattle.pgw_backend.specs.declared.backend.PgWireBackendMessage.{PgWireBackendMessage as Message}
 use Rattle.pgw_login.specs.Client.{Client}
 use Rattle.pgw_login.specs.Sending.{NotTaken}
+use Rattle.pgw_login.specs.Registered.{CanRelease, guard_of}
 use Rattle.pgw_login.specs.declared.state.LoginState.{LoginState}
 use Rattle.pgw_login.specs.declared.state.SASLState.{SASLState}
 use Rattle.pgw_login.specs.declared.state.SASLState.TheVariants.{Initial, ScramClientFirstReceived, ScramServerFirstSent, OauthStateInit, OauthStateError, Finished, Failed}
@@ -111,9 +112,13 @@ AwaitsAt false = Refuses InvalidSASLState
 abbrev pub Awaits : Standing → Standing → List Message → Answer → Type 0
 Awaits before = AwaitsAt (awaits before.login) before
 
--- what a login may draw from is as before
+-- what a login may draw from, and what it has registered, is as before
 abbrev pub IsSameSource : LoginState → LoginState → Type 0
-IsSameSource old new = (new.seat ≡ old.seat) × (new.pass ≡ old.pass)
+IsSameSource old new = (new.seat ≡ old.seat) × (new.pass ≡ old.pass) × (new.registered ≡ old.registered)
+
+-- what a login has registered can be released by its pass
+abbrev pub IsReleasable : LoginState → Type 0
+IsReleasable s = CanRelease (guard_of s.registered) s.pass
 
 -- ---- what an outbox is told
 

@@ -1,5 +1,5 @@
 -- What becomes of a pass where a connection is registered.
-use Rattle.std.specs.Prelude.{◌≡◌, ◌⊎◌, ℤ, List, length, Option, Some, None, Result, Ok, Err}
+use Rattle.std.specs.Prelude.{◌≡◌, ◌⊎◌, ℤ, List, length, Option, Some, None, option_map, Result, Ok, Err}
 use Rattle.std.specs.Arc.{arc_value}
 use Rattle.atomic_table.specs.Seated.{TableId}
 use Rattle.pgw_wire.specs.Keys.{key_bytes}
@@ -14,6 +14,18 @@ use Rattle.pgw_registry.specs.declared.manager.ConnectionGuard.{ConnectionGuard}
 
 abbrev pub Pair : Type 0
 Pair = ConnectionHandle × ConnectionGuard
+
+abbrev pub handle_of : Option Pair → Option ConnectionHandle
+handle_of = option_map (λ p. p.0)
+
+abbrev pub guard_of : Option Pair → Option ConnectionGuard
+guard_of = option_map (λ p. p.1)
+
+-- what is registered can be released by the pass: there is one, and it is of the same manager
+abbrev pub CanRelease : Option ConnectionGuard → Option Known → Type 0
+CanRelease None pass = Unit {0}
+CanRelease (Some guard) None = ⊥
+CanRelease (Some guard) (Some v) = v.of ≡ arc_value guard.manager
 
 -- the greatest number of events stands in what the pass has seen
 abbrev pub IsFull : Option Known → Type 0

@@ -2,7 +2,7 @@
 ghost use Rattle.std.specs.Prelude.{◌≡◌, ◌⊎◌, OnOk, Result, Err};
 ghost use Rattle.std.specs.Option.{option_copied};
 ghost use Rattle.pgw_login.specs.Logins.{login_of};
-ghost use Rattle.pgw_login.specs.Acts.{standing, Did, Then, Awaits};
+ghost use Rattle.pgw_login.specs.Acts.{standing, Did, Then, Awaits, IsReleasable};
 ghost use Rattle.std.specs.Arc.{arc_value};
 ghost use Rattle.pgw_login.specs.Finish.{Finishes};
 ghost use Rattle.pgw_login.specs.Cleartext.{CleartextMeans, CleartextOn, Checked, Checks, ComparedTo, wrong_password};
@@ -115,6 +115,7 @@ where
     ) -> PgWireResult<()>
         requires { G.fits self.now.generator state.old.seat × M.fits self.now.registry state.old.pass }
         ensures fits { G.fits self.now.generator state.new.seat × M.fits self.now.registry state.new.pass }
+        ensures releasable { IsReleasable state.old → IsReleasable state.new }
         ensures checked { Did O.add (O.sent out.old) (O.sent out.new) (Then Awaits (Then (Checks (A.answers self.now.auth_source) message) (Finishes (P.provides self.now.parameter_provider) (M.registers self.now.registry)))) (standing (C.sight client.old) state.old (O.faults out.old)) (standing (C.sight client.new) state.new (O.faults out.new)) result }
         ensures flushed { OnOk result (O.waiting out.new ≡ 0) }
     {
@@ -142,6 +143,7 @@ where
     ) -> PgWireResult<()>
         requires { G.fits self.now.generator state.old.seat × M.fits self.now.registry state.old.pass }
         ensures fits { G.fits self.now.generator state.new.seat × M.fits self.now.registry state.new.pass }
+        ensures releasable { IsReleasable state.old → IsReleasable state.new }
         ensures answered { Did O.add (O.sent out.old) (O.sent out.new) (CleartextOn (A.answers self.now.auth_source) (P.provides self.now.parameter_provider) (M.registers self.now.registry) message) (standing (C.sight client.old) state.old (O.faults out.old)) (standing (C.sight client.new) state.new (O.faults out.new)) result }
         ensures flushed { O.waiting out.old ≡ 0 → OnOk result (O.waiting out.new ≡ 0) }
     {
@@ -163,7 +165,7 @@ where
     G: PidSecretKeyGenerator,
     M: Registers,
 {
-    ghost fits = { λ h s. G.fits h.generator s.seat × M.fits h.registry s.pass };
+    ghost fits = { λ h s. G.fits h.generator s.seat × M.fits h.registry s.pass × IsReleasable s };
 
     ghost means = { λ h. CleartextMeans (A.answers h.auth_source) (P.provides h.parameter_provider) (M.registers h.registry) };
 

@@ -2,7 +2,7 @@
 ghost use Rattle.std.specs.Prelude.{◌≡◌, ℕ, [], ◌∷◌, ◌++◌, map, Option, OnOk, IfOk};
 ghost use Rattle.std.specs.FinMap as finite;
 ghost use Rattle.pgw_wire.specs.Pairs.{Held};
-ghost use Rattle.pgw_login.specs.Acts.{standing, Did};
+ghost use Rattle.pgw_login.specs.Acts.{standing, Did, IsReleasable};
 ghost use Rattle.pgw_login.specs.Finish.{Draws, Accepts, Enrolls, Introduces, Readies, ready, FinishesAuthentication, Finishes, introduction, status_of, pid_refusal};
 ghost use Rattle.pgw_login.specs.declared.state.LoginState.{LoginState as TheState};
 
@@ -43,7 +43,7 @@ pub fn draw<C: ClientInfo, G: PidSecretKeyGenerator>(
 ) -> PgWireResult<()>
     requires { G.fits generator.now state.old.seat }
     ensures fits { G.fits generator.now state.new.seat }
-    ensures pass { state.new.pass ≡ state.old.pass }
+    ensures pass { (state.new.pass ≡ state.old.pass) × (state.new.registered ≡ state.old.registered) }
     ensures drawn { (faults : ℕ) → Draws (standing (C.sight client.old) state.old faults) (standing (C.sight client.new) state.new faults) [] result }
 {
     let version = client.protocol_version();
@@ -66,6 +66,7 @@ pub fn enroll<C: ClientInfo, M: Registers>(
     requires { M.fits registry.now state.old.pass }
     ensures fits { M.fits registry.now state.new.pass }
     ensures seat { state.new.seat ≡ state.old.seat }
+    ensures releasable { IsReleasable state.old → IsReleasable state.new }
     ensures enrolled { (faults : ℕ) → Enrolls (M.registers registry.now) (standing (C.sight client.now) state.old faults) (standing (C.sight client.now) state.new faults) [] result }
 {
     if state.registered.is_some() {
@@ -95,6 +96,7 @@ pub fn accept<C: ClientInfo, G: PidSecretKeyGenerator, M: Registers>(
 ) -> PgWireResult<()>
     requires { G.fits generator.now state.old.seat × M.fits registry.now state.old.pass }
     ensures fits { G.fits generator.now state.new.seat × M.fits registry.now state.new.pass }
+    ensures releasable { IsReleasable state.old → IsReleasable state.new }
     ensures accepted { (faults : ℕ) → Accepts (M.registers registry.now) (standing (C.sight client.old) state.old faults) (standing (C.sight client.new) state.new faults) [] result }
 {
     draw(client, state, generator)?;
@@ -193,6 +195,7 @@ where
     M: Registers,
     requires { G.fits generator.now state.old.seat × M.fits registry.now state.old.pass }
     ensures fits { G.fits generator.now state.new.seat × M.fits registry.now state.new.pass }
+    ensures releasable { IsReleasable state.old → IsReleasable state.new }
     ensures finished { Did O.add (O.sent out.old) (O.sent out.new) (Finishes (P.provides provider.now) (M.registers registry.now)) (standing (C.sight client.old) state.old (O.faults out.old)) (standing (C.sight client.new) state.new (O.faults out.new)) result }
     ensures flushed { OnOk result (O.waiting out.new ≡ 0) }
 {

@@ -1,7 +1,7 @@
 //! Logins by a password that MD5 is taken of.
 ghost use Rattle.std.specs.Prelude.{◌≡◌, ◌⊎◌, OnOk, Ok, Err};
 ghost use Rattle.pgw_login.specs.Logins.{login_of};
-ghost use Rattle.pgw_login.specs.Acts.{standing, Did, Then, Awaits, IsSameSource};
+ghost use Rattle.pgw_login.specs.Acts.{standing, Did, Then, Awaits, IsSameSource, IsReleasable};
 ghost use Rattle.std.specs.Arc.{arc_value};
 ghost use Rattle.pgw_login.specs.Finish.{Finishes};
 ghost use Rattle.pgw_login.specs.Opening.{Opens};
@@ -148,6 +148,7 @@ where
     ) -> PgWireResult<()>
         requires { G.fits self.now.generator state.old.seat × M.fits self.now.registry state.old.pass }
         ensures fits { G.fits self.now.generator state.new.seat × M.fits self.now.registry state.new.pass }
+        ensures releasable { IsReleasable state.old → IsReleasable state.new }
         ensures checked { Did O.add (O.sent out.old) (O.sent out.new) (Then Awaits (Then (Matches message) (Finishes (P.provides self.now.parameter_provider) (M.registers self.now.registry)))) (standing (C.sight client.old) state.old (O.faults out.old)) (standing (C.sight client.new) state.new (O.faults out.new)) result }
         ensures flushed { OnOk result (O.waiting out.new ≡ 0) }
     {
@@ -180,6 +181,7 @@ where
     ) -> PgWireResult<()>
         requires { G.fits self.now.generator state.old.seat × M.fits self.now.registry state.old.pass }
         ensures fits { G.fits self.now.generator state.new.seat × M.fits self.now.registry state.new.pass }
+        ensures releasable { IsReleasable state.old → IsReleasable state.new }
         ensures answered { Did O.add (O.sent out.old) (O.sent out.new) (Md5On (A.answers self.now.auth_source) (P.provides self.now.parameter_provider) (M.registers self.now.registry) message) (standing (C.sight client.old) state.old (O.faults out.old)) (standing (C.sight client.new) state.new (O.faults out.new)) result }
         ensures flushed { O.waiting out.old ≡ 0 → OnOk result (O.waiting out.new ≡ 0) }
     {
@@ -198,7 +200,7 @@ where
     G: PidSecretKeyGenerator,
     M: Registers,
 {
-    ghost fits = { λ h s. G.fits h.generator s.seat × M.fits h.registry s.pass };
+    ghost fits = { λ h s. G.fits h.generator s.seat × M.fits h.registry s.pass × IsReleasable s };
 
     ghost means = { λ h. Md5Means (A.answers h.auth_source) (P.provides h.parameter_provider) (M.registers h.registry) };
 

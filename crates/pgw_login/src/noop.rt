@@ -2,7 +2,7 @@
 ghost use Rattle.std.specs.Prelude.{◌≡◌, OnOk, List};
 ghost use Rattle.pgw_frontend.specs.declared.frontend.PgWireFrontendMessage.{PgWireFrontendMessage as TheMessage};
 ghost use Rattle.pgw_backend.specs.declared.backend.PgWireBackendMessage.{PgWireBackendMessage as Backend};
-ghost use Rattle.pgw_login.specs.Acts.{Standing, standing, Answer, Did, Passes};
+ghost use Rattle.pgw_login.specs.Acts.{Standing, standing, Answer, Did, Passes, IsReleasable};
 ghost use Rattle.pgw_login.specs.Noop.{NoopMeans, NoopOn, Welcomes, IntroducesBy};
 ghost use Rattle.pgw_login.specs.Provider.{default_provider};
 ghost use Rattle.pgw_login.specs.declared.state.LoginState.{LoginState as TheState};
@@ -75,6 +75,7 @@ fn welcome<H: NoopStartupHandler, C: ClientInfo, O: Outbox>(
 ) -> PgWireResult<()>
     requires { H.Generator.fits (H.generator handler.now) state.old.seat × H.Registry.fits (H.registry handler.now) state.old.pass }
     ensures fits { H.Generator.fits (H.generator handler.now) state.new.seat × H.Registry.fits (H.registry handler.now) state.new.pass }
+    ensures releasable { IsReleasable state.old → IsReleasable state.new }
     ensures welcomed { Did O.add (O.sent out.old) (O.sent out.new) (Welcomes (H.posts handler.now) (H.Registry.registers (H.registry handler.now)) startup) (standing (C.sight client.old) state.old (O.faults out.old)) (standing (C.sight client.new) state.new (O.faults out.new)) result }
     ensures flushed { OnOk result (O.waiting out.new ≡ 0) }
 {
@@ -104,6 +105,7 @@ fn answer<H: NoopStartupHandler, C: ClientInfo, O: Outbox>(
 ) -> PgWireResult<()>
     requires { H.Generator.fits (H.generator handler.now) state.old.seat × H.Registry.fits (H.registry handler.now) state.old.pass }
     ensures fits { H.Generator.fits (H.generator handler.now) state.new.seat × H.Registry.fits (H.registry handler.now) state.new.pass }
+    ensures releasable { IsReleasable state.old → IsReleasable state.new }
     ensures answered { Did O.add (O.sent out.old) (O.sent out.new) (NoopOn (H.posts handler.now) (H.Registry.registers (H.registry handler.now)) message) (standing (C.sight client.old) state.old (O.faults out.old)) (standing (C.sight client.new) state.new (O.faults out.new)) result }
     ensures flushed { O.waiting out.old ≡ 0 → OnOk result (O.waiting out.new ≡ 0) }
 {
@@ -125,6 +127,7 @@ pub fn noop_startup<H: NoopStartupHandler, C: ClientInfo, O: Outbox>(
 ) -> PgWireResult<()>
     requires { H.Generator.fits (H.generator handler.now) state.old.seat × H.Registry.fits (H.registry handler.now) state.old.pass }
     ensures fits { H.Generator.fits (H.generator handler.now) state.new.seat × H.Registry.fits (H.registry handler.now) state.new.pass }
+    ensures releasable { IsReleasable state.old → IsReleasable state.new }
     ensures means { Did O.add (O.sent out.old) (O.sent out.new) (NoopMeans (H.posts handler.now) (H.Registry.registers (H.registry handler.now)) message) (standing (C.sight client.old) state.old (O.faults out.old)) (standing (C.sight client.new) state.new (O.faults out.new)) result }
     ensures flushed { O.waiting out.old ≡ 0 → OnOk result (O.waiting out.new ≡ 0) }
 {
@@ -178,7 +181,7 @@ impl<G: PidSecretKeyGenerator> NoopStartupHandler for NoopHandler<G> {
 impl<G: PidSecretKeyGenerator> StartupHandler for NoopHandler<G> {
     ghost use Rattle.pgw_login.specs.Registered.{NotRegistered};
 
-    ghost fits = { λ h s. G.fits h.generator s.seat };
+    ghost fits = { λ h s. G.fits h.generator s.seat × IsReleasable s };
 
     ghost means = { λ h. NoopMeans (λ m. Passes) (λ before pid key after answer. NotRegistered before after answer) };
 

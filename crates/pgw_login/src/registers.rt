@@ -1,9 +1,9 @@
 //! Where a connection is registered, so that its queries can be canceled.
-ghost use Rattle.std.specs.Prelude.{◌≡◌, ℤ, Option, Result};
+ghost use Rattle.std.specs.Prelude.{◌≡◌, ℤ, Option, Result, IfOk};
 ghost use Rattle.pgw_registry.specs.Passes.{Known};
 ghost use Rattle.pgw_registry.specs.declared.error.RegistryError.{RegistryError as Refusal};
 ghost use Rattle.pgw_wire.specs.declared.secret_key.SecretKey.{SecretKey as Key};
-ghost use Rattle.pgw_login.specs.Registered.{Pair, CanBe};
+ghost use Rattle.pgw_login.specs.Registered.{Pair, CanBe, CanRelease, guard_of};
 
 use pgw_registry::error::RegistryError;
 use pgw_registry::manager::{ConnectionGuard, ConnectionHandle, ConnectionManager, Pass};
@@ -31,7 +31,8 @@ pub trait Registers {
         requires { fits self.now pass.old }
         ensures fits { fits self.now pass.new }
         ensures registers { registers self.now pass.old pid secret_key.now pass.new result }
-        ensures can_be { CanBe pass.new result };
+        ensures can_be { CanBe pass.new result }
+        ensures can_release { IfOk result (λ pair. CanRelease (guard_of pair) pass.new) };
 }
 
 /// Registers nothing.

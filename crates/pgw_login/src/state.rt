@@ -1,7 +1,8 @@
 //! How far a login is.
-ghost use Rattle.std.specs.Prelude.{◌≡◌, ℕ, [], None, false, option_map};
+ghost use Rattle.std.specs.Prelude.{◌≡◌, ℕ, [], None, false};
 ghost use Rattle.pgw_login.specs.Client.{Client};
-ghost use Rattle.pgw_login.specs.Acts.{standing, Starts, Awaits, IsSameSource, with_sasl, settled};
+ghost use Rattle.pgw_login.specs.Acts.{standing, Starts, Awaits, IsSameSource, with_sasl, settled, IsReleasable};
+ghost use Rattle.pgw_login.specs.Registered.{CanRelease, guard_of, handle_of};
 ghost use Rattle.pgw_login.specs.declared.state.SASLState.TheVariants.{Initial};
 
 use pgw_registry::generator::PidSeat;
@@ -128,7 +129,8 @@ impl LoginState {
         Option<ConnectionGuard>,
     )
         ensures drawn { (result.0 ≡ self.seat) × (result.1 ≡ self.pass) }
-        ensures registered { (result.2 ≡ option_map (λ p. p.0) self.registered) × (result.3 ≡ option_map (λ p. p.1) self.registered) }
+        ensures registered { (result.2 ≡ handle_of self.registered) × (result.3 ≡ guard_of self.registered) }
+        ensures releasable { IsReleasable self → CanRelease result.3 result.1 }
     {
         let LoginState {
             nonce: _,
