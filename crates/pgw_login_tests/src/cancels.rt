@@ -24,7 +24,12 @@ fn finish<R: Wait>(rt: &R, manager: &ConnectionManager, pass: &mut Pass, token: 
     }
 }
 
-fn close<R: Wait>(rt: &R, manager: &ConnectionManager, pass: &mut Pass, handle: ConnectionHandle)
+pub fn close<R: Wait>(
+    rt: &R,
+    manager: &ConnectionManager,
+    pass: &mut Pass,
+    handle: ConnectionHandle,
+)
     requires { pass.old.of ≡ manager.now }
     ensures { pass.new.of ≡ pass.old.of }
 {
@@ -34,7 +39,7 @@ fn close<R: Wait>(rt: &R, manager: &ConnectionManager, pass: &mut Pass, handle: 
     }
 }
 
-fn release<R: Wait>(rt: &R, pass: &mut Pass, guard: ConnectionGuard)
+pub fn release<R: Wait>(rt: &R, pass: &mut Pass, guard: ConnectionGuard)
     requires { pass.old.of ≡ arc_value guard.manager }
     ensures { pass.new.of ≡ pass.old.of }
 {
@@ -49,8 +54,7 @@ fn is_taken<R: Wait>(
     rt: &R,
     manager: &Arc<ConnectionManager>,
     pass: &mut Pass,
-    number: i32,
-    key: i32,
+    request: CancelRequest,
 ) -> bool
     requires { pass.old.of ≡ arc_value manager.now }
     ensures { pass.new.of ≡ pass.old.of }
@@ -59,24 +63,22 @@ fn is_taken<R: Wait>(
         return false;
     };
     let handler = DefaultCancelHandler::new(manager, rt);
-    let request = CancelRequest::new(number, SecretKey::I32(key));
     handler.on_cancel_request(pass, request).is_ok()
 }
 
-// Whether a query of the connection is canceled by a request.
-fn is_canceled<R: Wait>(
+/// Whether a query of the connection is canceled by a request.
+pub fn is_canceled<R: Wait>(
     rt: &R,
     manager: &Arc<ConnectionManager>,
     pass: &mut Pass,
     handle: &ConnectionHandle,
-    number: i32,
-    key: i32,
+    request: CancelRequest,
 ) -> Option<bool>
     requires { pass.old.of ≡ arc_value manager.now }
     ensures { pass.new.of ≡ pass.old.of }
 {
     let token = handle.start_query(rt, manager, pass).ok()?;
-    let is_taken = is_taken(rt, manager, pass, number, key);
+    let is_taken = is_taken(rt, manager, pass, request);
     let looked = token.try_recv(rt, manager, pass);
     finish(rt, manager, pass, token);
     if is_taken {
@@ -84,6 +86,10 @@ fn is_canceled<R: Wait>(
     } else {
         None
     }
+}
+
+fn request(number: i32, key: i32) -> CancelRequest {
+    CancelRequest::new(number, SecretKey::I32(key))
 }
 
 // Whether a query of the connection is canceled: by the key of another, by the number of another, and by its own.
@@ -96,9 +102,9 @@ fn each_canceled<R: Wait>(
     requires { pass.old.of ≡ arc_value manager.now }
     ensures { pass.new.of ≡ pass.old.of }
 {
-    let by_another_key = is_canceled(rt, manager, pass, handle, 7, 6);
-    let by_another_number = is_canceled(rt, manager, pass, handle, 8, 5);
-    let by_its_own = is_canceled(rt, manager, pass, handle, 7, 5);
+    let by_another_key = is_canceled(rt, manager, pass, handle, request(7, 6));
+    let by_another_number = is_canceled(rt, manager, pass, handle, request(8, 5));
+    let by_its_own = is_canceled(rt, manager, pass, handle, request(7, 5));
     [by_another_key, by_another_number, by_its_own]
 }
 
@@ -170,7 +176,7 @@ fn managed_registers(rt: HostRuntime) -> Result<(), Fail> {
 #[test]
 fn noop_cancels_nothing(rt: HostRuntime) -> Result<(), Fail> {
     let (manager, mut pass) = ConnectionManager::new(rt.alloc())?;
-    let request = CancelRequest::new(7, SecretKey::I32(5));
+    let request = request(7, 5);
     let handler = NoopHandler::new(());
     assert_eq!(rt; handler.on_cancel_request(&mut pass, request), Ok(()));
     assert_eq!(rt; manager.events(&mut pass), 0);

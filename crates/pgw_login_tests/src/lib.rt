@@ -6,6 +6,10 @@ mod cancels;
 #[cfg(test)]
 mod handlers;
 #[cfg(test)]
+mod registered;
+#[cfg(test)]
+mod server_handlers;
+#[cfg(test)]
 mod support;
 #[cfg(test)]
 mod values;

@@ -14,6 +14,7 @@ use pgw_opening::terminate::Terminate;
 use pgw_registry::generator::PidSeat;
 use pgw_scram::password::Password as Kept;
 use pgw_startup::password::{Password, PasswordMessageFamily};
+use pgw_startup::sasl::SASLResponse;
 use pgw_startup::startup::Startup;
 use pgw_types::error::{PgWireError, PgWireResult};
 use pgw_types::memory::OutOfMemory;
@@ -24,7 +25,8 @@ use std::alloc::Global;
 use std::fmt::Debug;
 use std::process::Abort;
 
-/// Keeps one password with a salt, for whoever asks but `eve`; that of `tom` has no salt.
+/// Keeps one password with a salt, for whoever asks but `eve`; that of `tom` has no salt, and that of `sam` one of three
+/// bytes.
 #[derive(Drop)]
 pub struct OnePassword {
     pub password: &'static [u8],
@@ -38,6 +40,10 @@ impl AuthSource for OnePassword {
         match login.user() {
             Some(name) if name == "eve" => Err(PgWireError::UserNameRequired),
             Some(name) if name == "tom" => Ok(Kept::new(None, password)),
+            Some(name) if name == "sam" => {
+                let salt = Octets::from_slice(alloc, b"abc")?;
+                Ok(Kept::new(Some(salt), password))
+            }
             _ => {
                 let salt = Octets::from_slice(alloc, b"\x14\xf7\x6b\xf9")?;
                 Ok(Kept::new(Some(salt), password))
@@ -70,6 +76,10 @@ pub enum Step<'a> {
     /// With this version, and no user name.
     Version(u16, u16),
     Password(&'a str),
+    /// A body of a password message that is not read yet.
+    Raw(&'a [u8]),
+    /// A message of SASL.
+    Response(&'a [u8]),
     Terminate,
 }
 
@@ -90,14 +100,25 @@ fn version(alloc: Global, major: u16, minor: u16) -> PgWireFrontendMessage {
     PgWireFrontendMessage::Startup(startup)
 }
 
+fn password_message(message: PasswordMessageFamily) -> PgWireFrontendMessage {
+    PgWireFrontendMessage::PasswordMessageFamily(message)
+}
+
 fn message_of(alloc: Global, step: Step<'_>) -> PgWireResult<PgWireFrontendMessage> {
     match step {
         Step::Startup(user) => startup(alloc, user),
         Step::Version(major, minor) => Ok(version(alloc, major, minor)),
         Step::Password(text) => {
             let password = Password::new(Text::from_str(alloc, text)?);
-            let message = PasswordMessageFamily::Password(password);
-            Ok(PgWireFrontendMessage::PasswordMessageFamily(message))
+            Ok(password_message(PasswordMessageFamily::Password(password)))
+        }
+        Step::Raw(body) => {
+            let body = Octets::from_slice(alloc, body)?;
+            Ok(password_message(PasswordMessageFamily::Raw(body)))
+        }
+        Step::Response(data) => {
+            let response = SASLResponse::new(Octets::from_slice(alloc, data)?);
+            Ok(password_message(PasswordMessageFamily::SASLResponse(response)))
         }
         Step::Terminate => Ok(PgWireFrontendMessage::Terminate(Terminate::new())),
     }
@@ -150,8 +171,8 @@ fn hear<H: StartupHandler>(
     Ok(word?)
 }
 
-// Hears the messages, those behind a refusal too, and tells what the last is answered.
-fn hear_all<H: StartupHandler>(
+/// Hears the messages, those behind a refusal too, and tells what the last is answered.
+pub fn hear_all<H: StartupHandler>(
     alloc: Global,
     handler: &H,
     client: &mut DefaultClient<()>,
@@ -199,7 +220,7 @@ pub fn outcome_of<H: StartupHandler, R: Abort>(
     seat: PidSeat,
     steps: &[Step<'_>],
 ) -> Result<Outcome, OutOfMemory>
-    requires { (state : TheState) → state.seat ≡ seat → state.pass ≡ None → H.fits handler.now state }
+    requires { (state : TheState) → state.seat ≡ seat → state.pass ≡ None → state.registered ≡ None → H.fits handler.now state }
 {
     let mut client = DefaultClient::new(alloc, Text::new(alloc), false, ());
     let mut out = ByteOutbox::new(alloc);
@@ -235,14 +256,16 @@ pub fn compare<R: Abort>(rt: &R, outcome: Outcome, word: &str, sent: &[u8]) {
     drop(outcome);
 }
 
-// What was refused.
-fn words_of(answer: &PgWireResult<()>) -> &str {
+/// What was refused.
+pub fn words_of(answer: &PgWireResult<()>) -> &str {
     match answer {
         Ok(()) => "ok",
         Err(PgWireError::InvalidSASLState) => "InvalidSASLState",
         Err(PgWireError::SaltRequired) => "SaltRequired",
         Err(PgWireError::UserNameRequired) => "UserNameRequired",
         Err(PgWireError::PidsExhausted) => "PidsExhausted",
+        Err(PgWireError::InvalidMessageBody) => "InvalidMessageBody",
+        Err(PgWireError::FailedToCoercePasswordMessage) => "FailedToCoercePasswordMessage",
         Err(PgWireError::UnsupportedProtocolVersion(_, _)) => "UnsupportedProtocolVersion",
         Err(PgWireError::InvalidPassword(user)) => user.as_str(),
         Err(_) => "another error",
