@@ -2,3 +2,4 @@ pub mod ConfigurationLaws
 pub mod TokenLaws
 pub mod OfferLaws
 pub mod LastingLaws
+pub mod EntryLaws

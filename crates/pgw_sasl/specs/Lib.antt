@@ -5,3 +5,4 @@ pub mod Scram
 pub mod ErrorText
 pub mod Oauth
 pub mod Sasl
+pub mod Entry

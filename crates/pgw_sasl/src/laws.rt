@@ -1,7 +1,9 @@
 //! What holds of logins by SASL.
+ghost use Rattle.pgw_sasl.specs.Entry.{ProvesSasl};
 ghost use Rattle.pgw_sasl.specs.Methods.{offered_methods};
 ghost use Rattle.pgw_sasl.specs.Sasl.{ByOauth, SaslMeans};
 ghost use Rattle.pgw_sasl.specs.Scram.{ByScram};
+ghost use Rattle.pgw_server.specs.Entry.{LetsInBy};
 ghost use Rattle.pgw_server.specs.Lasting.{KeepsReady};
 
 use crate::handler::SASLAuthStartupHandler;
@@ -17,6 +19,24 @@ where
     P: ServerParameterProvider,
     M: Registers,
     ensures { KeepsReady (SaslMeans (offered_methods handler.now.scram handler.now.oauth) (ByScram A.answers handler.now.scram) (ByOauth handler.now.oauth (λ o. validates o.validator)) (P.provides handler.now.parameter_provider) (M.registers handler.now.registry)) }
+{
+    let _handler = handler;
+}
+
+/// SASL lets a client in only behind its proof, or its token: AuthenticationOk and ReadyForQuery are said in answer to one
+/// of two messages alone. One is a client-final that SCRAM accepts, behind a server-first that was offered with this
+/// login's nonce by what the source answered for the user of the startup message. The other has a token which the
+/// validator says gives that user access.
+pub fn sasl_lets_in_behind_a_proof<A, P, G, M>(handler: &SASLAuthStartupHandler<A, P, G, M>)
+where
+    A: AuthSource,
+    P: ServerParameterProvider,
+    M: Registers,
+    ensures { LetsInBy
+        (SaslMeans (offered_methods handler.now.scram handler.now.oauth)
+        (ByScram A.answers handler.now.scram) (ByOauth handler.now.oauth (λ o. validates o.validator))
+        (P.provides handler.now.parameter_provider) (M.registers handler.now.registry))
+        (ProvesSasl A.answers handler.now.scram (λ o. validates o.validator) handler.now.oauth) }
 {
     let _handler = handler;
 }

@@ -1,3 +1,6 @@
 pub mod ClientFront
 pub mod ServerLaws
 pub mod LastingLaws
+pub mod EntryLaws
+pub mod EntryActs
+pub mod PasswordEntry

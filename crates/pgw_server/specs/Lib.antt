@@ -3,3 +3,5 @@ pub mod Server
 pub mod Stands
 pub mod Steps
 pub mod Lasting
+pub mod Taken
+pub mod Entry

@@ -1,13 +1,15 @@
 //! What holds of a server's core.
 ghost use Rattle.std.specs.Prelude.{◌++◌, ℕ, List};
-ghost use Rattle.pgw_course.specs.Course.{Course, IsReading};
+ghost use Rattle.pgw_course.specs.Course.{Course, IsReading, sent_of};
 ghost use Rattle.pgw_course.specs.Play.{Leads, Continues};
 ghost use Rattle.pgw_login.specs.Acts.{Passes};
 ghost use Rattle.pgw_login.specs.Cleartext.{CleartextMeans};
 ghost use Rattle.pgw_login.specs.Md5.{Md5Means};
 ghost use Rattle.pgw_login.specs.Noop.{NoopMeans};
+ghost use Rattle.pgw_server.specs.Entry.{LetsInBy, ProvesCleartext, ProvesMd5};
 ghost use Rattle.pgw_server.specs.Lasting.{IsReady, KeepsReady, StaysReady};
 ghost use Rattle.pgw_server.specs.Server.{Stage, Ending, reading, serving};
+ghost use Rattle.pgw_server.specs.Taken.{taken_in, Accounts};
 
 use pgw_login::handler::StartupHandler;
 use pgw_login::provider::ServerParameterProvider;
@@ -38,4 +40,23 @@ pub fn handlers_keep_a_finished_login<A: AuthSource, P: ServerParameterProvider,
     ensures cleartext { (source : A) (provider : P) (registry : M) → KeepsReady (CleartextMeans (A.answers source) (P.provides provider) (M.registers registry)) }
     ensures md5 { (source : A) (provider : P) (registry : M) → KeepsReady (Md5Means (A.answers source) (P.provides provider) (M.registers registry)) }
     ensures noop { (registry : M) → KeepsReady (NoopMeans (λ m. Passes) (M.registers registry)) }
+{}
+
+/// What a server takes stands at the front of the bytes given, one message behind the other; and what it puts out are the
+/// encodings of what it says to each, with `N` for each request for encryption.
+pub fn a_server_accounts_for_its_bytes<H: StartupHandler>()
+    ensures { (handler : H) (begin : Stage) (given : List ℕ) (course : Course Stage Ending)
+        (way : Leads (serving (H.means handler)) begin given course) →
+        Accounts (taken_in (H.means handler) begin given course way) given (sent_of course) }
+{}
+
+/// The handlers for a password let a client in only behind it: AuthenticationOk and ReadyForQuery are said in answer to a
+/// password message alone whose text is, byte for byte, what the source answered for the user of the startup message.
+pub fn handlers_let_in_behind_a_password<A: AuthSource, P: ServerParameterProvider, M: Registers>()
+    ensures cleartext { (source : A) (provider : P) (registry : M) → LetsInBy
+        (CleartextMeans (A.answers source) (P.provides provider) (M.registers registry))
+        (ProvesCleartext (A.answers source)) }
+    ensures md5 { (source : A) (provider : P) (registry : M) → LetsInBy
+        (Md5Means (A.answers source) (P.provides provider) (M.registers registry))
+        (ProvesMd5 (A.answers source)) }
 {}
