@@ -18,7 +18,7 @@ use Rattle.pgw_registry.specs.declared.error.RegistryError.TheVariants as regist
 use Rattle.pgw_login.specs.Client.{Client, with_state, with_metadata, with_version}
 use Rattle.pgw_login.specs.Login.{Login, login_seen}
 use Rattle.pgw_login.specs.Registered.{Pair}
-use Rattle.pgw_login.specs.Acts.{Standing, standing, Answer, Act, Then, halts, Refuses, Passes, Tells, Sets, Marks, Sends, OrFails, OrNoMemory, Starts, StartsAt, Awaits, AwaitsAt, awaits, with_sasl, with_started, failed}
+use Rattle.pgw_login.specs.Acts.{Standing, standing, Answer, Act, Then, halts, Refuses, Passes, Tells, Sets, Marks, Sends, OrFails, OrNoMemory, Starts, StartsFrom, StartsAt, is_initial, Awaits, AwaitsAt, awaits, with_sasl, with_started, failed}
 use Rattle.pgw_login.specs.Acts as acts
 use Rattle.pgw_login.specs.Opening.{Begins, Opens, Negotiates, Settles, negotiation, by_minor, told, Saves, saved, offer}
 use Rattle.pgw_login.specs.Finish.{Draws, Entered, Enrolls, EnrollsAt, Accepts, Introduces, introduction, ready, Readies, FinishesAuthentication, Finishes}
@@ -96,9 +96,14 @@ quiet_sets f before after sent answer h = nothing_said sent h.1
 pub quiet_marks : (f : LoginState → LoginState) → Quiet (Marks f)
 quiet_marks f before after sent answer h = nothing_said sent h.1
 
+quiet_starts_from : (b : Bool) → Quiet (StartsFrom b)
+quiet_starts_from true before after sent answer h = nothing_said sent h.1
+quiet_starts_from false before after sent answer h = nothing_said sent h.1
+
 quiet_starts_at : (b : Bool) → Quiet (StartsAt b)
 quiet_starts_at true before after sent answer h = nothing_said sent h.1
-quiet_starts_at false before after sent answer h = nothing_said sent h.1
+quiet_starts_at false before after sent answer h =
+    quiet_starts_from (is_initial before.login.sasl) before after sent answer h
 
 quiet_starts : Quiet Starts
 quiet_starts before after sent answer h = quiet_starts_at before.login.started before after sent answer h
@@ -250,11 +255,17 @@ saved_client s before after sent answer (inl h) ok = absurd (not_both answer _ h
 saved_client s before after sent answer (inr h) ok =
     (ap (λ s. s.client.metadata) h.0, ap (λ s. s.client.host) h.0, ap (λ s. s.login) h.0)
 
+started_from : (b : Bool) (before after : Standing) (sent : List Backend) (answer : Answer)
+    → StartsFrom b before after sent answer → answer ≡ Ok tt → after ≡ record before { login = with_started before.login }
+started_from true before after sent answer h ok = h.0
+started_from false before after sent answer h ok = absurd (not_both answer _ h.2 ok)
+
 started_at : (b : Bool) (before after : Standing) (sent : List Backend) (answer : Answer)
     → StartsAt b before after sent answer → answer ≡ Ok tt → (b ≡ false)
     × (after ≡ record before { login = with_started before.login })
 started_at true before after sent answer h ok = absurd (not_both answer _ h.2 ok)
-started_at false before after sent answer h ok = (refl, h.0)
+started_at false before after sent answer h ok =
+    (refl, started_from (is_initial before.login.sasl) before after sent answer h ok)
 
 seen_same : (c d : Client) → c.metadata ≡ d.metadata → c.host ≡ d.host → login_seen c ≡ login_seen d
 seen_same c d metadata host =

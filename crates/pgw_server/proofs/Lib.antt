@@ -4,3 +4,4 @@ pub mod LastingLaws
 pub mod EntryLaws
 pub mod EntryActs
 pub mod PasswordEntry
+pub mod PieceLaws

@@ -22,7 +22,7 @@ use Rattle.pgw_login.specs.declared.client_info.PgWireConnectionState.{PgWireCon
 use Rattle.pgw_login.specs.declared.client_info.PgWireConnectionState.TheVariants as state
 use Rattle.pgw_server.specs.Front.{client_front, met}
 use Rattle.pgw_server.specs.Server.{Stage, begins, Cause, Refused, Asked, Ending, ended, encodings, after, Handles, Steps, reading, serving}
-use Rattle.pgw_server.specs.Stands.{stage_of, IsAt, Stands, phase_at, ended_by, answer_at, Arrives}
+use Rattle.pgw_server.specs.Stands.{WentOn, stage_of, IsAt, Stands, phase_at, ended_by, answer_at, Arrives}
 use Rattle.pgw_server.specs.Steps.{is_end, DidStep, DidHear, IsPlace, Comes, Goes, Advanced}
 use Rattle.pgw_server.specs.declared.connection.ServerCore.{ServerCore}
 use Rattle.pgw_server.specs.declared.connection.ServerPhase.{ServerPhase}
@@ -77,13 +77,13 @@ module _ (means : Message → Standing → Standing → List Backend → Answer 
       → Did and_encoding (Ok old) (Ok new) (means m) (standing from.client from.login 0) (standing client login 0) (Ok tt) → DidHear means m from (record { client = client; login = login; started = true }) old new (Ok tt)
   hears m from client login old new d =
       let t = told old new d.sent d.told in
-      (t.0, t.2, (standing client login 0, d.sent, Ok tt, t.0, d.done, t.1, refl))
+      (t.0, t.2, (standing client login 0, d.sent, Ok tt, t.0, d.done, t.1, refl, refl))
 
   pub refuses : (m : Message) (from : Stage) (client : Client) (login : LoginState) (old new : List ℕ) (e : PgWireError)
       → Did and_encoding (Ok old) (Ok new) (means m) (standing from.client from.login 0) (standing client login 0) (Err e) → DidHear means m from (record { client = client; login = login; started = from.started }) old new (Err e)
   refuses m from client login old new e d =
       let t = told old new d.sent d.told in
-      (t.0, t.2, (standing client login 0, d.sent, Err e, t.0, d.done, t.1, refl))
+      (t.0, t.2, (standing client login 0, d.sent, Err e, t.0, d.done, t.1, refl, refl))
 
   -- what is no request for encryption or to cancel is the handler's
   pub handled : (m : Message) (from : Stage) (move : Move Stage Ending) → ((n : _) → m ≡ frontend.SslNegotiation n → ⊥) → ((r : CancelRequest) → m ≡ frontend.CancelRequest r → ⊥) → Handles means from m move → Steps means from m move
@@ -216,6 +216,21 @@ module _ (means : Message → Standing → Standing → List Backend → Answer 
       let there : IsPlace (stage_of new) new.inbox.items (put ++ comes.0) (behind out comes.1) = subst (λ (p : List ℕ). IsPlace (stage_of new) new.inbox.items (p ++ comes.0) (behind out comes.1)) at.2 (place_behind (stage_of new) new.inbox.items out comes.0 comes.1 comes.4) in
       let says : answer ≡ answer_at (behind out comes.1) = comes.5 ∙ sym (answer_behind out comes.1) in
       (comes.0, comes.2, (behind out comes.1, on_from, at_place new (put ++ comes.0) (behind out comes.1) answer over there says, says))
+
+  -- from any place
+  pub continues_on : {H : Type 0} (old new : ServerCore H) (put piece before after : List ℕ) (course : Course Stage Ending) (answer : Result ServerPhase PgWireError) → old.over ≡ false → new.over ≡ is_end answer → IsAt old put course
+      → Comes means (stage_of old) (old.inbox.items ++ piece) (stage_of new) new.inbox.items before after answer → WentOn means old new put piece before after course answer
+  continues_on old new put piece before after (Over ending out) answer on over at comes = let h = at.0 in absurd cc
+  continues_on old new put piece before after (Waits stage out pending) answer on over at comes =
+      let here : Leads (serving means) stage (pending ++ piece) comes.1 = subst (λ (s : Stage). Leads (serving means) s (pending ++ piece) comes.1) (sym at.1) (subst (λ (p : List ℕ). Leads (serving means) (stage_of old) (p ++ piece) comes.1) (sym at.3) comes.3) in
+      let there : IsPlace (stage_of new) new.inbox.items (put ++ comes.0) (behind out comes.1) = subst (λ (p : List ℕ). IsPlace (stage_of new) new.inbox.items (p ++ comes.0) (behind out comes.1)) at.2 (place_behind (stage_of new) new.inbox.items out comes.0 comes.1 comes.4) in
+      let says : answer ≡ answer_at (behind out comes.1) = comes.5 ∙ sym (answer_behind out comes.1) in
+      (comes.0, behind out comes.1, comes.2, (comes.1, here, refl), at_place new (put ++ comes.0) (behind out comes.1) answer over there says, λ going. says)
+
+  -- behind an end
+  pub continues_still : {H : Type 0} (core : ServerCore H) (put piece out : List ℕ) (course : Course Stage Ending) (answer : Result ServerPhase PgWireError) → core.over ≡ true → IsAt core put course → WentOn means core core put piece out out course answer
+  continues_still core put piece out (Waits stage sent pending) answer over at = let h = at.0 in absurd cc
+  continues_still core put piece out (Over ending sent) answer over at = ([], Over ending sent, sym (append-nil out), refl, (at.0, at.1, at.2 ∙ sym (append-nil put)), λ going. let h = sym going ∙ over in absurd cc)
 
   pub stands_on : {H : Type 0} (begin : Stage) (old new : ServerCore H) (given put piece before after : List ℕ) (answer : Result ServerPhase PgWireError) → old.over ≡ false → new.over ≡ is_end answer → Stands means begin old given put
       → Comes means (stage_of old) (old.inbox.items ++ piece) (stage_of new) new.inbox.items before after answer → (more : List ℕ) × (after ≡ before ++ more) × Stands means begin new (given ++ piece) (put ++ more)

@@ -5,3 +5,4 @@ pub mod Steps
 pub mod Lasting
 pub mod Taken
 pub mod Entry
+pub mod Pieces

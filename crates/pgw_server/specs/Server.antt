@@ -51,10 +51,10 @@ abbrev pub moved : Answer → Standing → Stage → List ℕ → Move Stage End
 moved (Ok done) s stage out = On (after s true) out
 moved (Err e) s stage out = Ends (ended (Refused e) (after s stage.started)) out
 
--- the handler's act, with the encodings of what it sends put out
+-- the handler's act, with the encodings of what it sends put out; no call of a core's outbox fails
 abbrev pub Handles : (Message → Standing → Standing → List Backend → Answer → Type 0) → Stage → Message → Move Stage Ending → Type 0
 Handles means stage m move = (to : Standing) × (sent : List Backend) × (answer : Answer) × (out : List ℕ)
-    × means m (standing stage.client stage.login 0) to sent answer × (encodings sent ≡ Ok out) × (move ≡ moved answer to stage out)
+    × means m (standing stage.client stage.login 0) to sent answer × (encodings sent ≡ Ok out) × (move ≡ moved answer to stage out) × (to.faults ≡ 0)
 
 -- A request for encryption is refused by the byte `N`, and a request to cancel ends the connection. All else is the handler's.
 abbrev pub Steps : (Message → Standing → Standing → List Backend → Answer → Type 0) → Stage → Message → Move Stage Ending → Type 0

@@ -1,10 +1,10 @@
 -- What a server's core stands for.
-use Rattle.std.specs.Prelude.{◌≡◌, ℕ, true, false, List, Result, Ok, Err}
+use Rattle.std.specs.Prelude.{◌≡◌, ℕ, true, false, List, ◌++◌, Result, Ok, Err}
 use Rattle.pgw_types.specs.declared.error.PgWireError.{PgWireError}
 use Rattle.pgw_frontend.specs.declared.frontend.PgWireFrontendMessage.{PgWireFrontendMessage as Message}
 use Rattle.pgw_backend.specs.declared.backend.PgWireBackendMessage.{PgWireBackendMessage as Backend}
 use Rattle.pgw_course.specs.Course.{Course, Waits, Over}
-use Rattle.pgw_course.specs.Play.{Leads}
+use Rattle.pgw_course.specs.Play.{Leads, Continues}
 use Rattle.pgw_login.specs.DefaultClients.{seen}
 use Rattle.pgw_login.specs.Acts.{Standing, Answer}
 use Rattle.pgw_login.specs.declared.client_info.PgWireConnectionState.{PgWireConnectionState}
@@ -43,3 +43,8 @@ answer_at (Over ending out) = ended_by ending.cause
 -- the same, where a call has just led there, and its answer says so
 abbrev pub Arrives : {H : Type 0} → (Message → Standing → Standing → List Backend → Answer → Type 0) → Stage → ServerCore H → List ℕ → List ℕ → Result ServerPhase PgWireError → Type 0
 Arrives means begin core given put answer = (course : Course Stage Ending) × Leads (serving means) begin given course × IsAt core put course × (answer ≡ answer_at course)
+
+-- From where a core was, a piece more leads to where it is, these bytes are put out on the way, and of one that goes on
+-- the answer says so.
+abbrev pub WentOn : {H : Type 0} → (Message → Standing → Standing → List Backend → Answer → Type 0) → ServerCore H → ServerCore H → List ℕ → List ℕ → List ℕ → List ℕ → Course Stage Ending → Result ServerPhase PgWireError → Type 0
+WentOn means old new put piece before after course answer = (more : List ℕ) × (there : Course Stage Ending) × (after ≡ before ++ more) × Continues (serving means) course piece there × IsAt new (put ++ more) there × (old.over ≡ false → answer ≡ answer_at there)

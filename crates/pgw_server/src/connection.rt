@@ -1,9 +1,9 @@
 //! A server's side of a login: bytes go in as they come, and those to be sent come out.
 ghost use Rattle.std.specs.Prelude.{◌≡◌, ◌++◌, ℕ, List, [], true, false, None, Ok, OnOk, IfErr, ◌∷◌};
-ghost use Rattle.pgw_course.specs.Course.{More};
+ghost use Rattle.pgw_course.specs.Course.{Course, More};
 ghost use Rattle.pgw_login.specs.DefaultClients.{seen};
-ghost use Rattle.pgw_server.specs.Server.{Stage, begins, reading};
-ghost use Rattle.pgw_server.specs.Stands.{stage_of, phase_at, Stands, Arrives};
+ghost use Rattle.pgw_server.specs.Server.{Stage, Ending, begins, reading};
+ghost use Rattle.pgw_server.specs.Stands.{stage_of, phase_at, IsAt, Stands, Arrives, WentOn};
 ghost use Rattle.pgw_server.specs.Steps.{is_end, DidHear, DidStep, Advanced, Comes};
 
 use crate::front::next_message;
@@ -87,6 +87,8 @@ impl<H: StartupHandler> ServerCore<H> {
         // For all bytes given and put out that it stood for, it stands for them with the piece and what is appended.
         ensures stands { (begin : Stage) (given put : List ℕ) → Stands (H.means self.old.handler) begin self.old given put →
             (more : List ℕ) × (out.new.items ≡ out.old.items ++ more) × Stands (H.means self.old.handler) begin self.new (given ++ piece.now) (put ++ more) }
+        // From wherever it was, the piece leads to where it is.
+        ensures continues { (course : Course Stage Ending) (put : List ℕ) → IsAt self.old put course → WentOn (H.means self.old.handler) self.old self.new put piece.now out.old.items out.new.items course result }
         // What it answers is what that place tells,
         ensures answers { self.old.over ≡ false → (begin : Stage) (given put : List ℕ) → Stands (H.means self.old.handler) begin self.old given put →
             (more : List ℕ) × (out.new.items ≡ out.old.items ++ more) × Arrives (H.means self.old.handler) begin self.new (given ++ piece.now) (put ++ more) result }

@@ -1,6 +1,7 @@
 //! What holds of a server's core.
-ghost use Rattle.std.specs.Prelude.{◌++◌, ℕ, List};
-ghost use Rattle.pgw_course.specs.Course.{Course, IsReading, sent_of};
+ghost use Rattle.std.specs.Prelude.{◌++◌, ◌↔◌, ◌∷◌, ℕ, List, []};
+ghost use Rattle.std.specs.List.{concat};
+ghost use Rattle.pgw_course.specs.Course.{Course, Waits, IsReading, sent_of};
 ghost use Rattle.pgw_course.specs.Play.{Leads, Continues};
 ghost use Rattle.pgw_login.specs.Acts.{Passes};
 ghost use Rattle.pgw_login.specs.Cleartext.{CleartextMeans};
@@ -8,6 +9,7 @@ ghost use Rattle.pgw_login.specs.Md5.{Md5Means};
 ghost use Rattle.pgw_login.specs.Noop.{NoopMeans};
 ghost use Rattle.pgw_server.specs.Entry.{LetsInBy, ProvesCleartext, ProvesMd5};
 ghost use Rattle.pgw_server.specs.Lasting.{IsReady, KeepsReady, StaysReady};
+ghost use Rattle.pgw_server.specs.Pieces.{LeadOn};
 ghost use Rattle.pgw_server.specs.Server.{Stage, Ending, reading, serving};
 ghost use Rattle.pgw_server.specs.Taken.{taken_in, Accounts};
 
@@ -22,11 +24,18 @@ pub fn a_server_reads_steadily()
     ensures { (stage : Stage) → IsReading (reading stage) }
 {}
 
-/// Where some bytes lead to a place, and a piece leads on from there, they lead on together. Behind an end a piece
+/// It does not matter how bytes are cut: which places they may lead to hangs on the bytes alone. Behind an end a piece
 /// changes nothing.
 pub fn pieces_join<H: StartupHandler>()
-    ensures { (handler : H) (begin : Stage) (given piece : List ℕ) (course there : Course Stage Ending) → Leads (serving (H.means handler)) begin given course →
-        Continues (serving (H.means handler)) course piece there → Leads (serving (H.means handler)) begin (given ++ piece) there }
+    // Bytes and a piece lead to a place just where the bytes lead to one from which the piece leads there.
+    ensures one { (handler : H) (begin : Stage) (given piece : List ℕ) (there : Course Stage Ending) →
+        Leads (serving (H.means handler)) begin (given ++ piece) there
+        ↔ ((course : Course Stage Ending) × Leads (serving (H.means handler)) begin given course
+        × Continues (serving (H.means handler)) course piece there) }
+    // One piece after the other leads to the places to which they lead together, and to no other.
+    ensures all { (handler : H) (begin : Stage) (piece : List ℕ) (pieces : List (List ℕ)) (there : Course Stage Ending) →
+        LeadOn (H.means handler) (Waits begin [] []) (piece ∷ pieces) there
+        ↔ Leads (serving (H.means handler)) begin (concat (piece ∷ pieces)) there }
 {}
 
 /// Once the client may ask, it may ask until a message is refused, where its handler keeps it so.
