@@ -44,6 +44,12 @@ none_exact E x y = absurd x
 pub field_exact : {X : Type 0} (E : X → X → Bool) → IsExact E → IsExact (λ (x y : X × Unit {0}). E x.0 y.0)
 field_exact {X} E h x y = (λ e. ap (λ (a : X). (a, tt)) ((h x.0 y.0).0 e), λ e. (h x.0 y.0).1 (ap (λ (p : X × Unit {0}). p.0) e))
 
+pub pair_exact : {X Y : Type 0} (E : X → X → Bool) (F : Y → Y → Bool) → IsExact E → IsExact F → IsExact (λ (x y : X × (Y × Unit {0})). E x.0 y.0 && F x.1.0 y.1.0)
+pair_exact E F h k = both_exact E (λ x y. F x.0 y.0) h (field_exact F k)
+
+pub triple_exact : {X Y Z : Type 0} (E : X → X → Bool) (F : Y → Y → Bool) (G : Z → Z → Bool) → IsExact E → IsExact F → IsExact G → IsExact (λ (x y : X × (Y × (Z × Unit {0}))). E x.0 y.0 && (F x.1.0 y.1.0 && G x.1.1.0 y.1.1.0))
+triple_exact E F G h k l = both_exact E (λ x y. F x.0 y.0 && G x.1.0 y.1.0) h (pair_exact F G k l)
+
 pub sum_exact : {X Y : Type 0} (E : X → X → Bool) (F : Y → Y → Bool) → IsExact E → IsExact F → IsExact (λ (x y : X ⊎ Y). ⊎_elim (λ a. ⊎_elim (λ b. E a b) (λ b. false) y) (λ a. ⊎_elim (λ b. false) (λ b. F a b) y) x)
 sum_exact E F h k (inl x) (inl y) = (λ e. ap inl ((h x y).0 e), λ e. (h x y).1 cc)
 sum_exact E F h k (inl x) (inr y) = (λ e. absurd cc, λ e. absurd cc)

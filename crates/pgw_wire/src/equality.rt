@@ -1,10 +1,13 @@
 //! What holds of the values that every layer compares.
 ghost use Rattle.pgw_wire.specs.Equal.{IsExact};
 
+use crate::framing::Framing;
 use crate::params::Params;
 use crate::secret_key::SecretKey;
 use pgw_types::context::{DecodeContext, ProtocolVersion};
+use pgw_types::error::{ApiFault, OauthFault, OauthRefusal, PgWireError, ScramMessageFault};
 use pgw_types::error_info::ErrorInfo;
+use pgw_types::memory::OutOfMemory;
 use pgw_types::octets::Octets;
 use pgw_types::text::Text;
 
@@ -17,4 +20,11 @@ pub fn equality_is_exact()
     ensures error_info { IsExact ⟦<ErrorInfo as PartialEq>⟧.eq }
     ensures protocol_version { IsExact ⟦<ProtocolVersion as PartialEq>⟧.eq }
     ensures decode_context { IsExact ⟦<DecodeContext as PartialEq>⟧.eq }
+    ensures framing { IsExact ⟦<Framing as PartialEq>⟧.eq }
+    ensures scram_message_fault { IsExact ⟦<ScramMessageFault as PartialEq>⟧.eq }
+    ensures oauth_fault { IsExact ⟦<OauthFault as PartialEq>⟧.eq }
+    ensures oauth_refusal { IsExact ⟦<OauthRefusal as PartialEq>⟧.eq }
+    ensures api_fault { IsExact ⟦<ApiFault as PartialEq>⟧.eq }
+    ensures pgwire_error { IsExact ⟦<PgWireError as PartialEq>⟧.eq }
+    ensures out_of_memory { IsExact ⟦<OutOfMemory as PartialEq>⟧.eq }
 {}
