@@ -68,9 +68,9 @@ fn send_reply<C: Outgoing>(
     client: &mut C,
     reply: Option<PgWireFrontendMessage>,
 ) -> PgWireClientResult<()>
-    ensures sends { C.tells → SendsReply reply (C.sight client.old) (C.sight client.new) result }
+    ensures sends { SendsReply reply (C.sight client.old) (C.sight client.new) result }
     ensures own { C.own client.new ≡ C.own client.old }
-    ensures rest { C.tells → C.rest client.new ≡ C.rest client.old }
+    ensures rest { C.rest client.new ≡ C.rest client.old }
     ensures cause { HasCause (C.faults client.old) (C.faults client.new) (C.sight client.new).broken result }
 {
     match reply {
@@ -130,9 +130,9 @@ impl DefaultStartupHandler {
         next: Next,
     ) -> PgWireClientResult<()>
         requires { RefusesCaused next }
-        ensures follows { C.tells → Follows next message (standing self.old (C.sight client.old)) (standing self.new (C.sight client.new)) (pending result) }
+        ensures follows { Follows next message (standing self.old (C.sight client.old)) (standing self.new (C.sight client.new)) (pending result) }
         ensures own { C.own client.new ≡ C.own client.old }
-        ensures rest { C.tells → C.rest client.new ≡ C.rest client.old }
+        ensures rest { C.rest client.new ≡ C.rest client.old }
         ensures cause { HasCause (C.faults client.old) (C.faults client.new) (C.sight client.new).broken result }
     {
         match next {

@@ -27,9 +27,6 @@ pub enum ReadyState<D> {
 
 /// What a client tells of itself in contracts. It has no function.
 pub trait Seen {
-    /// A fact that holds where clients of this type tell their bytes, and never elsewhere.
-    ghost tells: { Type 0 };
-
     /// What a handler sees of the client.
     ghost sight: { Self → Sight };
 
@@ -41,7 +38,7 @@ pub trait Seen {
 
     ghost own: { Self → Own };
 
-    /// What of its link no handler changes, where it is told.
+    /// What of its link no handler changes.
     ghost Rest: { Type 0 };
 
     ghost rest: { Self → Rest };

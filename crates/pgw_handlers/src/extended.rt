@@ -30,9 +30,9 @@ pub trait ExtendedQueryHandler {
         client: &mut C,
         message: Parse,
     ) -> PgWireClientResult<()>
-        ensures means { C.tells → means (standing self.old (C.sight client.old)) (parse message) (standing self.new (C.sight client.new)) (done result) }
+        ensures means { means (standing self.old (C.sight client.old)) (parse message) (standing self.new (C.sight client.new)) (done result) }
         ensures own { C.own client.new ≡ C.own client.old }
-        ensures rest { C.tells → C.rest client.new ≡ C.rest client.old }
+        ensures rest { C.rest client.new ≡ C.rest client.old }
         ensures cause { HasCause (C.faults client.old) (C.faults client.new) (C.sight client.new).broken result };
 
     fn bind<C: ClientInfo + Outgoing>(
@@ -41,9 +41,9 @@ pub trait ExtendedQueryHandler {
         client: &mut C,
         message: Bind,
     ) -> PgWireClientResult<()>
-        ensures means { C.tells → means (standing self.old (C.sight client.old)) (bind message) (standing self.new (C.sight client.new)) (done result) }
+        ensures means { means (standing self.old (C.sight client.old)) (bind message) (standing self.new (C.sight client.new)) (done result) }
         ensures own { C.own client.new ≡ C.own client.old }
-        ensures rest { C.tells → C.rest client.new ≡ C.rest client.old }
+        ensures rest { C.rest client.new ≡ C.rest client.old }
         ensures cause { HasCause (C.faults client.old) (C.faults client.new) (C.sight client.new).broken result };
 
     fn execute<C: ClientInfo + Outgoing>(
@@ -52,9 +52,9 @@ pub trait ExtendedQueryHandler {
         client: &mut C,
         message: Execute,
     ) -> PgWireClientResult<()>
-        ensures means { C.tells → means (standing self.old (C.sight client.old)) (execute message) (standing self.new (C.sight client.new)) (done result) }
+        ensures means { means (standing self.old (C.sight client.old)) (execute message) (standing self.new (C.sight client.new)) (done result) }
         ensures own { C.own client.new ≡ C.own client.old }
-        ensures rest { C.tells → C.rest client.new ≡ C.rest client.old }
+        ensures rest { C.rest client.new ≡ C.rest client.old }
         ensures cause { HasCause (C.faults client.old) (C.faults client.new) (C.sight client.new).broken result };
 
     fn describe<C: ClientInfo + Outgoing>(
@@ -63,9 +63,9 @@ pub trait ExtendedQueryHandler {
         client: &mut C,
         message: Describe,
     ) -> PgWireClientResult<()>
-        ensures means { C.tells → means (standing self.old (C.sight client.old)) (describe message) (standing self.new (C.sight client.new)) (done result) }
+        ensures means { means (standing self.old (C.sight client.old)) (describe message) (standing self.new (C.sight client.new)) (done result) }
         ensures own { C.own client.new ≡ C.own client.old }
-        ensures rest { C.tells → C.rest client.new ≡ C.rest client.old }
+        ensures rest { C.rest client.new ≡ C.rest client.old }
         ensures cause { HasCause (C.faults client.old) (C.faults client.new) (C.sight client.new).broken result };
 
     fn close<C: ClientInfo + Outgoing>(
@@ -74,9 +74,9 @@ pub trait ExtendedQueryHandler {
         client: &mut C,
         message: Close,
     ) -> PgWireClientResult<()>
-        ensures means { C.tells → means (standing self.old (C.sight client.old)) (close message) (standing self.new (C.sight client.new)) (done result) }
+        ensures means { means (standing self.old (C.sight client.old)) (close message) (standing self.new (C.sight client.new)) (done result) }
         ensures own { C.own client.new ≡ C.own client.old }
-        ensures rest { C.tells → C.rest client.new ≡ C.rest client.old }
+        ensures rest { C.rest client.new ≡ C.rest client.old }
         ensures cause { HasCause (C.faults client.old) (C.faults client.new) (C.sight client.new).broken result };
 
     fn sync<C: ClientInfo + Outgoing>(
@@ -85,9 +85,9 @@ pub trait ExtendedQueryHandler {
         client: &mut C,
         message: Sync,
     ) -> PgWireClientResult<()>
-        ensures means { C.tells → means (standing self.old (C.sight client.old)) sync (standing self.new (C.sight client.new)) (done result) }
+        ensures means { means (standing self.old (C.sight client.old)) sync (standing self.new (C.sight client.new)) (done result) }
         ensures own { C.own client.new ≡ C.own client.old }
-        ensures rest { C.tells → C.rest client.new ≡ C.rest client.old }
+        ensures rest { C.rest client.new ≡ C.rest client.old }
         ensures cause { HasCause (C.faults client.old) (C.faults client.new) (C.sight client.new).broken result };
 
     fn flush<C: ClientInfo + Outgoing>(
@@ -96,9 +96,9 @@ pub trait ExtendedQueryHandler {
         client: &mut C,
         message: Flush,
     ) -> PgWireClientResult<()>
-        ensures means { C.tells → means (standing self.old (C.sight client.old)) flush (standing self.new (C.sight client.new)) (done result) }
+        ensures means { means (standing self.old (C.sight client.old)) flush (standing self.new (C.sight client.new)) (done result) }
         ensures own { C.own client.new ≡ C.own client.old }
-        ensures rest { C.tells → C.rest client.new ≡ C.rest client.old }
+        ensures rest { C.rest client.new ≡ C.rest client.old }
         ensures cause { HasCause (C.faults client.old) (C.faults client.new) (C.sight client.new).broken result };
 
     /// The types of the parameters.

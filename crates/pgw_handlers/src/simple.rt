@@ -29,9 +29,9 @@ pub trait SimpleQueryHandler {
         client: &mut C,
         query: &str,
     ) -> PgWireClientResult<()>
-        ensures means { C.tells → means (standing self.old (C.sight client.old)) (simple_query query.now) (standing self.new (C.sight client.new)) (pending result) }
+        ensures means { means (standing self.old (C.sight client.old)) (simple_query query.now) (standing self.new (C.sight client.new)) (pending result) }
         ensures own { C.own client.new ≡ C.own client.old }
-        ensures rest { C.tells → C.rest client.new ≡ C.rest client.old }
+        ensures rest { C.rest client.new ≡ C.rest client.old }
         ensures cause { HasCause (C.faults client.old) (C.faults client.new) (C.sight client.new).broken result };
 
     /// Hears a message: hands it to its function, and sets the status that a ReadyForQuery tells before that.
@@ -41,10 +41,10 @@ pub trait SimpleQueryHandler {
         client: &mut C,
         message: PgWireBackendMessage,
     ) -> PgWireClientResult<ReadyState<Listed<Self::QueryResponse>>>
-        ensures means { C.tells → HeardInQuery means (standing self.old (C.sight client.old)) message (standing self.new (C.sight client.new)) result }
+        ensures means { HeardInQuery means (standing self.old (C.sight client.old)) message (standing self.new (C.sight client.new)) result }
         ensures ready { IfOk result (EndsAtReady message) }
         ensures own { C.own client.new ≡ C.own client.old }
-        ensures rest { C.tells → C.rest client.new ≡ C.rest client.old }
+        ensures rest { C.rest client.new ≡ C.rest client.old }
         ensures cause { HasCause (C.faults client.old) (C.faults client.new) (C.sight client.new).broken result }
     {
         match message {
@@ -85,9 +85,9 @@ pub trait SimpleQueryHandler {
         client: &mut C,
         message: RowDescription,
     ) -> PgWireClientResult<()>
-        ensures means { C.tells → means (standing self.old (C.sight client.old)) (on_row_description message) (standing self.new (C.sight client.new)) (pending result) }
+        ensures means { means (standing self.old (C.sight client.old)) (on_row_description message) (standing self.new (C.sight client.new)) (pending result) }
         ensures own { C.own client.new ≡ C.own client.old }
-        ensures rest { C.tells → C.rest client.new ≡ C.rest client.old }
+        ensures rest { C.rest client.new ≡ C.rest client.old }
         ensures cause { HasCause (C.faults client.old) (C.faults client.new) (C.sight client.new).broken result };
 
     fn on_data_row<C: ClientInfo + Outgoing>(
@@ -96,9 +96,9 @@ pub trait SimpleQueryHandler {
         client: &mut C,
         message: DataRow,
     ) -> PgWireClientResult<()>
-        ensures means { C.tells → means (standing self.old (C.sight client.old)) (on_data_row message) (standing self.new (C.sight client.new)) (pending result) }
+        ensures means { means (standing self.old (C.sight client.old)) (on_data_row message) (standing self.new (C.sight client.new)) (pending result) }
         ensures own { C.own client.new ≡ C.own client.old }
-        ensures rest { C.tells → C.rest client.new ≡ C.rest client.old }
+        ensures rest { C.rest client.new ≡ C.rest client.old }
         ensures cause { HasCause (C.faults client.old) (C.faults client.new) (C.sight client.new).broken result };
 
     fn on_command_complete<C: ClientInfo + Outgoing>(
@@ -107,9 +107,9 @@ pub trait SimpleQueryHandler {
         client: &mut C,
         message: CommandComplete,
     ) -> PgWireClientResult<()>
-        ensures means { C.tells → means (standing self.old (C.sight client.old)) (on_command_complete message) (standing self.new (C.sight client.new)) (pending result) }
+        ensures means { means (standing self.old (C.sight client.old)) (on_command_complete message) (standing self.new (C.sight client.new)) (pending result) }
         ensures own { C.own client.new ≡ C.own client.old }
-        ensures rest { C.tells → C.rest client.new ≡ C.rest client.old }
+        ensures rest { C.rest client.new ≡ C.rest client.old }
         ensures cause { HasCause (C.faults client.old) (C.faults client.new) (C.sight client.new).broken result };
 
     fn on_empty_query<C: ClientInfo + Outgoing>(
@@ -118,9 +118,9 @@ pub trait SimpleQueryHandler {
         client: &mut C,
         message: EmptyQueryResponse,
     ) -> PgWireClientResult<()>
-        ensures means { C.tells → means (standing self.old (C.sight client.old)) (on_empty_query message) (standing self.new (C.sight client.new)) (pending result) }
+        ensures means { means (standing self.old (C.sight client.old)) (on_empty_query message) (standing self.new (C.sight client.new)) (pending result) }
         ensures own { C.own client.new ≡ C.own client.old }
-        ensures rest { C.tells → C.rest client.new ≡ C.rest client.old }
+        ensures rest { C.rest client.new ≡ C.rest client.old }
         ensures cause { HasCause (C.faults client.old) (C.faults client.new) (C.sight client.new).broken result };
 
     /// Leaves a parameter that the server reports to the client.
@@ -130,9 +130,9 @@ pub trait SimpleQueryHandler {
         client: &mut C,
         message: ParameterStatus,
     ) -> PgWireClientResult<()>
-        ensures means { C.tells → means (standing self.old (C.sight client.old)) (on_parameter_status message) (standing self.new (C.sight client.new)) (pending result) }
+        ensures means { means (standing self.old (C.sight client.old)) (on_parameter_status message) (standing self.new (C.sight client.new)) (pending result) }
         ensures own { C.own client.new ≡ C.own client.old }
-        ensures rest { C.tells → C.rest client.new ≡ C.rest client.old }
+        ensures rest { C.rest client.new ≡ C.rest client.old }
         ensures cause { HasCause (C.faults client.old) (C.faults client.new) (C.sight client.new).broken result }
     {
         let ParameterStatus { name, value } = message;
@@ -147,9 +147,9 @@ pub trait SimpleQueryHandler {
         client: &mut C,
         message: ReadyForQuery,
     ) -> PgWireClientResult<Listed<Self::QueryResponse>>
-        ensures means { C.tells → means (standing self.old (C.sight client.old)) (on_ready_for_query message) (standing self.new (C.sight client.new)) (ready result) }
+        ensures means { means (standing self.old (C.sight client.old)) (on_ready_for_query message) (standing self.new (C.sight client.new)) (ready result) }
         ensures own { C.own client.new ≡ C.own client.old }
-        ensures rest { C.tells → C.rest client.new ≡ C.rest client.old }
+        ensures rest { C.rest client.new ≡ C.rest client.old }
         ensures cause { HasCause (C.faults client.old) (C.faults client.new) (C.sight client.new).broken result };
 
     /// The handler may leave a parameter to the client, as its own body does.

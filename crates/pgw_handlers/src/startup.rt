@@ -35,9 +35,9 @@ pub trait StartupHandler {
         alloc: Global,
         client: &mut C,
     ) -> PgWireClientResult<()>
-        ensures means { C.tells → means (standing self.old (C.sight client.old)) startup (standing self.new (C.sight client.new)) (pending result) }
+        ensures means { means (standing self.old (C.sight client.old)) startup (standing self.new (C.sight client.new)) (pending result) }
         ensures own { C.own client.new ≡ C.own client.old }
-        ensures rest { C.tells → C.rest client.new ≡ C.rest client.old }
+        ensures rest { C.rest client.new ≡ C.rest client.old }
         ensures cause { HasCause (C.faults client.old) (C.faults client.new) (C.sight client.new).broken result };
 
     /// Hears a message: hands it to its function, and sets the status that a ReadyForQuery tells before that. Within a
@@ -48,10 +48,10 @@ pub trait StartupHandler {
         client: &mut C,
         message: PgWireBackendMessage,
     ) -> PgWireClientResult<ReadyState<ServerInformation>>
-        ensures means { C.tells → HeardAtStartup exchanges means (standing self.old (C.sight client.old)) message (standing self.new (C.sight client.new)) result }
+        ensures means { HeardAtStartup exchanges means (standing self.old (C.sight client.old)) message (standing self.new (C.sight client.new)) result }
         ensures ready { IfOk result (EndsAtReady message) }
         ensures own { C.own client.new ≡ C.own client.old }
-        ensures rest { C.tells → C.rest client.new ≡ C.rest client.old }
+        ensures rest { C.rest client.new ≡ C.rest client.old }
         ensures cause { HasCause (C.faults client.old) (C.faults client.new) (C.sight client.new).broken result }
     {
         let message = admitted(alloc, self.in_exchange(), message)?;
@@ -89,9 +89,9 @@ pub trait StartupHandler {
         client: &mut C,
         message: Authentication,
     ) -> PgWireClientResult<()>
-        ensures means { C.tells → means (standing self.old (C.sight client.old)) (on_authentication message) (standing self.new (C.sight client.new)) (pending result) }
+        ensures means { means (standing self.old (C.sight client.old)) (on_authentication message) (standing self.new (C.sight client.new)) (pending result) }
         ensures own { C.own client.new ≡ C.own client.old }
-        ensures rest { C.tells → C.rest client.new ≡ C.rest client.old }
+        ensures rest { C.rest client.new ≡ C.rest client.old }
         ensures cause { HasCause (C.faults client.old) (C.faults client.new) (C.sight client.new).broken result };
 
     /// Settles on the version that the server offers, where the client knows it.
@@ -101,9 +101,9 @@ pub trait StartupHandler {
         client: &mut C,
         message: NegotiateProtocolVersion,
     ) -> PgWireClientResult<()>
-        ensures means { C.tells → means (standing self.old (C.sight client.old)) (on_negotiate_protocol_version message) (standing self.new (C.sight client.new)) (pending result) }
+        ensures means { means (standing self.old (C.sight client.old)) (on_negotiate_protocol_version message) (standing self.new (C.sight client.new)) (pending result) }
         ensures own { C.own client.new ≡ C.own client.old }
-        ensures rest { C.tells → C.rest client.new ≡ C.rest client.old }
+        ensures rest { C.rest client.new ≡ C.rest client.old }
         ensures cause { HasCause (C.faults client.old) (C.faults client.new) (C.sight client.new).broken result }
     {
         match negotiated_version(&message) {
@@ -125,9 +125,9 @@ pub trait StartupHandler {
         client: &mut C,
         message: ParameterStatus,
     ) -> PgWireClientResult<()>
-        ensures means { C.tells → means (standing self.old (C.sight client.old)) (on_parameter_status message) (standing self.new (C.sight client.new)) (pending result) }
+        ensures means { means (standing self.old (C.sight client.old)) (on_parameter_status message) (standing self.new (C.sight client.new)) (pending result) }
         ensures own { C.own client.new ≡ C.own client.old }
-        ensures rest { C.tells → C.rest client.new ≡ C.rest client.old }
+        ensures rest { C.rest client.new ≡ C.rest client.old }
         ensures cause { HasCause (C.faults client.old) (C.faults client.new) (C.sight client.new).broken result }
     {
         let ParameterStatus { name, value } = message;
@@ -141,9 +141,9 @@ pub trait StartupHandler {
         client: &mut C,
         message: BackendKeyData,
     ) -> PgWireClientResult<()>
-        ensures means { C.tells → means (standing self.old (C.sight client.old)) (on_backend_key message) (standing self.new (C.sight client.new)) (pending result) }
+        ensures means { means (standing self.old (C.sight client.old)) (on_backend_key message) (standing self.new (C.sight client.new)) (pending result) }
         ensures own { C.own client.new ≡ C.own client.old }
-        ensures rest { C.tells → C.rest client.new ≡ C.rest client.old }
+        ensures rest { C.rest client.new ≡ C.rest client.old }
         ensures cause { HasCause (C.faults client.old) (C.faults client.new) (C.sight client.new).broken result };
 
     /// What the server told of itself.
@@ -153,9 +153,9 @@ pub trait StartupHandler {
         client: &mut C,
         message: ReadyForQuery,
     ) -> PgWireClientResult<ServerInformation>
-        ensures means { C.tells → means (standing self.old (C.sight client.old)) (on_ready_for_query message) (standing self.new (C.sight client.new)) (ready result) }
+        ensures means { means (standing self.old (C.sight client.old)) (on_ready_for_query message) (standing self.new (C.sight client.new)) (ready result) }
         ensures own { C.own client.new ≡ C.own client.old }
-        ensures rest { C.tells → C.rest client.new ≡ C.rest client.old }
+        ensures rest { C.rest client.new ≡ C.rest client.old }
         ensures cause { HasCause (C.faults client.old) (C.faults client.new) (C.sight client.new).broken result };
 
     /// The handler may settle on a version as its own body does,
