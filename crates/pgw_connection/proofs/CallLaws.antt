@@ -18,15 +18,15 @@ use Rattle.pgw_handlers.specs.declared.client_info.ReadyState.TheVariants.{Pendi
 use Rattle.pgw_connection.specs.Talk as talk
 use Rattle.pgw_connection.specs.Talk.{fresh, Next, Lack, End, end, Hearing, Talk, Passing, IsCut, Asked, passes, is_remote, is_refusal}
 use Rattle.pgw_connection.specs.Line.{Line, Reasons, Pause, IsFlushed, WentWell, Halts, Drew, Moved}
-use Rattle.pgw_connection.specs.Reading.{Came, PassedOver}
+use Rattle.pgw_connection.specs.Reading.{GoesOn, Came, PassedOver}
 use Rattle.pgw_connection.specs.Calls.{link_sight, PutAll, PutSome, Puts, Opens, starved, wrote, cut, refused, GivesUp, breaks, fails, passes_over, Follows, starves, writes, cuts, gives_up, HeardOne, Talked, HeardNext, IsHalted, Call}
-use Rattle.pgw_connection.proofs.ReadingLaws.{next_more, drew_on, not_halted, not_at_end, still_flushed, drew_well, well_still, well_on, went_on, failed, io_of, io_answer}
+use Rattle.pgw_connection.proofs.ReadingLaws.{next_more, drew_on, not_halted, not_at_end, halts_on, at_end_on, at_end_so, pause_on, passing_as, PassedEnd, still_flushed, drew_well, well_still, well_on, went_on, failed, io_of, io_answer}
 
 -- ---- writing
 
 pub put_none : (old : Line) → PutAll [] old old
 put_none old = record {
-  moved = record { left = refl; wrote = sym (append-nil old.tape.wrote); read = omega arith; limit = refl };
+  moved = record { took = sym (append-nil old.tape.took); wrote = sym (append-nil old.tape.wrote); read = omega arith; limit = refl };
   buffer = refl;
   flushed = λ f. f;
   goes_on = (refl, refl);
@@ -34,7 +34,7 @@ put_none old = record {
 
 pub put_all : (old new : Line) (bytes : List ℕ) → Wrote old.tape new.tape bytes → new.faults ≡ old.faults → new.buffer ≡ old.buffer → new.read ≡ old.read → new.limit ≡ old.limit → PutAll bytes old new
 put_all old new bytes w faults buffer read limit = record {
-  moved = record { left = sym w.reads_nothing.left; wrote = w.wrote; read = omega (arith, read); limit = limit };
+  moved = record { took = w.reads_nothing.took ∙ sym (append-nil old.tape.took); wrote = w.wrote; read = omega (arith, read); limit = limit };
   buffer = buffer;
   flushed = λ f. w.flushed;
   goes_on = (w.reads_nothing.ended, faults);
@@ -54,7 +54,7 @@ pub put_some : (old new : Line) (bytes : List ℕ) → bytes ≢ [] → WroteSom
 put_some old new bytes some w within rose buffer read limit = record {
   part = take w.count bytes;
   cut = (some, drop w.count bytes, sym (take-append-drop w.count bytes), (rose, λ none flushed. unflushed old new bytes some w within none flushed));
-  moved = record { left = sym w.reads_nothing.left; wrote = w.wrote; read = omega (arith, read); limit = limit };
+  moved = record { took = w.reads_nothing.took ∙ sym (append-nil old.tape.took); wrote = w.wrote; read = omega (arith, read); limit = limit };
   buffer = buffer;
   ended = w.reads_nothing.ended;
 }
@@ -152,7 +152,7 @@ ends_ready m x e = absurd e
 -- bytes were read, and others written behind that
 pub moved_by : (old mid new : Line) (taken sent : List ℕ) → Drew old mid taken → Moved mid new [] sent → Moved old new taken sent
 moved_by old mid new taken sent d m = record {
-  left = d.left ∙ ap (λ (l : List ℕ). taken ++ l) m.left;
+  took = m.took ∙ append-nil mid.tape.took ∙ d.took;
   wrote = m.wrote ∙ ap (λ (w : List ℕ). w ++ sent) d.wrote;
   read = omega (arith, d.read, m.read);
   limit = m.limit ∙ d.limit;
@@ -160,31 +160,31 @@ moved_by old mid new taken sent d m = record {
 
 -- bytes were read, and nothing written
 pub moved_none : (old new : Line) (taken : List ℕ) → Drew old new taken → Moved old new taken []
-moved_none old new taken d = record { left = d.left; wrote = d.wrote ∙ sym (append-nil old.tape.wrote); read = d.read; limit = d.limit }
+moved_none old new taken d = record { took = d.took; wrote = d.wrote ∙ sym (append-nil old.tape.wrote); read = d.read; limit = d.limit }
 
 -- where all was flushed, the end found all written flushed
 pub flushed_at : (c : Client) (old new : Line) (taken : List ℕ) → Drew old new taken → IsFlushed old → Halts c old.tape.flushed old new → Halts c (length new.tape.wrote) old new
-flushed_at c old new taken d f h none n some = let x = h none n some in (x.0 ∙ f ∙ ap length (sym d.wrote), x.1)
+flushed_at c old new taken d f h = halts_on c old.tape.flushed (length new.tape.wrote) old old new refl (f ∙ ap length (sym d.wrote)) h
 
 -- one thing behind another
 pub moved_on : (old mid new : Line) (taken more sent also : List ℕ) → Moved old mid taken sent → Moved mid new more also → Moved old new (taken ++ more) (sent ++ also)
 moved_on old mid new taken more sent also a b = record {
-  left = a.left ∙ ap (λ (l : List ℕ). taken ++ l) b.left ∙ sym (append_assoc taken more new.tape.left);
+  took = b.took ∙ ap (λ (l : List ℕ). l ++ more) a.took ∙ append_assoc old.tape.took taken more;
   wrote = b.wrote ∙ ap (λ (w : List ℕ). w ++ also) a.wrote ∙ append_assoc old.tape.wrote sent also;
   read = omega (arith, a.read, b.read, length-append taken more);
   limit = b.limit ∙ a.limit;
 }
 
-pub cut_from : (before was : ℕ) (now : Line) (bytes part : List ℕ) → before ≡ was → IsCut (Pause before now) bytes part → IsCut (Pause was now) bytes part
-cut_from before was now bytes part same is = subst (λ (n : ℕ). IsCut (Pause n now) bytes part) same is
+pub cut_from : (old mid new : Line) (bytes part : List ℕ) → GoesOn old mid → IsCut (Pause mid new) bytes part → IsCut (Pause old new) bytes part
+cut_from old mid new bytes part so is = subst (λ (p : Reasons). IsCut p bytes part) (pause_on old mid new so) is
 
 module _ {H A : Type 0} (M : Hearing H A) (goes_on : ClientError → Bool) where
-  talk_as : (before was : ℕ) (new : Line) (h other : H) (c also : Client) (bytes sent : List ℕ) (last : End A) → before ≡ was → h ≡ other → c ≡ also
-      → Talk M (Pause before new) goes_on h c bytes sent last → Talk M (Pause was new) goes_on other also bytes sent last
-  talk_as before was new h other c also bytes sent last b e f t =
-      subst (λ (n : ℕ). Talk M (Pause n new) goes_on other also bytes sent last) b
-      (subst (λ (x : H). Talk M (Pause before new) goes_on x also bytes sent last) e
-      (subst (λ (x : Client). Talk M (Pause before new) goes_on h x bytes sent last) f t))
+  talk_as : (old mid new : Line) (h other : H) (c also : Client) (bytes sent : List ℕ) (last : End A) → GoesOn old mid → h ≡ other → c ≡ also
+      → Talk M (Pause mid new) goes_on h c bytes sent last → Talk M (Pause old new) goes_on other also bytes sent last
+  talk_as old mid new h other c also bytes sent last so e f t =
+      subst (λ (p : Reasons). Talk M p goes_on other also bytes sent last) (pause_on old mid new so)
+      (subst (λ (x : H). Talk M (Pause mid new) goes_on x also bytes sent last) e
+      (subst (λ (x : Client). Talk M (Pause mid new) goes_on h x bytes sent last) f t))
 
   -- the error behind which messages were passed over
   halted : (x : ClientError) (broken : Bool) → goes_on x ≡ true → broken ≡ true → IsHalted {A = A} goes_on (Err x) broken
@@ -204,9 +204,9 @@ module _ {H A : Type 0} (M : Hearing H A) (goes_on : ClientError → Bool) where
     talk = talk.lacks h c (old.buffer ++ came.taken) new.buffer e came.found;
     flushed = λ f usable. absurd (let no : true ≡ false = usable in cc);
     halts = λ f. flushed_at c old new came.taken came.drew f came.halts;
-    at_end = λ none n some.
-        let is : e ≡ client.UnexpectedEOF = (let same = came.at_end none n some in cc) in
-        subst (λ (y : ClientError). IsHalted {A = A} goes_on (Err y) true) (sym is) refl;
+    at_end = at_end_so _ _ old new (λ (same : failed Backend e ≡ Err client.UnexpectedEOF).
+        let is : e ≡ client.UnexpectedEOF = (cc) in
+        subst (λ (y : ClientError). IsHalted {A = A} goes_on (Err y) true) (sym is) refl) came.at_end;
     well = io_answer A (WentWell old new) e (io_of Backend (WentWell old new) e came.well);
   }
 
@@ -263,7 +263,7 @@ module _ {H A : Type 0} (M : Hearing H A) (goes_on : ClientError → Bool) where
       taken = came.taken;
       sent = put.part;
       moved = moved_by old mid new came.taken put.part came.drew put.moved;
-      talk = talk.unwritten h c (old.buffer ++ came.taken) m new.buffer (standing handler s) answer put.part (next_in new put.buffer) heard usable (cut_from mid.faults old.faults new s.wrote put.part came.goes_on.1 put.cut);
+      talk = talk.unwritten h c (old.buffer ++ came.taken) m new.buffer (standing handler s) answer put.part (next_in new put.buffer) heard usable (cut_from old mid new s.wrote put.part came.goes_on put.cut);
       flushed = λ f usable. absurd (let no : true ≡ false = usable in cc);
       halts = λ f. not_halted s.client (length new.tape.wrote) old new (put.ended ∙ came.goes_on.0);
       at_end = not_at_end _ old new (put.ended ∙ came.goes_on.0);
@@ -300,17 +300,15 @@ module _ {H A : Type 0} (M : Hearing H A) (goes_on : ClientError → Bool) where
         let drew = drew_on old mid new came.taken p.taken came.drew p.drew in
         let more = next_more c (old.buffer ++ came.taken) mid.buffer p.taken m came.found in
         let next = subst (λ (b : List ℕ). Next c b m (mid.buffer ++ p.taken)) (append_assoc old.buffer came.taken p.taken) more in
-        let passing = subst (λ (n : ℕ). Passing (Pause n new) e s.client (mid.buffer ++ p.taken) x last new.buffer broken) came.goes_on.1 p.passing in
+        let passing = passing_as (Pause mid new) (Pause old new) e x s.client last (mid.buffer ++ p.taken) new.buffer broken (pause_on old mid new came.goes_on) p.passing in
         record {
           taken = came.taken ++ p.taken;
           sent = [];
           moved = moved_none old new (came.taken ++ p.taken) drew;
           talk = talk.passes_over h c (old.buffer ++ (came.taken ++ p.taken)) m (mid.buffer ++ p.taken) (standing handler s) e x last new.buffer broken next heard goes usable quiet passing;
           flushed = λ f _. still_flushed old new (came.taken ++ p.taken) drew f;
-          halts = λ f none n some.
-              let at = p.halts (came.goes_on.0 ∙ none) n some in
-              (at.0 ∙ came.drew.flushed ∙ f ∙ ap length (sym drew.wrote), at.1);
-          at_end = λ none n some. let h = p.at_end (came.goes_on.0 ∙ none) n some in halted_behind e x broken eof goes h.0 h.1;
+          halts = λ f. halts_on last mid.tape.flushed (length new.tape.wrote) old mid new came.goes_on.0 (came.drew.flushed ∙ f ∙ ap length (sym drew.wrote)) p.halts;
+          at_end = at_end_on _ _ old mid new came.goes_on.0 (λ (h : PassedEnd e x broken). halted_behind e x broken eof goes h.0 h.1) p.at_end;
           well = went_on (failed A x ≡ Err client.IoError) old mid new came_well (io_answer A (WentWell mid new) x p.well);
         }
 
@@ -355,10 +353,10 @@ module _ {H A : Type 0} (M : Hearing H A) (goes_on : ClientError → Bool) where
         sent = after.sight.wrote ++ t.sent;
         moved = moved_on old mid new one.taken t.taken after.sight.wrote t.sent one.moved t.moved;
         talk = talk.hears h c (old.buffer ++ (one.taken ++ t.taken)) one.message (mid.buffer ++ t.taken) after t.sent last next one.heard one.usable one.quiet
-            (talk_as mid.faults old.faults new handler after.handler info after.sight.client (mid.buffer ++ t.taken) t.sent last one.goes_on.1 (sym one.handler_is) (sym one.info_is) t.talk);
+            (talk_as old mid new handler after.handler info after.sight.client (mid.buffer ++ t.taken) t.sent last one.goes_on (sym one.handler_is) (sym one.info_is) t.talk);
         flushed = λ f usable. t.flushed (one.flushed f) usable;
-        halts = λ f none n some. t.halts (one.flushed f) (one.goes_on.0 ∙ none) n some;
-        at_end = λ none n some. t.at_end (one.goes_on.0 ∙ none) n some;
+        halts = λ f. halts_on last.info (length new.tape.wrote) (length new.tape.wrote) old mid new one.goes_on.0 refl (t.halts (one.flushed f));
+        at_end = at_end_on _ _ old mid new one.goes_on.0 (λ is. is) t.at_end;
         well = went_on (last.answer ≡ Err client.IoError) old mid new (one.goes_on.1, one.flushed) t.well;
       }
 
@@ -369,20 +367,20 @@ module _ {H A : Type 0} (opens : Standing H → Standing H → Answer A → Type
   pub call_talked : (info : Client) (mid new : Line) (last : End A) → opens (standing h (fresh c)) (standing handler s) (Ok Pending) → s.broken ≡ false → PutAll s.wrote old mid → info ≡ s.client
       → Talked M goes_on handler info mid new last → Call opens M goes_on h c old new last
   call_talked info mid new last opened usable put same t =
-      let bytes = subst (λ (b : List ℕ). Talk M (Pause mid.faults new) goes_on handler info (b ++ t.taken) t.sent last) put.buffer t.talk in
+      let bytes = subst (λ (b : List ℕ). Talk M (Pause mid new) goes_on handler info (b ++ t.taken) t.sent last) put.buffer t.talk in
       record {
         taken = t.taken;
         sent = s.wrote ++ t.sent;
         moved = moved_on old mid new [] t.taken s.wrote t.sent put.moved t.moved;
-        asked = talk.opened (standing handler s) t.sent last opened usable (talk_as M goes_on mid.faults old.faults new handler handler info s.client (old.buffer ++ t.taken) t.sent last put.goes_on.1 refl same bytes);
+        asked = talk.opened (standing handler s) t.sent last opened usable (talk_as M goes_on old mid new handler handler info s.client (old.buffer ++ t.taken) t.sent last put.goes_on refl same bytes);
         flushed = λ f good. t.flushed (put.flushed f) good;
-        halts = λ f none n some. t.halts (put.flushed f) (put.goes_on.0 ∙ none) n some;
-        at_end = λ none n some. t.at_end (put.goes_on.0 ∙ none) n some;
+        halts = λ f. halts_on last.info (length new.tape.wrote) (length new.tape.wrote) old mid new put.goes_on.0 refl (t.halts (put.flushed f));
+        at_end = at_end_on _ _ old mid new put.goes_on.0 (λ is. is) t.at_end;
         well = went_on (last.answer ≡ Err client.IoError) old mid new (put_well old mid s.wrote put) t.well;
       }
 
   moved_still : Moved old old [] []
-  moved_still = record { left = refl; wrote = sym (append-nil old.tape.wrote); read = omega arith; limit = refl }
+  moved_still = record { took = sym (append-nil old.tape.took); wrote = sym (append-nil old.tape.wrote); read = omega arith; limit = refl }
 
   call_starved : (last : Client) → Call opens M goes_on h c old old (end (Err client.OutOfMemory) last true old.buffer)
   call_starved last = record {
@@ -407,7 +405,7 @@ module _ {H A : Type 0} (opens : Standing H → Standing H → Answer A → Type
     taken = [];
     sent = put.part;
     moved = put.moved;
-    asked = bytes_are put.part (Pause old.faults new) (Err client.IoError) s.client true new.buffer put.buffer (talk.unwritten (standing handler s) put.part opened usable put.cut);
+    asked = bytes_are put.part (Pause old new) (Err client.IoError) s.client true new.buffer put.buffer (talk.unwritten (standing handler s) put.part opened usable put.cut);
     flushed = λ f good. absurd (let no : true ≡ false = good in cc);
     halts = λ f. not_halted s.client (length new.tape.wrote) old new put.ended;
     at_end = not_at_end _ old new put.ended;
@@ -419,7 +417,7 @@ module _ {H A : Type 0} (opens : Standing H → Standing H → Answer A → Type
     taken = [];
     sent = [];
     moved = moved_still;
-    asked = bytes_are [] (Pause old.faults old) (Err e) s.client false old.buffer refl (talk.refused (standing handler s) e opened is usable);
+    asked = bytes_are [] (Pause old old) (Err e) s.client false old.buffer refl (talk.refused (standing handler s) e opened is usable);
     flushed = λ f good. f;
     halts = λ f. not_halted s.client (length old.tape.wrote) old old refl;
     at_end = not_at_end _ old old refl;
@@ -429,7 +427,7 @@ module _ {H A : Type 0} (opens : Standing H → Standing H → Answer A → Type
     taken = [];
     sent = [];
     moved = moved_still;
-    asked = bytes_are [] (Pause old.faults old) (Err e) s.client true old.buffer refl (talk.breaks (standing handler s) e opened caused is usable);
+    asked = bytes_are [] (Pause old old) (Err e) s.client true old.buffer refl (talk.breaks (standing handler s) e opened caused is usable);
     flushed = λ f good. f;
     halts = λ f. not_halted s.client (length old.tape.wrote) old old refl;
     at_end = not_at_end _ old old refl;

@@ -1,5 +1,5 @@
 -- Connecting, and canceling over a link of its own.
-use Rattle.std.proofs.Common.{◌≡◌, ◌<◌, ℕ, Bool, false, List, [], Option, Some, None, Result, Ok, Err, sym, subst, ◌∙◌, arith}
+use Rattle.std.proofs.Common.{◌≡◌, ◌<◌, ℕ, Bool, false, List, [], ◌∷◌, ◌++◌, Option, Some, None, Result, Ok, Err, sym, ap, subst, ◌∙◌, arith}
 use Rattle.std.specs.Result.{OnOk, IfErr}
 use Rattle.pgw_types.specs.declared.error.PgWireError.{PgWireError}
 use Rattle.pgw_backend.specs.declared.client_error.PgWireClientError.{PgWireClientError as ClientError}
@@ -62,7 +62,7 @@ from_new opens M h c also info t made faults read limit also_limit buffer new r 
 -- ---- the dialer
 
 pub once : (to : Address) (old between new : DialTape) (first after : Tape) → Dialled to old between first → Shut between new after → DialledOnce to old new first after
-once to old between new first after d s = record { dials = s.dials ∙ d.dials; address = s.address ∙ d.address; fresh = d.fresh; shut = s.shut }
+once to old between new first after d s = record { dialled = s.dialled ∙ d.dialled; fresh = d.fresh; shut = s.shut ∙ ap (λ (l : List Tape). l ++ after ∷ []) d.shut }
 
 pub rose_some : (faults : ℕ) → Rose 0 faults → 0 < faults
 rose_some faults r = omega (arith, r)
@@ -82,9 +82,9 @@ rose_once before dialled now none faults is same rose counts =
 
 -- ---- a cancel
 
-pub cancel_sent : {same tells : Type 0} {old new : DialTape} {before now : ℕ} (config : Config) (spelled : Result (List ℕ) PgWireError) (address : Address) (out : List ℕ) (r : Result (Unit {0}) ClientError) → PutOut spelled [] out (Ok tt) → address_of config ≡ Ok address
-    → OnOk r (SentOnce tells address out old new) → IfErr r (NotSentOnce tells address out old new before now) → Cancels same tells config spelled old new before now r
-cancel_sent {same} {tells} {old} {new} {before} {now} config spelled address out (Ok done) p at s f =
-    connecting.sent address p.0 at p.1 (subst (λ (b : List ℕ). SentOnce tells address b old new) p.2 s)
-cancel_sent {same} {tells} {old} {new} {before} {now} config spelled address out (Err e) p at s f =
-    connecting.unsent address p.0 e at p.1 (subst (λ (b : List ℕ). NotSentOnce tells address b old new before now e) p.2 f)
+pub cancel_sent : {same : Type 0} {old new : DialTape} {before now : ℕ} (config : Config) (spelled : Result (List ℕ) PgWireError) (address : Address) (out : List ℕ) (r : Result (Unit {0}) ClientError) → PutOut spelled [] out (Ok tt) → address_of config ≡ Ok address
+    → OnOk r (SentOnce address out old new) → IfErr r (NotSentOnce address out old new before now) → Cancels same config spelled old new before now r
+cancel_sent {same} {old} {new} {before} {now} config spelled address out (Ok done) p at s f =
+    connecting.sent address p.0 at p.1 (subst (λ (b : List ℕ). SentOnce address b old new) p.2 s)
+cancel_sent {same} {old} {new} {before} {now} config spelled address out (Err e) p at s f =
+    connecting.unsent address p.0 e at p.1 (subst (λ (b : List ℕ). NotSentOnce address b old new before now e) p.2 f)

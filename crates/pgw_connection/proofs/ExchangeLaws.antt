@@ -18,14 +18,14 @@ use Rattle.pgw_handlers.specs.Extended.{sync, nothing}
 use Rattle.pgw_handlers.specs.declared.client_info.ReadyState.TheVariants.{Pending, Ready}
 use Rattle.pgw_connection.specs.declared.gathered.Gathered.{Gathered}
 use Rattle.pgw_connection.specs.Talk.{fresh, told, Next, Passing, first_of, is_remote}
-use Rattle.pgw_connection.specs.Line.{Line, Pause, IsFlushed, WentWell, Moved}
-use Rattle.pgw_connection.specs.Reading.{Came, PassedOver}
+use Rattle.pgw_connection.specs.Line.{Line, Reasons, Pause, IsFlushed, WentWell, Moved}
+use Rattle.pgw_connection.specs.Reading.{GoesOn, Came, PassedOver}
 use Rattle.pgw_connection.specs.Calls.{IsHalted, PutAll, PutSome}
 use Rattle.pgw_connection.specs.Extended.{Meaning, call_for, Heeds, RefusesBy, Finish, finish, is_suspended, outcome_behind, IsPlaced, Syncs, EndsAnswer, Exchange}
 use Rattle.pgw_connection.specs.Extended as extended
 use Rattle.pgw_connection.specs.ExtendedSteps as steps
 use Rattle.pgw_connection.specs.ExtendedSteps.{Took, Synced, Settled, passed_answer, is_due, answer_with, HeededOne, TookOne, Exchanged, HeededNext}
-use Rattle.pgw_connection.proofs.ReadingLaws.{next_more, not_halted, not_at_end, still_flushed, drew_well, well_on, went_on, io_of, io_answer}
+use Rattle.pgw_connection.proofs.ReadingLaws.{next_more, not_halted, not_at_end, halts_on, at_end_on, at_end_so, pause_on, passing_as, PassedEnd, failed as failed_by, still_flushed, drew_well, well_on, went_on, io_of, io_answer}
 use Rattle.pgw_connection.proofs.CallLaws.{put_none, put_well, moved_by, moved_none, moved_on, flushed_at, cut_from}
 
 -- ---- the table
@@ -108,7 +108,7 @@ module _ {H R : Type 0} (M : Meaning H R) (k : Kind) (h : H) (c : Client) (g : G
         exchange = extended.lacks h c g (old.buffer ++ came.taken) new.buffer e came.found;
         flushed = λ f usable. no_more usable (IsFlushed new);
         halts = λ f. flushed_at c old new came.taken came.drew f came.halts;
-        at_end = λ none n some. halted_by (Gathered R × Bool) e true refl (inl (let same = came.at_end none n some in cc));
+        at_end = at_end_so _ _ old new (λ (same : failed_by Backend e ≡ Err client.UnexpectedEOF). halted_by (Gathered R × Bool) e true refl (inl (cc))) came.at_end;
         well = io_answer (Gathered R × Bool) (WentWell old new) e (io_of Backend (WentWell old new) e came.well);
       }
 
@@ -120,7 +120,7 @@ module _ {H R : Type 0} (M : Meaning H R) (k : Kind) (h : H) (c : Client) (g : G
     came_well = drew_well old mid came.taken came.drew came.goes_on.1
 
     -- the call has ended with this message, and nothing was written
-    ended : (last : Finish H R) → last.rest ≡ mid.buffer → Exchange M (Pause old.faults mid) k h c g bytes [] last → Exchanged M k h c g old mid last
+    ended : (last : Finish H R) → last.rest ≡ mid.buffer → Exchange M (Pause old mid) k h c g bytes [] last → Exchanged M k h c g old mid last
     ended last same x = record {
       taken = came.taken;
       sent = [];
@@ -178,21 +178,19 @@ module _ {H R : Type 0} (M : Meaning H R) (k : Kind) (h : H) (c : Client) (g : G
         let mid_flushed = λ (f : IsFlushed old). put.flushed (still_flushed old mid came.taken came.drew f) in
         let whole = moved_on old high new came.taken p.taken sent [] (moved_by old mid high came.taken sent came.drew put.moved) (moved_none high new p.taken p.drew) in
         let next = subst (λ (b : List ℕ). Next c b m (mid.buffer ++ p.taken)) (append_assoc old.buffer came.taken p.taken) (next_more c bytes mid.buffer p.taken m came.found) in
-        let calm = put.goes_on.1 ∙ came.goes_on.1 in
-        let rest = subst (λ (b : List ℕ). Passing (Pause high.faults new) e between (b ++ p.taken) x info new.buffer broken) put.buffer p.passing in
-        let passing = subst (λ (n : ℕ). Passing (Pause n new) e s.sight.client (mid.buffer ++ p.taken) x info new.buffer broken) calm (subst (λ (y : Client). Passing (Pause high.faults new) e y (mid.buffer ++ p.taken) x info new.buffer broken) same rest) in
+        let calm : GoesOn old high = (put.goes_on.0 ∙ came.goes_on.0, put.goes_on.1 ∙ came.goes_on.1) in
+        let rest = subst (λ (b : List ℕ). Passing (Pause high new) e between (b ++ p.taken) x info new.buffer broken) put.buffer p.passing in
+        let passing = passing_as (Pause high new) (Pause old new) e x s.sight.client info (mid.buffer ++ p.taken) new.buffer broken (pause_on old high new calm)
+        (subst (λ (y : Client). Passing (Pause high new) e y (mid.buffer ++ p.taken) x info new.buffer broken) same rest) in
         record {
           taken = came.taken ++ p.taken;
           sent = sent;
           moved = subst (λ (l : List ℕ). Moved old new (came.taken ++ p.taken) l) (append-nil sent) whole;
           exchange = extended.ends h c g (old.buffer ++ (came.taken ++ p.taken)) m (mid.buffer ++ p.taken) due (standing after (fresh c)) s e more x info new.buffer broken next ending syncs passing;
           flushed = λ f _. still_flushed high new p.taken p.drew (mid_flushed f);
-          halts = λ f none n some.
-              let at = p.halts (put.goes_on.0 ∙ came.goes_on.0 ∙ none) n some in
-              (at.0 ∙ mid_flushed f ∙ ap length (sym p.drew.wrote), at.1);
-          at_end = λ none n some.
-              let at = p.at_end (put.goes_on.0 ∙ came.goes_on.0 ∙ none) n some in
-              halted_outcome more x broken at.0 (ends_with e x at.1 (ends_error M k h c g m due (standing after (fresh c)) e more ending));
+          halts = λ f. halts_on info high.tape.flushed (length new.tape.wrote) old high new calm.0 (mid_flushed f ∙ ap length (sym p.drew.wrote)) p.halts;
+          at_end = at_end_on _ _ old high new calm.0
+              (λ (at : PassedEnd e x broken). halted_outcome more x broken at.0 (ends_with e x at.1 (ends_error M k h c g m due (standing after (fresh c)) e more ending))) p.at_end;
           well = went_on (outcome_behind more x broken ≡ Err client.IoError) old high new (well_on old mid high came_well (put_well mid high sent put)) (io_outcome more x broken (WentWell high new) p.well);
         }
 
@@ -208,8 +206,8 @@ module _ {H R : Type 0} (M : Meaning H R) (k : Kind) (h : H) (c : Client) (g : G
       taken = came.taken;
       sent = put.part;
       moved = moved_by old mid new came.taken put.part came.drew put.moved;
-      exchange = subst (λ (b : List ℕ). Exchange M (Pause old.faults new) k h c g bytes put.part (finish (Err client.IoError) s.handler s.sight.client true b)) (sym put.buffer)
-          (extended.unwritten h c g bytes m mid.buffer due (standing after (fresh c)) s e more put.part came.found ending heard usable (cut_from mid.faults old.faults new s.sight.wrote put.part came.goes_on.1 put.cut));
+      exchange = subst (λ (b : List ℕ). Exchange M (Pause old new) k h c g bytes put.part (finish (Err client.IoError) s.handler s.sight.client true b)) (sym put.buffer)
+          (extended.unwritten h c g bytes m mid.buffer due (standing after (fresh c)) s e more put.part came.found ending heard usable (cut_from old mid new s.sight.wrote put.part came.goes_on put.cut));
       flushed = λ f good. no_more good (IsFlushed new);
       halts = λ f. not_halted s.sight.client (length new.tape.wrote) old new (put.ended ∙ came.goes_on.0);
       at_end = not_at_end _ old new (put.ended ∙ came.goes_on.0);
@@ -303,9 +301,9 @@ module _ {H R : Type 0} (M : Meaning H R) (k : Kind) (h : H) (c : Client) (g : G
 -- ---- one message, and then the others
 
 module _ {H R : Type 0} (M : Meaning H R) (k : Kind) where
-  pub exchange_as : (before was : ℕ) (new : Line) (h : H) (c also : Client) (g : Gathered R) (bytes sent : List ℕ) (last : Finish H R) → before ≡ was → c ≡ also → Exchange M (Pause before new) k h c g bytes sent last → Exchange M (Pause was new) k h also g bytes sent last
-  exchange_as before was new h c also g bytes sent last b same x =
-      subst (λ (n : ℕ). Exchange M (Pause n new) k h also g bytes sent last) b (subst (λ (y : Client). Exchange M (Pause before new) k h y g bytes sent last) same x)
+  pub exchange_as : (old mid new : Line) (h : H) (c also : Client) (g : Gathered R) (bytes sent : List ℕ) (last : Finish H R) → GoesOn old mid → c ≡ also → Exchange M (Pause mid new) k h c g bytes sent last → Exchange M (Pause old new) k h also g bytes sent last
+  exchange_as old mid new h c also g bytes sent last so same x =
+      subst (λ (p : Reasons). Exchange M p k h also g bytes sent last) (pause_on old mid new so) (subst (λ (y : Client). Exchange M (Pause mid new) k h y g bytes sent last) same x)
 
   pub exchanged_on : (h handler : H) (c info : Client) (g more : Gathered R) (old mid new : Line) (last : Finish H R) → TookOne M k h c g old mid handler info more → Exchanged M k handler info more mid new last → Exchanged M k h c g old new last
   exchanged_on h handler c info g more old mid new last one t =
@@ -315,10 +313,10 @@ module _ {H R : Type 0} (M : Meaning H R) (k : Kind) where
         sent = t.sent;
         moved = moved_on old mid new one.taken t.taken [] t.sent (moved_none old mid one.taken one.drew) t.moved;
         exchange = extended.takes h c g (old.buffer ++ (one.taken ++ t.taken)) one.message (mid.buffer ++ t.taken) one.rows handler more t.sent last next one.takes one.heeds
-            (exchange_as mid.faults old.faults new handler info (told one.message c) more (mid.buffer ++ t.taken) t.sent last one.goes_on.1 one.info_is t.exchange);
+            (exchange_as old mid new handler info (told one.message c) more (mid.buffer ++ t.taken) t.sent last one.goes_on one.info_is t.exchange);
         flushed = λ f usable. t.flushed (still_flushed old mid one.taken one.drew f) usable;
-        halts = λ f none n some. t.halts (still_flushed old mid one.taken one.drew f) (one.goes_on.0 ∙ none) n some;
-        at_end = λ none n some. t.at_end (one.goes_on.0 ∙ none) n some;
+        halts = λ f. halts_on last.info (length new.tape.wrote) (length new.tape.wrote) old mid new one.goes_on.0 refl (t.halts (still_flushed old mid one.taken one.drew f));
+        at_end = at_end_on _ _ old mid new one.goes_on.0 (λ is. is) t.at_end;
         well = went_on (last.answer ≡ Err client.IoError) old mid new (drew_well old mid one.taken one.drew one.goes_on.1) t.well;
       }
 

@@ -28,15 +28,15 @@ given_usable : {R A : Type 0} (give : Gathered R → Bool → A) (r : Result (Ga
 given_usable give (Ok x) broken u = u
 given_usable give (Err e) broken u = u
 
-module _ {X : Type 0} {L : Link.Ghosts X} {H R : Type 0} (tells : Type 0) (tape : X → Tape) (faults : X → ℕ) (M : Meaning H R) (q : Request) (h : H) (before after : PgWireClient X L) where
+module _ {X : Type 0} {L : Link.Ghosts X} {H R : Type 0} (tape : X → Tape) (faults : X → ℕ) (M : Meaning H R) (q : Request) (h : H) (before after : PgWireClient X L) where
   -- a call that makes its own answer of what was gathered
-  pub asks_as : {A : Type 0} (give : Gathered R → Bool → A) (handler : H) (r : Result (Gathered R × Bool) ClientError) (result : Result A ClientError) → result ≡ given give r → Asks tells tape faults M q both h handler before after r → Asks tells tape faults M q give h handler before after result
+  pub asks_as : {A : Type 0} (give : Gathered R → Bool → A) (handler : H) (r : Result (Gathered R × Bool) ClientError) (result : Result A ClientError) → result ≡ given give r → Asks tape faults M q both h handler before after r → Asks tape faults M q give h handler before after result
   asks_as {A} give handler r result is a =
-      subst (λ (x : Result A ClientError). Asks tells tape faults M q give h handler before after x) (sym is)
+      subst (λ (x : Result A ClientError). Asks tape faults M q give h handler before after x) (sym is)
       record {
         broken = λ was. let b = a.broken was in (ap (given give) b.0, b.1, b.2);
-        asked = λ t usable.
-            let x = a.asked t usable in
+        asked = λ usable.
+            let x = a.asked usable in
             record { answer = x.answer; gives = ap (given give) x.gives ∙ given_both give x.answer; called = x.called };
         cause = given_caused give r (faults before.link) (faults after.link) before.desk.broken a.cause;
         usable = λ was. given_usable give r after.desk.broken (a.usable was);
@@ -51,10 +51,10 @@ module _ {X : Type 0} {L : Link.Ghosts X} {H R : Type 0} (tells : Type 0) (tape 
 
   -- memory was wanting
   pub asks_starved : (e : ClientError) → (before.desk.broken ≡ true → (e ≡ client.Broken) × (after ≡ before)) → (before.desk.broken ≡ false → (e ≡ client.OutOfMemory) × (after.desk.broken ≡ true)) → line_of tape faults after ≡ line_of tape faults before
-      → after.read ≤ after.limit → after.desk.config ≡ before.desk.config → Asks tells tape faults M q both h h before after (Err e)
+      → after.read ≤ after.limit → after.desk.config ≡ before.desk.config → Asks tape faults M q both h h before after (Err e)
   asks_starved e broken starved same within config = record {
     broken = λ was. let b = broken was in (ap Err b.0, b.1, refl);
-    asked = λ t usable.
+    asked = λ usable.
         let s = starved usable in
         let called = called_starved M q h h (client_of before.desk) (client_of after.desk) (line_of tape faults before) in
         let there = subst (λ (l : Line). Called M q h (client_of before.desk) (line_of tape faults before) l (finish (Err client.OutOfMemory) h (client_of after.desk) true l.buffer)) (sym same) called in

@@ -1,5 +1,5 @@
 -- How a client comes by its messages.
-use Rattle.std.proofs.Common.{◌≡◌, ◌⊎◌, ◌<◌, ℕ, Bool, true, false, List, [], ◌∷◌, ◌++◌, length, drop, length-drop, Some, None, Result, Ok, Err, refl, sym, ap, subst, ◌∙◌, arith, inl, inr, append_assoc, length-append}
+use Rattle.std.proofs.Common.{◌≡◌, ◌⊎◌, ◌<◌, ℕ, Bool, true, false, List, [], ◌∷◌, ◌++◌, length, drop, length-drop, Some, Result, Ok, Err, refl, sym, ap, subst, ◌∙◌, arith, inl, inr, append_assoc, length-append}
 use Rattle.std.proofs.lemmas.List.{append-nil, drop-append-le}
 use Rattle.std.proofs.lemmas.Result.{on_ok_weaker}
 use Rattle.pgw_types.specs.declared.context.ProtocolVersion.{ProtocolVersion}
@@ -9,13 +9,13 @@ use Rattle.pgw_backend.specs.declared.backend.PgWireBackendMessage.{PgWireBacken
 use Rattle.pgw_backend.specs.declared.backend.PgWireBackendMessage.TheVariants as backend
 use Rattle.pgw_backend.specs.declared.client_error.PgWireClientError.{PgWireClientError as ClientError}
 use Rattle.pgw_backend.specs.declared.client_error.PgWireClientError.TheVariants as client
-use Rattle.pgw_link.specs.Tape.{Tape, end_of}
+use Rattle.pgw_link.specs.Tape.{Tape}
 use Rattle.pgw_client.specs.Wire.{Decoded}
 use Rattle.pgw_session.specs.Segments.{is_ready}
 use Rattle.pgw_handlers.specs.Client.{Client}
 use Rattle.pgw_handlers.specs.Handling.{IsCaused}
 use Rattle.pgw_connection.specs.Talk.{Next, Lack, unread, halts, starves as lack_starves, passes, is_remote, told, in_place_of, first_of, Passing, lacks, closes, goes, starves}
-use Rattle.pgw_connection.specs.Line.{Line, line, Reasons, Pause, IsFlushed, WentWell, Halts, AtEnd, Drew}
+use Rattle.pgw_connection.specs.Line.{Line, line, Reasons, Pause, IsFlushed, WentWell, NotEnded, Halts, AtEnd, Drew}
 use Rattle.pgw_connection.specs.Reading.{GoesOn, Grew, Ended, Failed, Lost, ReadOnce, Found, Came, PassedOver}
 
 -- ---- bytes behind others
@@ -28,7 +28,7 @@ next_more c bytes rest more m n =
 
 pub drew_on : (old mid new : Line) (piece taken : List ℕ) → Drew old mid piece → Drew mid new taken → Drew old new (piece ++ taken)
 drew_on old mid new piece taken a b = record {
-  left = a.left ∙ ap (λ (l : List ℕ). piece ++ l) b.left ∙ sym (append_assoc piece taken new.tape.left);
+  took = b.took ∙ ap (λ (l : List ℕ). l ++ taken) a.took ∙ append_assoc old.tape.took piece taken;
   wrote = b.wrote ∙ a.wrote;
   flushed = b.flushed ∙ a.flushed;
   read = omega (arith, a.read, b.read, length-append piece taken);
@@ -41,15 +41,31 @@ pieces was now piece taken is = ap (λ (b : List ℕ). b ++ taken) is ∙ append
 
 -- nothing was read
 pub drew_none : (t : Tape) (faults : ℕ) (was now : List ℕ) (read limit : ℕ) → Drew (line t faults was read limit) (line t faults now read limit) []
-drew_none t faults was now read limit = record { left = refl; wrote = refl; flushed = refl; read = omega arith; limit = refl }
+drew_none t faults was now read limit = record { took = sym (append-nil t.took); wrote = refl; flushed = refl; read = omega arith; limit = refl }
 
--- where the end was not answered before and is not now, nothing is to be said
-pub not_halted : (c : Client) (flushed : ℕ) (old new : Line) → new.tape.ended ≡ old.tape.ended → Halts c flushed old new
-not_halted c flushed old new same none n some = absurd (let e : None ≡ Some n = sym none ∙ sym same ∙ some in cc)
+-- where the end was not answered, nothing is to be said
+pub not_halted : (c : Client) (flushed : ℕ) (old new : Line) → NotEnded old new → Halts c flushed old new
+not_halted c flushed old new same = inl same
 
 -- so of any fact
-pub not_at_end : (fact : Type 0) (old new : Line) → new.tape.ended ≡ old.tape.ended → AtEnd old new fact
-not_at_end fact old new same none n some = absurd (let e : None ≡ Some n = sym none ∙ sym same ∙ some in cc)
+pub not_at_end : (fact : Type 0) (old new : Line) → NotEnded old new → AtEnd old new fact
+not_at_end fact old new same = inl same
+
+-- the end was not answered up to there; what is said from there on is said from the beginning
+pub halts_on : (c : Client) (flushed was : ℕ) (old mid new : Line) → NotEnded old mid → flushed ≡ was →
+    Halts c flushed mid new → Halts c was old new
+halts_on c flushed was old mid new before same (inl none) = inl (none ∙ before)
+halts_on c flushed was old mid new before same (inr h) =
+    inr (h.0 ∙ ap (λ (e : List ℕ). e ++ flushed ∷ []) before ∙ ap (λ (n : ℕ). old.tape.ended ++ n ∷ []) same, h.1)
+
+pub at_end_on : (fact also : Type 0) (old mid new : Line) → NotEnded old mid → (fact → also) →
+    AtEnd mid new fact → AtEnd old new also
+at_end_on fact also old mid new before so (inl none) = inl (none ∙ before)
+at_end_on fact also old mid new before so (inr x) = inr (so x)
+
+pub at_end_so : (fact also : Type 0) (old new : Line) → (fact → also) → AtEnd old new fact → AtEnd old new also
+at_end_so fact also old new so (inl none) = inl none
+at_end_so fact also old new so (inr x) = inr (so x)
 
 -- ---- the link's calls went well
 
@@ -85,18 +101,24 @@ io_answer A W e (inr is) = inr (ap (failed A) is)
 
 -- ---- the message at the front
 
-found_as : (c : Client) (before was : ℕ) (now : Line) (bytes other rest : List ℕ) (r : Result Backend ClientError) → before ≡ was → bytes ≡ other → Found (Pause before now) c bytes r rest → Found (Pause was now) c other r rest
-found_as c before was now bytes other rest r faults same f =
-    subst (λ (n : ℕ). Found (Pause n now) c other r rest) faults (subst (λ (b : List ℕ). Found (Pause before now) c b r rest) same f)
+-- why a call does not go on, where all went well up to there
+pub pause_on : (old mid new : Line) → GoesOn old mid → Pause mid new ≡ Pause old new
+pause_on old mid new g = rw (g.0, g.1) refl
+
+found_as : (c : Client) (P Q : Reasons) (bytes other rest : List ℕ) (r : Result Backend ClientError) → P ≡ Q → bytes ≡ other →
+    Found P c bytes r rest → Found Q c other r rest
+found_as c P Q bytes other rest r why same f =
+    subst (λ (p : Reasons). Found p c other r rest) why (subst (λ (b : List ℕ). Found P c b r rest) same f)
 
 -- more bytes came, and then a message
 pub came_on : (c : Client) (old mid new : Line) (r : Result Backend ClientError) → Grew old mid → Came c mid new r → Came c old new r
 came_on c old mid new r grew came = record {
   taken = grew.piece ++ came.taken;
   drew = drew_on old mid new grew.piece came.taken grew.drew came.drew;
-  found = found_as c mid.faults old.faults new (mid.buffer ++ came.taken) (old.buffer ++ (grew.piece ++ came.taken)) new.buffer r grew.goes_on.1 (pieces old.buffer mid.buffer grew.piece came.taken grew.buffer) came.found;
-  halts = λ none n some. let h = came.halts (grew.goes_on.0 ∙ none) n some in (h.0 ∙ grew.drew.flushed, h.1);
-  at_end = λ none n some. came.at_end (grew.goes_on.0 ∙ none) n some;
+  found = found_as c (Pause mid new) (Pause old new) (mid.buffer ++ came.taken) (old.buffer ++ (grew.piece ++ came.taken)) new.buffer r
+      (pause_on old mid new grew.goes_on) (pieces old.buffer mid.buffer grew.piece came.taken grew.buffer) came.found;
+  halts = halts_on c mid.tape.flushed old.tape.flushed old mid new grew.goes_on.0 grew.drew.flushed came.halts;
+  at_end = at_end_on _ _ old mid new grew.goes_on.0 (λ is. is) came.at_end;
   goes_on = on_ok_weaker r (λ (g : GoesOn mid new). (g.0 ∙ grew.goes_on.0, g.1 ∙ grew.goes_on.1)) came.goes_on;
   well = went_on (r ≡ Err client.IoError) old mid new (drew_well old mid grew.piece grew.drew grew.goes_on.1) came.well;
 }
@@ -123,10 +145,11 @@ lack_of P c bytes rest e d =
 pub came_refused : (c : Client) (t : Tape) (faults : ℕ) (was now : List ℕ) (read limit : ℕ) (e : ClientError) → Decoded c.protocol_version was now (Err e) → Came c (line t faults was read limit) (line t faults now read limit) (Err e)
 came_refused c t faults was now read limit e d =
     let new = line t faults now read limit in
+    let P = Pause (line t faults was read limit) new in
     record {
       taken = [];
       drew = drew_none t faults was now read limit;
-      found = subst (λ (b : List ℕ). Lack (Pause faults new) c b now e) (sym (append-nil was)) (lack_of (Pause faults new) c was now e d);
+      found = subst (λ (b : List ℕ). Lack P c b now e) (sym (append-nil was)) (lack_of P c was now e d);
       halts = not_halted c t.flushed (line t faults was read limit) new refl;
       at_end = not_at_end (failed Backend e ≡ Err client.UnexpectedEOF) (line t faults was read limit) new refl;
       goes_on = tt;
@@ -142,12 +165,9 @@ pub came_ended : (c : Client) (old new : Line) → front c.protocol_version old.
 came_ended c old new more e = record {
   taken = [];
   drew = e.drew;
-  found = lack_more (Pause old.faults new) c old.buffer new.buffer client.UnexpectedEOF more e.buffer e.at_end;
-  halts = λ none n some. (
-    (let is : Some n ≡ Some old.tape.flushed = sym some ∙ e.ended ∙ ap (λ o. end_of o old.tape.flushed) none in cc),
-    subst (λ (b : List ℕ). front c.protocol_version b ≡ More) (sym e.buffer) more,
-  );
-  at_end = λ none n some. refl;
+  found = lack_more (Pause old new) c old.buffer new.buffer client.UnexpectedEOF more e.buffer e.at_end;
+  halts = inr (e.ended, subst (λ (b : List ℕ). front c.protocol_version b ≡ More) (sym e.buffer) more);
+  at_end = inr refl;
   goes_on = tt;
   well = inl (drew_well old new [] e.drew e.faults);
 }
@@ -167,7 +187,7 @@ came_failed : (c : Client) (old new : Line) → front c.protocol_version old.buf
 came_failed c old new more f = record {
   taken = [];
   drew = f.drew;
-  found = lack_more (Pause old.faults new) c old.buffer new.buffer client.IoError more f.buffer f.rose;
+  found = lack_more (Pause old new) c old.buffer new.buffer client.IoError more f.buffer f.rose;
   halts = not_halted c old.tape.flushed old new f.ended;
   at_end = not_at_end (failed Backend client.IoError ≡ Err client.UnexpectedEOF) old new f.ended;
   goes_on = tt;
@@ -178,7 +198,7 @@ came_limited : (c : Client) (old : Line) → front c.protocol_version old.buffer
 came_limited c old more at = record {
   taken = [];
   drew = drew_none old.tape old.faults old.buffer old.buffer old.read old.limit;
-  found = lack_more (Pause old.faults old) c old.buffer old.buffer client.ReadLimit more refl at;
+  found = lack_more (Pause old old) c old.buffer old.buffer client.ReadLimit more refl at;
   halts = not_halted c old.tape.flushed old old refl;
   at_end = not_at_end (failed Backend client.ReadLimit ≡ Err client.UnexpectedEOF) old old refl;
   goes_on = tt;
@@ -193,11 +213,11 @@ came_unread c old new e more r = absurd r
 
 -- ---- messages passed over
 
-passed_as : (e x : ClientError) (c last : Client) (before was : ℕ) (now : Line) (bytes other left : List ℕ) (broken : Bool) → before ≡ was → bytes ≡ other → Passing (Pause before now) e c bytes x last left broken → Passing (Pause was now) e c other x last left broken
-passed_as e x c last before was now bytes other left broken faults same d =
-    subst (λ (n : ℕ). Passing (Pause n now) e c other x last left broken) faults (subst (λ (b : List ℕ). Passing (Pause before now) e c b x last left broken) same d)
+pub passing_as : (P Q : Reasons) (e x : ClientError) (c last : Client) (bytes left : List ℕ) (broken : Bool) → P ≡ Q →
+    Passing P e c bytes x last left broken → Passing Q e c bytes x last left broken
+passing_as P Q e x c last bytes left broken why d = subst (λ (p : Reasons). Passing p e c bytes x last left broken) why d
 
-abbrev PassedEnd : ClientError → ClientError → Bool → Type 0
+abbrev pub PassedEnd : ClientError → ClientError → Bool → Type 0
 PassedEnd e x broken = (broken ≡ true) × ((x ≡ e) ⊎ ((e ≡ client.UnexpectedEOF) × (is_remote x ≡ true)))
 
 -- the error behind a message is the one before it, or the server's first
@@ -230,9 +250,10 @@ passed_on e x c last old mid new m broken came quiet p =
       taken = came.taken ++ p.taken;
       drew = drew_on old mid new came.taken p.taken came.drew p.drew;
       passing = goes e c (old.buffer ++ (came.taken ++ p.taken)) m (mid.buffer ++ p.taken) x last new.buffer broken next quiet
-          (passed_as (first_of e m) x (told m c) last mid.faults old.faults new (mid.buffer ++ p.taken) (mid.buffer ++ p.taken) new.buffer broken came.goes_on.1 refl p.passing);
-      halts = λ none n some. let h = p.halts (came.goes_on.0 ∙ none) n some in (h.0 ∙ came.drew.flushed, h.1);
-      at_end = λ none n some. let h = p.at_end (came.goes_on.0 ∙ none) n some in (h.0, first_stays e x m h.1);
+          (passing_as (Pause mid new) (Pause old new) (first_of e m) x (told m c) last (mid.buffer ++ p.taken) new.buffer broken
+          (pause_on old mid new came.goes_on) p.passing);
+      halts = halts_on last mid.tape.flushed old.tape.flushed old mid new came.goes_on.0 came.drew.flushed p.halts;
+      at_end = at_end_on _ _ old mid new came.goes_on.0 (λ (h : PassedEnd (first_of e m) x broken). (h.0, first_stays e x m h.1)) p.at_end;
       well = went_on (x ≡ client.IoError) old mid new (drew_well old mid came.taken came.drew came.goes_on.1) p.well;
     }
 
@@ -257,7 +278,7 @@ passed_none e x c old new came = record {
   drew = came.drew;
   passing = lacks e c (old.buffer ++ came.taken) new.buffer x came.found;
   halts = came.halts;
-  at_end = λ none n some. (refl, inl (let is : x ≡ client.UnexpectedEOF = (let same = came.at_end none n some in cc) in ap (in_place_of e) is));
+  at_end = at_end_so _ _ old new (λ (same : failed Backend x ≡ Err client.UnexpectedEOF). (refl, inl (let is : x ≡ client.UnexpectedEOF = (cc) in ap (in_place_of e) is))) came.at_end;
   well = io_in_place (WentWell old new) e x (io_of Backend (WentWell old new) x came.well);
 }
 

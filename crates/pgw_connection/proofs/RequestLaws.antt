@@ -1,5 +1,5 @@
 -- A request of extended queries, and its answer.
-use Rattle.std.proofs.Common.{◌≡◌, ℕ, Bool, true, false, not, List, [], ◌++◌, length, Result, Ok, Err, refl, sym, subst, ◌∙◌, arith, inl, inr}
+use Rattle.std.proofs.Common.{◌≡◌, ℕ, Bool, true, false, not, List, [], ◌++◌, length, Result, Ok, Err, refl, sym, subst, arith, inl, inr}
 use Rattle.std.proofs.lemmas.List.{append-nil}
 use Rattle.pgw_frontend.specs.declared.frontend.PgWireFrontendMessage.{PgWireFrontendMessage as Frontend}
 use Rattle.pgw_backend.specs.declared.client_error.PgWireClientError.{PgWireClientError as ClientError}
@@ -16,12 +16,12 @@ use Rattle.pgw_connection.specs.Calls.{PutAll, PutSome, Opens as Begins, starved
 use Rattle.pgw_connection.specs.Extended.{Meaning, calls_for, Opens, none_gathered, Finish, finish, Exchange, Requested}
 use Rattle.pgw_connection.specs.Extended as extended
 use Rattle.pgw_connection.specs.ExtendedSteps.{Exchanged, Called, Answered, given}
-use Rattle.pgw_connection.proofs.ReadingLaws.{not_halted, not_at_end, well_still, went_on}
+use Rattle.pgw_connection.proofs.ReadingLaws.{not_halted, not_at_end, halts_on, at_end_on, well_still, went_on}
 use Rattle.pgw_connection.proofs.CallLaws.{put_well, moved_on, opened_well}
 use Rattle.pgw_connection.proofs.ExchangeLaws.{exchange_as}
 
 moved_still : (old : Line) → Moved old old [] []
-moved_still old = record { left = refl; wrote = sym (append-nil old.tape.wrote); read = omega arith; limit = refl }
+moved_still old = record { took = sym (append-nil old.tape.took); wrote = sym (append-nil old.tape.wrote); read = omega arith; limit = refl }
 
 -- memory was wanting
 pub called_starved : {H R : Type 0} (M : Meaning H R) (q : Request) (h handler : H) (c info : Client) (old : Line) → Called M q h c old old (finish (Err client.OutOfMemory) handler info true old.buffer)
@@ -41,15 +41,15 @@ module _ {H R : Type 0} (M : Meaning H R) (q : Request) (h handler : H) (c : Cli
   called_exchanged : (info : Client) (mid new : Line) (last : Finish H R) → Opens M (calls_for (sends_of q)) (standing h (fresh c)) (standing handler s) (Ok tt) → s.broken ≡ false → PutAll s.wrote old mid → info ≡ s.client
       → Exchanged M (kind_of q) handler info none_gathered mid new last → Called M q h c old new last
   called_exchanged info mid new last o usable put same t =
-      let bytes = subst (λ (b : List ℕ). Exchange M (Pause mid.faults new) (kind_of q) handler info none_gathered (b ++ t.taken) t.sent last) put.buffer t.exchange in
+      let bytes = subst (λ (b : List ℕ). Exchange M (Pause mid new) (kind_of q) handler info none_gathered (b ++ t.taken) t.sent last) put.buffer t.exchange in
       record {
         taken = t.taken;
         sent = s.wrote ++ t.sent;
         moved = moved_on old mid new [] t.taken s.wrote t.sent put.moved t.moved;
-        requested = extended.opened (standing handler s) t.sent last o usable (exchange_as M (kind_of q) mid.faults old.faults new handler info s.client none_gathered (old.buffer ++ t.taken) t.sent last put.goes_on.1 same bytes);
+        requested = extended.opened (standing handler s) t.sent last o usable (exchange_as M (kind_of q) old mid new handler info s.client none_gathered (old.buffer ++ t.taken) t.sent last put.goes_on same bytes);
         flushed = λ f good. t.flushed (put.flushed f) good;
-        halts = λ f none n some. t.halts (put.flushed f) (put.goes_on.0 ∙ none) n some;
-        at_end = λ none n some. t.at_end (put.goes_on.0 ∙ none) n some;
+        halts = λ f. halts_on last.info (length new.tape.wrote) (length new.tape.wrote) old mid new put.goes_on.0 refl (t.halts (put.flushed f));
+        at_end = at_end_on _ _ old mid new put.goes_on.0 (λ is. is) t.at_end;
         well = went_on (last.answer ≡ Err client.IoError) old mid new (put_well old mid s.wrote put) t.well;
       }
 
@@ -64,7 +64,7 @@ module _ {H R : Type 0} (M : Meaning H R) (q : Request) (h handler : H) (c : Cli
     taken = [];
     sent = put.part;
     moved = put.moved;
-    requested = bytes_are put.part (Pause old.faults new) client.IoError s.client true new.buffer put.buffer (extended.unwritten (standing handler s) put.part o usable put.cut);
+    requested = bytes_are put.part (Pause old new) client.IoError s.client true new.buffer put.buffer (extended.unwritten (standing handler s) put.part o usable put.cut);
     flushed = λ f good. absurd (let no : true ≡ false = good in cc);
     halts = λ f. not_halted s.client (length new.tape.wrote) old new put.ended;
     at_end = not_at_end _ old new put.ended;
@@ -76,7 +76,7 @@ module _ {H R : Type 0} (M : Meaning H R) (q : Request) (h handler : H) (c : Cli
     taken = [];
     sent = [];
     moved = moved_still old;
-    requested = bytes_are [] (Pause old.faults old) e s.client false old.buffer refl (extended.refused (standing handler s) e o is usable);
+    requested = bytes_are [] (Pause old old) e s.client false old.buffer refl (extended.refused (standing handler s) e o is usable);
     flushed = λ f good. f;
     halts = λ f. not_halted s.client (length old.tape.wrote) old old refl;
     at_end = not_at_end _ old old refl;
@@ -86,7 +86,7 @@ module _ {H R : Type 0} (M : Meaning H R) (q : Request) (h handler : H) (c : Cli
     taken = [];
     sent = [];
     moved = moved_still old;
-    requested = bytes_are [] (Pause old.faults old) e s.client true old.buffer refl (extended.breaks (standing handler s) e o is caused usable);
+    requested = bytes_are [] (Pause old old) e s.client true old.buffer refl (extended.breaks (standing handler s) e o is caused usable);
     flushed = λ f good. f;
     halts = λ f. not_halted s.client (length old.tape.wrote) old old refl;
     at_end = not_at_end _ old old refl;

@@ -1,5 +1,5 @@
 -- What a client's calls leave.
-use Rattle.std.specs.Prelude.{◌≡◌, ◌⊎◌, ℕ, Bool, true, false, not, ◌&&◌, ◌||◌, List, [], ◌++◌, length, drop, Option, Result, Ok, Err}
+use Rattle.std.specs.Prelude.{◌≡◌, ◌⊎◌, ℕ, Bool, true, false, not, ◌&&◌, ◌||◌, List, [], ◌++◌, length, drop, Result, Ok, Err}
 use Rattle.pgw_types.specs.declared.error.PgWireError.{PgWireError}
 use Rattle.pgw_types.specs.declared.context.ProtocolVersion.{ProtocolVersion}
 use Rattle.pgw_backend.specs.Front.{front, More, Bad, Whole}
@@ -15,7 +15,7 @@ use Rattle.pgw_handlers.specs.Handling.{Standing, standing, Answer}
 use Rattle.pgw_handlers.specs.declared.client_info.ReadyState.{ReadyState}
 use Rattle.pgw_handlers.specs.declared.client_info.ReadyState.TheVariants.{Pending, Ready}
 use Rattle.pgw_connection.specs.Talk.{fresh, Next, End, end, Hearing, Talk, Asked, IsCut, passes, is_refusal}
-use Rattle.pgw_connection.specs.Line.{Line, Pause, IsFlushed, WentWell, Halts, AtEnd, Moved}
+use Rattle.pgw_connection.specs.Line.{Line, Pause, IsFlushed, WentWell, NotEnded, Halts, AtEnd, Moved}
 use Rattle.pgw_connection.specs.Reading.{GoesOn, PassedOver}
 
 -- ---- what no handler changes
@@ -29,14 +29,14 @@ pub record Kept : Type 0 where
 abbrev pub kept : Config → List ℕ → ℕ → ℕ → Kept
 kept config buffer read limit = record { config = config; buffer = buffer; read = read; limit = limit }
 
--- where the link tells
+-- of the link
 pub record KeptRest : Type 0 where
-  pub left : List ℕ
-  pub ended : Option ℕ
+  pub took : List ℕ
+  pub ended : List ℕ
   pub reads : ℕ
 
 abbrev pub kept_rest : Tape → KeptRest
-kept_rest tape = record { left = tape.left; ended = tape.ended; reads = tape.reads }
+kept_rest tape = record { took = tape.took; ended = tape.ended; reads = tape.reads }
 
 -- what is seen of a client over its link
 abbrev pub link_sight : Client → Tape → Bool → Sight
@@ -69,10 +69,10 @@ pub record PutAll (bytes : List ℕ) (old new : Line) : Type 0 where
 -- a part of it was written, or it was not flushed
 pub record PutSome (bytes : List ℕ) (old new : Line) : Type 0 where
   pub part : List ℕ
-  pub cut : IsCut (Pause old.faults new) bytes part
+  pub cut : IsCut (Pause old new) bytes part
   pub moved : Moved old new [] part
   pub buffer : new.buffer ≡ old.buffer
-  pub ended : new.tape.ended ≡ old.tape.ended
+  pub ended : NotEnded old new
 
 abbrev pub Puts : List ℕ → Line → Line → Result (Unit {0}) ClientError → Type 0
 Puts bytes old new (Ok done) = PutAll bytes old new
@@ -130,7 +130,7 @@ pub record Talked {H A : Type 0} (M : Hearing H A) (goes_on : ClientError → Bo
   pub taken : List ℕ
   pub sent : List ℕ
   pub moved : Moved old new taken sent
-  pub talk : Talk M (Pause old.faults new) goes_on h c (old.buffer ++ taken) sent last
+  pub talk : Talk M (Pause old new) goes_on h c (old.buffer ++ taken) sent last
   pub flushed : IsFlushed old → last.broken ≡ false → IsFlushed new
   pub well : WentWell old new ⊎ (last.answer ≡ Err client.IoError)
   pub halts : IsFlushed old → Halts last.info (length new.tape.wrote) old new
@@ -146,13 +146,13 @@ HeardNext M goes_on h c old new handler info broken (Err e) = Talked M goes_on h
 
 -- A call of a client, as its handler means it: what it read and wrote, that what it read is counted, that a usable client
 -- has flushed all that it wrote, that behind any answer but IoError no call of the link failed and all that was written is
--- flushed, if all was before, and that the link's end, where it was first answered in this call, was asked for a message
--- that was awaited, with all flushed, and is what the call answers, or the error behind which it passed messages over.
+-- flushed, if all was before, and that the link's end was answered at most once in it: asked for a message that was
+-- awaited, with all flushed, and it is what the call answers, or the error behind which it passed messages over.
 pub record Call {H A : Type 0} (opens : Standing H → Standing H → Answer A → Type 0) (M : Hearing H A) (goes_on : ClientError → Bool) (h : H) (c : Client) (old new : Line) (last : End A) : Type 0 where
   pub taken : List ℕ
   pub sent : List ℕ
   pub moved : Moved old new taken sent
-  pub asked : Asked opens M (Pause old.faults new) goes_on h c (old.buffer ++ taken) sent last
+  pub asked : Asked opens M (Pause old new) goes_on h c (old.buffer ++ taken) sent last
   pub flushed : IsFlushed old → last.broken ≡ false → IsFlushed new
   pub well : WentWell old new ⊎ (last.answer ≡ Err client.IoError)
   pub halts : IsFlushed old → Halts last.info (length new.tape.wrote) old new

@@ -1,13 +1,13 @@
 -- What a connect and a cancel do to their dialer, and what they answer.
-use Rattle.std.specs.Prelude.{◌≡◌, ◌≢◌, ◌⊎◌, ◌<◌, ◌≤◌, ℕ, Bool, false, List, [], Option, Some, None, Result, Ok, Err}
+use Rattle.std.specs.Prelude.{◌≡◌, ◌≢◌, ◌⊎◌, ◌<◌, ◌≤◌, ℕ, Bool, true, false, List, [], ◌∷◌, ◌++◌, Option, Some, None, Result, Ok, Err}
 use Rattle.pgw_types.specs.declared.error.PgWireError.{PgWireError}
 use Rattle.pgw_backend.specs.declared.client_error.PgWireClientError.{PgWireClientError as ClientError}
 use Rattle.pgw_backend.specs.declared.client_error.PgWireClientError.TheVariants as client
 use Rattle.pgw_conninfo.specs.declared.address.Address.{Address}
 use Rattle.pgw_config.specs.declared.config.Config.{Config}
 use Rattle.pgw_config.specs.Address.{address_of}
-use Rattle.pgw_link.specs.Tape.{Tape, Rose, counted}
-use Rattle.pgw_link.specs.Dials.{DialTape, IsFresh, Dialled, NotDialled, CountsClose}
+use Rattle.pgw_link.specs.Tape.{Tape, Rose, new_tape}
+use Rattle.pgw_link.specs.Dials.{DialTape, Dialled, NotDialled, CountsClose}
 use Rattle.pgw_session.specs.Demands.{refused_config}
 use Rattle.pgw_client.specs.Demands.{IsInvalidConfig}
 use Rattle.pgw_client.specs.SessionSteps.{Wrote, WroteSome}
@@ -36,16 +36,15 @@ IsRefusedBy None config e = e ≢ client.OutOfMemory → address_of config ≡ E
 -- ---- the dialer
 
 -- the dial gave no link
-pub record NoLink (tells : Type 0) (old new : DialTape) (before now : ℕ) (e : ClientError) : Type 0 where
+pub record NoLink (to : Address) (old new : DialTape) (before now : ℕ) (e : ClientError) : Type 0 where
   pub why : ((e ≡ client.IoError) × Rose before now) ⊎ (e ≡ client.OutOfMemory)
-  pub tape : tells → NotDialled old new
+  pub tape : NotDialled to old new
 
 -- one link was dialled, which told this first, and closed, when it told that
 pub record DialledOnce (to : Address) (old new : DialTape) (first after : Tape) : Type 0 where
-  pub dials : new.dials ≡ counted old.dials
-  pub address : new.address ≡ Some to
-  pub fresh : IsFresh old.offer first
-  pub shut : new.shut ≡ Some after
+  pub dialled : new.dialled ≡ old.dialled ++ (to, true) ∷ []
+  pub fresh : first ≡ new_tape
+  pub shut : new.shut ≡ old.shut ++ after ∷ []
 
 -- ---- a connect
 
@@ -72,36 +71,44 @@ abbrev pub Connected : {S : Type 0} → (Standing S → Standing S → Answer Se
 Connected opens M handler config limit old new info now = (address : Address) × LeadsTo config address × ConnectedAt opens M handler config limit address old new info now
 
 -- a link was dialled, a login over it failed, and the link was closed
-pub record ClosedAgain {S : Type 0} (tells : Type 0) (opens : Standing S → Standing S → Answer ServerInformation → Type 0) (M : Hearing S ServerInformation) (handler : S) (config : Config) (limit : ℕ) (address : Address) (old new : DialTape) (before now : ℕ) (e : ClientError) : Type 0 where
+pub record ClosedAgain {S : Type 0} (opens : Standing S → Standing S → Answer ServerInformation → Type 0) (M : Hearing S ServerInformation) (handler : S) (config : Config) (limit : ℕ) (address : Address) (old new : DialTape) (before now : ℕ) (e : ClientError) : Type 0 where
   pub faults : ℕ
   pub counts : CountsClose before now faults
   pub io : e ≡ client.IoError → 0 < faults
-  pub tape : tells → (first : Tape) × (last : Line) × (info : Client) × DialledOnce address old new first last.tape × (last.faults ≡ faults) × (last.read ≤ limit) ×
+  pub tape : (first : Tape) × (last : Line) × (info : Client) × DialledOnce address old new first last.tape × (last.faults ≡ faults) × (last.read ≤ limit) ×
       LogsIn opens M handler (first_client config) (new_line first limit) last info (Err e)
 
 -- at an address there was no link, or the login over it failed
-abbrev pub NotConnectedAt : {S : Type 0} → Type 0 → (Standing S → Standing S → Answer ServerInformation → Type 0) → Hearing S ServerInformation → S → Config → ℕ → Address → DialTape → DialTape → ℕ → ℕ → ClientError → Type 0
-NotConnectedAt tells opens M handler config limit address old new before now e = NoLink tells old new before now e ⊎ ClosedAgain tells opens M handler config limit address old new before now e
+abbrev pub NotConnectedAt : {S : Type 0} → (Standing S → Standing S → Answer ServerInformation → Type 0) → Hearing S ServerInformation → S → Config → ℕ → Address → DialTape → DialTape → ℕ → ℕ → ClientError → Type 0
+NotConnectedAt opens M handler config limit address old new before now e =
+    NoLink address old new before now e ⊎ ClosedAgain opens M handler config limit address old new before now e
 
 -- Why a connect was refused: there is no address, and then `same` says that the dialer is as it was; or it failed there.
-abbrev pub NotConnected : {S : Type 0} → Type 0 → Type 0 → (Standing S → Standing S → Answer ServerInformation → Type 0) → Hearing S ServerInformation → S → Config → ℕ → DialTape → DialTape → ℕ → ℕ → ClientError → Type 0
-NotConnected same tells opens M handler config limit old new before now e =
-    (same × IsRefusedBy (refused_config config) config e) ⊎ ((address : Address) × LeadsTo config address × NotConnectedAt tells opens M handler config limit address old new before now e)
+abbrev pub NotConnected : {S : Type 0} → Type 0 → (Standing S → Standing S → Answer ServerInformation → Type 0) → Hearing S ServerInformation → S → Config → ℕ → DialTape → DialTape → ℕ → ℕ → ClientError → Type 0
+NotConnected same opens M handler config limit old new before now e =
+    (same × IsRefusedBy (refused_config config) config e) ⊎ ((address : Address) × LeadsTo config address × NotConnectedAt opens M handler config limit address old new before now e)
 
 -- ---- a message over a link of its own
 
 -- a link was dialled, these bytes written to it, and the link closed
-abbrev pub SentOnce : Type 0 → Address → List ℕ → DialTape → DialTape → Type 0
-SentOnce tells address bytes old new = tells → (first : Tape) × (after : Tape) × DialledOnce address old new first after × Wrote first after bytes
+abbrev pub SentOnce : Address → List ℕ → DialTape → DialTape → Type 0
+SentOnce address bytes old new =
+    (first : Tape) × (after : Tape) × DialledOnce address old new first after × Wrote first after bytes
 
 -- a link was dialled, and not all of them were written; or none was dialled
-pub data NotSentOnce (tells : Type 0) (address : Address) (bytes : List ℕ) (old new : DialTape) (before now : ℕ) : ClientError → Type 0 where
-  no_link : (e : ClientError) → NoLink tells old new before now e → NotSentOnce tells address bytes old new before now e
-  cut : Rose before now → (tells → (first : Tape) × (after : Tape) × DialledOnce address old new first after × WroteSome first after bytes) → NotSentOnce tells address bytes old new before now client.IoError
+pub data NotSentOnce (address : Address) (bytes : List ℕ) (old new : DialTape) (before now : ℕ) : ClientError → Type 0 where
+  no_link : (e : ClientError) → NoLink address old new before now e → NotSentOnce address bytes old new before now e
+  cut : Rose before now → (first after : Tape) → DialledOnce address old new first after → WroteSome first after bytes →
+      NotSentOnce address bytes old new before now client.IoError
 
 -- What a cancel answers: `spelled` is the one message that it sends, and `same` says that the dialer is as it was.
-pub data Cancels (same tells : Type 0) (config : Config) (spelled : Result (List ℕ) PgWireError) (old new : DialTape) (before now : ℕ) : Result (Unit {0}) ClientError → Type 0 where
-  sent : (address : Address) (bytes : List ℕ) → address_of config ≡ Ok address → spelled ≡ Ok bytes → SentOnce tells address bytes old new → Cancels same tells config spelled old new before now (Ok tt)
-  unsent : (address : Address) (bytes : List ℕ) (e : ClientError) → address_of config ≡ Ok address → spelled ≡ Ok bytes → NotSentOnce tells address bytes old new before now e → Cancels same tells config spelled old new before now (Err e)
-  no_address : (e : ClientError) → same → (e ≢ client.OutOfMemory → address_of config ≡ Err e) → Cancels same tells config spelled old new before now (Err e)
-  unspelled : (e : ClientError) → same → (e ≢ client.OutOfMemory → (why : PgWireError) × (spelled ≡ Err why) × (e ≡ client.PgWireError why)) → Cancels same tells config spelled old new before now (Err e)
+pub data Cancels (same : Type 0) (config : Config) (spelled : Result (List ℕ) PgWireError) (old new : DialTape) (before now : ℕ) : Result (Unit {0}) ClientError → Type 0 where
+  sent : (address : Address) (bytes : List ℕ) → address_of config ≡ Ok address → spelled ≡ Ok bytes →
+      SentOnce address bytes old new → Cancels same config spelled old new before now (Ok tt)
+  unsent : (address : Address) (bytes : List ℕ) (e : ClientError) → address_of config ≡ Ok address → spelled ≡ Ok bytes →
+      NotSentOnce address bytes old new before now e → Cancels same config spelled old new before now (Err e)
+  no_address : (e : ClientError) → same → (e ≢ client.OutOfMemory → address_of config ≡ Err e) →
+      Cancels same config spelled old new before now (Err e)
+  unspelled : (e : ClientError) → same →
+      (e ≢ client.OutOfMemory → (why : PgWireError) × (spelled ≡ Err why) × (e ≡ client.PgWireError why)) →
+      Cancels same config spelled old new before now (Err e)

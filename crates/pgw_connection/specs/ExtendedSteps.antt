@@ -100,7 +100,7 @@ pub record Exchanged {H R : Type 0} (M : Meaning H R) (k : Kind) (h : H) (c : Cl
   pub taken : List ℕ
   pub sent : List ℕ
   pub moved : Moved old new taken sent
-  pub exchange : Exchange M (Pause old.faults new) k h c g (old.buffer ++ taken) sent last
+  pub exchange : Exchange M (Pause old new) k h c g (old.buffer ++ taken) sent last
   pub flushed : IsFlushed old → last.broken ≡ false → IsFlushed new
   pub well : WentWell old new ⊎ (last.answer ≡ Err client.IoError)
   pub halts : IsFlushed old → Halts last.info (length new.tape.wrote) old new
@@ -123,7 +123,7 @@ pub record Called {H R : Type 0} (M : Meaning H R) (q : Request) (h : H) (c : Cl
   pub taken : List ℕ
   pub sent : List ℕ
   pub moved : Moved old new taken sent
-  pub requested : Requested M (Pause old.faults new) q h c (old.buffer ++ taken) sent last
+  pub requested : Requested M (Pause old new) q h c (old.buffer ++ taken) sent last
   pub flushed : IsFlushed old → last.broken ≡ false → IsFlushed new
   pub well : WentWell old new ⊎ (last.answer ≡ Err client.IoError)
   pub halts : IsFlushed old → Halts last.info (length new.tape.wrote) old new

@@ -1,5 +1,5 @@
 -- A client's bytes, and why no more of them came.
-use Rattle.std.specs.Prelude.{◌≡◌, ◌<◌, ℕ, ◌+◌, List, [], ◌++◌, length, Some, None}
+use Rattle.std.specs.Prelude.{◌≡◌, ◌⊎◌, ◌<◌, ℕ, ◌+◌, List, [], ◌∷◌, ◌++◌, length}
 use Rattle.pgw_backend.specs.Front.{front, More}
 use Rattle.pgw_backend.specs.declared.client_error.PgWireClientError.{PgWireClientError as ClientError}
 use Rattle.pgw_backend.specs.declared.client_error.PgWireClientError.TheVariants as client
@@ -18,11 +18,10 @@ pub record Line : Type 0 where
 abbrev pub line : Tape → ℕ → List ℕ → ℕ → ℕ → Line
 line tape faults buffer read limit = record { tape = tape; faults = faults; buffer = buffer; read = read; limit = limit }
 
--- the link has ended: it was asked for more, and had none
-pub record IsAtEnd (now : Line) : Type 0 where
-  pub nothing_left : now.tape.left ≡ []
+-- the link has ended: it was asked for more behind these answers of its end, and answered its end
+pub record IsAtEnd (ended : List ℕ) (now : Line) : Type 0 where
   pub below : now.read < now.limit
-  pub asked : (n : ℕ) × (now.tape.ended ≡ Some n)
+  pub asked : (n : ℕ) × (now.tape.ended ≡ ended ++ n ∷ [])
 
 -- all that was written is flushed
 abbrev pub IsFlushed : Line → Type 0
@@ -38,30 +37,35 @@ pub record Reasons : Type 1 where
   pub halts : ClientError → Type 0
   pub unsent : List ℕ → Type 0
 
--- by the faults before a call, and what the call left
-abbrev pub HaltsBy : ℕ → Line → ClientError → Type 0
-HaltsBy before now client.IoError = Rose before now.faults
-HaltsBy before now client.ReadLimit = now.read ≡ now.limit
-HaltsBy before now client.UnexpectedEOF = IsAtEnd now
-HaltsBy before now e = ⊥
+-- by the faults and the answers of the end before a call, and what the call left
+abbrev pub HaltsBy : ℕ → List ℕ → Line → ClientError → Type 0
+HaltsBy before ended now client.IoError = Rose before now.faults
+HaltsBy before ended now client.ReadLimit = now.read ≡ now.limit
+HaltsBy before ended now client.UnexpectedEOF = IsAtEnd ended now
+HaltsBy before ended now e = ⊥
 
 abbrev pub IsUnsent : ℕ → Line → List ℕ → Type 0
 IsUnsent before now lost = Rose before now.faults × (lost ≡ [] → IsFlushed now → ⊥)
 
-abbrev pub Pause : ℕ → Line → Reasons
-Pause before now = record { halts = HaltsBy before now; unsent = IsUnsent before now }
+abbrev pub Pause : Line → Line → Reasons
+Pause old new = record { halts = HaltsBy old.faults old.tape.ended new; unsent = IsUnsent old.faults new }
 
--- where the link's end was first answered, so many bytes had been flushed, and a message was still awaited
+-- the link's end was not answered
+abbrev pub NotEnded : Line → Line → Type 0
+NotEnded old new = new.tape.ended ≡ old.tape.ended
+
+-- or it was once, so many bytes had been flushed, and a message was still awaited
 abbrev pub Halts : Client → ℕ → Line → Line → Type 0
-Halts c flushed old new = old.tape.ended ≡ None → (n : ℕ) → new.tape.ended ≡ Some n → (n ≡ flushed) × (front c.protocol_version new.buffer ≡ More)
+Halts c flushed old new =
+    NotEnded old new ⊎ ((new.tape.ended ≡ old.tape.ended ++ flushed ∷ []) × (front c.protocol_version new.buffer ≡ More))
 
--- a fact that holds where the link's end was first answered
+-- a fact that holds where the link's end was answered
 abbrev pub AtEnd : Line → Line → Type 0 → Type 0
-AtEnd old new fact = old.tape.ended ≡ None → (n : ℕ) → new.tape.ended ≡ Some n → fact
+AtEnd old new fact = NotEnded old new ⊎ fact
 
 -- these bytes were read, and nothing was written
 pub record Drew (old new : Line) (taken : List ℕ) : Type 0 where
-  pub left : old.tape.left ≡ taken ++ new.tape.left
+  pub took : new.tape.took ≡ old.tape.took ++ taken
   pub wrote : new.tape.wrote ≡ old.tape.wrote
   pub flushed : new.tape.flushed ≡ old.tape.flushed
   pub read : new.read ≡ old.read + length taken
@@ -69,7 +73,7 @@ pub record Drew (old new : Line) (taken : List ℕ) : Type 0 where
 
 -- these bytes were read, and those written
 pub record Moved (old new : Line) (taken sent : List ℕ) : Type 0 where
-  pub left : old.tape.left ≡ taken ++ new.tape.left
+  pub took : new.tape.took ≡ old.tape.took ++ taken
   pub wrote : new.tape.wrote ≡ old.tape.wrote ++ sent
   pub read : new.read ≡ old.read + length taken
   pub limit : new.limit ≡ old.limit

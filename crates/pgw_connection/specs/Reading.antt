@@ -1,17 +1,17 @@
 -- How a client comes by its messages.
 use Rattle.pgw_wire.specs.Framing.{stated_length}
-use Rattle.std.specs.Prelude.{◌≡◌, ◌⊎◌, ◌<◌, ℕ, ◌+◌, length, nat_lt, if◌then◌else◌, Bool, true, false, List, [], ◌++◌, Result, Ok, Err, OnOk}
+use Rattle.std.specs.Prelude.{◌≡◌, ◌⊎◌, ◌<◌, ℕ, ◌+◌, length, nat_lt, if◌then◌else◌, Bool, true, false, List, [], ◌∷◌, ◌++◌, Result, Ok, Err, OnOk}
 use Rattle.pgw_backend.specs.declared.backend.PgWireBackendMessage.{PgWireBackendMessage as Backend}
 use Rattle.pgw_backend.specs.declared.client_error.PgWireClientError.{PgWireClientError as ClientError}
 use Rattle.pgw_backend.specs.declared.client_error.PgWireClientError.TheVariants as client
-use Rattle.pgw_link.specs.Tape.{Rose, counted, end_of}
+use Rattle.pgw_link.specs.Tape.{Rose}
 use Rattle.pgw_handlers.specs.Client.{Client}
 use Rattle.pgw_connection.specs.Talk.{Next, Lack, Passing, is_remote}
-use Rattle.pgw_connection.specs.Line.{Line, IsAtEnd, Reasons, Pause, WentWell, Halts, AtEnd, Drew}
+use Rattle.pgw_connection.specs.Line.{Line, IsAtEnd, Reasons, Pause, WentWell, NotEnded, Halts, AtEnd, Drew}
 
 -- the link's calls went well, and its end was not answered
 abbrev pub GoesOn : Line → Line → Type 0
-GoesOn old new = (new.tape.ended ≡ old.tape.ended) × (new.faults ≡ old.faults)
+GoesOn old new = NotEnded old new × (new.faults ≡ old.faults)
 
 -- bytes came behind those in the buffer
 pub record Grew (old new : Line) : Type 0 where
@@ -20,33 +20,33 @@ pub record Grew (old new : Line) : Type 0 where
   pub drew : Drew old new piece
   pub buffer : new.buffer ≡ old.buffer ++ piece
   pub goes_on : GoesOn old new
-  pub reads : new.tape.reads ≡ counted old.tape.reads
+  pub reads : new.tape.reads ≡ old.tape.reads + 1
 
 -- the link's end was answered
 pub record Ended (old new : Line) : Type 0 where
   pub drew : Drew old new []
   pub buffer : new.buffer ≡ old.buffer
-  pub ended : new.tape.ended ≡ end_of old.tape.ended old.tape.flushed
-  pub at_end : IsAtEnd new
+  pub ended : new.tape.ended ≡ old.tape.ended ++ old.tape.flushed ∷ []
+  pub at_end : IsAtEnd old.tape.ended new
   pub faults : new.faults ≡ old.faults
-  pub reads : new.tape.reads ≡ counted old.tape.reads
+  pub reads : new.tape.reads ≡ old.tape.reads + 1
 
 -- the link's read failed
 pub record Failed (old new : Line) : Type 0 where
   pub drew : Drew old new []
   pub buffer : new.buffer ≡ old.buffer
-  pub ended : new.tape.ended ≡ old.tape.ended
+  pub ended : NotEnded old new
   pub rose : Rose old.faults new.faults
-  pub reads : new.tape.reads ≡ counted old.tape.reads
+  pub reads : new.tape.reads ≡ old.tape.reads + 1
 
 -- bytes came that could not be kept
 pub record Lost (old new : Line) : Type 0 where
   pub piece : List ℕ
   pub drew : Drew old new piece
   pub buffer : new.buffer ≡ old.buffer
-  pub ended : new.tape.ended ≡ old.tape.ended
+  pub ended : NotEnded old new
   pub faults : new.faults ≡ old.faults
-  pub reads : new.tape.reads ≡ counted old.tape.reads
+  pub reads : new.tape.reads ≡ old.tape.reads + 1
 
 -- one read, or none where the limit is reached
 abbrev pub ReadOnce : Line → Line → Result Bool ClientError → Type 0
@@ -70,7 +70,7 @@ Found P c bytes (Err e) rest = Lack P c bytes rest e
 pub record Came (c : Client) (old new : Line) (result : Result Backend ClientError) : Type 0 where
   pub taken : List ℕ
   pub drew : Drew old new taken
-  pub found : Found (Pause old.faults new) c (old.buffer ++ taken) result new.buffer
+  pub found : Found (Pause old new) c (old.buffer ++ taken) result new.buffer
   pub halts : Halts c old.tape.flushed old new
   pub at_end : AtEnd old new (result ≡ Err client.UnexpectedEOF)
   pub goes_on : OnOk result (GoesOn old new)
@@ -80,7 +80,7 @@ pub record Came (c : Client) (old new : Line) (result : Result Backend ClientErr
 pub record PassedOver (e : ClientError) (c : Client) (old new : Line) (x : ClientError) (last : Client) (broken : Bool) : Type 0 where
   pub taken : List ℕ
   pub drew : Drew old new taken
-  pub passing : Passing (Pause old.faults new) e c (old.buffer ++ taken) x last new.buffer broken
+  pub passing : Passing (Pause old new) e c (old.buffer ++ taken) x last new.buffer broken
   pub halts : Halts last old.tape.flushed old new
   pub at_end : AtEnd old new ((broken ≡ true) × ((x ≡ e) ⊎ ((e ≡ client.UnexpectedEOF) × (is_remote x ≡ true))))
   pub well : WentWell old new ⊎ (x ≡ client.IoError)

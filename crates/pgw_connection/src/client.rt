@@ -49,8 +49,6 @@ impl<L: Link> PgWireClient<L> {
 }
 
 impl<L: Link> Seen for PgWireClient<L> {
-    ghost tells = { L.tells };
-
     ghost sight = { λ c. link_sight (client_of c.desk) (L.tape c.link) c.desk.broken };
 
     ghost faults = { λ c. L.faults c.link };

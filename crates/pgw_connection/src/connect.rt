@@ -39,7 +39,7 @@ impl<L: Link> PgWireClient<L> {
         ensures shrinks { OnOk result (length self.new.inbox + self.old.read < length self.old.inbox + self.new.read) }
         ensures cause { HasCause (L.faults self.old.link) (L.faults self.new.link) false result }
         ensures usable { OnOk result (self.new.desk.broken ≡ false) }
-        ensures heard { L.tells → HeardNext (HeardAtStartup S.exchanges S.means) never handler.old (client_of self.old.desk)
+        ensures heard { HeardNext (HeardAtStartup S.exchanges S.means) never handler.old (client_of self.old.desk)
             (line (L.tape self.old.link) (L.faults self.old.link) self.old.inbox self.old.read self.old.limit)
             (line (L.tape self.new.link) (L.faults self.new.link) self.new.inbox self.new.read self.new.limit)
             handler.new (client_of self.new.desk) self.new.desk.broken result }
@@ -68,7 +68,7 @@ impl<L: Link> PgWireClient<L> {
         ensures config { self.new.desk.config ≡ self.old.desk.config }
         ensures cause { HasCause (L.faults self.old.link) (L.faults self.new.link) false result }
         ensures usable { OnOk result (self.new.desk.broken ≡ false) }
-        ensures talked { L.tells → Talked (HeardAtStartup S.exchanges S.means) never handler.old (client_of self.old.desk)
+        ensures talked { Talked (HeardAtStartup S.exchanges S.means) never handler.old (client_of self.old.desk)
             (line (L.tape self.old.link) (L.faults self.old.link) self.old.inbox self.old.read self.old.limit)
             (line (L.tape self.new.link) (L.faults self.new.link) self.new.inbox self.new.read self.new.limit)
             (end result (client_of self.new.desk) self.new.desk.broken self.new.inbox) }
@@ -93,7 +93,7 @@ impl<L: Link> PgWireClient<L> {
         ensures config { self.new.desk.config ≡ self.old.desk.config }
         ensures cause { HasCause (L.faults self.old.link) (L.faults self.new.link) false result }
         ensures usable { OnOk result (self.new.desk.broken ≡ false) }
-        ensures asked { L.tells → Call (λ before after answer. S.means before startup after answer) (HeardAtStartup S.exchanges S.means) never handler (client_of self.old.desk)
+        ensures asked { Call (λ before after answer. S.means before startup after answer) (HeardAtStartup S.exchanges S.means) never handler (client_of self.old.desk)
             (line (L.tape self.old.link) (L.faults self.old.link) self.old.inbox self.old.read self.old.limit)
             (line (L.tape self.new.link) (L.faults self.new.link) self.new.inbox self.new.read self.new.limit)
             (end result (client_of self.new.desk) self.new.desk.broken self.new.inbox) }
@@ -117,7 +117,7 @@ impl<L: Link> PgWireClient<L> {
         ensures config { self.new.desk.config ≡ self.old.desk.config }
         ensures cause { HasCause (L.faults self.old.link) (L.faults self.new.link) false result }
         ensures usable { OnOk result (self.new.desk.broken ≡ false) }
-        ensures logs_in { L.tells → LogsIn (λ before after answer. S.means before startup after answer) (HeardAtStartup S.exchanges S.means) handler (client_of self.old.desk)
+        ensures logs_in { LogsIn (λ before after answer. S.means before startup after answer) (HeardAtStartup S.exchanges S.means) handler (client_of self.old.desk)
             (line (L.tape self.old.link) (L.faults self.old.link) self.old.inbox self.old.read self.old.limit)
             (line (L.tape self.new.link) (L.faults self.new.link) self.new.inbox self.new.read self.new.limit)
             (client_of self.new.desk) result }
@@ -166,9 +166,9 @@ fn client_over<L: Link>(alloc: Global, config: Config, link: L, limit: u64) -> P
 fn dial_to<D: Dialer>(address: &Address, dialer: &mut D) -> PgWireClientResult<D::Link>
     ensures faultless { IfOk result (λ link. D.Link.faults link ≡ 0) }
     ensures calm { OnOk result (D.faults dialer.new ≡ D.faults dialer.old) }
-    ensures dialled { D.tells → IfOk result (λ link. Dialled address.now (D.tape dialer.old) (D.tape dialer.new) (D.Link.tape link)) }
+    ensures dialled { IfOk result (λ link. Dialled address.now (D.tape dialer.old) (D.tape dialer.new) (D.Link.tape link)) }
     ensures later { D.faults dialer.old ≤ D.faults dialer.new }
-    ensures failed { IfErr result (NoLink D.tells (D.tape dialer.old) (D.tape dialer.new) (D.faults dialer.old) (D.faults dialer.new)) }
+    ensures failed { IfErr result (NoLink address.now (D.tape dialer.old) (D.tape dialer.new) (D.faults dialer.old) (D.faults dialer.new)) }
 {
     match dialer.dial(address) {
         Ok(link) => Ok(link),
@@ -180,7 +180,7 @@ fn dial_to<D: Dialer>(address: &Address, dialer: &mut D) -> PgWireClientResult<D
 // Gives a client's link up.
 fn hang_up<D: Dialer>(client: PgWireClient<D::Link>, dialer: &mut D)
     ensures counts { CountsClose (D.faults dialer.old) (D.faults dialer.new) (D.Link.faults client.link) }
-    ensures shut { D.tells → Shut (D.tape dialer.old) (D.tape dialer.new) (D.Link.tape client.link) }
+    ensures shut { Shut (D.tape dialer.old) (D.tape dialer.new) (D.Link.tape client.link) }
 {
     let PgWireClient {
         desk,
@@ -202,9 +202,9 @@ fn connect_at<D: Dialer, S: StartupHandler + Drop>(
     dialer: &mut D,
     limit: u64,
 ) -> PgWireClientResult<PgWireClient<D::Link>>
-    ensures connected { D.tells → IfOk result (λ client. ConnectedAt (λ before after answer. S.means before startup after answer) (HeardAtStartup S.exchanges S.means) handler config limit address.now
+    ensures connected { IfOk result (λ client. ConnectedAt (λ before after answer. S.means before startup after answer) (HeardAtStartup S.exchanges S.means) handler config limit address.now
         (D.tape dialer.old) (D.tape dialer.new) (client_of client.desk) (line (D.Link.tape client.link) (D.Link.faults client.link) client.inbox client.read client.limit)) }
-    ensures failed { IfErr result (NotConnectedAt D.tells (λ before after answer. S.means before startup after answer) (HeardAtStartup S.exchanges S.means) handler config limit address.now
+    ensures failed { IfErr result (NotConnectedAt (λ before after answer. S.means before startup after answer) (HeardAtStartup S.exchanges S.means) handler config limit address.now
         (D.tape dialer.old) (D.tape dialer.new) (D.faults dialer.old) (D.faults dialer.new)) }
     ensures cause { HasCause (D.faults dialer.old) (D.faults dialer.new) false result }
     ensures usable { IfOk result (λ client. client.desk.broken ≡ false) }
@@ -230,8 +230,8 @@ fn connect_at<D: Dialer, S: StartupHandler + Drop>(
 
 // Writes some bytes over a link of its own, which is closed behind that.
 fn send_once<D: Dialer>(bytes: &[u8], address: &Address, dialer: &mut D) -> PgWireClientResult<()>
-    ensures sent { OnOk result (SentOnce D.tells address.now bytes.now (D.tape dialer.old) (D.tape dialer.new)) }
-    ensures failed { IfErr result (NotSentOnce D.tells address.now bytes.now (D.tape dialer.old) (D.tape dialer.new) (D.faults dialer.old) (D.faults dialer.new)) }
+    ensures sent { OnOk result (SentOnce address.now bytes.now (D.tape dialer.old) (D.tape dialer.new)) }
+    ensures failed { IfErr result (NotSentOnce address.now bytes.now (D.tape dialer.old) (D.tape dialer.new) (D.faults dialer.old) (D.faults dialer.new)) }
     ensures later { D.faults dialer.old ≤ D.faults dialer.new }
 {
     let mut link = match dial_to(address, dialer) {
@@ -248,8 +248,7 @@ fn send_once<D: Dialer>(bytes: &[u8], address: &Address, dialer: &mut D) -> PgWi
 
 impl<L: Link> PgWireClient<L> {
     /// Connects to the server at the address of a configuration, and logs in as the handler does. At most `limit` bytes
-    /// are read over the link. It dials once at most, and the link is closed where the login fails; of a dialer that does
-    /// not tell, as one over sockets, no clause says these two.
+    /// are read over the link. It dials once at most, and the link is closed where the login fails.
     pub fn connect<D: Dialer<Link = L>, S: StartupHandler + Drop>(
         alloc: Global,
         config: Config,
@@ -259,10 +258,10 @@ impl<L: Link> PgWireClient<L> {
     ) -> PgWireClientResult<PgWireClient<L>>
         // The client stands over the link that was dialled, the handler's meaning over it ended with what the server told of
         // itself, and that was taken in.
-        ensures connected { D.tells → IfOk result (λ client. Connected (λ before after answer. S.means before startup after answer) (HeardAtStartup S.exchanges S.means) startup_handler config limit
+        ensures connected { IfOk result (λ client. Connected (λ before after answer. S.means before startup after answer) (HeardAtStartup S.exchanges S.means) startup_handler config limit
             (D.tape dialer.old) (D.tape dialer.new) (client_of client.desk) (line (L.tape client.link) (L.faults client.link) client.inbox client.read client.limit)) }
         // Else there is no address, or no link, or the login failed and its link was closed.
-        ensures refused { IfErr result (NotConnected (dialer.new ≡ dialer.old) D.tells (λ before after answer. S.means before startup after answer) (HeardAtStartup S.exchanges S.means) startup_handler config limit
+        ensures refused { IfErr result (NotConnected (dialer.new ≡ dialer.old) (λ before after answer. S.means before startup after answer) (HeardAtStartup S.exchanges S.means) startup_handler config limit
             (D.tape dialer.old) (D.tape dialer.new) (D.faults dialer.old) (D.faults dialer.new)) }
         // IoError comes only where the dialer's count rose, and Broken never.
         ensures cause { HasCause (D.faults dialer.old) (D.faults dialer.new) false result }
@@ -279,12 +278,12 @@ impl<L: Link> PgWireClient<L> {
         }
     }
 
-    /// Asks the server to cancel what it does for this client: over a link of its own, which is closed behind that (where
-    /// the dialer tells). It dials once at most, and the client's own link stays as it is.
+    /// Asks the server to cancel what it does for this client: over a link of its own, which is closed behind that.
+    /// It dials once at most, and the client's own link stays as it is.
     pub fn cancel<D: Dialer>(&self, alloc: Global, dialer: &mut D) -> PgWireClientResult<()>
         ensures broken { self.now.desk.broken ≡ true → (result ≡ Err client.Broken) × (dialer.new ≡ dialer.old) }
         // One request was written to a link to the client's address and flushed; or why not.
-        ensures cancels { self.now.desk.broken ≡ false → Cancels (dialer.new ≡ dialer.old) D.tells self.now.desk.config (cancel_bytes self.now.desk.process_id self.now.desk.secret_key)
+        ensures cancels { self.now.desk.broken ≡ false → Cancels (dialer.new ≡ dialer.old) self.now.desk.config (cancel_bytes self.now.desk.process_id self.now.desk.secret_key)
             (D.tape dialer.old) (D.tape dialer.new) (D.faults dialer.old) (D.faults dialer.new) result }
         // IoError comes only where the dialer's count rose.
         ensures cause { HasCause (D.faults dialer.old) (D.faults dialer.new) self.now.desk.broken result }

@@ -136,8 +136,6 @@ impl Desk {
 }
 
 impl Seen for Desk {
-    ghost tells = { Unit {0} };
-
     ghost sight = { sight_of };
 
     ghost faults = { λ d. 0 };

@@ -72,7 +72,7 @@ impl<L: Link> PgWireClient<L> {
         ensures config { self.new.desk.config ≡ self.old.desk.config }
         ensures cause { HasCause (L.faults self.old.link) (L.faults self.new.link) false result }
         ensures usable { IsUsable no_error result self.new.desk.broken }
-        ensures synced { L.tells → Synced H.means handler.old (client_of self.old.desk)
+        ensures synced { Synced H.means handler.old (client_of self.old.desk)
             (line (L.tape self.old.link) (L.faults self.old.link) self.old.inbox self.old.read self.old.limit)
             (line (L.tape self.new.link) (L.faults self.new.link) self.new.inbox self.new.read self.new.limit)
             handler.new (client_of self.new.desk) due result self.new.desk.broken }
@@ -108,7 +108,7 @@ impl<L: Link> PgWireClient<L> {
         ensures ends { result ≢ Ok Pending }
         ensures cause { HasCause (L.faults self.old.link) (L.faults self.new.link) false result }
         ensures usable { IsUsable is_remote result self.new.desk.broken }
-        ensures settled { L.tells → Settled H.means due handler.old (client_of self.old.desk)
+        ensures settled { Settled H.means due handler.old (client_of self.old.desk)
             (line (L.tape self.old.link) (L.faults self.old.link) self.old.inbox self.old.read self.old.limit)
             (line (L.tape self.new.link) (L.faults self.new.link) self.new.inbox self.new.read self.new.limit)
             error handler.new (client_of self.new.desk) result self.new.desk.broken }
@@ -140,7 +140,7 @@ impl<L: Link> PgWireClient<L> {
         ensures goes_on { result ≡ Ok Pending → (self.new.inbox ≡ self.old.inbox) × (self.new.read ≡ self.old.read) }
         ensures cause { HasCause (L.faults self.old.link) (L.faults self.new.link) false result }
         ensures usable { IsUsable is_remote result self.new.desk.broken }
-        ensures heeded { L.tells → HeededOne H.means kind handler.old (client_of self.old.desk) gathered.old message
+        ensures heeded { HeededOne H.means kind handler.old (client_of self.old.desk) gathered.old message
             (line (L.tape self.old.link) (L.faults self.old.link) self.old.inbox self.old.read self.old.limit)
             (line (L.tape self.new.link) (L.faults self.new.link) self.new.inbox self.new.read self.new.limit)
             handler.new (client_of self.new.desk) gathered.new result self.new.desk.broken }
@@ -186,7 +186,7 @@ impl<L: Link> PgWireClient<L> {
         ensures shrinks { result ≡ Ok Pending → length self.new.inbox + self.old.read < length self.old.inbox + self.new.read }
         ensures cause { HasCause (L.faults self.old.link) (L.faults self.new.link) false result }
         ensures usable { IsUsable is_remote result self.new.desk.broken }
-        ensures heeded { L.tells → HeededNext H.means kind handler.old (client_of self.old.desk) gathered.old
+        ensures heeded { HeededNext H.means kind handler.old (client_of self.old.desk) gathered.old
             (line (L.tape self.old.link) (L.faults self.old.link) self.old.inbox self.old.read self.old.limit)
             (line (L.tape self.new.link) (L.faults self.new.link) self.new.inbox self.new.read self.new.limit)
             handler.new (client_of self.new.desk) gathered.new self.new.desk.broken result }
@@ -212,7 +212,7 @@ impl<L: Link> PgWireClient<L> {
         ensures config { self.new.desk.config ≡ self.old.desk.config }
         ensures cause { HasCause (L.faults self.old.link) (L.faults self.new.link) false result }
         ensures usable { IsUsable is_remote result self.new.desk.broken }
-        ensures exchanged { L.tells → Exchanged H.means kind handler.old (client_of self.old.desk) none_gathered
+        ensures exchanged { Exchanged H.means kind handler.old (client_of self.old.desk) none_gathered
             (line (L.tape self.old.link) (L.faults self.old.link) self.old.inbox self.old.read self.old.limit)
             (line (L.tape self.new.link) (L.faults self.new.link) self.new.inbox self.new.read self.new.limit)
             (finish result handler.new (client_of self.new.desk) self.new.desk.broken self.new.inbox) }
@@ -239,7 +239,7 @@ impl<L: Link> PgWireClient<L> {
         ensures config { self.new.desk.config ≡ self.old.desk.config }
         ensures cause { HasCause (L.faults self.old.link) (L.faults self.new.link) false result }
         ensures usable { IsUsable may_stay result self.new.desk.broken }
-        ensures called { L.tells → Called H.means request.now handler.old (client_of self.old.desk)
+        ensures called { Called H.means request.now handler.old (client_of self.old.desk)
             (line (L.tape self.old.link) (L.faults self.old.link) self.old.inbox self.old.read self.old.limit)
             (line (L.tape self.new.link) (L.faults self.new.link) self.new.inbox self.new.read self.new.limit)
             (finish result handler.new (client_of self.new.desk) self.new.desk.broken self.new.inbox) }
@@ -287,7 +287,7 @@ impl<L: Link> PgWireClient<L> {
         ensures cause { HasCause (L.faults self.old.link) (L.faults self.new.link) self.old.desk.broken result }
         ensures broken { self.old.desk.broken ≡ true → (result ≡ Err client.Broken) × (self.new ≡ self.old) × (handler.new ≡ handler.old) }
         ensures usable { self.old.desk.broken ≡ false → IsUsable may_stay result self.new.desk.broken }
-        ensures called { (q : TheRequest) → IfOk request (λ r. r ≡ q) → L.tells → self.old.desk.broken ≡ false → Called H.means q handler.old (client_of self.old.desk)
+        ensures called { (q : TheRequest) → IfOk request (λ r. r ≡ q) → self.old.desk.broken ≡ false → Called H.means q handler.old (client_of self.old.desk)
             (line (L.tape self.old.link) (L.faults self.old.link) self.old.inbox self.old.read self.old.limit)
             (line (L.tape self.new.link) (L.faults self.new.link) self.new.inbox self.new.read self.new.limit)
             (finish result handler.new (client_of self.new.desk) self.new.desk.broken self.new.inbox) }

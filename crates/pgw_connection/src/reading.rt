@@ -65,7 +65,7 @@ impl<L: Link> PgWireClient<L> {
         ensures limited { self.old.read ≡ self.old.limit → IsErrOf result client.ReadLimit }
         ensures below { IsErrOf result client.ReadLimit → self.old.read ≡ self.old.limit }
         ensures cause { HasCause (L.faults self.old.link) (L.faults self.new.link) false result }
-        ensures reads { L.tells → ReadOnce
+        ensures reads { ReadOnce
             (line (L.tape self.old.link) (L.faults self.old.link) self.old.inbox self.old.read self.old.limit)
             (line (L.tape self.new.link) (L.faults self.new.link) self.new.inbox self.new.read self.new.limit) result }
     {
@@ -97,8 +97,8 @@ impl<L: Link> PgWireClient<L> {
         // It reads once: true comes only where bytes came.
         ensures grows { result ≡ Ok true → self.old.read < self.new.read }
         // The link is read once, or not at all where the limit is reached. What was read stands behind what stood in the
-        // buffer; where the end is answered first, what it finds flushed is what was flushed before.
-        ensures reads { L.tells → self.old.desk.broken ≡ false → ReadOnce
+        // buffer; where the end is answered, it finds flushed what was flushed before.
+        ensures reads { self.old.desk.broken ≡ false → ReadOnce
             (line (L.tape self.old.link) (L.faults self.old.link) self.old.inbox self.old.read self.old.limit)
             (line (L.tape self.new.link) (L.faults self.new.link) self.new.inbox self.new.read self.new.limit) result }
         ensures buffered { length self.new.inbox ≤ length self.old.inbox + 8192 }
@@ -162,7 +162,7 @@ impl<L: Link> PgWireClient<L> {
         ensures limit { self.new.limit ≡ self.old.limit }
         ensures shrinks { OnOk result (length self.new.inbox + self.old.read < length self.old.inbox + self.new.read) }
         ensures cause { HasCause (L.faults self.old.link) (L.faults self.new.link) false result }
-        ensures came { L.tells → Came (client_of self.old.desk)
+        ensures came { Came (client_of self.old.desk)
             (line (L.tape self.old.link) (L.faults self.old.link) self.old.inbox self.old.read self.old.limit)
             (line (L.tape self.new.link) (L.faults self.new.link) self.new.inbox self.new.read self.new.limit) result }
     {
@@ -196,7 +196,7 @@ impl<L: Link> PgWireClient<L> {
         // An error behind which the client can be used is the one given, or one behind which it goes on.
         ensures usable { (self.new.desk.broken ≡ true) ⊎ (result ≡ error) ⊎ (passes result ≡ true) }
         ensures remote { (self.new.desk.broken ≡ true) ⊎ (result ≡ error) ⊎ (is_remote result ≡ true) }
-        ensures passed { L.tells → PassedOver error (client_of self.old.desk)
+        ensures passed { PassedOver error (client_of self.old.desk)
             (line (L.tape self.old.link) (L.faults self.old.link) self.old.inbox self.old.read self.old.limit)
             (line (L.tape self.new.link) (L.faults self.new.link) self.new.inbox self.new.read self.new.limit)
             result (client_of self.new.desk) self.new.desk.broken }

@@ -51,10 +51,10 @@ impl<L: Link> PgWireClient<L> {
         ensures broken { OnErr result (self.new.desk.broken ≡ true) }
         ensures io { IfErr result (λ e. e ≡ client.IoError) }
         ensures cause { HasCause (L.faults self.old.link) (L.faults self.new.link) false result }
-        ensures clean { L.tells → OnOk result (L.faults self.new.link ≡ L.faults self.old.link) }
-        ensures wrote { L.tells → OnOk result (Wrote (L.tape self.old.link) (L.tape self.new.link) self.old.desk.out.items) }
-        ensures failed { L.tells → OnErr result (WroteSome (L.tape self.old.link) (L.tape self.new.link) self.old.desk.out.items) }
-        ensures within { L.tells → (L.tape self.old.link).flushed ≤ length (L.tape self.old.link).wrote }
+        ensures clean { OnOk result (L.faults self.new.link ≡ L.faults self.old.link) }
+        ensures wrote { OnOk result (Wrote (L.tape self.old.link) (L.tape self.new.link) self.old.desk.out.items) }
+        ensures failed { OnErr result (WroteSome (L.tape self.old.link) (L.tape self.new.link) self.old.desk.out.items) }
+        ensures within { (L.tape self.old.link).flushed ≤ length (L.tape self.old.link).wrote }
     {
         match send(&mut self.link, self.desk.out.as_slice()) {
             Ok(()) => Ok(()),
@@ -75,7 +75,7 @@ impl<L: Link> PgWireClient<L> {
         ensures broken { OnErr result (self.new.desk.broken ≡ true) }
         ensures io { IfErr result (λ e. e ≡ client.IoError) }
         ensures cause { HasCause (L.faults self.old.link) (L.faults self.new.link) false result }
-        ensures puts { L.tells → Puts self.old.desk.out.items
+        ensures puts { Puts self.old.desk.out.items
             (line (L.tape self.old.link) (L.faults self.old.link) self.old.inbox self.old.read self.old.limit)
             (line (L.tape self.new.link) (L.faults self.new.link) self.new.inbox self.new.read self.new.limit) result }
     {
@@ -92,7 +92,7 @@ impl<L: Link> PgWireClient<L> {
         ensures limit { self.new.limit ≡ self.old.limit }
         ensures cause { HasCause (L.faults self.old.link) (L.faults self.new.link) false result }
         ensures usable { IsUsable is_refusal result self.new.desk.broken }
-        ensures opens { L.tells → Opens self.old.desk.broken self.old.desk.out.items
+        ensures opens { Opens self.old.desk.broken self.old.desk.out.items
             (line (L.tape self.old.link) (L.faults self.old.link) self.old.inbox self.old.read self.old.limit)
             (line (L.tape self.new.link) (L.faults self.new.link) self.new.inbox self.new.read self.new.limit)
             opened result self.new.desk.broken }
@@ -126,7 +126,7 @@ impl<L: Link> PgWireClient<L> {
         ensures later { L.faults self.old.link ≤ L.faults self.new.link }
         ensures cause { IsCaused result (L.faults self.old.link) (L.faults self.new.link) false }
         ensures usable { (self.new.desk.broken ≡ true) ⊎ (goes_on_if goes_on result ≡ true) }
-        ensures gives_up { L.tells → GivesUp (goes_on_if goes_on) closing (client_of self.old.desk)
+        ensures gives_up { GivesUp (goes_on_if goes_on) closing (client_of self.old.desk)
             (line (L.tape self.old.link) (L.faults self.old.link) self.old.inbox self.old.read self.old.limit)
             (line (L.tape self.new.link) (L.faults self.new.link) self.new.inbox self.new.read self.new.limit)
             error result (client_of self.new.desk) self.new.desk.broken }
@@ -156,7 +156,7 @@ impl<L: Link> PgWireClient<L> {
         ensures read { OnOk result (self.new.read ≡ self.old.read) }
         ensures cause { HasCause (L.faults self.old.link) (L.faults self.new.link) false result }
         ensures usable { IsUsable (goes_on_if goes_on) result self.new.desk.broken }
-        ensures follows { L.tells → Follows (goes_on_if goes_on) closing self.old.desk.broken self.old.desk.out.items (client_of self.old.desk)
+        ensures follows { Follows (goes_on_if goes_on) closing self.old.desk.broken self.old.desk.out.items (client_of self.old.desk)
             (line (L.tape self.old.link) (L.faults self.old.link) self.old.inbox self.old.read self.old.limit)
             (line (L.tape self.new.link) (L.faults self.new.link) self.new.inbox self.new.read self.new.limit)
             answer result (client_of self.new.desk) self.new.desk.broken }

@@ -29,7 +29,7 @@ impl<L: Link> PgWireClient<L> {
         ensures shrinks { OnOk result (length self.new.inbox + self.old.read < length self.old.inbox + self.new.read) }
         ensures cause { HasCause (L.faults self.old.link) (L.faults self.new.link) false result }
         ensures usable { IsUsable passes result self.new.desk.broken }
-        ensures heard { L.tells → HeardNext (HeardInQuery H.means) passes handler.old (client_of self.old.desk)
+        ensures heard { HeardNext (HeardInQuery H.means) passes handler.old (client_of self.old.desk)
             (line (L.tape self.old.link) (L.faults self.old.link) self.old.inbox self.old.read self.old.limit)
             (line (L.tape self.new.link) (L.faults self.new.link) self.new.inbox self.new.read self.new.limit)
             handler.new (client_of self.new.desk) self.new.desk.broken result }
@@ -58,7 +58,7 @@ impl<L: Link> PgWireClient<L> {
         ensures config { self.new.desk.config ≡ self.old.desk.config }
         ensures cause { HasCause (L.faults self.old.link) (L.faults self.new.link) false result }
         ensures usable { IsUsable passes result self.new.desk.broken }
-        ensures talked { L.tells → Talked (HeardInQuery H.means) passes handler.old (client_of self.old.desk)
+        ensures talked { Talked (HeardInQuery H.means) passes handler.old (client_of self.old.desk)
             (line (L.tape self.old.link) (L.faults self.old.link) self.old.inbox self.old.read self.old.limit)
             (line (L.tape self.new.link) (L.faults self.new.link) self.new.inbox self.new.read self.new.limit)
             (end result (client_of self.new.desk) self.new.desk.broken self.new.inbox) }
@@ -84,7 +84,7 @@ impl<L: Link> PgWireClient<L> {
         // Else the query is opened as the handler means it, and each message is heard so up to the end of the call, over
         // the bytes that stood in the buffer and those that were read; what it sent is what was written. It answers Ok at
         // ReadyForQuery and at no other message.
-        ensures asked { L.tells → self.old.desk.broken ≡ false → Call (λ before after answer. H.means before (simple_query query.now) after answer) (HeardInQuery H.means) passes
+        ensures asked { self.old.desk.broken ≡ false → Call (λ before after answer. H.means before (simple_query query.now) after answer) (HeardInQuery H.means) passes
             handler (client_of self.old.desk)
             (line (L.tape self.old.link) (L.faults self.old.link) self.old.inbox self.old.read self.old.limit)
             (line (L.tape self.new.link) (L.faults self.new.link) self.new.inbox self.new.read self.new.limit)

@@ -3,12 +3,12 @@ use Rattle.pgw_connection.proofs.ConnectLaws.{once, rose_once}
 use Rattle.pgw_connection.proofs.connect.send_once.Goals as goal
 
 pub returns-in-Ok-sent-clause-sent : goal.returns-in-Ok-sent-clause-sent
-returns-in-Ok-sent-clause-sent g c = λ t. (_, _, once _ _ _ _ _ _ (c.in-Ok.ensures.dialled t) (c.close.ensures.shut t), c.in-Ok-sent.ensures.sent (g.met.D.Dialer.links_tell t))
+returns-in-Ok-sent-clause-sent g c = (_, _, once _ _ _ _ _ _ c.in-Ok.ensures.dialled c.close.ensures.shut, c.in-Ok-sent.ensures.sent)
 
 pub returns-in-Err-sent-clause-failed : goal.returns-in-Err-sent-clause-failed
 returns-in-Err-sent-clause-failed g c =
     cut (rose_once _ _ _ _ _ c.in-Ok.ensures.faultless c.in-Ok.ensures.calm c.in-Err-sent.ensures.cause.failed c.close.ensures.counts)
-    (λ t. (_, _, once _ _ _ _ _ _ (c.in-Ok.ensures.dialled t) (c.close.ensures.shut t), c.in-Err-sent.ensures.failed (g.met.D.Dialer.links_tell t)))
+    _ _ (once _ _ _ _ _ _ c.in-Ok.ensures.dialled c.close.ensures.shut) c.in-Err-sent.ensures.failed
 
 pub returns-in-Err-clause-failed : goal.returns-in-Err-clause-failed
 returns-in-Err-clause-failed g c = no_link c.in-Err.error c.in-Err.ensures.failed

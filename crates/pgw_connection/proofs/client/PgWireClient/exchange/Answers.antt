@@ -10,7 +10,7 @@ messages-preserved g c =
       limit = h.limit ∙ c.messages.invariant.limit;
       config = h.config ∙ c.messages.invariant.config;
       later = omega (arith, c.messages.invariant.later, h.cause.later);
-      exchanged = λ t final last rest.
-          let one = rw c.in-Ok-Pending.field-0-is at c.in-Ok-Pending.ensures.heeded t in
-          c.messages.invariant.exchanged t final last (exchanged_on g.H.ExtendedQueryHandler.means c.args.kind _ _ _ _ _ _ _ _ final last one.0 rest);
+      exchanged = λ final last rest.
+          let one = rw c.in-Ok-Pending.field-0-is at c.in-Ok-Pending.ensures.heeded in
+          c.messages.invariant.exchanged final last (exchanged_on g.H.ExtendedQueryHandler.means c.args.kind _ _ _ _ _ _ _ _ final last one.0 rest);
     }

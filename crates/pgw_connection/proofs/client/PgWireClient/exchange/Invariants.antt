@@ -12,7 +12,7 @@ invariant-messages g l = record {
   limit : l.self.limit ≡ l.fn.self.limit;
   config : l.self.desk.config ≡ l.fn.self.desk.config;
   later : g.L.Link.faults l.fn.self.link ≤ g.L.Link.faults l.self.link;
-  exchanged : g.L.Link.tells → (final : Line) (last : Finish _ _) →
+  exchanged : (final : Line) (last : Finish _ _) →
       Exchanged g.H.ExtendedQueryHandler.means l.fn.kind l.handler (client_of l.self.desk) l.gathered (line (g.L.Link.tape l.self.link) (g.L.Link.faults l.self.link) l.self.inbox l.self.read l.self.limit) final last →
       Exchanged g.H.ExtendedQueryHandler.means l.fn.kind l.fn.handler (client_of l.fn.self.desk) none_gathered (line (g.L.Link.tape l.fn.self.link) (g.L.Link.faults l.fn.self.link) l.fn.self.inbox l.fn.self.read l.fn.self.limit) final last;
 }

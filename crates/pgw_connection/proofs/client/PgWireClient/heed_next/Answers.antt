@@ -4,9 +4,9 @@ use Rattle.pgw_connection.proofs.ExchangeLaws.{heeded_nothing, heeded_from}
 use Rattle.pgw_connection.proofs.client.PgWireClient.heed_next.Goals as goal
 
 pub returns-in-Err-clause-heeded : goal.returns-in-Err-clause-heeded
-returns-in-Err-clause-heeded g c = λ t.
-    heeded_nothing g.H.ExtendedQueryHandler.means c.args.kind _ _ _ _ _ _ c.in-Err.error (ap client_of c.next_message.ensures.desk) (c.in-Err.ensures.came t)
+returns-in-Err-clause-heeded g c =
+    heeded_nothing g.H.ExtendedQueryHandler.means c.args.kind _ _ _ _ _ _ c.in-Err.error (ap client_of c.next_message.ensures.desk) c.in-Err.ensures.came
 
 pub returns-in-Ok-clause-heeded : goal.returns-in-Ok-clause-heeded
-returns-in-Ok-clause-heeded g c = λ t.
-    heeded_from g.H.ExtendedQueryHandler.means c.args.kind _ _ _ _ _ _ _ c.in-Ok.message _ _ _ c.heed_one.result _ (ap client_of c.next_message.ensures.desk) (c.in-Ok.ensures.came t) (c.heed_one.ensures.heeded t)
+returns-in-Ok-clause-heeded g c =
+    heeded_from g.H.ExtendedQueryHandler.means c.args.kind _ _ _ _ _ _ _ c.in-Ok.message _ _ _ c.heed_one.result _ (ap client_of c.next_message.ensures.desk) c.in-Ok.ensures.came c.heed_one.ensures.heeded

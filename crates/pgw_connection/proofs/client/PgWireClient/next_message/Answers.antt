@@ -10,15 +10,15 @@ returns-in-Ok-Some-clause-shrinks g c =
     omega (arith, c.reads.invariant.kept, less)
 
 pub returns-in-Ok-Some-clause-came : goal.returns-in-Ok-Some-clause-came
-returns-in-Ok-Some-clause-came g c = λ t.
+returns-in-Ok-Some-clause-came g c =
     let s = c.reads.self in
     let d = rw c.in-Ok-Some.field-0-is at c.in-Ok-Some.ensures.decoded in
-    c.reads.invariant.came t _ _ (came_whole (client_of s.desk) (g.L.Link.tape s.link) (g.L.Link.faults s.link) s.inbox c.next_message.new.self s.read s.limit c.in-Ok-Some.message d)
+    c.reads.invariant.came _ _ (came_whole (client_of s.desk) (g.L.Link.tape s.link) (g.L.Link.faults s.link) s.inbox c.next_message.new.self s.read s.limit c.in-Ok-Some.message d)
 
 pub returns-in-Err-clause-came : goal.returns-in-Err-clause-came
-returns-in-Err-clause-came g c = λ t.
+returns-in-Err-clause-came g c =
     let s = c.reads.self in
-    c.reads.invariant.came t _ _ (came_refused (client_of s.desk) (g.L.Link.tape s.link) (g.L.Link.faults s.link) s.inbox c.next_message.new.self s.read s.limit c.in-Err.e c.in-Err.ensures.decoded)
+    c.reads.invariant.came _ _ (came_refused (client_of s.desk) (g.L.Link.tape s.link) (g.L.Link.faults s.link) s.inbox c.next_message.new.self s.read s.limit c.in-Err.e c.in-Err.ensures.decoded)
 
 pub reads-preserved : goal.reads-preserved
 reads-preserved g c =
@@ -31,20 +31,20 @@ reads-preserved g c =
       limit = c.read_more.ensures.limit ∙ c.reads.invariant.limit;
       kept = omega (arith, kept, same, c.reads.invariant.kept);
       later = omega (arith, c.reads.invariant.later, c.read_more.ensures.cause.later);
-      came = λ t final r came.
-          let grew = rw c.in-Ok-true.field-0-test at c.in-Ok-true.ensures.reads t in
-          c.reads.invariant.came t final r (came_after (client_of s.desk) _ (g.L.Link.tape s.link) (g.L.Link.faults s.link) s.inbox c.next_message.new.self s.read s.limit _ final r d.0 (ap client_of c.read_more.ensures.desk) grew came);
+      came = λ final r came.
+          let grew = rw c.in-Ok-true.field-0-test at c.in-Ok-true.ensures.reads in
+          c.reads.invariant.came final r (came_after (client_of s.desk) _ (g.L.Link.tape s.link) (g.L.Link.faults s.link) s.inbox c.next_message.new.self s.read s.limit _ final r d.0 (ap client_of c.read_more.ensures.desk) grew came);
     }
 
 pub returns-in-Ok-false-clause-came : goal.returns-in-Ok-false-clause-came
-returns-in-Ok-false-clause-came g c = λ t.
+returns-in-Ok-false-clause-came g c =
     let s = c.reads.self in
     let d = rw c.in-Ok-None.field-0-is at c.in-Ok-None.ensures.decoded in
-    let ended = rw c.in-Ok-false.field-0-test at c.in-Ok-false.ensures.reads t in
-    c.reads.invariant.came t _ _ (ended_after (client_of s.desk) (g.L.Link.tape s.link) (g.L.Link.faults s.link) s.inbox c.next_message.new.self s.read s.limit _ d.0 d.1 ended)
+    let ended = rw c.in-Ok-false.field-0-test at c.in-Ok-false.ensures.reads in
+    c.reads.invariant.came _ _ (ended_after (client_of s.desk) (g.L.Link.tape s.link) (g.L.Link.faults s.link) s.inbox c.next_message.new.self s.read s.limit _ d.0 d.1 ended)
 
 pub returns-in-Err-read_more-clause-came : goal.returns-in-Err-read_more-clause-came
-returns-in-Err-read_more-clause-came g c = λ t.
+returns-in-Err-read_more-clause-came g c =
     let s = c.reads.self in
     let d = rw c.in-Ok-None.field-0-is at c.in-Ok-None.ensures.decoded in
-    c.reads.invariant.came t _ _ (unread_after (client_of s.desk) (g.L.Link.tape s.link) (g.L.Link.faults s.link) s.inbox c.next_message.new.self s.read s.limit _ c.in-Err-read_more.e d.0 d.1 (c.in-Err-read_more.ensures.reads t))
+    c.reads.invariant.came _ _ (unread_after (client_of s.desk) (g.L.Link.tape s.link) (g.L.Link.faults s.link) s.inbox c.next_message.new.self s.read s.limit _ c.in-Err-read_more.e d.0 d.1 c.in-Err-read_more.ensures.reads)

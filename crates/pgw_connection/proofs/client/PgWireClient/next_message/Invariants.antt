@@ -13,7 +13,7 @@ invariant-reads g l = record {
   limit : l.self.limit ≡ l.fn.self.limit;
   kept : length l.self.inbox + l.fn.self.read ≡ length l.fn.self.inbox + l.self.read;
   later : g.L.Link.faults l.fn.self.link ≤ g.L.Link.faults l.self.link;
-  came : g.L.Link.tells → (final : Line) (r : Result Backend ClientError) →
+  came : (final : Line) (r : Result Backend ClientError) →
       Came (client_of l.self.desk) (line (g.L.Link.tape l.self.link) (g.L.Link.faults l.self.link) l.self.inbox l.self.read l.self.limit) final r →
       Came (client_of l.fn.self.desk) (line (g.L.Link.tape l.fn.self.link) (g.L.Link.faults l.fn.self.link) l.fn.self.inbox l.fn.self.read l.fn.self.limit) final r;
 }

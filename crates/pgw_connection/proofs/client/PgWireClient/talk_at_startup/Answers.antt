@@ -12,7 +12,7 @@ messages-preserved g c =
       limit = h.limit ∙ c.messages.invariant.limit;
       config = h.config ∙ c.messages.invariant.config;
       later = omega (arith, c.messages.invariant.later, h.cause.later);
-      talked = λ t final last rest.
-          let one = rw c.in-Ok-Pending.field-0-is at c.in-Ok-Pending.ensures.heard t in
-          c.messages.invariant.talked t final last (talked_on (HeardAtStartup g.S.StartupHandler.exchanges g.S.StartupHandler.means) never _ _ _ _ _ _ final last one.0 rest);
+      talked = λ final last rest.
+          let one = rw c.in-Ok-Pending.field-0-is at c.in-Ok-Pending.ensures.heard in
+          c.messages.invariant.talked final last (talked_on (HeardAtStartup g.S.StartupHandler.exchanges g.S.StartupHandler.means) never _ _ _ _ _ _ final last one.0 rest);
     }

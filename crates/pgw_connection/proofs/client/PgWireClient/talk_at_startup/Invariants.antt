@@ -14,7 +14,7 @@ invariant-messages g l = record {
   limit : l.self.limit ≡ l.fn.self.limit;
   config : l.self.desk.config ≡ l.fn.self.desk.config;
   later : g.L.Link.faults l.fn.self.link ≤ g.L.Link.faults l.self.link;
-  talked : g.L.Link.tells → (final : Line) (last : End _) →
+  talked : (final : Line) (last : End _) →
       Talked (HeardAtStartup g.S.StartupHandler.exchanges g.S.StartupHandler.means) never l.handler (client_of l.self.desk) (line (g.L.Link.tape l.self.link) (g.L.Link.faults l.self.link) l.self.inbox l.self.read l.self.limit) final last →
       Talked (HeardAtStartup g.S.StartupHandler.exchanges g.S.StartupHandler.means) never l.fn.handler (client_of l.fn.self.desk) (line (g.L.Link.tape l.fn.self.link) (g.L.Link.faults l.fn.self.link) l.fn.self.inbox l.fn.self.read l.fn.self.limit) final last;
 }
