@@ -35,7 +35,7 @@ pub login_stands : (config : Config) (h : DefaultStartupHandler) (old now : Line
     Call (λ before after answer. StartupMeans before startup after answer) (HeardAtStartup exchanges StartupMeans) (λ e. false) h (first_client config) old now (end (Ok information) told false now.buffer) →
     (read wrote : List ℕ) × Moved old now read wrote × (IsFlushed old → IsFlushed now) × Stands config h.nonce [] read wrote (with_information information told) now.buffer
 login_stands config h old now told information none call =
-    let l = login_call old.faults now config h (old.buffer ++ call.taken) call.sent (end (Ok information) told false now.buffer) call.asked in
+    let l = login_call old now config h (old.buffer ++ call.taken) call.sent (end (Ok information) told false now.buffer) call.asked in
     let m : LoggedIn config h.nonce call.taken call.sent information told now.buffer = subst (λ (b : List ℕ). LoggedIn config h.nonce (b ++ call.taken) call.sent information told now.buffer) none l in
     (call.taken, call.sent, call.moved, λ flushed. call.flushed flushed refl, stands_first config h.nonce call.taken call.sent information told now.buffer m)
 
@@ -47,8 +47,8 @@ query_stands config nonce ts read wrote q h c old now last stands call = (
   call.sent,
   call.moved,
   call.flushed,
-  stands_behind answer.Responses (Pause old.faults now) config nonce ts (request.Simple q) read wrote call.taken call.sent c last.info old.buffer last.rest stands last.answer last.broken
-      (simple_call q old.faults now h c (old.buffer ++ call.taken) call.sent last call.asked),
+  stands_behind answer.Responses (Pause old now) config nonce ts (request.Simple q) read wrote call.taken call.sent c last.info old.buffer last.rest stands last.answer last.broken
+      (simple_call q old now h c (old.buffer ++ call.taken) call.sent last call.asked),
 )
 
 pub extended_stands : (config : Config) (nonce : List ℕ) (ts : List Made) (read wrote : List ℕ) (q : Request) (h : DefaultExtendedQueryHandler) (c : Client) (old now : Line) (last : Finish DefaultExtendedQueryHandler DataRow) → IsExtended q → Stands config nonce ts read wrote c old.buffer →
@@ -59,8 +59,8 @@ extended_stands config nonce ts read wrote q h c old now last e stands call = (
   call.sent,
   call.moved,
   call.flushed,
-  stands_behind (given q) (Pause old.faults now) config nonce ts q read wrote call.taken call.sent c last.info old.buffer last.rest stands last.answer last.broken
-      (extended_call q old.faults now h c (old.buffer ++ call.taken) call.sent last e call.requested),
+  stands_behind (given q) (Pause old now) config nonce ts q read wrote call.taken call.sent c last.info old.buffer last.rest stands last.answer last.broken
+      (extended_call q old now h c (old.buffer ++ call.taken) call.sent last e call.requested),
 )
 
 pub filled_stands : (config : Config) (nonce : List ℕ) (ts : List Made) (read wrote : List ℕ) (c : Client) (old now : Line) → Stands config nonce ts read wrote c old.buffer → Grew old now →

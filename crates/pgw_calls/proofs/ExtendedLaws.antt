@@ -445,5 +445,5 @@ module _ (q : Request) (e : IsExtended q) (P : Reasons) (ends : (x : ClientError
   requested_to _ _ (Requested.breaks after x opens is caused usable) = breaks_to after x (put after (Err x) opens) is caused
   requested_to _ _ (Requested.starves after last rest) = inl refl
 
-pub extended_call : (q : Request) (before : ℕ) (now : Line) (h : Handler) (c : Client) (bytes sent : List ℕ) (last : Finish Handler DataRow) → IsExtended q → Requested ExtendedMeans (Pause before now) q h c bytes sent last → ExtendedCall q c bytes sent (Pause before now) last
+pub extended_call : (q : Request) (before now : Line) (h : Handler) (c : Client) (bytes sent : List ℕ) (last : Finish Handler DataRow) → IsExtended q → Requested ExtendedMeans (Pause before now) q h c bytes sent last → ExtendedCall q c bytes sent (Pause before now) last
 extended_call q before now h c bytes sent last e r = requested_to q e (Pause before now) (paused_ends before now) h c bytes sent last r

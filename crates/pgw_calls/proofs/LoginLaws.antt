@@ -336,6 +336,6 @@ asked_to P ends config h bytes _ _ (Asked.refused after e opens is usable) = ref
 asked_to P ends config h bytes _ _ (Asked.breaks after e opens caused why usable) = breaks_to P config h bytes after e opens caused why
 asked_to P ends config h bytes _ _ (Asked.starves last rest) = tt
 
-pub login_call : (before : ℕ) (now : Line) (config : Config) (h : Handler) (bytes sent : List ℕ) (last : End ServerInformation) →
+pub login_call : (before now : Line) (config : Config) (h : Handler) (bytes sent : List ℕ) (last : End ServerInformation) →
     Asked (λ old new answer. StartupMeans old startup new answer) (HeardAtStartup exchanges StartupMeans) (Pause before now) (λ e. false) h (first_client config) bytes sent last → LoginCall config h.nonce bytes sent (Pause before now) last
 login_call before now config h bytes sent last asked = asked_to (Pause before now) (paused_ends before now) config h bytes sent last asked

@@ -7,7 +7,7 @@ use Rattle.pgw_backend.specs.declared.client_error.PgWireClientError.{PgWireClie
 use Rattle.pgw_backend.specs.declared.client_error.PgWireClientError.TheVariants as client
 use Rattle.pgw_frontend.specs.declared.frontend.PgWireFrontendMessage.{PgWireFrontendMessage as Frontend}
 use Rattle.pgw_frontend.specs.Frontend.{encoding, encodings, both}
-use Rattle.pgw_connection.specs.Line.{Line, HaltsBy}
+use Rattle.pgw_connection.specs.Line.{Line, Pause}
 
 pub one_encoding : (m : Frontend) (out : List ℕ) → encoding m ≡ Ok out → encodings (m ∷ []) ≡ Ok out
 one_encoding m out is = ap (λ o. both o (Ok [])) is ∙ ap Ok (append-nil out)
@@ -25,7 +25,7 @@ IsLinkEnd client.IoError = Unit {0}
 IsLinkEnd client.ReadLimit = Unit {0}
 IsLinkEnd e = ⊥
 
-pub paused_ends : (before : ℕ) (now : Line) (x : ClientError) → HaltsBy before now x → IsLinkEnd x
+pub paused_ends : (before now : Line) (x : ClientError) → (Pause before now).halts x → IsLinkEnd x
 paused_ends before now client.IoError p = tt
 paused_ends before now client.ReadLimit p = tt
 paused_ends before now client.UnexpectedEOF p = tt

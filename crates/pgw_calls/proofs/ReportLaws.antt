@@ -272,7 +272,7 @@ asked_reports q P h c bytes _ _ (Asked.refused after e asks is usable) es spelle
 asked_reports q P h c bytes _ _ (Asked.breaks after e asks caused why usable) es spelled more segment got are = asks_reports q P (answer_of (request.Simple q) es) h c bytes [] after.sight.client bytes after e asks caused
 asked_reports q P h c bytes _ _ (Asked.starves last rest) es spelled more segment got are = tt
 
-pub query_reports : (q : List ℕ) (before : ℕ) (now : Line) (h : DefaultSimpleQueryHandler) (c : Client) (bytes sent : List ℕ) (last : End (List Response)) (es : List Event) (spelled more : List ℕ) →
+pub query_reports : (q : List ℕ) (before now : Line) (h : DefaultSimpleQueryHandler) (c : Client) (bytes sent : List ℕ) (last : End (List Response)) (es : List Event) (spelled more : List ℕ) →
     Asked (λ old new answer. QueryMeans old (simple_query q) new answer) (HeardInQuery QueryMeans) (Pause before now) passes h c bytes sent last → IsRequestSegment (request.Simple q) es → SpellsGot (standing_of_client c) es spelled → bytes ≡ spelled ++ more →
     Reports answer.Responses (Pause before now) (request.Simple q) (answer_of (request.Simple q) es) c bytes sent last.info last.rest last.answer
 query_reports q before now h c bytes sent last es spelled more asked segment got are = asked_reports q (Pause before now) h c bytes sent last asked es spelled more segment got are

@@ -399,6 +399,6 @@ asked_to q P ends h c bytes _ _ (Asked.refused after e asks is usable) = refused
 asked_to q P ends h c bytes _ _ (Asked.breaks after e asks caused why usable) = breaks_to q P h c bytes after e asks caused why
 asked_to q P ends h c bytes _ _ (Asked.starves last rest) = inl refl
 
-pub simple_call : (q : List ℕ) (before : ℕ) (now : Line) (h : Handler) (c : Client) (bytes sent : List ℕ) (last : End (List Response)) →
+pub simple_call : (q : List ℕ) (before now : Line) (h : Handler) (c : Client) (bytes sent : List ℕ) (last : End (List Response)) →
     Asked (λ old new answer. QueryMeans old (simple_query q) new answer) (HeardInQuery QueryMeans) (Pause before now) passes h c bytes sent last → SimpleCall q c bytes sent (Pause before now) last
 simple_call q before now h c bytes sent last asked = asked_to q (Pause before now) (paused_ends before now) h c bytes sent last asked

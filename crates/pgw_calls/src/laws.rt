@@ -38,20 +38,20 @@ ghost use Rattle.pgw_calls.specs.Stands.{Made, Stands, StandsBehind, AreAnswered
 
 /// A simple query is one segment, and its answer is that of its own segment.
 pub fn simple_queries_are_segments()
-    ensures { (q : List ℕ) (before : ℕ) (now : Line) (h : TheHandler) (c : Client) (bytes sent : List ℕ) (end : End (List TheResponse)) →
+    ensures { (q : List ℕ) (before now : Line) (h : TheHandler) (c : Client) (bytes sent : List ℕ) (end : End (List TheResponse)) →
         Asked (λ old new answer. QueryMeans old (simple_query q) new answer) (HeardInQuery QueryMeans) (Pause before now) passes h c bytes sent end → SimpleCall q c bytes sent (Pause before now) end }
 {}
 
 /// A login is the startup segment, and each of its errors has the cause that it has in a session.
 pub fn logins_are_startup_segments()
-    ensures { (before : ℕ) (now : Line) (config : TheConfig) (h : TheLogin) (bytes sent : List ℕ) (end : End TheInformation) →
+    ensures { (before now : Line) (config : TheConfig) (h : TheLogin) (bytes sent : List ℕ) (end : End TheInformation) →
         Asked (λ old new answer. StartupMeans old startup new answer) (HeardAtStartup exchanges StartupMeans) (Pause before now) (λ e. false) h (first_client config) bytes sent end → LoginCall config h.nonce bytes sent (Pause before now) end }
 {}
 
 /// Where the bytes that stood in the buffer and were read begin with spellings of a segment of a simple query, the call
 /// gives that segment's answer.
 pub fn whole_segments_are_reported()
-    ensures { (q : List ℕ) (before : ℕ) (now : Line) (h : TheHandler) (c : Client) (bytes sent : List ℕ) (end : End (List TheResponse)) (es : List Event) (spelled more : List ℕ) →
+    ensures { (q : List ℕ) (before now : Line) (h : TheHandler) (c : Client) (bytes sent : List ℕ) (end : End (List TheResponse)) (es : List Event) (spelled more : List ℕ) →
         Asked (λ old new answer. QueryMeans old (simple_query q) new answer) (HeardInQuery QueryMeans) (Pause before now) passes h c bytes sent end →
         IsRequestSegment (request.Simple q) es → SpellsGot (standing_of_client c) es spelled → bytes ≡ spelled ++ more →
         Reports answer.Responses (Pause before now) (request.Simple q) (answer_of (request.Simple q) es) c bytes sent end.info end.rest end.answer }
@@ -59,13 +59,13 @@ pub fn whole_segments_are_reported()
 
 /// A call of extended queries is one segment, and its answer is that of its own segment.
 pub fn extended_queries_are_segments()
-    ensures { (q : TheRequest) (before : ℕ) (now : Line) (h : TheExtended) (c : Client) (bytes sent : List ℕ) (end : Finish TheExtended TheRow) → IsExtended q →
+    ensures { (q : TheRequest) (before now : Line) (h : TheExtended) (c : Client) (bytes sent : List ℕ) (end : Finish TheExtended TheRow) → IsExtended q →
         Requested ExtendedMeans (Pause before now) q h c bytes sent end → ExtendedCall q c bytes sent (Pause before now) end }
 {}
 
 /// Where those bytes begin with spellings of a segment of such a request, the call gives that segment's answer.
 pub fn whole_extended_segments_are_reported()
-    ensures { (q : TheRequest) (before : ℕ) (now : Line) (h : TheExtended) (c : Client) (bytes sent : List ℕ) (end : Finish TheExtended TheRow) (es : List Event) (spelled more : List ℕ) → IsExtended q →
+    ensures { (q : TheRequest) (before now : Line) (h : TheExtended) (c : Client) (bytes sent : List ℕ) (end : Finish TheExtended TheRow) (es : List Event) (spelled more : List ℕ) → IsExtended q →
         Requested ExtendedMeans (Pause before now) q h c bytes sent end → IsRequestSegment q es → SpellsGot (standing_of_client c) es spelled → bytes ≡ spelled ++ more →
         Reports (given q) (Pause before now) q (answer_of q es) c bytes sent end.info end.rest end.answer }
 {}
