@@ -1,5 +1,5 @@
 -- A client is let in only behind what it is asked for.
-use Rattle.std.proofs.Common.{◌≡◌, true, false, ℕ, List, [], ◌∷◌, ◌++◌, Ok, Err, refl, sym, ap, subst, ◌∙◌, drop, append_assoc}
+use Rattle.std.proofs.Common.{◌≡◌, true, false, ℕ, List, [], ◌∷◌, ◌++◌, Option, Ok, Err, refl, sym, ap, subst, ◌∙◌, drop, append_assoc}
 use Rattle.std.specs.List.{list_any}
 use Rattle.std.proofs.lemmas.List.{append-nil}
 use Rattle.std.proofs.lemmas.List.Elements.{Contains-append_left}
@@ -13,7 +13,7 @@ use Rattle.pgw_login.specs.Login.{Login, login_seen}
 use Rattle.pgw_login.specs.Acts.{Standing, standing, Answer}
 use Rattle.pgw_login.specs.declared.client_info.PgWireConnectionState.TheVariants.{ReadyForQuery}
 use Rattle.pgw_login.specs.declared.state.LoginState.{LoginState}
-use Rattle.pgw_server.specs.Server.{Stage, Ending, begins, moved, Handles, Steps, encodings, serving}
+use Rattle.pgw_server.specs.Server.{Stage, Ending, begins_within, moved, Handles, Steps, encodings, serving}
 use Rattle.pgw_server.specs.Taken.{Acts, Taken, said_to, put_by, taken, taken_in, IsPut, Accounts}
 use Rattle.pgw_server.specs.Entry.{lets_in, MayAsk, IsGuarded, IsNamed}
 
@@ -206,15 +206,15 @@ module _ (means : Acts) (Proves : List Taken → Taken → Type 0) (Keeps : List
       (ready_on next (drop len bs) c on (ts ++ t ∷ []) (step_goes ts s m (On next out) step k).1
       (ready_behind out c is))
 
-  pub guarded : (login : LoginState) (bytes : List ℕ) (course : Course Stage Ending)
-      → IsKnown Proves Keeps first [] first login → (way : Leads (serving means) (begins first login) bytes course)
-      → Accounts (taken_in means (begins first login) bytes course way) bytes (sent_of course)
-      × IsGuarded Proves (taken_in means (begins first login) bytes course way) course
-  guarded login bytes course k way = (
-    accounts means (begins first login) bytes course way,
+  pub guarded : (bound : Option ℕ) (login : LoginState) (bytes : List ℕ) (course : Course Stage Ending)
+      → IsKnown Proves Keeps first [] first login → (way : Leads (serving means) (begins_within bound first login) bytes course)
+      → Accounts (taken_in means (begins_within bound first login) bytes course way) bytes (sent_of course)
+      × IsGuarded Proves (taken_in means (begins_within bound first login) bytes course way) course
+  guarded bound login bytes course k way = (
+    accounts means (begins_within bound first login) bytes course way,
     record {
-      said = λ earlier later t is says. found [] (taken_in means (begins first login) bytes course way) earlier later t
-          is (each_on (begins first login) bytes course way [] k) says;
-      ready = λ is. ready_on (begins first login) bytes course way [] k is;
+      said = λ earlier later t is says. found [] (taken_in means (begins_within bound first login) bytes course way) earlier later t
+          is (each_on (begins_within bound first login) bytes course way [] k) says;
+      ready = λ is. ready_on (begins_within bound first login) bytes course way [] k is;
     },
   )

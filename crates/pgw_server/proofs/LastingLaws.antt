@@ -217,7 +217,7 @@ stage_in (Ends ending out) other = other
 module _ (means : Message → Standing → Standing → List Backend → Answer → Type 0) (keeps : KeepsReady means) where
   handled_ready : (from to : Stage) (m : Message) (out : List ℕ) → IsReady from.client from.login → Handles means from m (On to out) → IsReady to.client to.login
   handled_ready from to m out is (s, sent, Ok done, put, h, told, move, calm) =
-      let same : to ≡ after s true = ap (λ k. stage_in k to) move in
+      let same : to ≡ after s true from = ap (λ k. stage_in k to) move in
       subst (λ (k : Stage). IsReady k.client k.login) (sym same) (keeps m (standing from.client from.login 0) s sent is h)
   handled_ready from to m out is (s, sent, Err e, put, h, told, move, calm) = absurd cc
 

@@ -5,3 +5,4 @@ pub mod EntryLaws
 pub mod EntryActs
 pub mod PasswordEntry
 pub mod PieceLaws
+pub mod BoundLaws

@@ -32,7 +32,7 @@ use Rattle.pgw_login.specs.declared.handler.Heard.{Heard}
 use Rattle.pgw_login.specs.declared.handler.Heard.TheVariants as of
 use Rattle.pgw_login.specs.declared.client_info.PgWireConnectionState.TheVariants.{ReadyForQuery, AuthenticationInProgress}
 use Rattle.pgw_login.specs.declared.state.LoginState.{LoginState}
-use Rattle.pgw_server.specs.Server.{Stage, begins}
+use Rattle.pgw_server.specs.Server.{Stage, begins_within}
 use Rattle.pgw_server.specs.Taken.{Taken}
 use Rattle.pgw_server.specs.Entry.{lets_in, LetsInBy, IsNamed, IsPassword, ProvesCleartext, IsChallenged, ProvesMd5}
 use Rattle.pgw_server.proofs.EntryActs.{not_both, then_both, Quiet, nothing_said, quiet_both, quiet_then, quiet_sends, quiet_opens, quiet_refuses, quiet_marks, root, Roots, roots_then, roots_tells, roots_awaits, roots_finishes, IsOpened, opened}
@@ -282,9 +282,9 @@ never_ready client not is = absurd (not is)
 pub cleartext_lets_in : (A : Login → Result Kept PgWireError → Type 0) (P : Client → Option Held → Type 0)
     (R : Option Known → ℤ → SecretKey → Option Known → Result (Option Pair) RegistryError → Type 0)
     → LetsInBy (CleartextMeans A P R) (ProvesCleartext A)
-cleartext_lets_in A P R client login given course new way =
-    guarded (CleartextMeans A P R) (ProvesCleartext A (begins client login)) NothingMore client
-    (λ ts more who state keeps. tt) (cleartext_means A P R (begins client login)) login given course (record {
+cleartext_lets_in A P R bound client login given course new way =
+    guarded (CleartextMeans A P R) (ProvesCleartext A (begins_within bound client login)) NothingMore client
+    (λ ts more who state keeps. tt) (cleartext_means A P R (begins_within bound client login)) bound login given course (record {
       fresh = λ off. refl;
       named = λ on. on_and_off login.started on new.1;
       ready = λ is. never_ready client new.0 is;
@@ -510,9 +510,9 @@ pub md5_lets_in : (A : Login → Result Kept PgWireError → Type 0) (P : Client
     (R : Option Known → ℤ → SecretKey → Option Known → Result (Option Pair) RegistryError → Type 0)
     → LetsInBy (Md5Means A P R) (ProvesMd5 A)
 unfolding KeepsText
-md5_lets_in A P R client login given course new way =
-    guarded (Md5Means A P R) (ProvesMd5 A (begins client login)) (KeepsText A) client (text_stays A)
-    (md5_means A P R (begins client login)) login given course (record {
+md5_lets_in A P R bound client login given course new way =
+    guarded (Md5Means A P R) (ProvesMd5 A (begins_within bound client login)) (KeepsText A) client (text_stays A)
+    (md5_means A P R (begins_within bound client login)) bound login given course (record {
       fresh = λ off. refl;
       named = λ on. on_and_off login.started on new.1;
       ready = λ is. never_ready client new.0 is;

@@ -1,10 +1,10 @@
 -- It does not matter how the bytes are cut.
-use Rattle.std.proofs.Common.{◌≡◌, ℕ, List, [], ◌∷◌, ◌++◌, length, drop, refl, sym, ◌∙◌, ap, subst, append_assoc}
+use Rattle.std.proofs.Common.{◌≡◌, ℕ, List, [], ◌∷◌, ◌++◌, drop, refl, sym, ◌∙◌, ap, subst, append_assoc}
 use Rattle.std.specs.List.{concat}
 use Rattle.std.proofs.lemmas.List.{append-nil, drop-append-le}
-use Rattle.pgw_course.specs.Course.{Front, More, Bad, Whole, IsReading, Course, Waits, Over}
+use Rattle.pgw_course.specs.Course.{Front, More, Whole, Course, Waits, Over}
 use Rattle.pgw_course.specs.Play.{Play, ReadsSteadily, behind, Leads, waits, stops, breaks, ends, goes, Continues}
-use Rattle.pgw_course.proofs.CourseLaws.{Known, is_more, is_bad, is_whole, known, read_more}
+use Rattle.pgw_course.proofs.CourseLaws.{is_more, is_bad, is_whole, known, read_more}
 use Rattle.pgw_course.proofs.PlayLaws.{leads_on}
 use Rattle.pgw_server.specs.Server.{Stage, Ending, serving}
 use Rattle.pgw_server.specs.Taken.{Acts}

@@ -1,5 +1,5 @@
 -- How a server's core comes from one place to the next.
-use Rattle.std.proofs.Common.{◌≡◌, ◌⊎◌, inl, inr, ℕ, ◌<◌, true, false, List, [], ◌∷◌, ◌++◌, length, fold, Some, None, Result, Ok, Err, refl, sym, ap, subst, ◌∙◌, append_assoc}
+use Rattle.std.proofs.Common.{◌≡◌, ◌⊎◌, inl, inr, ℕ, ◌<◌, true, false, List, [], ◌∷◌, ◌++◌, length, fold, Option, Some, None, Result, Ok, Err, refl, sym, ap, subst, ◌∙◌, append_assoc}
 use Rattle.std.proofs.lemmas.List.{append-nil}
 use Rattle.std.specs.Prelude.{◌≢◌}
 use Rattle.pgw_types.specs.declared.error.PgWireError.{PgWireError}
@@ -21,7 +21,7 @@ use Rattle.pgw_login.specs.declared.state.LoginState.{LoginState}
 use Rattle.pgw_login.specs.declared.client_info.PgWireConnectionState.{PgWireConnectionState}
 use Rattle.pgw_login.specs.declared.client_info.PgWireConnectionState.TheVariants as state
 use Rattle.pgw_server.specs.Front.{client_front, met}
-use Rattle.pgw_server.specs.Server.{Stage, begins, Cause, Refused, Asked, Ending, ended, encodings, after, Handles, Steps, reading, serving}
+use Rattle.pgw_server.specs.Server.{Stage, begins_within, bound_at, Cause, Refused, Asked, Ending, ended, encodings, after, Handles, Steps, reading, serving}
 use Rattle.pgw_server.specs.Stands.{WentOn, stage_of, IsAt, Stands, phase_at, ended_by, answer_at, Arrives}
 use Rattle.pgw_server.specs.Steps.{is_end, DidStep, DidHear, IsPlace, Comes, Goes, Advanced}
 use Rattle.pgw_server.specs.declared.connection.ServerCore.{ServerCore}
@@ -30,7 +30,7 @@ use Rattle.pgw_server.specs.declared.connection.ServerPhase.TheVariants.{CancelA
 use Rattle.pgw_server.proofs.ClientFront.{steady, taken}
 
 pub steady_at : (stage : Stage) → IsReading (reading stage)
-steady_at stage = steady stage.started stage.client.protocol_version
+steady_at stage = steady stage.started (bound_at stage) stage.client.protocol_version
 
 memory_or : (e : PgWireError) → (e ≡ OutOfMemory) ⊎ (e ≢ OutOfMemory)
 memory_or OutOfMemory = inl refl
@@ -74,13 +74,13 @@ told old new ms e = told_from old [] new ms (ap (λ (l : List ℕ). fold and_enc
 
 module _ (means : Message → Standing → Standing → List Backend → Answer → Type 0) where
   pub hears : (m : Message) (from : Stage) (client : Client) (login : LoginState) (old new : List ℕ)
-      → Did and_encoding (Ok old) (Ok new) (means m) (standing from.client from.login 0) (standing client login 0) (Ok tt) → DidHear means m from (record { client = client; login = login; started = true }) old new (Ok tt)
+      → Did and_encoding (Ok old) (Ok new) (means m) (standing from.client from.login 0) (standing client login 0) (Ok tt) → DidHear means m from (record from { client = client; login = login; started = true }) old new (Ok tt)
   hears m from client login old new d =
       let t = told old new d.sent d.told in
       (t.0, t.2, (standing client login 0, d.sent, Ok tt, t.0, d.done, t.1, refl, refl))
 
   pub refuses : (m : Message) (from : Stage) (client : Client) (login : LoginState) (old new : List ℕ) (e : PgWireError)
-      → Did and_encoding (Ok old) (Ok new) (means m) (standing from.client from.login 0) (standing client login 0) (Err e) → DidHear means m from (record { client = client; login = login; started = from.started }) old new (Err e)
+      → Did and_encoding (Ok old) (Ok new) (means m) (standing from.client from.login 0) (standing client login 0) (Err e) → DidHear means m from (record from { client = client; login = login }) old new (Err e)
   refuses m from client login old new e d =
       let t = told old new d.sent d.told in
       (t.0, t.2, (standing client login 0, d.sent, Err e, t.0, d.done, t.1, refl, refl))
@@ -107,35 +107,35 @@ module _ (means : Message → Standing → Standing → List Backend → Answer 
 
   -- ---- what stands at the front
 
-  pub comes_more : (from : Stage) (bytes left old : List ℕ) (phase : ServerPhase) → left ≡ bytes → client_front from.started from.client.protocol_version bytes ≡ Ok None → phase ≡ phase_at from.client.state → Comes means from bytes from left old old (Ok phase)
+  pub comes_more : (from : Stage) (bytes left old : List ℕ) (phase : ServerPhase) → left ≡ bytes → client_front from.started (bound_at from) from.client.protocol_version bytes ≡ Ok None → phase ≡ phase_at from.client.state → Comes means from bytes from left old old (Ok phase)
   comes_more from bytes left old phase same none is = ([], Waits from [] bytes, sym (append-nil old), waits from bytes (ap (met bytes) none), (refl, refl, sym same), ap (λ (p : ServerPhase). Ok p) is)
 
   -- memory ran out, or the front is refused
   pub comes_broken : (from to : Stage) (bytes left old : List ℕ) → to ≡ from → Comes means from bytes to left old old (Err OutOfMemory)
   comes_broken from to bytes left old same = ([], Over (ended (Refused OutOfMemory) from) [], sym (append-nil old), breaks from bytes (ended (Refused OutOfMemory) from) refl, (sym same, refl), refl)
 
-  pub comes_bad : (from : Stage) (bytes left old : List ℕ) (e : PgWireError) → (e ≢ OutOfMemory → client_front from.started from.client.protocol_version bytes ≡ Err e) → Comes means from bytes from left old old (Err e)
+  pub comes_bad : (from : Stage) (bytes left old : List ℕ) (e : PgWireError) → (e ≢ OutOfMemory → client_front from.started (bound_at from) from.client.protocol_version bytes ≡ Err e) → Comes means from bytes from left old old (Err e)
   comes_bad from bytes left old e bad = elim (memory_or e) [
     | inl is ↦ subst (λ (d : PgWireError). Comes means from bytes from left old old (Err d)) (sym is) (comes_broken from from bytes left old refl)
     | inr ne ↦ ([], Over (ended (Refused e) from) [], sym (append-nil old), stops from bytes e (ended (Refused e) from) (ap (met bytes) (bad ne)) refl, (refl, refl), refl)
   ]
 
   -- a message was taken
-  pub goes_on : (from to : Stage) (bytes rest left old new : List ℕ) (m : Message) → left ≡ rest → client_front from.started from.client.protocol_version bytes ≡ Ok (Some (m, rest)) → DidStep means m from to old new (Ok None) → Advanced means from bytes to left old new (Ok None)
+  pub goes_on : (from to : Stage) (bytes rest left old new : List ℕ) (m : Message) → left ≡ rest → client_front from.started (bound_at from) from.client.protocol_version bytes ≡ Ok (Some (m, rest)) → DidStep means m from to old new (Ok None) → Advanced means from bytes to left old new (Ok None)
   goes_on from to bytes rest left old new m same found step =
-      let t = taken from.started from.client.protocol_version bytes m rest found in (
+      let t = taken from.started (bound_at from) from.client.protocol_version bytes m rest found in (
         (step.0, step.1, λ course leads. goes from to bytes m t.0 step.0 course t.1 step.2 (subst (λ (l : List ℕ). Leads (serving means) to l course) (same ∙ t.2) leads)),
         subst (λ (l : List ℕ). length l < length bytes) (sym same) t.3,
       )
 
-  pub comes_asked : (from to : Stage) (bytes rest left old new : List ℕ) (m : Message) (r : CancelRequest) → client_front from.started from.client.protocol_version bytes ≡ Ok (Some (m, rest)) → DidStep means m from to old new (Ok (Some r)) → Comes means from bytes to left old new (Ok (CancelAsked r))
+  pub comes_asked : (from to : Stage) (bytes rest left old new : List ℕ) (m : Message) (r : CancelRequest) → client_front from.started (bound_at from) from.client.protocol_version bytes ≡ Ok (Some (m, rest)) → DidStep means m from to old new (Ok (Some r)) → Comes means from bytes to left old new (Ok (CancelAsked r))
   comes_asked from to bytes rest left old new m r found step =
-      let t = taken from.started from.client.protocol_version bytes m rest found in
+      let t = taken from.started (bound_at from) from.client.protocol_version bytes m rest found in
       (step.0, Over (ended (Asked r) to) step.0, step.1, ends from bytes m t.0 (ended (Asked r) to) step.0 t.1 step.2, (refl, refl), refl)
 
-  pub comes_refused : (from to : Stage) (bytes rest left old new : List ℕ) (m : Message) (e : PgWireError) → client_front from.started from.client.protocol_version bytes ≡ Ok (Some (m, rest)) → DidStep means m from to old new (Err e) → Comes means from bytes to left old new (Err e)
+  pub comes_refused : (from to : Stage) (bytes rest left old new : List ℕ) (m : Message) (e : PgWireError) → client_front from.started (bound_at from) from.client.protocol_version bytes ≡ Ok (Some (m, rest)) → DidStep means m from to old new (Err e) → Comes means from bytes to left old new (Err e)
   comes_refused from to bytes rest left old new m e found step =
-      let t = taken from.started from.client.protocol_version bytes m rest found in
+      let t = taken from.started (bound_at from) from.client.protocol_version bytes m rest found in
       elim step.2 [
         | inl h ↦ (step.0, Over (ended (Refused e) to) step.0, step.1, ends from bytes m t.0 (ended (Refused e) to) step.0 t.1 h, (refl, refl), refl)
         | inr h ↦ (step.0, Over (ended (Refused OutOfMemory) from) [], step.1, breaks from bytes (ended (Refused OutOfMemory) from) refl, (sym h.1, sym h.2), ap (λ (d : PgWireError). Err d) h.0)
@@ -187,8 +187,8 @@ module _ (means : Message → Standing → Standing → List Backend → Answer 
 
   -- ---- what a core stands for
 
-  pub begins_here : {H : Type 0} (core : ServerCore H) (client : Client) (login : LoginState) → stage_of core ≡ begins client login → core.over ≡ false → core.inbox.items ≡ [] → Stands means (begins client login) core [] []
-  begins_here core client login is on none = (Waits (begins client login) [] [], waits (begins client login) [] ((steady_at (begins client login)).none), (on, sym is, refl, sym none))
+  pub begins_here : {H : Type 0} (core : ServerCore H) (bound : Option ℕ) (client : Client) (login : LoginState) → stage_of core ≡ begins_within bound client login → core.over ≡ false → core.inbox.items ≡ [] → Stands means (begins_within bound client login) core [] []
+  begins_here core bound client login is on none = (Waits (begins_within bound client login) [] [], waits (begins_within bound client login) [] ((steady_at (begins_within bound client login)).none), (on, sym is, refl, sym none))
 
   -- behind an end it stays
   pub stands_still : {H : Type 0} (begin : Stage) (core : ServerCore H) (given put piece : List ℕ) → core.over ≡ true → Stands means begin core given put → Stands means begin core (given ++ piece) (put ++ [])

@@ -1,5 +1,5 @@
 -- That a client is let in only behind what it is asked for.
-use Rattle.std.specs.Prelude.{◌≡◌, ◌≢◌, ℕ, Bool, true, false, List, ◌∷◌, ◌++◌, Some, None, Result, Ok}
+use Rattle.std.specs.Prelude.{◌≡◌, ◌≢◌, ℕ, Bool, true, false, List, ◌∷◌, ◌++◌, Option, Some, None, Result, Ok}
 use Rattle.std.specs.List.{list_any, Contains}
 use Rattle.pgw_types.specs.declared.error.PgWireError.{PgWireError}
 use Rattle.pgw_startup.specs.Password.{as_password}
@@ -21,7 +21,7 @@ use Rattle.pgw_login.specs.Md5.{md5_request}
 use Rattle.pgw_login.specs.declared.client_info.PgWireConnectionState.TheVariants.{ReadyForQuery}
 use Rattle.pgw_login.specs.declared.state.LoginState.{LoginState}
 use Rattle.pgw_login.specs.declared.state.SASLState.TheVariants.{Initial}
-use Rattle.pgw_server.specs.Server.{Stage, Ending, begins, serving}
+use Rattle.pgw_server.specs.Server.{Stage, Ending, begins_within, serving}
 use Rattle.pgw_server.specs.Taken.{Acts, Taken, taken_in, Accounts}
 
 -- ---- to let a client in
@@ -62,10 +62,11 @@ IsGuardedWay means Proves begin given course way =
 
 -- whatever a new client sends
 abbrev pub LetsInBy : Acts → (Stage → Proving) → Type 0
-LetsInBy means Proves = (client : Client) (login : LoginState) (given : List ℕ)
+LetsInBy means Proves = (bound : Option ℕ) (client : Client) (login : LoginState) (given : List ℕ)
     (course : Course Stage Ending) → IsNew client login
-    → (way : Leads (serving means) (begins client login) given course)
-    → IsGuardedWay means (Proves (begins client login)) (begins client login) given course way
+    → (way : Leads (serving means) (begins_within bound client login) given course)
+    → IsGuardedWay means (Proves (begins_within bound client login)) (begins_within bound client login)
+    given course way
 
 -- ---- who logs in
 

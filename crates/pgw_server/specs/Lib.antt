@@ -6,3 +6,4 @@ pub mod Lasting
 pub mod Taken
 pub mod Entry
 pub mod Pieces
+pub mod Bound

@@ -1,5 +1,5 @@
 -- A server's side of a login, as a machine over bytes.
-use Rattle.std.specs.Prelude.{◌≡◌, ℕ, Bool, true, false, List, [], ◌∷◌, fold, Result, Ok, Err}
+use Rattle.std.specs.Prelude.{◌≡◌, ℕ, Bool, true, false, List, [], ◌∷◌, fold, Option, None, Result, Ok, Err}
 use Rattle.pgw_types.specs.declared.error.PgWireError.{PgWireError}
 use Rattle.pgw_types.specs.declared.error.PgWireError.TheVariants.{OutOfMemory}
 use Rattle.pgw_opening.specs.declared.cancel.CancelRequest.{CancelRequest}
@@ -11,19 +11,35 @@ use Rattle.pgw_course.specs.Play.{Play}
 use Rattle.pgw_login.specs.Client.{Client}
 use Rattle.pgw_login.specs.Sending.{and_encoding}
 use Rattle.pgw_login.specs.Acts.{Standing, standing, Answer}
+use Rattle.pgw_login.specs.declared.client_info.PgWireConnectionState.{PgWireConnectionState}
+use Rattle.pgw_login.specs.declared.client_info.PgWireConnectionState.TheVariants.{ReadyForQuery}
 use Rattle.pgw_login.specs.declared.state.LoginState.{LoginState}
 use Rattle.pgw_server.specs.Front.{client_front, met}
 
 -- ---- where a connection is, and how it ends
 
--- what is seen of the client, its login, and whether its startup message was taken
+-- what is seen of the client, its login, whether its startup message was taken, and the most bytes that a message may
+-- say it has until the client may ask, if that is bounded
 pub record Stage : Type 0 where
   pub client : Client
   pub login : LoginState
   pub started : Bool
+  pub bound : Option ℕ
+
+abbrev pub begins_within : Option ℕ → Client → LoginState → Stage
+begins_within bound client login =
+    record { client = client; login = login; started = false; bound = bound }
 
 abbrev pub begins : Client → LoginState → Stage
-begins client login = record { client = client; login = login; started = false }
+begins = begins_within None
+
+-- the bound falls where the client may ask
+abbrev pub bound_in : PgWireConnectionState → Option ℕ → Option ℕ
+bound_in ReadyForQuery bound = None
+bound_in state bound = bound
+
+abbrev pub bound_at : Stage → Option ℕ
+bound_at stage = bound_in stage.client.state stage.bound
 
 -- a message was refused, or the client asks for a query to be canceled
 pub data Cause : Type 0 where
@@ -43,13 +59,13 @@ ended cause stage = record { cause = cause; stage = stage }
 abbrev pub encodings : List Backend → Result (List ℕ) PgWireError
 encodings ms = fold and_encoding (Ok []) ms
 
-abbrev pub after : Standing → Bool → Stage
-after s started = record { client = s.client; login = s.login; started = started }
+abbrev pub after : Standing → Bool → Stage → Stage
+after s started stage = record stage { client = s.client; login = s.login; started = started }
 
 -- a handler's answer: it goes on, and the startup message was taken; or it is refused
 abbrev pub moved : Answer → Standing → Stage → List ℕ → Move Stage Ending
-moved (Ok done) s stage out = On (after s true) out
-moved (Err e) s stage out = Ends (ended (Refused e) (after s stage.started)) out
+moved (Ok done) s stage out = On (after s true stage) out
+moved (Err e) s stage out = Ends (ended (Refused e) (after s stage.started stage)) out
 
 -- the handler's act, with the encodings of what it sends put out; no call of a core's outbox fails
 abbrev pub Handles : (Message → Standing → Standing → List Backend → Answer → Type 0) → Stage → Message → Move Stage Ending → Type 0
@@ -65,7 +81,7 @@ Steps means stage m move = Handles means stage m move
 -- ---- the machine
 
 abbrev pub reading : Stage → List ℕ → Front Message PgWireError
-reading stage bytes = met bytes (client_front stage.started stage.client.protocol_version bytes)
+reading stage bytes = met bytes (client_front stage.started (bound_at stage) stage.client.protocol_version bytes)
 
 -- what is refused at the front ends it, and so may want of memory at any time
 abbrev pub serving : (Message → Standing → Standing → List Backend → Answer → Type 0) → Play Stage Ending Message PgWireError

@@ -15,7 +15,8 @@ use Rattle.pgw_server.specs.declared.connection.ServerPhase.{ServerPhase}
 use Rattle.pgw_server.specs.declared.connection.ServerPhase.TheVariants.{Waiting, Finished, CancelAsked}
 
 abbrev pub stage_of : {H : Type 0} → ServerCore H → Stage
-stage_of core = record { client = seen core.client; login = core.login; started = core.started }
+stage_of core =
+    record { client = seen core.client; login = core.login; started = core.started; bound = core.bound }
 
 -- the core is at this place, and these bytes were put out
 abbrev pub IsAt : {H : Type 0} → ServerCore H → List ℕ → Course Stage Ending → Type 0
@@ -46,5 +47,10 @@ Arrives means begin core given put answer = (course : Course Stage Ending) × Le
 
 -- From where a core was, a piece more leads to where it is, these bytes are put out on the way, and of one that goes on
 -- the answer says so.
-abbrev pub WentOn : {H : Type 0} → (Message → Standing → Standing → List Backend → Answer → Type 0) → ServerCore H → ServerCore H → List ℕ → List ℕ → List ℕ → List ℕ → Course Stage Ending → Result ServerPhase PgWireError → Type 0
-WentOn means old new put piece before after course answer = (more : List ℕ) × (there : Course Stage Ending) × (after ≡ before ++ more) × Continues (serving means) course piece there × IsAt new (put ++ more) there × (old.over ≡ false → answer ≡ answer_at there)
+abbrev pub WentOn : {H : Type 0} → (Message → Standing → Standing → List Backend → Answer → Type 0)
+    → ServerCore H → ServerCore H → List ℕ → List ℕ → List ℕ → List ℕ → Course Stage Ending
+    → Result ServerPhase PgWireError → Type 0
+WentOn means old new put piece before after course answer =
+    (more : List ℕ) × (there : Course Stage Ending) × (after ≡ before ++ more)
+    × Continues (serving means) course piece there × IsAt new (put ++ more) there
+    × (old.over ≡ false → answer ≡ answer_at there)

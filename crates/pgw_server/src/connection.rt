@@ -1,8 +1,9 @@
 //! A server's side of a login: bytes go in as they come, and those to be sent come out.
-ghost use Rattle.std.specs.Prelude.{◌≡◌, ◌++◌, ℕ, List, [], true, false, None, Ok, OnOk, IfErr, ◌∷◌};
+ghost use Rattle.std.specs.Prelude.{◌≡◌, ◌≢◌, ◌≤◌, ◌++◌, ℕ, max, List, [], length, true, false, Some, None, Ok, OnOk, IfErr, ◌∷◌};
 ghost use Rattle.pgw_course.specs.Course.{Course, More};
 ghost use Rattle.pgw_login.specs.DefaultClients.{seen};
-ghost use Rattle.pgw_server.specs.Server.{Stage, Ending, begins, reading};
+ghost use Rattle.pgw_login.specs.declared.client_info.PgWireConnectionState.TheVariants.{ReadyForQuery};
+ghost use Rattle.pgw_server.specs.Server.{Stage, Ending, begins, begins_within, bound_in, reading};
 ghost use Rattle.pgw_server.specs.Stands.{stage_of, phase_at, IsAt, Stands, Arrives, WentOn};
 ghost use Rattle.pgw_server.specs.Steps.{is_end, DidHear, DidStep, Advanced, Comes};
 
@@ -33,8 +34,8 @@ pub enum ServerPhase {
 /// The server's side of one connection up to its login. It reads and writes nothing itself.
 ///
 /// Requests for encryption are refused, and the client goes on without. Until an end, what waits in it is no more than
-/// one message that is not whole yet, which may have up to 1073741823 bytes, of a client that has not logged in too.
-/// Behind an end the bytes not looked at stay until `finish`.
+/// one message that is not whole yet. That may have up to 1073741823 bytes, of a client that has not logged in too,
+/// unless the core was started with a bound. Behind an end the bytes not looked at stay until `finish`.
 pub struct ServerCore<H> {
     handler: H,
     client: DefaultClient<()>,
@@ -44,6 +45,8 @@ pub struct ServerCore<H> {
     started: bool,
     // a message was refused, or a request to cancel was taken
     over: bool,
+    // the most bytes that a message may say it has until the client may ask
+    bound: Option<u32>,
 }
 
 impl<H: StartupHandler> ServerCore<H> {
@@ -58,9 +61,44 @@ impl<H: StartupHandler> ServerCore<H> {
         ensures fits { H.fits result.handler result.login }
         // It goes on.
         ensures going { result.over ≡ false }
-        ensures kept { (result.handler ≡ handler) × (result.client ≡ client) × (result.login ≡ state) }
+        ensures kept { (result.handler ≡ handler) × (result.client ≡ client) × (result.login ≡ state) × (result.bound ≡ None) }
         // It stands for no bytes given and none put out.
         ensures stands { Stands (H.means handler) (begins (seen client) state) result [] [] }
+    {
+        ServerCore::begin(alloc, handler, client, state, None)
+    }
+
+    /// The same under a bound: until the client may ask, a message behind its startup message that says it has more bytes
+    /// is refused with `MessageTooLarge`, by its header alone. (PostgreSQL takes 65535 bytes of a password or token at the
+    /// most.) Messages up to the startup message have at most 10000 bytes.
+    pub fn start_within(
+        alloc: Global,
+        handler: H,
+        client: DefaultClient<()>,
+        state: LoginState,
+        bound: u32,
+    ) -> ServerCore<H>
+        requires { H.fits handler state }
+        ensures fits { H.fits result.handler result.login }
+        ensures going { result.over ≡ false }
+        ensures kept { (result.handler ≡ handler) × (result.client ≡ client) × (result.login ≡ state) × (result.bound ≡ Some bound) }
+        ensures stands { Stands (H.means handler) (begins_within (Some bound) (seen client) state) result [] [] }
+    {
+        ServerCore::begin(alloc, handler, client, state, Some(bound))
+    }
+
+    fn begin(
+        alloc: Global,
+        handler: H,
+        client: DefaultClient<()>,
+        state: LoginState,
+        bound: Option<u32>,
+    ) -> ServerCore<H>
+        requires { H.fits handler state }
+        ensures fits { H.fits result.handler result.login }
+        ensures going { result.over ≡ false }
+        ensures kept { (result.handler ≡ handler) × (result.client ≡ client) × (result.login ≡ state) × (result.bound ≡ bound) }
+        ensures stands { Stands (H.means handler) (begins_within bound (seen client) state) result [] [] }
     {
         ServerCore {
             handler,
@@ -69,6 +107,7 @@ impl<H: StartupHandler> ServerCore<H> {
             inbox: BytesMut::new(alloc),
             started: false,
             over: false,
+            bound,
         }
     }
 
@@ -83,7 +122,7 @@ impl<H: StartupHandler> ServerCore<H> {
     ) -> PgWireResult<ServerPhase>
         requires { H.fits self.old.handler self.old.login }
         ensures fits { H.fits self.new.handler self.new.login }
-        ensures handler { self.new.handler ≡ self.old.handler }
+        ensures kept { (self.new.handler ≡ self.old.handler) × (self.new.bound ≡ self.old.bound) }
         // For all bytes given and put out that it stood for, it stands for them with the piece and what is appended.
         ensures stands { (begin : Stage) (given put : List ℕ) → Stands (H.means self.old.handler) begin self.old given put →
             (more : List ℕ) × (out.new.items ≡ out.old.items ++ more) × Stands (H.means self.old.handler) begin self.new (given ++ piece.now) (put ++ more) }
@@ -96,6 +135,8 @@ impl<H: StartupHandler> ServerCore<H> {
         ensures over { self.old.over ≡ true → (self.new ≡ self.old) × (out.new.items ≡ out.old.items) × (result ≡ Err PgWireError.InvalidSASLState) }
         // Where it waits, nothing whole stands at the front of what waits in it.
         ensures more { self.new.over ≡ false → reading (stage_of self.new) self.new.inbox.items ≡ More }
+        // Under a bound, until the client may ask, no more waits than the bound says, or 10000 bytes.
+        ensures little { (bound : ℕ) → self.new.bound ≡ Some bound → self.new.over ≡ false → self.new.client.state ≢ ReadyForQuery → length self.new.inbox.items ≤ max 10000 bound }
     {
         if self.over {
             return Err(PgWireError::InvalidSASLState);
@@ -116,6 +157,7 @@ impl<H: StartupHandler> ServerCore<H> {
             inbox: _,
             started: _,
             over: _,
+            bound: _,
         } = self;
         (handler, client, login)
     }
@@ -129,7 +171,7 @@ impl<H: StartupHandler> ServerCore<H> {
     ) -> PgWireResult<ServerPhase>
         requires { H.fits self.old.handler self.old.login }
         ensures fits { H.fits self.new.handler self.new.login }
-        ensures kept { (self.new.handler ≡ self.old.handler) × (self.new.over ≡ self.old.over) }
+        ensures kept { (self.new.handler ≡ self.old.handler) × (self.new.over ≡ self.old.over) × (self.new.bound ≡ self.old.bound) }
         ensures comes { Comes (H.means self.old.handler) (stage_of self.old) (self.old.inbox.items ++ piece.now) (stage_of self.new) self.new.inbox.items out.old.items out.new.items result }
     {
         match self.inbox.extend_from_slice(piece) {
@@ -142,7 +184,7 @@ impl<H: StartupHandler> ServerCore<H> {
     fn serve(&mut self, alloc: Global, out: &mut BytesMut) -> PgWireResult<ServerPhase>
         requires { H.fits self.old.handler self.old.login }
         ensures fits { H.fits self.new.handler self.new.login }
-        ensures kept { (self.new.handler ≡ self.old.handler) × (self.new.over ≡ self.old.over) }
+        ensures kept { (self.new.handler ≡ self.old.handler) × (self.new.over ≡ self.old.over) × (self.new.bound ≡ self.old.bound) }
         ensures comes { Comes (H.means self.old.handler) (stage_of self.old) self.old.inbox.items (stage_of self.new) self.new.inbox.items out.old.items out.new.items result }
     {
         let buffer = replace(out, BytesMut::new(alloc));
@@ -157,7 +199,7 @@ impl<H: StartupHandler> ServerCore<H> {
     fn take_all(&mut self, alloc: Global, out: &mut ByteOutbox) -> PgWireResult<ServerPhase>
         requires { H.fits self.old.handler self.old.login }
         ensures fits { H.fits self.new.handler self.new.login }
-        ensures kept { (self.new.handler ≡ self.old.handler) × (self.new.over ≡ self.old.over) }
+        ensures kept { (self.new.handler ≡ self.old.handler) × (self.new.over ≡ self.old.over) × (self.new.bound ≡ self.old.bound) }
         ensures comes { Comes (H.means self.old.handler) (stage_of self.old) self.old.inbox.items (stage_of self.new) self.new.inbox.items out.old.buffer.items out.new.buffer.items result }
     {
         'messages: loop {
@@ -173,11 +215,12 @@ impl<H: StartupHandler> ServerCore<H> {
     fn advance(&mut self, alloc: Global, out: &mut ByteOutbox) -> PgWireResult<Option<ServerPhase>>
         requires { H.fits self.old.handler self.old.login }
         ensures fits { H.fits self.new.handler self.new.login }
-        ensures kept { (self.new.handler ≡ self.old.handler) × (self.new.over ≡ self.old.over) }
+        ensures kept { (self.new.handler ≡ self.old.handler) × (self.new.over ≡ self.old.over) × (self.new.bound ≡ self.old.bound) }
         ensures advanced { Advanced (H.means self.old.handler) (stage_of self.old) self.old.inbox.items (stage_of self.new) self.new.inbox.items out.old.buffer.items out.new.buffer.items result }
     {
         let version = self.client.protocol_version;
-        match next_message(alloc, &mut self.inbox, self.started, version) {
+        let bound = self.bound();
+        match next_message(alloc, &mut self.inbox, self.started, bound, version) {
             Ok(None) => Ok(Some(self.phase())),
             Ok(Some(message)) => match self.step(alloc, out, message) {
                 Ok(None) => Ok(None),
@@ -185,6 +228,16 @@ impl<H: StartupHandler> ServerCore<H> {
                 Err(e) => Err(e),
             },
             Err(e) => Err(e),
+        }
+    }
+
+    // The bound, which falls where the client may ask.
+    fn bound(&self) -> Option<u32>
+        ensures { result ≡ bound_in self.now.client.state self.now.bound }
+    {
+        match self.client.state {
+            PgWireConnectionState::ReadyForQuery => None,
+            _ => self.bound,
         }
     }
 
@@ -207,7 +260,7 @@ impl<H: StartupHandler> ServerCore<H> {
     ) -> PgWireResult<Option<CancelRequest>>
         requires { H.fits self.old.handler self.old.login }
         ensures fits { H.fits self.new.handler self.new.login }
-        ensures kept { (self.new.handler ≡ self.old.handler) × (self.new.over ≡ self.old.over) × (self.new.inbox ≡ self.old.inbox) }
+        ensures kept { (self.new.handler ≡ self.old.handler) × (self.new.over ≡ self.old.over) × (self.new.inbox ≡ self.old.inbox) × (self.new.bound ≡ self.old.bound) }
         ensures stepped { DidStep (H.means self.old.handler) message (stage_of self.old) (stage_of self.new) out.old.buffer.items out.new.buffer.items result }
     {
         match message {
@@ -232,7 +285,7 @@ impl<H: StartupHandler> ServerCore<H> {
     ) -> PgWireResult<()>
         requires { H.fits self.old.handler self.old.login }
         ensures fits { H.fits self.new.handler self.new.login }
-        ensures kept { (self.new.handler ≡ self.old.handler) × (self.new.over ≡ self.old.over) × (self.new.inbox ≡ self.old.inbox) }
+        ensures kept { (self.new.handler ≡ self.old.handler) × (self.new.over ≡ self.old.over) × (self.new.inbox ≡ self.old.inbox) × (self.new.bound ≡ self.old.bound) }
         ensures heard { DidHear (H.means self.old.handler) message (stage_of self.old) (stage_of self.new) out.old.buffer.items out.new.buffer.items result }
     {
         let client = &mut self.client;

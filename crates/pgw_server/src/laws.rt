@@ -1,12 +1,17 @@
 //! What holds of a server's core.
-ghost use Rattle.std.specs.Prelude.{◌++◌, ◌↔◌, ◌∷◌, ℕ, List, []};
+ghost use Rattle.std.specs.Prelude.{◌≡◌, ◌<◌, ◌≤◌, ◌++◌, ◌↔◌, ◌∷◌, ℕ, max, List, [], length, true, Option, Ok, Err};
 ghost use Rattle.std.specs.List.{concat};
-ghost use Rattle.pgw_course.specs.Course.{Course, Waits, IsReading, sent_of};
+ghost use Rattle.pgw_types.specs.declared.error.PgWireError.{PgWireError};
+ghost use Rattle.pgw_types.specs.declared.error.PgWireError.TheVariants.{MessageTooLarge};
+ghost use Rattle.pgw_wire.specs.Framing.{stated_length};
+ghost use Rattle.pgw_frontend.specs.declared.frontend.PgWireFrontendMessage.{PgWireFrontendMessage as Message};
+ghost use Rattle.pgw_course.specs.Course.{Course, Waits, More, Bad, IsReading, sent_of};
 ghost use Rattle.pgw_course.specs.Play.{Leads, Continues};
 ghost use Rattle.pgw_login.specs.Acts.{Passes};
 ghost use Rattle.pgw_login.specs.Cleartext.{CleartextMeans};
 ghost use Rattle.pgw_login.specs.Md5.{Md5Means};
 ghost use Rattle.pgw_login.specs.Noop.{NoopMeans};
+ghost use Rattle.pgw_server.specs.Bound.{IsBounded, header_front};
 ghost use Rattle.pgw_server.specs.Entry.{LetsInBy, ProvesCleartext, ProvesMd5};
 ghost use Rattle.pgw_server.specs.Lasting.{IsReady, KeepsReady, StaysReady};
 ghost use Rattle.pgw_server.specs.Pieces.{LeadOn};
@@ -68,4 +73,19 @@ pub fn handlers_let_in_behind_a_password<A: AuthSource, P: ServerParameterProvid
     ensures md5 { (source : A) (provider : P) (registry : M) → LetsInBy
         (Md5Means (A.answers source) (P.provides provider) (M.registers registry))
         (ProvesMd5 (A.answers source)) }
+{}
+
+/// Under a bound, until the client may ask, a message behind the startup message that says it has more bytes is refused by
+/// its header, before any byte of its body has come; and little waits.
+pub fn a_bound_holds_until_the_login()
+    // It is refused with the bound and the length that it says,
+    ensures long { (stage : Stage) (bound : ℕ) (bytes : List ℕ) (found : Option (Message × List ℕ)) →
+        IsBounded stage bound → stage.started ≡ true → 5 ≤ length bytes → bound < stated_length 1 bytes →
+        header_front stage bytes ≡ Ok found → reading stage bytes ≡ Bad (MessageTooLarge bound (stated_length 1 bytes)) }
+    // unless its header alone is refused for something else.
+    ensures header { (stage : Stage) (bound : ℕ) (bytes : List ℕ) (why : PgWireError) →
+        IsBounded stage bound → stage.started ≡ true → header_front stage bytes ≡ Err why → reading stage bytes ≡ Bad why }
+    // What waits has no more bytes than the bound says, or 10000.
+    ensures little { (stage : Stage) (bound : ℕ) (bytes : List ℕ) →
+        IsBounded stage bound → reading stage bytes ≡ More → length bytes ≤ max 10000 bound }
 {}

@@ -15,4 +15,4 @@ returns-in-Some-SslNegotiation-None c =
     let spelled = rw (is, c.phase-2.ensures) at c.in_ok-found.ensures.found in
     let next = rw c.phase-in-Some-SslNegotiation-None.ensures at c.decode-in-Some-SslNegotiation-None.ensures.exact in
     let r = c.decode-in-Some-SslNegotiation-None.result in
-    rw c.if-started.false (first_instead v old mid new r found spelled next)
+    rw c.if-started.false (first_instead c.args.bound v old mid new r found spelled next)

@@ -3,6 +3,7 @@ use Rattle.std.proofs.lemmas.List.{append-nil}
 use Rattle.pgw_server.specs.declared.connection.ServerCore.{ServerCore}
 use Rattle.pgw_server.specs.Stands.{stage_of}
 use Rattle.pgw_server.proofs.ServerLaws.{stands_still, stands_on, continues_on, continues_still, arrives, wants}
+use Rattle.pgw_server.proofs.BoundLaws.{little_waits}
 use Rattle.pgw_server.proofs.connection.ServerCore.take.Goals as goal
 
 pub returns-then-self-clause-stands : goal.returns-then-self-clause-stands
@@ -29,3 +30,7 @@ pub returns-clause-continues : goal.returns-clause-continues
 returns-clause-continues g c course put at =
     let new : ServerCore g.row.H.Denot = record c.receive-answer.new.self { over = c.is_end-self.result } in
     continues_on (g.H.StartupHandler.means c.args.self.now.handler) c.args.self.now new put c.args.piece.now c.args.out.now.items c.receive-answer.new.out.items course c.receive-answer.result c.if-self.false c.is_end-self.ensures at c.receive-answer.ensures.comes
+
+pub returns-clause-little : goal.returns-clause-little
+returns-clause-little g c bound is on asks =
+    little_waits (stage_of c.receive-answer.new.self) bound c.receive-answer.new.self.inbox.items (is, asks) (returns-clause-more g c on)
