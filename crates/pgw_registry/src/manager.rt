@@ -75,6 +75,16 @@ pub struct ConnectionGuard {
     key: Octets,
 }
 
+// A copy of the key's bytes, which keeps no larger block alive.
+fn own_bytes(alloc: Global, secret_key: &SecretKey) -> Result<Octets, OutOfMemory>
+    ensures { IfOk result (λ key. key ≡ key_bytes secret_key.now) }
+{
+    match secret_key {
+        SecretKey::I32(_) => secret_key.to_bytes(alloc),
+        SecretKey::Bytes(bytes) => Octets::from_slice(alloc, bytes.as_slice()),
+    }
+}
+
 impl ConnectionManager {
     /// A manager and its first pass.
     pub fn new(alloc: Global) -> Result<(ConnectionManager, Pass), OutOfMemory>
@@ -123,7 +133,7 @@ impl ConnectionManager {
         ensures ok { IfOk result (λ r. Makes (Register pid (key_bytes secret_key)) (Handled r.0.number) pass.old pass.new × (r.1.pid ≡ pid) × (r.1.key ≡ key_bytes secret_key) × (arc_value r.1.manager ≡ arc_value manager.now)) }
         ensures err { IfErr result (λ e. Grew e pass.old pass.new ⊎ ((e ≡ NoMemory) × (pass.new ≡ pass.old))) }
     {
-        let key = secret_key.to_bytes(alloc)?;
+        let key = own_bytes(alloc, &secret_key)?;
         let Ok(owner) = Arc::try_clone(manager) else {
             return Err(RegistryError::OutOfMemory);
         };
@@ -490,7 +500,8 @@ impl ConnectionGuard {
 
     /// Lets a pair go that came back because no event may be added.
     pub fn abandon(self, pass: &Pass)
-        requires { length pass.now.seen ≡ 18446744073709551615 }
+        requires own { pass.now.of ≡ arc_value self.manager }
+        requires full { length pass.now.seen ≡ 18446744073709551615 }
     {
         let ConnectionGuard {
             manager,

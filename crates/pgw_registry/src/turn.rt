@@ -10,7 +10,8 @@ use crate::sight::{Appends, Asked, Desk, LeavesTurn, Looks, Names, Passes, Place
 use std::sync::Wait;
 use std::thread;
 
-/// Waits for the turn, and takes it with the slot.
+/// Waits for the turn, and takes it with the slot. A caller writes to the word only where it has
+/// read that no one has the turn.
 pub(crate) fn enter<R: Wait>(rt: &R, desk: &Desk, place: &mut Place)
     requires desk { IsDesk desk.now.shared.table_id × (place.old.table_id ≡ desk.now.shared.table_id) }
     requires empty { place.old.me.1 ≡ [] }
@@ -19,7 +20,7 @@ pub(crate) fn enter<R: Wait>(rt: &R, desk: &Desk, place: &mut Place)
     ensures events { place.new.me.0.state.events ≡ length place.new.me.0.seen }
 {
     for _ in rt.forever() {
-        if desk.shared.swap::<TakesTurn>(place, 0, 1) == 0 {
+        if desk.shared.peek(0) == 0 && desk.shared.swap::<TakesTurn>(place, 0, 1) == 0 {
             return;
         }
         thread::yield_now();
