@@ -6,7 +6,7 @@ use lib.ListN.{get_elem?}
 use Rattle.pgw_registry.specs.declared.call.Entry.{Entry}
 use Rattle.pgw_registry.specs.declared.sight.Sight.{Sight}
 use Rattle.pgw_registry.specs.Sequential.{Book, nothing, next, reply_of, state_after, AreReplies, IsLegal}
-use Rattle.pgw_registry.specs.History.{Log, Begins, held, places_from, places, turns, longer}
+use Rattle.pgw_registry.specs.History.{Log, Begins, Apart, held, places_from, places, turns, longer}
 use Rattle.pgw_registry.specs.Numbers.{weight}
 
 pub state_after-append : (s : Book) (xs ys : Log) → state_after s (xs ++ ys) ≡ state_after (state_after s xs) ys
@@ -130,6 +130,31 @@ all_first false k n l is e = absurd (true≢false (sym is))
 pub places_all : (k : ℕ) (ns : List ℕ) (xs : Log) → ((i : ℕ) (e : Entry) → slice_get xs i ≡ Some e → held e.by ns ≡ true) → length (places_from k ns xs) ≡ length xs
 places_all k ns [] h = refl
 places_all k ns (e ∷ xs) h = all_first (held e.by ns) k (length xs) (places_from (k + 1) ns xs) (h 0 e refl) (places_all (k + 1) ns xs (λ i x at. h (suc i) x at))
+
+counted_in : (b : Bool) (k : ℕ) (l : List ℕ) → length (cond b (k ∷ l) l) ≡ weight b + length l
+counted_in true k l = omega arith
+counted_in false k l = omega arith
+
+held_in_two : (n : ℕ) (xs ys : List ℕ) → Apart xs ys → weight (held n (xs ++ ys)) ≡ weight (held n xs) + weight (held n ys)
+held_in_two n xs ys apart = by (held n xs) (held n ys) (held n (xs ++ ys)) refl refl refl
+  where
+    by : (a b c : Bool) → held n xs ≡ a → held n ys ≡ b → held n (xs ++ ys) ≡ c → weight c ≡ weight a + weight b
+    by true true c e f g = absurd (apart n e f)
+    by true false c e f g = ap weight (sym g ∙ held_front n xs ys e)
+    by false true c e f g = ap weight (sym g ∙ held_back n xs ys f)
+    by false false true e f g = absurd (⊎_elim (λ (t : held n xs ≡ true). true≢false (sym t ∙ e)) (λ (t : held n ys ≡ true). true≢false (sym t ∙ f)) (held_append n xs ys g))
+    by false false false e f g = refl
+
+-- the calls of two that have no number in common
+pub places_two : (k : ℕ) (xs ys : List ℕ) (log : Log) → Apart xs ys → length (places_from k (xs ++ ys) log) ≡ length (places_from k xs log) + length (places_from k ys log)
+places_two k xs ys [] apart = refl
+places_two k xs ys (e ∷ log) apart =
+    let r = places_two (k + 1) xs ys log apart in
+    let h = held_in_two e.by xs ys apart in
+    let a = counted_in (held e.by (xs ++ ys)) k (places_from (k + 1) (xs ++ ys) log) in
+    let b = counted_in (held e.by xs) k (places_from (k + 1) xs log) in
+    let c = counted_in (held e.by ys) k (places_from (k + 1) ys log) in
+    omega arith
 
 -- where each call of these stands in the front, the places are those of the front
 pub places_same : (ns : List ℕ) (seen log : Log) → Begins seen log → ((k : ℕ) (e : Entry) → slice_get log k ≡ Some e → held e.by ns ≡ true → k < length seen)

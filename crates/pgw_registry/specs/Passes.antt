@@ -1,5 +1,5 @@
 -- What contracts see of a pass.
-use Rattle.std.specs.Prelude.{◌≡◌, ℕ, ◌<◌, true, false, List, [], ◌∷◌, ◌++◌, length}
+use Rattle.std.specs.Prelude.{◌≡◌, ℕ, ◌+◌, ◌<◌, true, false, List, [], ◌∷◌, ◌++◌, length}
 use Rattle.atomic_table.specs.Seated.{TableId}
 use Rattle.pgw_registry.specs.declared.call.Call.{Call}
 use Rattle.pgw_registry.specs.declared.call.Reply.{Reply}
@@ -89,10 +89,11 @@ abbrev pub NotLooked : LookError → Call → Known → Known → Type 0
 NotLooked look.Canceled c v w = Makes c NoQuery v w
 NotLooked look.Exhausted c v w = Full v w
 
--- v took u in and became w: it has seen what both had seen, in one legal history, which has those calls of either that had stood in what it had seen
+-- v took u in and became w: it has seen what both had seen, in one legal history, which has those calls of either that had stood in what it had seen.
+-- They are w's own calls, and no others are
 abbrev pub Meets : Known → Known → Known → Type 0
 Meets v u w =
     (w.of ≡ v.of) × (w.own ≡ v.own) × (w.numbers ≡ v.numbers ++ u.numbers) × (w.share ≡ together v.share u.share) × IsLegal w.seen
     × Begins v.seen w.seen × Begins u.seen w.seen
     × Apart v.numbers u.numbers × (places v.numbers w.seen ≡ mine v) × (places u.numbers w.seen ≡ mine u)
-    × CountsAll w
+    × (length (mine w) ≡ length (mine v) + length (mine u)) × CountsAll w

@@ -106,6 +106,7 @@ pub(crate) fn take_in(desk: &Desk, place: &mut Place, other: Place)
     requires parts { IsPart place.old.me.0.share × IsPart other.me.0.share }
     ensures desk { (place.new.table_id ≡ place.old.table_id) × (place.new.me.1 ≡ place.old.me.1) }
     ensures met { (log : Log) × Later (both_of place.old.me.0 other.me.0) log × (place.new.me.0 ≡ saw (both_of place.old.me.0 other.me.0) log) × Grown place.old.me.0.seen place.old.me.0.numbers log × Grown other.me.0.seen other.me.0.numbers log × Apart place.old.me.0.numbers other.me.0.numbers }
+    ensures count { (log : Log) → length (places (place.old.me.0.numbers ++ other.me.0.numbers) log) ≡ length (places place.old.me.0.numbers log) + length (places other.me.0.numbers log) }
 {
     desk.shared.join_seat::<Passes>(place, other);
     desk.shared.load::<Looks>(place, 1);

@@ -1,6 +1,7 @@
 //! Threads on one registry.
 ghost use Rattle.std.specs.Prelude.{◌≡◌, IfOk, IfSome};
 ghost use Rattle.std.specs.Arc.{arc_value};
+ghost use Rattle.pgw_registry.specs.Passes.{first_pass};
 
 use pgw_registry::error::{LookError, RegistryError};
 use pgw_registry::manager::{
@@ -320,6 +321,25 @@ fn passes_meet(rt: HostRuntime) -> Result<(), Fail> {
 fn answers_are_counted(rt: HostRuntime) -> Result<(), Fail> {
     let (manager, mut pass) = ConnectionManager::new(rt.alloc())?;
     assert_eq!(rt; queried(&rt, &manager, &mut pass), 4);
+    Ok(())
+}
+
+// The events of a new registry behind a call of each of two passes: no more than these two.
+fn two_calls<R: Wait>(rt: &R, manager: &ConnectionManager, mut first: Pass) -> Option<u64>
+    requires { first ≡ first_pass manager.now }
+    ensures { IfSome result (λ events. events ≡ 2) }
+{
+    let mut second = manager.pass(&mut first).ok()?;
+    manager.cancel(rt, &mut first, 1, &SecretKey::I32(0)).ok()?;
+    manager.cancel(rt, &mut second, 2, &SecretKey::I32(0)).ok()?;
+    first.meet(manager, second).ok()?;
+    Some(manager.events(&mut first))
+}
+
+#[test]
+fn nobody_else_makes_events(rt: HostRuntime) -> Result<(), Fail> {
+    let (manager, pass) = ConnectionManager::new(rt.alloc())?;
+    assert_eq!(rt; two_calls(&rt, &manager, pass), Some(2));
     Ok(())
 }
 

@@ -1,4 +1,5 @@
 use Rattle.std.proofs.Common.{rules}
+use Rattle.pgw_registry.proofs.Logs.{places_two}
 use Rattle.pgw_registry.proofs.Steps.{merges, looks}
 use Rattle.pgw_registry.proofs.turn.take_in.Goals as goal
 
@@ -7,3 +8,6 @@ join_seat-requires c = (search rules, search rules, search rules, search rules, 
 
 pub load-requires : goal.load-requires
 load-requires c = (search rules, search rules, looks _ _ _)
+
+pub returns-clause-count : goal.returns-clause-count
+returns-clause-count c log = places_two 0 _ _ log (search rules)
