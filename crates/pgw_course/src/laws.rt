@@ -1,6 +1,7 @@
 //! What holds of every machine over bytes.
-ghost use Rattle.std.specs.Prelude.{◌≡◌, ℕ, List, [], ◌++◌, drop};
-ghost use Rattle.pgw_course.specs.Course.{More, Bad, Whole, Course, Waits, Over, Rules, IsSteady, onto, run, sent_of, WantsMore, seen, IsView};
+ghost use Rattle.std.specs.Prelude.{◌≡◌, ◌<◌, ℕ, List, [], ◌++◌, length, drop};
+ghost use Rattle.pgw_course.specs.Course.{Front as TheFront, More, Bad, Whole, Course, Waits, Over, Rules, IsReading, IsSteady, onto, run, sent_of, WantsMore, seen, IsView};
+ghost use Rattle.pgw_course.specs.Fronts.{IsReadAs};
 ghost use Rattle.pgw_course.specs.Play.{Leads, play_of};
 
 /// However the bytes are cut, the machine comes to the same.
@@ -42,4 +43,14 @@ pub fn views_run_alike<S, T, Q, R, M, E>()
 /// Where the steps are a function, such a machine is led where the function's machine runs.
 pub fn where_steps_are_a_function<S, R, M, E>()
     ensures { (rules : Rules S R M E) → IsSteady rules → (state : S) (bytes : List ℕ) (course : Course S R) → Leads (play_of rules) state bytes course → run rules (Waits state [] []) bytes ≡ course }
+{}
+
+/// A front of a message is no message yet.
+pub fn fronts_wait<M, E>()
+    ensures { (read : List ℕ → TheFront M E) (g front more : List ℕ) (m : M) → IsReading read → IsReadAs read g m → g ≡ front ++ more → length front < length g → read front ≡ More }
+{}
+
+/// Where a function's machine runs, there its bytes lead.
+pub fn a_function_leads_where_it_runs<S, R, M, E>()
+    ensures { (rules : Rules S R M E) → IsSteady rules → (state : S) (bytes : List ℕ) → Leads (play_of rules) state bytes (run rules (Waits state [] []) bytes) }
 {}
