@@ -22,9 +22,10 @@ cut_from v = record { of = v.of; begins = v.begins; drawn = []; seen = 0; owes =
 abbrev pub IsNext : Numbers → ℕ → Type 0
 IsNext v n = DrewAll v.begins v.drawn v.share n
 
--- Where the numbers are spent, at most one was drawn, which is the one seen. Without memory none was drawn
+-- Where the numbers are spent, at most one was drawn, which is the one seen, and the whole share has drawn all before it:
+-- so a seat with the whole share that has drawn few is never refused so. Without memory none was drawn
 abbrev pub NoNumber : PidError → Numbers → Numbers → Type 0
-NoNumber PidsExhausted v w = (2147483647 < w.seen) × ((w.drawn ≡ v.drawn) ⊎ (w.drawn ≡ v.drawn ++ w.seen ∷ []))
+NoNumber PidsExhausted v w = (2147483647 < w.seen) × ((w.drawn ≡ v.drawn) ⊎ (w.drawn ≡ v.drawn ++ w.seen ∷ [])) × IsNext v w.seen
 NoNumber OutOfMemory v w = (w.seen ≤ 2147483647) × (w.drawn ≡ v.drawn)
 
 -- a seat of the same numbers, which has seen as much
