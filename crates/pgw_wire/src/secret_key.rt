@@ -13,12 +13,19 @@ use pgw_types::listed::Duplicate;
 use pgw_types::memory::OutOfMemory;
 use pgw_types::octets::Octets;
 use std::alloc::Global;
+use std::fmt;
 
-/// A key: four bytes under protocol 3.0, 4 to 256 bytes later.
-#[derive(Debug, Drop, PartialEq, Eq)]
+/// A key: four bytes under protocol 3.0, 4 to 256 bytes later. Debug shows none of it.
+#[derive(Drop, PartialEq, Eq)]
 pub enum SecretKey {
     I32(i32),
     Bytes(Octets),
+}
+
+impl fmt::Debug for SecretKey {
+    fn fmt<W: fmt::Write>(&self, f: &mut fmt::Formatter<W>) -> fmt::Result {
+        f.write_str("SecretKey(_)")
+    }
 }
 
 impl Default for SecretKey {

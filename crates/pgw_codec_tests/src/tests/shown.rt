@@ -7,6 +7,7 @@ use pgw_frontend::frontend::PgWireFrontendMessage;
 use pgw_types::context::DecodeContext;
 use pgw_types::memory::OutOfMemory;
 use pgw_types::octets::Octets;
+use pgw_wire::secret_key::SecretKey;
 use std::alloc::Global;
 use std::test::Fail;
 
@@ -35,13 +36,21 @@ const SHOWN: &[(Kind, &str, &str)] = &[
     ),
 ];
 
+// Both kinds of a key.
+fn keys(alloc: Global) -> Result<(SecretKey, SecretKey), OutOfMemory> {
+    let key = SecretKey::I32(1);
+    let bytes = SecretKey::Bytes(key.to_bytes(alloc)?);
+    Ok((key, bytes))
+}
+
 #[test]
 fn no_secret_is_shown(rt: HostRuntime) -> Result<(), Fail> {
     for (kind, alone, all) in SHOWN {
         same(told(rt.alloc(), family(rt.alloc(), *kind)), alone)?;
         same(told(rt.alloc(), among_all(rt.alloc(), *kind)), all)?;
     }
-    Ok(())
+    let shown = told(rt.alloc(), keys(rt.alloc()));
+    same(shown, "Ok((SecretKey(_), SecretKey(_)))")
 }
 
 // What is taken at the front.
