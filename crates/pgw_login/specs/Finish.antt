@@ -32,10 +32,10 @@ use Rattle.pgw_login.specs.declared.state.SASLState.TheVariants.{Finished}
 abbrev pub with_seat : Numbers → LoginState → LoginState
 with_seat seat s = record s { seat = seat }
 
--- whose seat it is and where its numbers begin stays, it has seen no less, and in it no number stands twice, and none is
+-- all of a seat stays but its numbers and what it has seen, which is no less; in it no number stands twice, and none is
 -- below the first
 abbrev pub IsSameSeat : Numbers → Numbers → Type 0
-IsSameSeat old new = (new.of ≡ old.of) × (new.begins ≡ old.begins) × (new.owes ≡ old.owes) × (old.seen ≤ new.seen) × IsDistinct new.drawn × NoneBelow new.begins new.drawn
+IsSameSeat old new = (new ≡ record old { drawn = new.drawn; seen = new.seen }) × (old.seen ≤ new.seen) × IsDistinct new.drawn × NoneBelow new.begins new.drawn
 
 -- the number is the seat's one more, and the key is made of the words; or there is none, at 3.0 only where all are spent
 abbrev pub IsDrawn : ProtocolVersion → List ℕ → Numbers → Numbers → Result (ℤ × SecretKey) PidError → Type 0
