@@ -16,7 +16,8 @@ const ASKED: &[u8] = b"R\0\0\0\x08\0\0\0\x03";
 // Behind the offer of version 3.2.
 const OFFERED: &[u8] = b"v\0\0\0\x0c\0\x03\0\x02\0\0\0\0R\0\0\0\x08\0\0\0\x03";
 
-const LET_IN: &[u8] =
+/// Behind the request for a password: AuthenticationOk, BackendKeyData, ReadyForQuery.
+pub const LET_IN: &[u8] =
     b"R\0\0\0\x08\0\0\0\x03R\0\0\0\x08\0\0\0\0K\0\0\0\x0c\0\x01\x86\xa0\x01\x01\x01\x01Z\0\0\0\x05I";
 
 const CHALLENGED: &[u8] = b"R\0\0\0\x0c\0\0\0\x05\x14\xf7\x6b\xf9";

@@ -6,6 +6,8 @@ mod cancels;
 #[cfg(test)]
 mod handlers;
 #[cfg(test)]
+mod holding;
+#[cfg(test)]
 mod registered;
 #[cfg(test)]
 mod server_handlers;

@@ -6,7 +6,7 @@ use bytes::BytesMut;
 use pgw_frontend::frontend::PgWireFrontendMessage;
 use pgw_login::client_info::{ClientInfo, DefaultClient, METADATA_USER};
 use pgw_login::handler::StartupHandler;
-use pgw_login::outbox::ByteOutbox;
+use pgw_login::outbox::{ByteOutbox, Outbox};
 use pgw_login::provider::ServerParameterProvider;
 use pgw_login::source::{AuthSource, LoginInfo};
 use pgw_login::state::LoginState;
@@ -139,11 +139,11 @@ pub fn told<M: Debug + Drop>(alloc: Global, value: M) -> Result<String, OutOfMem
     Ok(format!(in alloc; "{value:?}")?)
 }
 
-fn answer_to<H: StartupHandler>(
+fn answer_to<H: StartupHandler, O: Outbox>(
     alloc: Global,
     handler: &H,
     client: &mut DefaultClient<()>,
-    out: &mut ByteOutbox,
+    out: &mut O,
     state: &mut LoginState,
     step: Step<'_>,
 ) -> PgWireResult<()>
@@ -154,11 +154,11 @@ fn answer_to<H: StartupHandler>(
     handler.on_startup(alloc, client, out, state, message)
 }
 
-fn hear<H: StartupHandler>(
+fn hear<H: StartupHandler, O: Outbox>(
     alloc: Global,
     handler: &H,
     client: &mut DefaultClient<()>,
-    out: &mut ByteOutbox,
+    out: &mut O,
     state: &mut LoginState,
     step: Step<'_>,
 ) -> Result<String, OutOfMemory>
@@ -172,11 +172,11 @@ fn hear<H: StartupHandler>(
 }
 
 /// Hears the messages, those behind a refusal too, and tells what the last is answered.
-pub fn hear_all<H: StartupHandler>(
+pub fn hear_all<H: StartupHandler, O: Outbox>(
     alloc: Global,
     handler: &H,
     client: &mut DefaultClient<()>,
-    out: &mut ByteOutbox,
+    out: &mut O,
     state: &mut LoginState,
     steps: &[Step<'_>],
 ) -> Result<String, OutOfMemory>
@@ -232,8 +232,8 @@ pub fn outcome_of<H: StartupHandler, R: Abort>(
     outcome_by(heard, told, out)
 }
 
-// Lets a login go that was registered nowhere.
-fn let_go<R: Abort>(rt: &R, state: LoginState) {
+/// Lets a login go that was registered nowhere.
+pub fn let_go<R: Abort>(rt: &R, state: LoginState) {
     let (_seat, pass, handle, guard) = state.finish();
     match pass {
         None => {}
