@@ -38,7 +38,7 @@ use Rattle.pgw_login.specs.declared.handler.Heard.TheVariants as of
 use Rattle.pgw_login.specs.declared.state.LoginState.{LoginState}
 use Rattle.pgw_login.specs.declared.state.SASLState.{SASLState}
 use Rattle.pgw_login.specs.declared.state.SASLState.TheVariants as state
-use Rattle.pgw_server.specs.Server.{Stage, begins}
+use Rattle.pgw_server.specs.Server.{Stage, begins_within}
 use Rattle.pgw_server.specs.Taken.{Taken}
 use Rattle.pgw_server.specs.Entry.{lets_in, LetsInBy, IsNamed}
 use Rattle.pgw_server.proofs.EntryActs.{not_both, then_both, Quiet, nothing_said, quiet_then, quiet_sends, quiet_passes, quiet_opens, quiet_memory, quiet_marks, Roots, roots_then, roots_sends, roots_marked, roots_passes, roots_finishes, opened}
@@ -677,10 +677,10 @@ module _ {S X : Type 0} {D : X → Type 0} (A : S → Login → Result Kept PgWi
   pub sasl_lets_in : (methods : List (List ℕ)) (P : Client → Option Held → Type 0)
       (R : Option Known → ℤ → SecretKey → Option Known → Result (Option Pair) RegistryError → Type 0)
       → LetsInBy (SaslMeans methods (ByScram A scram) (ByOauth oauth V) P R) (ProvesSasl A scram V oauth)
-  sasl_lets_in methods P R client login given course new way =
+  sasl_lets_in methods P R bound client login given course new way =
       guarded (SaslMeans methods (ByScram A scram) (ByOauth oauth V) P R)
-      (ProvesSasl A scram V oauth (begins client login)) (KeepsOffer login.nonce) client (offer_stays login.nonce)
-      (sasl_means P R (begins client login) methods) login given course (record {
+      (ProvesSasl A scram V oauth (begins_within bound client login)) (KeepsOffer login.nonce) client (offer_stays login.nonce)
+      (sasl_means P R (begins_within bound client login) methods) bound login given course (record {
         fresh = λ off. refl;
         named = λ on. on_and_off login.started on new.1;
         ready = λ is. never_ready client new.0 is;

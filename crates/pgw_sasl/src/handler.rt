@@ -1,8 +1,8 @@
 //! Logins by SASL.
-ghost use Rattle.std.specs.Prelude.{◌≡◌, ◌⊎◌, IfOk, Some, None, is_some};
+ghost use Rattle.std.specs.Prelude.{◌≡◌, ◌⊎◌, IfOk, OnOk, Some, None, is_some};
 ghost use Rattle.std.specs.Arc.{arc_value};
 ghost use Rattle.pgw_login.specs.Logins.{login_of};
-ghost use Rattle.pgw_login.specs.Acts.{standing, Did, Then, Sends, IsSameSource};
+ghost use Rattle.pgw_login.specs.Acts.{standing, Did, Then, Sends, IsSameSource, IsReleasable};
 ghost use Rattle.pgw_login.specs.Client.{Client};
 ghost use Rattle.pgw_login.specs.Opening.{Opens};
 ghost use Rattle.pgw_login.specs.declared.state.LoginState.{LoginState as TheState};
@@ -127,7 +127,8 @@ fn reply_by_oauth(
 
 // Sends a reply, if there is one.
 fn tell<O: Outbox>(out: &mut O, reply: Option<Authentication>) -> PgWireResult<()>
-    ensures { (client : Client) (login : TheState) → Did O.add (O.sent out.old) (O.sent out.new) (Sends (told reply)) (standing client login (O.faults out.old)) (standing client login (O.faults out.new)) result }
+    ensures told { (client : Client) (login : TheState) → Did O.add (O.sent out.old) (O.sent out.new) (Sends (told reply)) (standing client login (O.faults out.old)) (standing client login (O.faults out.new)) result }
+    ensures flushed { O.waiting out.old ≡ 0 → OnOk result (O.waiting out.new ≡ 0) }
 {
     match reply {
         Some(reply) => send(out, PgWireBackendMessage::Authentication(reply)),
@@ -143,7 +144,8 @@ where
     M: Registers,
 {
     fn offer<O: Outbox>(&self, alloc: Global, out: &mut O) -> PgWireResult<()>
-        ensures { (client : Client) (login : TheState) → Did O.add (O.sent out.old) (O.sent out.new) (Offers (offered_methods self.now.scram self.now.oauth)) (standing client login (O.faults out.old)) (standing client login (O.faults out.new)) result }
+        ensures offered { (client : Client) (login : TheState) → Did O.add (O.sent out.old) (O.sent out.new) (Offers (offered_methods self.now.scram self.now.oauth)) (standing client login (O.faults out.old)) (standing client login (O.faults out.new)) result }
+        ensures flushed { OnOk result (O.waiting out.new ≡ 0) }
     {
         let methods = offered_methods(alloc, &self.scram, &self.oauth)?;
         let request = Authentication::SASL(methods);
@@ -160,6 +162,7 @@ where
     ) -> PgWireResult<()>
         ensures source { IsSameSource state.old state.new }
         ensures opened { Did O.add (O.sent out.old) (O.sent out.new) (Then (Opens startup.now) (Offers (offered_methods self.now.scram self.now.oauth))) (standing (C.sight client.old) state.old (O.faults out.old)) (standing (C.sight client.new) state.new (O.faults out.new)) result }
+        ensures flushed { OnOk result (O.waiting out.new ≡ 0) }
     {
         open_login(alloc, client, out, state, startup)?;
         self.offer(alloc, out)
@@ -215,7 +218,9 @@ where
     ) -> PgWireResult<()>
         requires { G.fits self.now.generator state.old.seat × M.fits self.now.registry state.old.pass }
         ensures fits { G.fits self.now.generator state.new.seat × M.fits self.now.registry state.new.pass }
+        ensures releasable { IsReleasable state.old → IsReleasable state.new }
         ensures ended { Did O.add (O.sent out.old) (O.sent out.new) (Ends (P.provides self.now.parameter_provider) (M.registers self.now.registry) is_finished) (standing (C.sight client.old) state.old (O.faults out.old)) (standing (C.sight client.new) state.new (O.faults out.new)) result }
+        ensures flushed { O.waiting out.old ≡ 0 → OnOk result (O.waiting out.new ≡ 0) }
     {
         if !is_finished {
             return Ok(());
@@ -244,7 +249,9 @@ where
     ) -> PgWireResult<()>
         requires { G.fits self.now.generator state.old.seat × M.fits self.now.registry state.old.pass }
         ensures fits { G.fits self.now.generator state.new.seat × M.fits self.now.registry state.new.pass }
+        ensures releasable { IsReleasable state.old → IsReleasable state.new }
         ensures done { Did O.add (O.sent out.old) (O.sent out.new) (RespondsBy (P.provides self.now.parameter_provider) (M.registers self.now.registry) (Ok (reply, next))) (standing (C.sight client.old) state.old (O.faults out.old)) (standing (C.sight client.new) state.new (O.faults out.new)) result }
+        ensures flushed { O.waiting out.old ≡ 0 → OnOk result (O.waiting out.new ≡ 0) }
     {
         tell(out, reply)?;
         let is_finished = is_finished(&next);
@@ -262,7 +269,9 @@ where
     ) -> PgWireResult<()>
         requires { G.fits self.now.generator state.old.seat × M.fits self.now.registry state.old.pass }
         ensures fits { G.fits self.now.generator state.new.seat × M.fits self.now.registry state.new.pass }
+        ensures releasable { IsReleasable state.old → IsReleasable state.new }
         ensures responded { Did O.add (O.sent out.old) (O.sent out.new) (Responds (ByScram A.answers self.now.scram) (ByOauth self.now.oauth (λ o. validates o.validator)) (P.provides self.now.parameter_provider) (M.registers self.now.registry) message) (standing (C.sight client.old) state.old (O.faults out.old)) (standing (C.sight client.new) state.new (O.faults out.new)) result }
+        ensures flushed { O.waiting out.old ≡ 0 → OnOk result (O.waiting out.new ≡ 0) }
     {
         let (reply, next) = self.reply(
             alloc,
@@ -283,7 +292,9 @@ where
     ) -> PgWireResult<()>
         requires { G.fits self.now.generator state.old.seat × M.fits self.now.registry state.old.pass }
         ensures fits { G.fits self.now.generator state.new.seat × M.fits self.now.registry state.new.pass }
+        ensures releasable { IsReleasable state.old → IsReleasable state.new }
         ensures answered { Did O.add (O.sent out.old) (O.sent out.new) (SaslOn (offered_methods self.now.scram self.now.oauth) (ByScram A.answers self.now.scram) (ByOauth self.now.oauth (λ o. validates o.validator)) (P.provides self.now.parameter_provider) (M.registers self.now.registry) message) (standing (C.sight client.old) state.old (O.faults out.old)) (standing (C.sight client.new) state.new (O.faults out.new)) result }
+        ensures flushed { O.waiting out.old ≡ 0 → OnOk result (O.waiting out.new ≡ 0) }
     {
         match message {
             Heard::Startup(startup) => self.open(alloc, client, out, state, &startup),
@@ -300,7 +311,7 @@ where
     G: PidSecretKeyGenerator,
     M: Registers,
 {
-    ghost fits = { λ h s. G.fits h.generator s.seat × M.fits h.registry s.pass };
+    ghost fits = { λ h s. G.fits h.generator s.seat × M.fits h.registry s.pass × IsReleasable s };
 
     ghost means = { λ h. SaslMeans (offered_methods h.scram h.oauth) (ByScram A.answers h.scram) (ByOauth h.oauth (λ o. (OauthValidator-box o.validator).validates o.validator.value)) (P.provides h.parameter_provider) (M.registers h.registry) };
 

@@ -9,4 +9,4 @@ returns-in_err-open_login-clause-opened g c =
 
 pub returns-clause-opened : goal.returns-clause-opened
 returns-clause-opened g c =
-    did_then c.in_ok-open_login.ensures.opened (c.offer.ensures _ _)
+    did_then c.in_ok-open_login.ensures.opened (c.offer.ensures.offered _ _)
