@@ -1,2 +1,3 @@
 mod Xoring
 mod Rounds
+pub mod Prepared

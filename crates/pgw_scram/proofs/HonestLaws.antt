@@ -22,6 +22,7 @@ use Rattle.pgw_scram.specs.Messages.{IsClientFirst, IsHeader, IsServerFirst, IsC
 use Rattle.pgw_scram.specs.Readers.{read_client_first, read_server_first, read_client_final}
 use Rattle.pgw_scram.specs.Refusals.{begins_with}
 use Rattle.pgw_hash.specs.Pbkdf2.{salted_password}
+use Rattle.pgw_hash.proofs.Prepared.{prepared_utf8}
 use Rattle.pgw_scram.specs.Formulas.{client_proof, server_signature}
 use Rattle.pgw_scram.specs.Client.{proved}
 use Rattle.pgw_scram.specs.Server.{server_first, bound, waiting, accepted}
@@ -182,7 +183,7 @@ both_accept client server password client_nonce server_nonce h =
       client_proved = record { signature = sign };
       server_final = codes "v=" ++ sign;
       begins = rw h.is_prepared refl;
-      offers = rw (reads_client_first h.user nonce h.user_utf8 h.user_value (base64_utf8 client_nonce) (base64_value client_nonce), h.has_salt) refl;
+      offers = rw (reads_client_first h.user nonce (prepared_utf8 client.username h.user h.username_utf8 h.is_prepared) h.user_value (base64_utf8 client_nonce) (base64_value client_nonce), h.has_salt) refl;
       proves = proves_by h.user client.password nonce (nonce_text server_nonce) h.salt server.iterations text.0 text.1 h.salt_bytes h.at_least_one h.in_32_bits;
       accepts = accepts_by (waiting server parts h.salt password.password server_nonce) h.user client.password nonce whole h.salt server.iterations (plain_binding server.certificate_hash) refl h.is_salted refl refl text.0 text.1;
       verifies = rw (verifier_is_read sign (base64_value _) (base64_utf8 _), same_bytes sign) refl;

@@ -13,13 +13,13 @@ use Rattle.pgw_scram.specs.Attributes.{IsValue}
 use Rattle.pgw_scram.specs.Client.{began, proved, verified}
 use Rattle.pgw_scram.specs.Server.{offered, accepted}
 
--- the user name has a prepared form without a comma, and the server keeps the SaltedPassword of the client's password
+-- the user name, which is UTF-8 as each text is, has a prepared form without a comma, and the server keeps the
+-- SaltedPassword of the client's password
 pub record AreHonest (client : ScramClientAuth) (server : ScramServerAuth) (password : Password) : Type 0 where
   pub user : List ℕ
   pub salt : List ℕ
+  pub username_utf8 : IsUtf8 client.username
   pub is_prepared : prepared client.username ≡ Some user
-  -- as each text is
-  pub user_utf8 : IsUtf8 user
   pub user_value : IsValue user
   pub has_salt : password.salt ≡ Some salt
   pub salt_bytes : IsBytes salt
