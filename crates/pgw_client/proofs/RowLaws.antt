@@ -1,6 +1,9 @@
 -- Rows, as the messages that they are.
-use Rattle.std.proofs.Common.{◌≡◌, ◌<◌, ℕ, List, [], ◌∷◌, ◌++◌, length, Bool, true, false, Option, Some, None, Ok, arith, refl, ap, sym, subst, ◌∙◌, drop, drop_at, length-append, append_assoc}
+use Rattle.std.proofs.Common.{◌≡◌, ◌<◌, ℕ, pos, List, [], ◌∷◌, ◌++◌, length, Bool, true, false, Option, Some, None, Ok, arith, refl, ap, sym, subst, ◌∙◌, drop, drop_at, length-append, append_assoc}
 use Rattle.std.proofs.lemmas.List.{append-nil}
+use Rattle.std.specs.Bool.{Decides}
+use Rattle.std.specs.Option.{is_some}
+use Rattle.pgw_config.specs.Config.{no_config}
 use Rattle.pgw_types.specs.declared.context.ProtocolVersion.{ProtocolVersion}
 use Rattle.pgw_query.specs.declared.data.DataRow.{DataRow}
 use Rattle.pgw_backend.specs.Front.{Spells, SpellsIn}
@@ -13,6 +16,12 @@ use Rattle.pgw_session.specs.declared.notes.Notes.{Notes}
 use Rattle.pgw_session.specs.declared.tally.Tally.{Tally}
 use Rattle.pgw_session.specs.declared.tally.Opened.{Opened}
 use Rattle.pgw_session.specs.Input.{Input}
+use Rattle.pgw_session.specs.declared.stage.Kind.{Kind}
+use Rattle.pgw_session.specs.declared.stage.Kind.TheVariants as kind
+use Rattle.pgw_session.specs.declared.stage.Stage.{Stage}
+use Rattle.pgw_session.specs.declared.stage.Stage.TheVariants.{Starting, Challenged, Proving, Admitted, Answering, PassingOver}
+use Rattle.pgw_session.specs.declared.stage.Next.TheVariants.{Goes}
+use Rattle.pgw_session.specs.Table.{after}
 use Rattle.pgw_session.specs.Answers.{noted_unless, with_row}
 use Rattle.pgw_session.specs.Machine.{moves_by, rules_by, turn_by}
 use Rattle.pgw_session.specs.Notes.{notes_book}
@@ -107,3 +116,63 @@ rows_taken n new tally old_bytes new_bytes count some t a is above none =
           (behind ∙ ap (behind_rows n) nothing ∙ ap (λ (tally : Tally). record n { tally = tally }) (with_none n.tally.opened n.tally refl), sym (a.cut ∙ ap (λ (l : List ℕ). l ++ new_bytes) empty));
       shorter = λ e. omega (arith, rows_long a.rows a.taken (omega (arith, above e, a.counted)) a.spelled, ap length a.cut, length-append a.taken new_bytes);
     }
+
+-- ---- whether rows may come
+
+abbrev any_input : Input
+any_input = record { config = no_config; requests = []; nonce = [] }
+
+abbrev any_row : DataRow
+any_row = record { payload = []; field_count = pos 0 }
+
+-- a row leaves the stage
+abbrev Stays : Input → DataRow → Stage → Type 0
+Stays input row s = after input s (backend.DataRow row) ≡ Goes s None
+
+simple_stays : (input : Input) (row : DataRow) (rows : Bool) → rows ≡ true → Stays input row (Answering kind.Simple rows)
+simple_stays input row true e = refl
+simple_stays input row false e = absurd cc
+
+simple_may : (rows : Bool) → Stays any_input any_row (Answering kind.Simple rows) → rows ≡ true
+simple_may true e = refl
+simple_may false e = absurd cc
+
+other_kind : (k : Kind) (rows : Bool) → (k ≡ kind.Simple → ⊥) → (k ≡ kind.Execute → ⊥) → (k ≡ kind.Query → ⊥) → Stays any_input any_row (Answering k rows) → ⊥
+other_kind kind.Simple rows p q r e = p refl
+other_kind kind.Execute rows p q r e = q refl
+other_kind kind.Query rows p q r e = r refl
+other_kind kind.Prepare rows p q r e = absurd cc
+other_kind kind.Bind rows p q r e = absurd cc
+other_kind kind.DescribeStatement rows p q r e = absurd cc
+other_kind kind.DescribePortal rows p q r e = absurd cc
+other_kind kind.Close rows p q r e = absurd cc
+
+other_stage : (s : Stage) → ((k : Kind) (rows : Bool) → s ≡ Answering k rows → ⊥) → (s ≡ PassingOver → ⊥) → Stays any_input any_row s → ⊥
+other_stage Starting p q e = absurd cc
+other_stage Challenged p q e = absurd cc
+other_stage (Proving x) p q e = absurd cc
+other_stage Admitted p q e = absurd cc
+other_stage (Answering k rows) p q e = p k rows refl
+other_stage PassingOver p q e = q refl
+
+none_of : {A : Type 0} (o : Option A) (b : Bool) → b ≡ false → b ≡ is_some o → o ≡ None
+none_of None b e f = refl
+none_of (Some x) b e f = absurd cc
+
+-- of a simple query they may where a description stands before them
+pub simple_takes : (n : Notes) (k : Kind) (rows passed failed : Bool) → n.stage ≡ Answering k rows → k ≡ kind.Simple → passed ≡ false → passed ≡ is_some n.first_passed → failed ≡ false → failed ≡ is_some n.tally.remote → Decides rows (TakesRows n)
+simple_takes n k rows passed failed is what e f g h =
+    let at : n.stage ≡ Answering kind.Simple rows = is ∙ ap (λ (k : Kind). Answering k rows) what in (
+      λ may. record {
+        stays = λ input row. subst (Stays input row) (sym at) (simple_stays input row rows may);
+        clean = none_of n.first_passed passed e f;
+        fine = none_of n.tally.remote failed g h;
+      },
+      λ t. simple_may rows (subst (Stays any_input any_row) at (t.stays any_input any_row)),
+    )
+
+pub kind_takes_none : (n : Notes) (k : Kind) (rows : Bool) → n.stage ≡ Answering k rows → (k ≡ kind.Simple → ⊥) → (k ≡ kind.Execute → ⊥) → (k ≡ kind.Query → ⊥) → TakesRows n → ⊥
+kind_takes_none n k rows is p q r t = other_kind k rows p q r (subst (Stays any_input any_row) is (t.stays any_input any_row))
+
+pub stage_takes_none : (n : Notes) → ((k : Kind) (rows : Bool) → n.stage ≡ Answering k rows → ⊥) → (n.stage ≡ PassingOver → ⊥) → TakesRows n → ⊥
+stage_takes_none n p q t = other_stage n.stage p q (t.stays any_input any_row)

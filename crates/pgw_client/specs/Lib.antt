@@ -5,3 +5,4 @@ pub mod Wire
 pub mod Machine
 pub mod SessionSteps
 pub mod Rows
+pub mod Inbox

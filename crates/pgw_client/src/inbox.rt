@@ -1,6 +1,7 @@
 //! The bytes that were read and not taken yet.
-ghost use Rattle.std.specs.Prelude.{◌≡◌, [], ◌++◌, ◌≤◌, length, IfErr, IfOk, OnOk, OnErr};
+ghost use Rattle.std.specs.Prelude.{◌≡◌, [], ◌++◌, length, IfErr, IfOk, OnOk, OnErr};
 ghost use Rattle.pgw_rows.specs.Runs.{MovesRows};
+ghost use Rattle.pgw_client.specs.Inbox.{Passes};
 ghost use Rattle.pgw_client.specs.Wire.{IsOwn, Decoded};
 
 use crate::wire::decode;
@@ -120,7 +121,8 @@ fn take_behind(
 // Passes what came whole to the front. Of a large message no more than its own bytes pass, and what follows it begins
 // another block.
 fn freeze(alloc: Global, front: &mut Octets, tail: &mut BytesMut) -> Result<(), OutOfMemory>
-    ensures { front.new ++ tail.new.items ≡ front.old ++ tail.old.items }
+    ensures same { front.new ++ tail.new.items ≡ front.old ++ tail.old.items }
+    ensures passed { OnOk result (Passes (front.old ++ tail.old.items) (length front.new)) }
 {
     gather(front, tail)?;
     let len = frozen_len(tail.as_slice());
@@ -135,7 +137,7 @@ fn freeze(alloc: Global, front: &mut Octets, tail: &mut BytesMut) -> Result<(), 
 
 // How many bytes may pass to the front: none before the first message is whole.
 fn frozen_len(bytes: &[u8]) -> usize
-    ensures { result ≤ length bytes.now }
+    ensures { Passes bytes.now result }
 {
     if bytes.len() < 5 {
         return 0;

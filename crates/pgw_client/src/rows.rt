@@ -1,5 +1,6 @@
 //! The rows of a result, which a session takes together and without what other messages need.
-ghost use Rattle.std.specs.Prelude.{◌≡◌, true, IfOk};
+ghost use Rattle.std.specs.Prelude.{IfOk};
+ghost use Rattle.std.specs.Bool.{Decides};
 ghost use Rattle.pgw_client.specs.Rows.{AddsRows, TakesRows, RowsTaken};
 
 use crate::inbox::Inbox;
@@ -10,7 +11,7 @@ use pgw_types::memory::OutOfMemory;
 
 /// Whether rows may come now, each of which changes nothing but what the open segment gave.
 pub fn takes_rows(notes: &Notes) -> bool
-    ensures { result ≡ true → TakesRows notes.now }
+    ensures { Decides result (TakesRows notes.now) }
 {
     if notes.first_passed.is_some() || notes.tally.remote.is_some() {
         return false;
@@ -21,6 +22,7 @@ pub fn takes_rows(notes: &Notes) -> bool
             Kind::Execute | Kind::Query => true,
             _ => false,
         },
+        Stage::PassingOver => true,
         _ => false,
     }
 }
