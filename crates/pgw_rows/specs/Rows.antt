@@ -70,12 +70,17 @@ abbrev pub some_of : {A : Type 0} → Result A SqlFault → Result (Option A) Sq
 some_of (Ok x) = Ok (Some x)
 some_of (Err fault) = Err fault
 
+-- where a call comes to that may be refused for want of memory, which leaves its place
+abbrev pub behind_unless : {A : Type 0} → Result A PgWireClientError → Place → List ℕ → Place
+behind_unless (Err client.OutOfMemory) place rest = place
+behind_unless result place rest = behind place rest
+
 -- a call answers what is read of the value at a place, and leaves the place behind it; NULL is none. Where no value
--- stands it answers so and stays
+-- stands it answers so and stays, and so it does where memory is wanting
 abbrev pub Answers : {A : Type 0} → Type 0 → (FieldInfo → List ℕ → Result A SqlFault) → Option Standing → Place → Place → Result (Option A) PgWireClientError → Type 0
 Answers Lacks read None old new result = (result ≡ Err client.DataRowIndexOutOfBounds) × (new ≡ old)
 Answers Lacks read (Some (field, (None, rest))) old new result = (result ≡ Ok None) × (new ≡ behind old rest)
-Answers Lacks read (Some (field, (Some raw, rest))) old new result = Gives Lacks (some_of (read field raw)) result × (new ≡ behind old rest)
+Answers Lacks read (Some (field, (Some raw, rest))) old new result = Gives Lacks (some_of (read field raw)) result × (new ≡ behind_unless result old rest)
 
 abbrev pub in_format : {A : Type 0} → FieldFormat → A → A → A
 in_format formats.Binary binary text = binary

@@ -5,7 +5,7 @@ ghost use Rattle.pgw_rows.specs.Rows.{Answers, IsLent, lent, read_by, row_start,
 use crate::cut::{cut_out, pass, read_value};
 use crate::from_sql::{FromSql, FromSqlText};
 use crate::source::Source;
-use pgw_backend::client_error::PgWireClientResult;
+use pgw_backend::client_error::{PgWireClientError, PgWireClientResult};
 use pgw_backend::field_info::FieldInfo;
 use pgw_query::data::DataRow;
 use pgw_types::octets::Octets;
@@ -86,9 +86,9 @@ impl<'a> DataRowDecoder<'a> {
     /// Reads the next value in its column's format; NULL is none.
     ///
     /// `DataRowIndexOutOfBounds` says that no column is left, or that the row ends within the
-    /// value, and leaves the row as it was. A value that cannot be read as this type is passed
-    /// over. A `bool`, an `i16`, an `i32` and an `i64` take no memory; bytes in binary form share
-    /// those of the row.
+    /// value, and leaves the row as it was, as want of memory does. A value that cannot be read as
+    /// this type is passed over. A `bool`, an `i16`, an `i32` and an `i64` take no memory; bytes in
+    /// binary form share those of the row.
     pub fn next_value<T: FromSql + FromSqlText>(
         &mut self,
         alloc: Global,
@@ -97,6 +97,7 @@ impl<'a> DataRowDecoder<'a> {
     {
         let fields = self.fields;
         let index = self.passed;
+        let at = self.at;
         let end = self.end;
         let bytes = self.source.octets();
         match pass(
@@ -109,6 +110,11 @@ impl<'a> DataRowDecoder<'a> {
             Ok(None) => Ok(None),
             Ok(Some(cut)) => match read_value(alloc, &fields[index], bytes, end, cut) {
                 Ok(value) => Ok(Some(value)),
+                Err(PgWireClientError::OutOfMemory) => {
+                    self.passed = index;
+                    self.at = at;
+                    Err(PgWireClientError::OutOfMemory)
+                }
                 Err(e) => Err(e),
             },
         }
