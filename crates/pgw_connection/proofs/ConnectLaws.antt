@@ -82,9 +82,9 @@ rose_once before dialled now none faults is same rose counts =
 
 -- ---- a cancel
 
-pub cancel_sent : {same : Type 0} {old new : DialTape} {before now : ℕ} (config : Config) (spelled : Result (List ℕ) PgWireError) (address : Address) (out : List ℕ) (r : Result (Unit {0}) ClientError) → PutOut spelled [] out (Ok tt) → address_of config ≡ Ok address
-    → OnOk r (SentOnce address out old new) → IfErr r (NotSentOnce address out old new before now) → Cancels same config spelled old new before now r
-cancel_sent {same} {old} {new} {before} {now} config spelled address out (Ok done) p at s f =
+pub cancel_sent : {same foretells : Type 0} {was is : Option (List ℕ)} {old new : DialTape} {before now : ℕ} (config : Config) (spelled : Result (List ℕ) PgWireError) (address : Address) (out : List ℕ) (r : Result (Unit {0}) ClientError) → PutOut spelled [] out (Ok tt) → address_of config ≡ Ok address
+    → OnOk r (SentOnce address out old new) → IfErr r (NotSentOnce foretells address out was is old new before now) → Cancels same foretells config spelled was is old new before now r
+cancel_sent {same} {foretells} {was} {is} {old} {new} {before} {now} config spelled address out (Ok done) p at s f =
     connecting.sent address p.0 at p.1 (subst (λ (b : List ℕ). SentOnce address b old new) p.2 s)
-cancel_sent {same} {old} {new} {before} {now} config spelled address out (Err e) p at s f =
-    connecting.unsent address p.0 e at p.1 (subst (λ (b : List ℕ). NotSentOnce address b old new before now e) p.2 f)
+cancel_sent {same} {foretells} {was} {is} {old} {new} {before} {now} config spelled address out (Err e) p at s f =
+    connecting.unsent address p.0 e at p.1 (subst (λ (b : List ℕ). NotSentOnce foretells address b was is old new before now e) p.2 f)

@@ -1,5 +1,5 @@
 -- A call with a client and a handler that were lent for it.
-use Rattle.std.proofs.Common.{◌≡◌, ◌≤◌, ℕ, Bool, true, false, Result, Ok, Err, refl, sym, ap, subst, ◌∙◌, arith, inl}
+use Rattle.std.proofs.Common.{◌≡◌, ◌≤◌, ℕ, Bool, true, false, List, Option, Result, Ok, Err, refl, sym, ap, subst, ◌∙◌, arith, inl}
 use Rattle.pgw_backend.specs.declared.client_error.PgWireClientError.{PgWireClientError as ClientError}
 use Rattle.pgw_backend.specs.declared.client_error.PgWireClientError.TheVariants as client
 use Rattle.pgw_link.specs.Tape.{Tape}
@@ -9,11 +9,12 @@ use Rattle.pgw_handlers.specs.Handling.{HasCause, IsCaused}
 use Rattle.pgw_connection.specs.declared.client.PgWireClient.{PgWireClient}
 use Rattle.pgw_connection.specs.declared.gathered.Gathered.{Gathered}
 use Rattle.pgw_connection.specs.Desk.{client_of}
-use Rattle.pgw_connection.specs.Line.{Line}
+use Rattle.pgw_connection.specs.Line.{Line, Foretold}
 use Rattle.pgw_connection.specs.Calls.{IsUsable}
 use Rattle.pgw_connection.specs.Extended.{Meaning, finish}
 use Rattle.pgw_connection.specs.ExtendedSteps.{Called, given, may_stay}
 use Rattle.pgw_connection.specs.Lent.{Asks, both, line_of}
+use Rattle.pgw_connection.proofs.ForetoldLaws.{foretold_still}
 use Rattle.pgw_connection.proofs.RequestLaws.{called_starved}
 
 given_both : {R A : Type 0} (give : Gathered R → Bool → A) (r : Result (Gathered R × Bool) ClientError) → given give (given both r) ≡ given give r
@@ -28,16 +29,17 @@ given_usable : {R A : Type 0} (give : Gathered R → Bool → A) (r : Result (Ga
 given_usable give (Ok x) broken u = u
 given_usable give (Err e) broken u = u
 
-module _ {X : Type 0} {L : Link.Ghosts X} {H R : Type 0} (tape : X → Tape) (faults : X → ℕ) (M : Meaning H R) (q : Request) (h : H) (before after : PgWireClient X L) where
+module _ {X : Type 0} {L : Link.Ghosts X} {H R : Type 0} (foretells : Type 0) (left : X → Option (List ℕ)) (tape : X → Tape) (faults : X → ℕ) (M : Meaning H R) (q : Request) (h : H) (before after : PgWireClient X L) where
   -- a call that makes its own answer of what was gathered
-  pub asks_as : {A : Type 0} (give : Gathered R → Bool → A) (handler : H) (r : Result (Gathered R × Bool) ClientError) (result : Result A ClientError) → result ≡ given give r → Asks tape faults M q both h handler before after r → Asks tape faults M q give h handler before after result
+  pub asks_as : {A : Type 0} (give : Gathered R → Bool → A) (handler : H) (r : Result (Gathered R × Bool) ClientError) (result : Result A ClientError) → result ≡ given give r → Asks foretells left tape faults M q both h handler before after r → Asks foretells left tape faults M q give h handler before after result
   asks_as {A} give handler r result is a =
-      subst (λ (x : Result A ClientError). Asks tape faults M q give h handler before after x) (sym is)
+      subst (λ (x : Result A ClientError). Asks foretells left tape faults M q give h handler before after x) (sym is)
       record {
         broken = λ was. let b = a.broken was in (ap (given give) b.0, b.1, b.2);
         asked = λ usable.
             let x = a.asked usable in
             record { answer = x.answer; gives = ap (given give) x.gives ∙ given_both give x.answer; called = x.called };
+        foretold = a.foretold;
         cause = given_caused give r (faults before.link) (faults after.link) before.desk.broken a.cause;
         usable = λ was. given_usable give r after.desk.broken (a.usable was);
         within = a.within;
@@ -51,8 +53,8 @@ module _ {X : Type 0} {L : Link.Ghosts X} {H R : Type 0} (tape : X → Tape) (fa
 
   -- memory was wanting
   pub asks_starved : (e : ClientError) → (before.desk.broken ≡ true → (e ≡ client.Broken) × (after ≡ before)) → (before.desk.broken ≡ false → (e ≡ client.OutOfMemory) × (after.desk.broken ≡ true)) → line_of tape faults after ≡ line_of tape faults before
-      → after.read ≤ after.limit → after.desk.config ≡ before.desk.config → Asks tape faults M q both h h before after (Err e)
-  asks_starved e broken starved same within config = record {
+      → after.link ≡ before.link → after.read ≤ after.limit → after.desk.config ≡ before.desk.config → Asks foretells left tape faults M q both h h before after (Err e)
+  asks_starved e broken starved same link within config = record {
     broken = λ was. let b = broken was in (ap Err b.0, b.1, refl);
     asked = λ usable.
         let s = starved usable in
@@ -64,6 +66,7 @@ module _ {X : Type 0} {L : Link.Ghosts X} {H R : Type 0} (tape : X → Tape) (fa
           gives = refl;
           called = subst (λ (b : Bool). Called M q h (client_of before.desk) (line_of tape faults before) (line_of tape faults after) (finish (Err e) h (client_of after.desk) b after.inbox)) (sym s.1) so;
         };
+    foretold = λ t. subst (λ (l : X). Foretold (left before.link) (left l) (tape before.link) (tape l)) (sym link) (foretold_still (left before.link) (tape before.link));
     cause = record {
       later = (let f = ap (λ (l : Line). l.faults) same in omega (arith, f));
       failed = starve_caused before.desk.broken e (faults before.link) (faults after.link) (λ was. (broken was).0) (λ was. (starved was).0);

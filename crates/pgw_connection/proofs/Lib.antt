@@ -1,5 +1,6 @@
 pub mod DeskLaws
 pub mod FrameLaws
+pub mod ForetoldLaws
 pub mod ReadingLaws
 pub mod CallLaws
 pub mod ConnectLaws

@@ -16,7 +16,7 @@ use Rattle.pgw_handlers.specs.Handling.{Standing, Answer}
 use Rattle.pgw_handlers.specs.declared.client_info.ServerInformation.{ServerInformation}
 use Rattle.pgw_connection.specs.Talk.{end, Hearing}
 use Rattle.pgw_connection.specs.Desk.{first_client, with_information}
-use Rattle.pgw_connection.specs.Line.{Line, line}
+use Rattle.pgw_connection.specs.Line.{Line, Foretold, line}
 use Rattle.pgw_connection.specs.Calls.{Call}
 
 -- behind no error a login goes on
@@ -36,9 +36,10 @@ IsRefusedBy None config e = e ≢ client.OutOfMemory → address_of config ≡ E
 -- ---- the dialer
 
 -- the dial gave no link
-pub record NoLink (to : Address) (old new : DialTape) (before now : ℕ) (e : ClientError) : Type 0 where
+pub record NoLink (foretells : Type 0) (to : Address) (was is : Option (List ℕ)) (old new : DialTape) (before now : ℕ) (e : ClientError) : Type 0 where
   pub why : ((e ≡ client.IoError) × Rose before now) ⊎ (e ≡ client.OutOfMemory)
   pub tape : NotDialled to old new
+  pub offer : foretells → is ≡ was
 
 -- one link was dialled, which told this first, and closed, when it told that
 pub record DialledOnce (to : Address) (old new : DialTape) (first after : Tape) : Type 0 where
@@ -71,22 +72,24 @@ abbrev pub Connected : {S : Type 0} → (Standing S → Standing S → Answer Se
 Connected opens M handler config limit old new info now = (address : Address) × LeadsTo config address × ConnectedAt opens M handler config limit address old new info now
 
 -- a link was dialled, a login over it failed, and the link was closed
-pub record ClosedAgain {S : Type 0} (opens : Standing S → Standing S → Answer ServerInformation → Type 0) (M : Hearing S ServerInformation) (handler : S) (config : Config) (limit : ℕ) (address : Address) (old new : DialTape) (before now : ℕ) (e : ClientError) : Type 0 where
+pub record ClosedAgain {S : Type 0} (foretells : Type 0) (opens : Standing S → Standing S → Answer ServerInformation → Type 0) (M : Hearing S ServerInformation) (handler : S) (config : Config) (limit : ℕ) (address : Address) (offer : Option (List ℕ)) (old new : DialTape) (before now : ℕ) (e : ClientError) : Type 0 where
   pub faults : ℕ
   pub counts : CountsClose before now faults
   pub io : e ≡ client.IoError → 0 < faults
   pub tape : (first : Tape) × (last : Line) × (info : Client) × DialledOnce address old new first last.tape × (last.faults ≡ faults) × (last.read ≤ limit) ×
-      LogsIn opens M handler (first_client config) (new_line first limit) last info (Err e)
+      LogsIn opens M handler (first_client config) (new_line first limit) last info (Err e) ×
+      (foretells → (left : Option (List ℕ)) × Foretold offer left first last.tape)
 
 -- at an address there was no link, or the login over it failed
-abbrev pub NotConnectedAt : {S : Type 0} → (Standing S → Standing S → Answer ServerInformation → Type 0) → Hearing S ServerInformation → S → Config → ℕ → Address → DialTape → DialTape → ℕ → ℕ → ClientError → Type 0
-NotConnectedAt opens M handler config limit address old new before now e =
-    NoLink address old new before now e ⊎ ClosedAgain opens M handler config limit address old new before now e
+abbrev pub NotConnectedAt : {S : Type 0} → Type 0 → (Standing S → Standing S → Answer ServerInformation → Type 0) → Hearing S ServerInformation → S → Config → ℕ → Address → Option (List ℕ) → Option (List ℕ) → DialTape → DialTape → ℕ → ℕ → ClientError → Type 0
+NotConnectedAt foretells opens M handler config limit address was is old new before now e =
+    NoLink foretells address was is old new before now e ⊎
+    ClosedAgain foretells opens M handler config limit address was old new before now e
 
 -- Why a connect was refused: there is no address, and then `same` says that the dialer is as it was; or it failed there.
-abbrev pub NotConnected : {S : Type 0} → Type 0 → (Standing S → Standing S → Answer ServerInformation → Type 0) → Hearing S ServerInformation → S → Config → ℕ → DialTape → DialTape → ℕ → ℕ → ClientError → Type 0
-NotConnected same opens M handler config limit old new before now e =
-    (same × IsRefusedBy (refused_config config) config e) ⊎ ((address : Address) × LeadsTo config address × NotConnectedAt opens M handler config limit address old new before now e)
+abbrev pub NotConnected : {S : Type 0} → Type 0 → Type 0 → (Standing S → Standing S → Answer ServerInformation → Type 0) → Hearing S ServerInformation → S → Config → ℕ → Option (List ℕ) → Option (List ℕ) → DialTape → DialTape → ℕ → ℕ → ClientError → Type 0
+NotConnected same foretells opens M handler config limit was is old new before now e =
+    (same × IsRefusedBy (refused_config config) config e) ⊎ ((address : Address) × LeadsTo config address × NotConnectedAt foretells opens M handler config limit address was is old new before now e)
 
 -- ---- a message over a link of its own
 
@@ -96,19 +99,20 @@ SentOnce address bytes old new =
     (first : Tape) × (after : Tape) × DialledOnce address old new first after × Wrote first after bytes
 
 -- a link was dialled, and not all of them were written; or none was dialled
-pub data NotSentOnce (address : Address) (bytes : List ℕ) (old new : DialTape) (before now : ℕ) : ClientError → Type 0 where
-  no_link : (e : ClientError) → NoLink address old new before now e → NotSentOnce address bytes old new before now e
+pub data NotSentOnce (foretells : Type 0) (address : Address) (bytes : List ℕ) (was is : Option (List ℕ)) (old new : DialTape) (before now : ℕ) : ClientError → Type 0 where
+  no_link : (e : ClientError) → NoLink foretells address was is old new before now e →
+      NotSentOnce foretells address bytes was is old new before now e
   cut : Rose before now → (first after : Tape) → DialledOnce address old new first after → WroteSome first after bytes →
-      NotSentOnce address bytes old new before now client.IoError
+      NotSentOnce foretells address bytes was is old new before now client.IoError
 
 -- What a cancel answers: `spelled` is the one message that it sends, and `same` says that the dialer is as it was.
-pub data Cancels (same : Type 0) (config : Config) (spelled : Result (List ℕ) PgWireError) (old new : DialTape) (before now : ℕ) : Result (Unit {0}) ClientError → Type 0 where
+pub data Cancels (same foretells : Type 0) (config : Config) (spelled : Result (List ℕ) PgWireError) (was is : Option (List ℕ)) (old new : DialTape) (before now : ℕ) : Result (Unit {0}) ClientError → Type 0 where
   sent : (address : Address) (bytes : List ℕ) → address_of config ≡ Ok address → spelled ≡ Ok bytes →
-      SentOnce address bytes old new → Cancels same config spelled old new before now (Ok tt)
+      SentOnce address bytes old new → Cancels same foretells config spelled was is old new before now (Ok tt)
   unsent : (address : Address) (bytes : List ℕ) (e : ClientError) → address_of config ≡ Ok address → spelled ≡ Ok bytes →
-      NotSentOnce address bytes old new before now e → Cancels same config spelled old new before now (Err e)
+      NotSentOnce foretells address bytes was is old new before now e → Cancels same foretells config spelled was is old new before now (Err e)
   no_address : (e : ClientError) → same → (e ≢ client.OutOfMemory → address_of config ≡ Err e) →
-      Cancels same config spelled old new before now (Err e)
+      Cancels same foretells config spelled was is old new before now (Err e)
   unspelled : (e : ClientError) → same →
       (e ≢ client.OutOfMemory → (why : PgWireError) × (spelled ≡ Err why) × (e ≡ client.PgWireError why)) →
-      Cancels same config spelled old new before now (Err e)
+      Cancels same foretells config spelled was is old new before now (Err e)

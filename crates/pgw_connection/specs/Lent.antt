@@ -13,7 +13,7 @@ use Rattle.pgw_handlers.specs.Handling.{HasCause}
 use Rattle.pgw_connection.specs.declared.client.PgWireClient.{PgWireClient}
 use Rattle.pgw_connection.specs.declared.gathered.Gathered.{Gathered}
 use Rattle.pgw_connection.specs.Desk.{client_of}
-use Rattle.pgw_connection.specs.Line.{Line, line}
+use Rattle.pgw_connection.specs.Line.{Line, Foretold, line}
 use Rattle.pgw_connection.specs.Calls.{IsUsable}
 use Rattle.pgw_connection.specs.Extended.{Meaning}
 use Rattle.pgw_connection.specs.ExtendedSteps.{Answered, may_stay}
@@ -45,12 +45,14 @@ abbrev pub line_of : {X : Type 0} {L : Link.Ghosts X} → (X → Tape) → (X �
 line_of tape faults c = line (tape c.link) (faults c.link) c.inbox c.read c.limit
 
 -- A request was asked by a client, with a handler, and this came of it.
-pub record Asks {X : Type 0} {L : Link.Ghosts X} {H R A : Type 0} (tape : X → Tape) (faults : X → ℕ) (M : Meaning H R) (q : Request) (give : Gathered R → Bool → A) (h handler : H) (before after : PgWireClient X L) (result : Result A ClientError) : Type 0 where
+pub record Asks {X : Type 0} {L : Link.Ghosts X} {H R A : Type 0} (foretells : Type 0) (left : X → Option (List ℕ)) (tape : X → Tape) (faults : X → ℕ) (M : Meaning H R) (q : Request) (give : Gathered R → Bool → A) (h handler : H) (before after : PgWireClient X L) (result : Result A ClientError) : Type 0 where
   -- a client that an earlier error left unusable stays as it is
   pub broken : before.desk.broken ≡ true → (result ≡ Err client.Broken) × (after ≡ before) × (handler ≡ h)
   -- else the request's messages are opened as the handler means it, and each message is heeded so up to the end of the
   -- call, over the bytes that stood in the buffer and those that were read; what it sent is what was written
   pub asked : before.desk.broken ≡ false → Answered M q give h (client_of before.desk) (line_of tape faults before) (line_of tape faults after) handler (client_of after.desk) after.desk.broken result
+  -- of a link that knows what is to come: the bytes taken are its front, and the end is answered behind the last byte
+  pub foretold : foretells → Foretold (left before.link) (left after.link) (tape before.link) (tape after.link)
   -- IoError comes only where a call of the link failed, and Broken from no other client than the one above
   pub cause : HasCause (faults before.link) (faults after.link) before.desk.broken result
   -- behind an answer the client can be used; behind an error it can be where that is the server's, or where the opening

@@ -1,9 +1,10 @@
 -- A client's bytes, and why no more of them came.
-use Rattle.std.specs.Prelude.{◌≡◌, ◌⊎◌, ◌<◌, ℕ, ◌+◌, List, [], ◌∷◌, ◌++◌, length}
+use Rattle.std.specs.Prelude.{◌≡◌, ◌⊎◌, ◌<◌, ℕ, ◌+◌, List, [], ◌∷◌, ◌++◌, length, Option}
 use Rattle.pgw_backend.specs.Front.{front, More}
 use Rattle.pgw_backend.specs.declared.client_error.PgWireClientError.{PgWireClientError as ClientError}
 use Rattle.pgw_backend.specs.declared.client_error.PgWireClientError.TheVariants as client
 use Rattle.pgw_link.specs.Tape.{Tape, Rose}
+use Rattle.pgw_link.specs.Foresight.{Foreseen, Ends}
 use Rattle.pgw_handlers.specs.Client.{Client}
 
 -- what the link of a client tells, how many of its calls failed, the bytes that were read and not taken yet, how many
@@ -77,3 +78,8 @@ pub record Moved (old new : Line) (taken sent : List ℕ) : Type 0 where
   pub wrote : new.tape.wrote ≡ old.tape.wrote ++ sent
   pub read : new.read ≡ old.read + length taken
   pub limit : new.limit ≡ old.limit
+
+-- what was taken is the front of what was to come, and where the end was answered nothing is to come any more
+pub record Foretold (was is : Option (List ℕ)) (old new : Tape) : Type 0 where
+  pub foreseen : Foreseen was is old new
+  pub ends : Ends is old new

@@ -6,9 +6,10 @@ ghost use Rattle.pgw_handlers.specs.Handling.{HasCause};
 ghost use Rattle.pgw_handlers.specs.Startup.{startup, HeardAtStartup};
 ghost use Rattle.pgw_connection.specs.Talk.{end};
 ghost use Rattle.pgw_connection.specs.Desk.{client_of, first_client, cancel_bytes};
-ghost use Rattle.pgw_connection.specs.Line.{line};
+ghost use Rattle.pgw_connection.specs.Line.{Foretold, line};
 ghost use Rattle.pgw_connection.specs.Calls.{IsUsable, HeardNext, Talked, Call};
 ghost use Rattle.pgw_connection.specs.Connecting.{never, LeadsTo, IsRefusedBy, NoLink, LogsIn, ConnectedAt, NotConnectedAt, Connected, NotConnected, SentOnce, NotSentOnce, Cancels};
+ghost use Rattle.pgw_link.specs.Tape.{new_tape};
 ghost use Rattle.pgw_link.specs.Dials.{Dialled, Shut, CountsClose};
 
 use crate::client::PgWireClient;
@@ -38,6 +39,8 @@ impl<L: Link> PgWireClient<L> {
         ensures config { self.new.desk.config ≡ self.old.desk.config }
         ensures shrinks { OnOk result (length self.new.inbox + self.old.read < length self.old.inbox + self.new.read) }
         ensures cause { HasCause (L.faults self.old.link) (L.faults self.new.link) false result }
+        ensures foretold { L.foretells → Foretold (L.left self.old.link) (L.left self.new.link)
+            (L.tape self.old.link) (L.tape self.new.link) }
         ensures usable { OnOk result (self.new.desk.broken ≡ false) }
         ensures heard { HeardNext (HeardAtStartup S.exchanges S.means) never handler.old (client_of self.old.desk)
             (line (L.tape self.old.link) (L.faults self.old.link) self.old.inbox self.old.read self.old.limit)
@@ -58,6 +61,7 @@ impl<L: Link> PgWireClient<L> {
     }
 
     // Hands messages to the handler until it has logged in.
+    #[tactic(auto, using(crate::proofs::ForetoldLaws::foretold_still))]
     fn talk_at_startup<S: StartupHandler>(
         &mut self,
         alloc: Global,
@@ -67,6 +71,8 @@ impl<L: Link> PgWireClient<L> {
         ensures limit { self.new.limit ≡ self.old.limit }
         ensures config { self.new.desk.config ≡ self.old.desk.config }
         ensures cause { HasCause (L.faults self.old.link) (L.faults self.new.link) false result }
+        ensures foretold { L.foretells → Foretold (L.left self.old.link) (L.left self.new.link)
+            (L.tape self.old.link) (L.tape self.new.link) }
         ensures usable { OnOk result (self.new.desk.broken ≡ false) }
         ensures talked { Talked (HeardAtStartup S.exchanges S.means) never handler.old (client_of self.old.desk)
             (line (L.tape self.old.link) (L.faults self.old.link) self.old.inbox self.old.read self.old.limit)
@@ -92,6 +98,8 @@ impl<L: Link> PgWireClient<L> {
         ensures limit { self.new.limit ≡ self.old.limit }
         ensures config { self.new.desk.config ≡ self.old.desk.config }
         ensures cause { HasCause (L.faults self.old.link) (L.faults self.new.link) false result }
+        ensures foretold { L.foretells → Foretold (L.left self.old.link) (L.left self.new.link)
+            (L.tape self.old.link) (L.tape self.new.link) }
         ensures usable { OnOk result (self.new.desk.broken ≡ false) }
         ensures asked { Call (λ before after answer. S.means before startup after answer) (HeardAtStartup S.exchanges S.means) never handler (client_of self.old.desk)
             (line (L.tape self.old.link) (L.faults self.old.link) self.old.inbox self.old.read self.old.limit)
@@ -116,6 +124,8 @@ impl<L: Link> PgWireClient<L> {
         ensures limit { self.new.limit ≡ self.old.limit }
         ensures config { self.new.desk.config ≡ self.old.desk.config }
         ensures cause { HasCause (L.faults self.old.link) (L.faults self.new.link) false result }
+        ensures foretold { L.foretells → Foretold (L.left self.old.link) (L.left self.new.link)
+            (L.tape self.old.link) (L.tape self.new.link) }
         ensures usable { OnOk result (self.new.desk.broken ≡ false) }
         ensures logs_in { LogsIn (λ before after answer. S.means before startup after answer) (HeardAtStartup S.exchanges S.means) handler (client_of self.old.desk)
             (line (L.tape self.old.link) (L.faults self.old.link) self.old.inbox self.old.read self.old.limit)
@@ -167,8 +177,9 @@ fn dial_to<D: Dialer>(address: &Address, dialer: &mut D) -> PgWireClientResult<D
     ensures faultless { IfOk result (λ link. D.Link.faults link ≡ 0) }
     ensures calm { OnOk result (D.faults dialer.new ≡ D.faults dialer.old) }
     ensures dialled { IfOk result (λ link. Dialled address.now (D.tape dialer.old) (D.tape dialer.new) (D.Link.tape link)) }
+    ensures offered { D.foretells → IfOk result (λ link. D.Link.left link ≡ D.offer dialer.old) }
     ensures later { D.faults dialer.old ≤ D.faults dialer.new }
-    ensures failed { IfErr result (NoLink address.now (D.tape dialer.old) (D.tape dialer.new) (D.faults dialer.old) (D.faults dialer.new)) }
+    ensures failed { IfErr result (NoLink D.foretells address.now (D.offer dialer.old) (D.offer dialer.new) (D.tape dialer.old) (D.tape dialer.new) (D.faults dialer.old) (D.faults dialer.new)) }
 {
     match dialer.dial(address) {
         Ok(link) => Ok(link),
@@ -204,8 +215,10 @@ fn connect_at<D: Dialer, S: StartupHandler + Drop>(
 ) -> PgWireClientResult<PgWireClient<D::Link>>
     ensures connected { IfOk result (λ client. ConnectedAt (λ before after answer. S.means before startup after answer) (HeardAtStartup S.exchanges S.means) handler config limit address.now
         (D.tape dialer.old) (D.tape dialer.new) (client_of client.desk) (line (D.Link.tape client.link) (D.Link.faults client.link) client.inbox client.read client.limit)) }
-    ensures failed { IfErr result (NotConnectedAt (λ before after answer. S.means before startup after answer) (HeardAtStartup S.exchanges S.means) handler config limit address.now
-        (D.tape dialer.old) (D.tape dialer.new) (D.faults dialer.old) (D.faults dialer.new)) }
+    ensures failed { IfErr result (NotConnectedAt D.foretells (λ before after answer. S.means before startup after answer) (HeardAtStartup S.exchanges S.means) handler config limit address.now
+        (D.offer dialer.old) (D.offer dialer.new) (D.tape dialer.old) (D.tape dialer.new) (D.faults dialer.old) (D.faults dialer.new)) }
+    ensures foretold { D.foretells → IfOk result (λ client. Foretold (D.offer dialer.old) (D.Link.left client.link)
+        new_tape (D.Link.tape client.link)) }
     ensures cause { HasCause (D.faults dialer.old) (D.faults dialer.new) false result }
     ensures usable { IfOk result (λ client. client.desk.broken ≡ false) }
     ensures config { IfOk result (λ client. client.desk.config ≡ config) }
@@ -231,7 +244,7 @@ fn connect_at<D: Dialer, S: StartupHandler + Drop>(
 // Writes some bytes over a link of its own, which is closed behind that.
 fn send_once<D: Dialer>(bytes: &[u8], address: &Address, dialer: &mut D) -> PgWireClientResult<()>
     ensures sent { OnOk result (SentOnce address.now bytes.now (D.tape dialer.old) (D.tape dialer.new)) }
-    ensures failed { IfErr result (NotSentOnce address.now bytes.now (D.tape dialer.old) (D.tape dialer.new) (D.faults dialer.old) (D.faults dialer.new)) }
+    ensures failed { IfErr result (NotSentOnce D.foretells address.now bytes.now (D.offer dialer.old) (D.offer dialer.new) (D.tape dialer.old) (D.tape dialer.new) (D.faults dialer.old) (D.faults dialer.new)) }
     ensures later { D.faults dialer.old ≤ D.faults dialer.new }
 {
     let mut link = match dial_to(address, dialer) {
@@ -261,8 +274,11 @@ impl<L: Link> PgWireClient<L> {
         ensures connected { IfOk result (λ client. Connected (λ before after answer. S.means before startup after answer) (HeardAtStartup S.exchanges S.means) startup_handler config limit
             (D.tape dialer.old) (D.tape dialer.new) (client_of client.desk) (line (L.tape client.link) (L.faults client.link) client.inbox client.read client.limit)) }
         // Else there is no address, or no link, or the login failed and its link was closed.
-        ensures refused { IfErr result (NotConnected (dialer.new ≡ dialer.old) (λ before after answer. S.means before startup after answer) (HeardAtStartup S.exchanges S.means) startup_handler config limit
-            (D.tape dialer.old) (D.tape dialer.new) (D.faults dialer.old) (D.faults dialer.new)) }
+        ensures refused { IfErr result (NotConnected (dialer.new ≡ dialer.old) D.foretells (λ before after answer. S.means before startup after answer) (HeardAtStartup S.exchanges S.means) startup_handler config limit
+            (D.offer dialer.old) (D.offer dialer.new) (D.tape dialer.old) (D.tape dialer.new) (D.faults dialer.old) (D.faults dialer.new)) }
+        // Of a dialer that knows its offer: the bytes taken are its front, and the end is answered behind the last byte.
+        ensures foretold { D.foretells → IfOk result (λ client. Foretold (D.offer dialer.old) (L.left client.link)
+            new_tape (L.tape client.link)) }
         // IoError comes only where the dialer's count rose, and Broken never.
         ensures cause { HasCause (D.faults dialer.old) (D.faults dialer.new) false result }
         ensures usable { IfOk result (λ client. client.desk.broken ≡ false) }
@@ -283,8 +299,9 @@ impl<L: Link> PgWireClient<L> {
     pub fn cancel<D: Dialer>(&self, alloc: Global, dialer: &mut D) -> PgWireClientResult<()>
         ensures broken { self.now.desk.broken ≡ true → (result ≡ Err client.Broken) × (dialer.new ≡ dialer.old) }
         // One request was written to a link to the client's address and flushed; or why not.
-        ensures cancels { self.now.desk.broken ≡ false → Cancels (dialer.new ≡ dialer.old) self.now.desk.config (cancel_bytes self.now.desk.process_id self.now.desk.secret_key)
-            (D.tape dialer.old) (D.tape dialer.new) (D.faults dialer.old) (D.faults dialer.new) result }
+        ensures cancels { self.now.desk.broken ≡ false → Cancels (dialer.new ≡ dialer.old) D.foretells self.now.desk.config
+            (cancel_bytes self.now.desk.process_id self.now.desk.secret_key)
+            (D.offer dialer.old) (D.offer dialer.new) (D.tape dialer.old) (D.tape dialer.new) (D.faults dialer.old) (D.faults dialer.new) result }
         // IoError comes only where the dialer's count rose.
         ensures cause { HasCause (D.faults dialer.old) (D.faults dialer.new) self.now.desk.broken result }
     {

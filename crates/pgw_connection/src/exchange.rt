@@ -5,7 +5,7 @@ ghost use Rattle.pgw_session.specs.declared.types.Request.{Request as TheRequest
 ghost use Rattle.pgw_handlers.specs.Handling.{HasCause, IsCaused};
 ghost use Rattle.pgw_handlers.specs.declared.client_info.ReadyState.TheVariants.{Pending};
 ghost use Rattle.pgw_connection.specs.Desk.{client_of};
-ghost use Rattle.pgw_connection.specs.Line.{line};
+ghost use Rattle.pgw_connection.specs.Line.{Foretold, line};
 ghost use Rattle.pgw_connection.specs.Calls.{IsUsable};
 ghost use Rattle.pgw_connection.specs.Talk.{is_remote};
 ghost use Rattle.pgw_connection.specs.Extended.{none_gathered, finish, is_suspended};
@@ -61,6 +61,7 @@ fn passed_answer(error: PgWireClientError, broken: bool) -> PgWireClientResult<R
 
 impl<L: Link> PgWireClient<L> {
     // Sends Sync, where it is due.
+    #[tactic(auto, using(crate::proofs::ForetoldLaws::foretold_still))]
     fn sync<H: ExtendedQueryHandler>(
         &mut self,
         alloc: Global,
@@ -71,6 +72,8 @@ impl<L: Link> PgWireClient<L> {
         ensures limit { self.new.limit ≡ self.old.limit }
         ensures config { self.new.desk.config ≡ self.old.desk.config }
         ensures cause { HasCause (L.faults self.old.link) (L.faults self.new.link) false result }
+        ensures foretold { L.foretells → Foretold (L.left self.old.link) (L.left self.new.link)
+            (L.tape self.old.link) (L.tape self.new.link) }
         ensures usable { IsUsable no_error result self.new.desk.broken }
         ensures synced { Synced H.means handler.old (client_of self.old.desk)
             (line (L.tape self.old.link) (L.faults self.old.link) self.old.inbox self.old.read self.old.limit)
@@ -107,6 +110,8 @@ impl<L: Link> PgWireClient<L> {
         ensures config { self.new.desk.config ≡ self.old.desk.config }
         ensures ends { result ≢ Ok Pending }
         ensures cause { HasCause (L.faults self.old.link) (L.faults self.new.link) false result }
+        ensures foretold { L.foretells → Foretold (L.left self.old.link) (L.left self.new.link)
+            (L.tape self.old.link) (L.tape self.new.link) }
         ensures usable { IsUsable is_remote result self.new.desk.broken }
         ensures settled { Settled H.means due handler.old (client_of self.old.desk)
             (line (L.tape self.old.link) (L.faults self.old.link) self.old.inbox self.old.read self.old.limit)
@@ -126,6 +131,7 @@ impl<L: Link> PgWireClient<L> {
     }
 
     // Heeds a message by its role.
+    #[tactic(auto, using(crate::proofs::ForetoldLaws::foretold_still))]
     fn heed_one<H: ExtendedQueryHandler>(
         &mut self,
         alloc: Global,
@@ -139,6 +145,8 @@ impl<L: Link> PgWireClient<L> {
         ensures config { self.new.desk.config ≡ self.old.desk.config }
         ensures goes_on { result ≡ Ok Pending → (self.new.inbox ≡ self.old.inbox) × (self.new.read ≡ self.old.read) }
         ensures cause { HasCause (L.faults self.old.link) (L.faults self.new.link) false result }
+        ensures foretold { L.foretells → Foretold (L.left self.old.link) (L.left self.new.link)
+            (L.tape self.old.link) (L.tape self.new.link) }
         ensures usable { IsUsable is_remote result self.new.desk.broken }
         ensures heeded { HeededOne H.means kind handler.old (client_of self.old.desk) gathered.old message
             (line (L.tape self.old.link) (L.faults self.old.link) self.old.inbox self.old.read self.old.limit)
@@ -185,6 +193,8 @@ impl<L: Link> PgWireClient<L> {
         ensures config { self.new.desk.config ≡ self.old.desk.config }
         ensures shrinks { result ≡ Ok Pending → length self.new.inbox + self.old.read < length self.old.inbox + self.new.read }
         ensures cause { HasCause (L.faults self.old.link) (L.faults self.new.link) false result }
+        ensures foretold { L.foretells → Foretold (L.left self.old.link) (L.left self.new.link)
+            (L.tape self.old.link) (L.tape self.new.link) }
         ensures usable { IsUsable is_remote result self.new.desk.broken }
         ensures heeded { HeededNext H.means kind handler.old (client_of self.old.desk) gathered.old
             (line (L.tape self.old.link) (L.faults self.old.link) self.old.inbox self.old.read self.old.limit)
@@ -201,6 +211,7 @@ impl<L: Link> PgWireClient<L> {
     }
 
     // The messages of a call, up to its end.
+    #[tactic(auto, using(crate::proofs::ForetoldLaws::foretold_still))]
     fn exchange<H: ExtendedQueryHandler>(
         &mut self,
         alloc: Global,
@@ -211,6 +222,8 @@ impl<L: Link> PgWireClient<L> {
         ensures limit { self.new.limit ≡ self.old.limit }
         ensures config { self.new.desk.config ≡ self.old.desk.config }
         ensures cause { HasCause (L.faults self.old.link) (L.faults self.new.link) false result }
+        ensures foretold { L.foretells → Foretold (L.left self.old.link) (L.left self.new.link)
+            (L.tape self.old.link) (L.tape self.new.link) }
         ensures usable { IsUsable is_remote result self.new.desk.broken }
         ensures exchanged { Exchanged H.means kind handler.old (client_of self.old.desk) none_gathered
             (line (L.tape self.old.link) (L.faults self.old.link) self.old.inbox self.old.read self.old.limit)
@@ -228,6 +241,7 @@ impl<L: Link> PgWireClient<L> {
     }
 
     // Asks a request.
+    #[tactic(auto, using(crate::proofs::ForetoldLaws::foretold_still))]
     fn request<H: ExtendedQueryHandler>(
         &mut self,
         alloc: Global,
@@ -238,6 +252,8 @@ impl<L: Link> PgWireClient<L> {
         ensures limit { self.new.limit ≡ self.old.limit }
         ensures config { self.new.desk.config ≡ self.old.desk.config }
         ensures cause { HasCause (L.faults self.old.link) (L.faults self.new.link) false result }
+        ensures foretold { L.foretells → Foretold (L.left self.old.link) (L.left self.new.link)
+            (L.tape self.old.link) (L.tape self.new.link) }
         ensures usable { IsUsable may_stay result self.new.desk.broken }
         ensures called { Called H.means request.now handler.old (client_of self.old.desk)
             (line (L.tape self.old.link) (L.faults self.old.link) self.old.inbox self.old.read self.old.limit)
@@ -264,6 +280,7 @@ impl<L: Link> PgWireClient<L> {
         ensures broken { self.old.desk.broken ≡ true → (result ≡ client.Broken) × (self.new ≡ self.old) }
         ensures starved { self.old.desk.broken ≡ false → (result ≡ client.OutOfMemory) × (self.new.desk.broken ≡ true) }
         ensures line { line (L.tape self.new.link) (L.faults self.new.link) self.new.inbox self.new.read self.new.limit ≡ line (L.tape self.old.link) (L.faults self.old.link) self.old.inbox self.old.read self.old.limit }
+        ensures link { self.new.link ≡ self.old.link }
         ensures within { self.new.read ≤ self.new.limit }
         ensures config { self.new.desk.config ≡ self.old.desk.config }
     {
@@ -275,6 +292,7 @@ impl<L: Link> PgWireClient<L> {
     }
 
     // The same of a client that may be broken, and a request that memory may have been wanting for.
+    #[tactic(auto, using(crate::proofs::ForetoldLaws::foretold_still))]
     pub(crate) fn ask<H: ExtendedQueryHandler>(
         &mut self,
         alloc: Global,
@@ -285,6 +303,8 @@ impl<L: Link> PgWireClient<L> {
         ensures limit { self.new.limit ≡ self.old.limit }
         ensures config { self.new.desk.config ≡ self.old.desk.config }
         ensures cause { HasCause (L.faults self.old.link) (L.faults self.new.link) self.old.desk.broken result }
+        ensures foretold { L.foretells → Foretold (L.left self.old.link) (L.left self.new.link)
+            (L.tape self.old.link) (L.tape self.new.link) }
         ensures broken { self.old.desk.broken ≡ true → (result ≡ Err client.Broken) × (self.new ≡ self.old) × (handler.new ≡ handler.old) }
         ensures usable { self.old.desk.broken ≡ false → IsUsable may_stay result self.new.desk.broken }
         ensures called { (q : TheRequest) → IfOk request (λ r. r ≡ q) → self.old.desk.broken ≡ false → Called H.means q handler.old (client_of self.old.desk)

@@ -2,8 +2,9 @@
 ghost use Rattle.std.specs.Prelude.{◌≡◌, ◌⊎◌, ◌≤◌, ◌<◌, ◌+◌, length, true, false, Ok, Err, OnOk, OnErr, IfErr, IsErrOf};
 ghost use Rattle.pgw_backend.specs.declared.client_error.PgWireClientError.TheVariants as client;
 ghost use Rattle.pgw_connection.specs.Desk.{client_of};
-ghost use Rattle.pgw_connection.specs.Line.{line};
+ghost use Rattle.pgw_connection.specs.Line.{Foretold, line};
 ghost use Rattle.pgw_connection.specs.Reading.{ReadOnce, Came, PassedOver, awaited};
+ghost use Rattle.pgw_link.specs.Foresight.{Ends, Foreseen};
 ghost use Rattle.pgw_client.specs.Wire.{IsOwn};
 ghost use Rattle.pgw_handlers.specs.declared.client_info.ReadyState.TheVariants.{Pending};
 ghost use Rattle.pgw_connection.specs.Calls.{Polled};
@@ -65,6 +66,9 @@ impl<L: Link> PgWireClient<L> {
         ensures limited { self.old.read ≡ self.old.limit → IsErrOf result client.ReadLimit }
         ensures below { IsErrOf result client.ReadLimit → self.old.read ≡ self.old.limit }
         ensures cause { HasCause (L.faults self.old.link) (L.faults self.new.link) false result }
+        ensures foreseen { L.foretells → Foreseen (L.left self.old.link) (L.left self.new.link)
+            (L.tape self.old.link) (L.tape self.new.link) }
+        ensures ends { L.foretells → Ends (L.left self.new.link) (L.tape self.old.link) (L.tape self.new.link) }
         ensures reads { ReadOnce
             (line (L.tape self.old.link) (L.faults self.old.link) self.old.inbox self.old.read self.old.limit)
             (line (L.tape self.new.link) (L.faults self.new.link) self.new.inbox self.new.read self.new.limit) result }
@@ -89,6 +93,7 @@ impl<L: Link> PgWireClient<L> {
     }
 
     /// Reads once, no more than 8192 bytes and no more than the limit leaves. False at the link's end.
+    #[tactic(auto, using(crate::proofs::ForetoldLaws::foretold_still))]
     pub fn fill(&mut self) -> PgWireClientResult<bool>
         ensures broken { self.old.desk.broken ≡ true → (result ≡ Err client.Broken) × (self.new ≡ self.old) }
         // ReadLimit comes exactly where the limit is reached.
@@ -103,6 +108,9 @@ impl<L: Link> PgWireClient<L> {
             (line (L.tape self.new.link) (L.faults self.new.link) self.new.inbox self.new.read self.new.limit) result }
         ensures buffered { length self.new.inbox ≤ length self.old.inbox + 8192 }
         ensures cause { HasCause (L.faults self.old.link) (L.faults self.new.link) self.old.desk.broken result }
+        // Of a link that knows what is to come: the bytes taken are its front, and the end is answered behind the last byte.
+        ensures foretold { L.foretells → Foretold (L.left self.old.link) (L.left self.new.link)
+            (L.tape self.old.link) (L.tape self.new.link) }
         // Every error leaves the client unusable.
         ensures usable { OnOk result (self.new.desk.broken ≡ false) }
         ensures unusable { OnErr result (self.new.desk.broken ≡ true) }
@@ -157,11 +165,14 @@ impl<L: Link> PgWireClient<L> {
     }
 
     // The message at the front of the buffer, for which it reads as often as it takes.
+    #[tactic(auto, using(crate::proofs::ForetoldLaws::foretold_still))]
     pub(crate) fn next_message(&mut self, alloc: Global) -> PgWireClientResult<PgWireBackendMessage>
         ensures desk { self.new.desk ≡ self.old.desk }
         ensures limit { self.new.limit ≡ self.old.limit }
         ensures shrinks { OnOk result (length self.new.inbox + self.old.read < length self.old.inbox + self.new.read) }
         ensures cause { HasCause (L.faults self.old.link) (L.faults self.new.link) false result }
+        ensures foretold { L.foretells → Foretold (L.left self.old.link) (L.left self.new.link)
+            (L.tape self.old.link) (L.tape self.new.link) }
         ensures came { Came (client_of self.old.desk)
             (line (L.tape self.old.link) (L.faults self.old.link) self.old.inbox self.old.read self.old.limit)
             (line (L.tape self.new.link) (L.faults self.new.link) self.new.inbox self.new.read self.new.limit) result }
@@ -182,6 +193,7 @@ impl<L: Link> PgWireClient<L> {
 
     // Passes messages over up to ReadyForQuery, and gives the error that is answered then. UnexpectedEOF stands for none
     // yet.
+    #[tactic(auto, using(crate::proofs::ForetoldLaws::foretold_still))]
     pub(crate) fn pass_over(
         &mut self,
         alloc: Global,
@@ -193,6 +205,8 @@ impl<L: Link> PgWireClient<L> {
         ensures config { self.new.desk.config ≡ self.old.desk.config }
         ensures later { L.faults self.old.link ≤ L.faults self.new.link }
         ensures cause { IsCaused result (L.faults self.old.link) (L.faults self.new.link) false }
+        ensures foretold { L.foretells → Foretold (L.left self.old.link) (L.left self.new.link)
+            (L.tape self.old.link) (L.tape self.new.link) }
         // An error behind which the client can be used is the one given, or one behind which it goes on.
         ensures usable { (self.new.desk.broken ≡ true) ⊎ (result ≡ error) ⊎ (passes result ≡ true) }
         ensures remote { (self.new.desk.broken ≡ true) ⊎ (result ≡ error) ⊎ (is_remote result ≡ true) }

@@ -5,7 +5,7 @@ ghost use Rattle.pgw_client.specs.SessionSteps.{Wrote, WroteSome};
 ghost use Rattle.pgw_handlers.specs.Handling.{HasCause, IsCaused, OfError};
 ghost use Rattle.pgw_connection.specs.Talk.{passes, is_refusal};
 ghost use Rattle.pgw_connection.specs.Desk.{client_of};
-ghost use Rattle.pgw_connection.specs.Line.{line};
+ghost use Rattle.pgw_connection.specs.Line.{Foretold, line};
 ghost use Rattle.pgw_connection.specs.Calls.{IsUsable, goes_on_if, Puts, Opens, GivesUp, Follows};
 
 use crate::client::PgWireClient;
@@ -51,6 +51,8 @@ impl<L: Link> PgWireClient<L> {
         ensures broken { OnErr result (self.new.desk.broken ≡ true) }
         ensures io { IfErr result (λ e. e ≡ client.IoError) }
         ensures cause { HasCause (L.faults self.old.link) (L.faults self.new.link) false result }
+        ensures foretold { L.foretells → Foretold (L.left self.old.link) (L.left self.new.link)
+            (L.tape self.old.link) (L.tape self.new.link) }
         ensures clean { OnOk result (L.faults self.new.link ≡ L.faults self.old.link) }
         ensures wrote { OnOk result (Wrote (L.tape self.old.link) (L.tape self.new.link) self.old.desk.out.items) }
         ensures failed { OnErr result (WroteSome (L.tape self.old.link) (L.tape self.new.link) self.old.desk.out.items) }
@@ -66,6 +68,7 @@ impl<L: Link> PgWireClient<L> {
     }
 
     // The same, where there is something to write.
+    #[tactic(auto, using(crate::proofs::ForetoldLaws::foretold_still))]
     pub(crate) fn put_out(&mut self) -> PgWireClientResult<()>
         ensures client { client_of self.new.desk ≡ client_of self.old.desk }
         ensures inbox { self.new.inbox ≡ self.old.inbox }
@@ -75,6 +78,8 @@ impl<L: Link> PgWireClient<L> {
         ensures broken { OnErr result (self.new.desk.broken ≡ true) }
         ensures io { IfErr result (λ e. e ≡ client.IoError) }
         ensures cause { HasCause (L.faults self.old.link) (L.faults self.new.link) false result }
+        ensures foretold { L.foretells → Foretold (L.left self.old.link) (L.left self.new.link)
+            (L.tape self.old.link) (L.tape self.new.link) }
         ensures puts { Puts self.old.desk.out.items
             (line (L.tape self.old.link) (L.faults self.old.link) self.old.inbox self.old.read self.old.limit)
             (line (L.tape self.new.link) (L.faults self.new.link) self.new.inbox self.new.read self.new.limit) result }
@@ -86,11 +91,14 @@ impl<L: Link> PgWireClient<L> {
     }
 
     // What becomes of a handler's opening of a call: it is written, or refused.
+    #[tactic(auto, using(crate::proofs::ForetoldLaws::foretold_still))]
     pub(crate) fn begin(&mut self, opened: PgWireClientResult<()>) -> PgWireClientResult<()>
         requires { OfError opened 0 0 self.old.desk.broken }
         ensures client { client_of self.new.desk ≡ client_of self.old.desk }
         ensures limit { self.new.limit ≡ self.old.limit }
         ensures cause { HasCause (L.faults self.old.link) (L.faults self.new.link) false result }
+        ensures foretold { L.foretells → Foretold (L.left self.old.link) (L.left self.new.link)
+            (L.tape self.old.link) (L.tape self.new.link) }
         ensures usable { IsUsable is_refusal result self.new.desk.broken }
         ensures opens { Opens self.old.desk.broken self.old.desk.out.items
             (line (L.tape self.old.link) (L.faults self.old.link) self.old.inbox self.old.read self.old.limit)
@@ -112,6 +120,7 @@ impl<L: Link> PgWireClient<L> {
 
     // What becomes of a handler's error: the messages up to ReadyForQuery are passed over, where the call goes on behind
     // it, or the client cannot be used any more.
+    #[tactic(auto, using(crate::proofs::ForetoldLaws::foretold_still))]
     fn give_up(
         &mut self,
         alloc: Global,
@@ -125,6 +134,8 @@ impl<L: Link> PgWireClient<L> {
         ensures config { self.new.desk.config ≡ self.old.desk.config }
         ensures later { L.faults self.old.link ≤ L.faults self.new.link }
         ensures cause { IsCaused result (L.faults self.old.link) (L.faults self.new.link) false }
+        ensures foretold { L.foretells → Foretold (L.left self.old.link) (L.left self.new.link)
+            (L.tape self.old.link) (L.tape self.new.link) }
         ensures usable { (self.new.desk.broken ≡ true) ⊎ (goes_on_if goes_on result ≡ true) }
         ensures gives_up { GivesUp (goes_on_if goes_on) closing (client_of self.old.desk)
             (line (L.tape self.old.link) (L.faults self.old.link) self.old.inbox self.old.read self.old.limit)
@@ -142,6 +153,7 @@ impl<L: Link> PgWireClient<L> {
     }
 
     // What becomes of a handler's answer: what it sent is written, or it gives up.
+    #[tactic(auto, using(crate::proofs::ForetoldLaws::foretold_still))]
     pub(crate) fn follow<T: Drop>(
         &mut self,
         alloc: Global,
@@ -155,6 +167,8 @@ impl<L: Link> PgWireClient<L> {
         ensures inbox { OnOk result (self.new.inbox ≡ self.old.inbox) }
         ensures read { OnOk result (self.new.read ≡ self.old.read) }
         ensures cause { HasCause (L.faults self.old.link) (L.faults self.new.link) false result }
+        ensures foretold { L.foretells → Foretold (L.left self.old.link) (L.left self.new.link)
+            (L.tape self.old.link) (L.tape self.new.link) }
         ensures usable { IsUsable (goes_on_if goes_on) result self.new.desk.broken }
         ensures follows { Follows (goes_on_if goes_on) closing self.old.desk.broken self.old.desk.out.items (client_of self.old.desk)
             (line (L.tape self.old.link) (L.faults self.old.link) self.old.inbox self.old.read self.old.limit)

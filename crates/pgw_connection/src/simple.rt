@@ -5,7 +5,7 @@ ghost use Rattle.pgw_handlers.specs.Handling.{HasCause};
 ghost use Rattle.pgw_handlers.specs.Simple.{simple_query, HeardInQuery};
 ghost use Rattle.pgw_connection.specs.Talk.{end, passes};
 ghost use Rattle.pgw_connection.specs.Desk.{client_of};
-ghost use Rattle.pgw_connection.specs.Line.{line};
+ghost use Rattle.pgw_connection.specs.Line.{Foretold, line};
 ghost use Rattle.pgw_connection.specs.Calls.{IsUsable, may_go_on, HeardNext, Talked, Call};
 
 use crate::client::PgWireClient;
@@ -28,6 +28,8 @@ impl<L: Link> PgWireClient<L> {
         ensures config { self.new.desk.config ≡ self.old.desk.config }
         ensures shrinks { OnOk result (length self.new.inbox + self.old.read < length self.old.inbox + self.new.read) }
         ensures cause { HasCause (L.faults self.old.link) (L.faults self.new.link) false result }
+        ensures foretold { L.foretells → Foretold (L.left self.old.link) (L.left self.new.link)
+            (L.tape self.old.link) (L.tape self.new.link) }
         ensures usable { IsUsable passes result self.new.desk.broken }
         ensures heard { HeardNext (HeardInQuery H.means) passes handler.old (client_of self.old.desk)
             (line (L.tape self.old.link) (L.faults self.old.link) self.old.inbox self.old.read self.old.limit)
@@ -48,6 +50,7 @@ impl<L: Link> PgWireClient<L> {
     }
 
     // Hands messages to the handler until the query ends.
+    #[tactic(auto, using(crate::proofs::ForetoldLaws::foretold_still))]
     fn talk_in_query<H: SimpleQueryHandler>(
         &mut self,
         alloc: Global,
@@ -57,6 +60,8 @@ impl<L: Link> PgWireClient<L> {
         ensures limit { self.new.limit ≡ self.old.limit }
         ensures config { self.new.desk.config ≡ self.old.desk.config }
         ensures cause { HasCause (L.faults self.old.link) (L.faults self.new.link) false result }
+        ensures foretold { L.foretells → Foretold (L.left self.old.link) (L.left self.new.link)
+            (L.tape self.old.link) (L.tape self.new.link) }
         ensures usable { IsUsable passes result self.new.desk.broken }
         ensures talked { Talked (HeardInQuery H.means) passes handler.old (client_of self.old.desk)
             (line (L.tape self.old.link) (L.faults self.old.link) self.old.inbox self.old.read self.old.limit)
@@ -73,6 +78,7 @@ impl<L: Link> PgWireClient<L> {
     }
 
     /// Asks a simple query, and answers what the handler makes of the messages.
+    #[tactic(auto, using(crate::proofs::ForetoldLaws::foretold_still))]
     pub fn simple_query<H: SimpleQueryHandler + Drop>(
         &mut self,
         alloc: Global,
@@ -91,6 +97,9 @@ impl<L: Link> PgWireClient<L> {
             (end result (client_of self.new.desk) self.new.desk.broken self.new.inbox) }
         // IoError comes only where a call of the link failed, and Broken from no other client than the one above.
         ensures cause { HasCause (L.faults self.old.link) (L.faults self.new.link) self.old.desk.broken result }
+        // Of a link that knows what is to come: the bytes taken are its front, and the end is answered behind the last byte.
+        ensures foretold { L.foretells → Foretold (L.left self.old.link) (L.left self.new.link)
+            (L.tape self.old.link) (L.tape self.new.link) }
         // Behind an answer the client can be used. Behind an error it can be where that is the server's or a message
         // without place, or where the opening was refused; and behind no other.
         ensures usable { self.old.desk.broken ≡ false → IsUsable may_go_on result self.new.desk.broken }

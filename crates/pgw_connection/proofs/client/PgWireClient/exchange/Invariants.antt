@@ -1,6 +1,6 @@
 use Rattle.std.proofs.Common.{◌≡◌, ◌≤◌, ◌+◌, ◌-◌, length, false}
 use Rattle.pgw_connection.specs.Desk.{client_of}
-use Rattle.pgw_connection.specs.Line.{Line, line}
+use Rattle.pgw_connection.specs.Line.{Line, Foretold, line}
 use Rattle.pgw_connection.specs.Extended.{none_gathered, Finish}
 use Rattle.pgw_connection.specs.ExtendedSteps.{Exchanged}
 use Rattle.pgw_connection.proofs.client.PgWireClient.exchange.Given as goal
@@ -11,6 +11,8 @@ invariant-messages g l = record {
   usable : l.self.desk.broken ≡ false;
   limit : l.self.limit ≡ l.fn.self.limit;
   config : l.self.desk.config ≡ l.fn.self.desk.config;
+  foretold : g.L.Link.foretells → Foretold (g.L.Link.left l.fn.self.link) (g.L.Link.left l.self.link)
+      (g.L.Link.tape l.fn.self.link) (g.L.Link.tape l.self.link);
   later : g.L.Link.faults l.fn.self.link ≤ g.L.Link.faults l.self.link;
   exchanged : (final : Line) (last : Finish _ _) →
       Exchanged g.H.ExtendedQueryHandler.means l.fn.kind l.handler (client_of l.self.desk) l.gathered (line (g.L.Link.tape l.self.link) (g.L.Link.faults l.self.link) l.self.inbox l.self.read l.self.limit) final last →

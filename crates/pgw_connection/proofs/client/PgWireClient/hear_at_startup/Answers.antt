@@ -4,6 +4,7 @@ use Rattle.pgw_connection.specs.Talk.{fresh}
 use Rattle.pgw_connection.specs.Connecting.{never}
 use Rattle.pgw_connection.specs.Desk.{client_of, sight_of}
 use Rattle.pgw_connection.proofs.CallLaws.{heard_nothing, heard_so}
+use Rattle.pgw_connection.proofs.ForetoldLaws.{foretold_on}
 use Rattle.pgw_connection.proofs.client.PgWireClient.hear_at_startup.Goals as goal
 
 pub returns-in-Err-clause-heard : goal.returns-in-Err-clause-heard
@@ -17,3 +18,6 @@ returns-clause-heard g c =
     let cleared = c.clear.ensures.fresh usable ∙ ap (λ d. fresh (client_of d)) c.next_message.ensures.desk in
     heard_so (HeardAtStartup g.S.StartupHandler.exchanges g.S.StartupHandler.means) never refl c.args.handler.now answer.new.self _ (sight_of c.clear.new.self) (sight_of answer.new.client) _ _ _ c.in-Ok.message c.is_ready-closing.result answer.result c.follow.result _ _
     c.in-Ok.ensures.came cleared c.is_ready-closing.ensures answer.ensures.means answer.ensures.cause.failed answer.ensures.ready c.follow.ensures.follows
+
+pub returns-clause-foretold : goal.returns-clause-foretold
+returns-clause-foretold g c = λ t. foretold_on _ _ _ _ _ _ (g.met.L.Link.knows t c.next_message.new.self.link) (c.next_message.ensures.foretold t) (c.follow.ensures.foretold t)

@@ -3,6 +3,7 @@ use Rattle.pgw_handlers.specs.Simple.{HeardInQuery}
 use Rattle.pgw_connection.specs.Talk.{fresh, passes}
 use Rattle.pgw_connection.specs.Desk.{client_of, sight_of}
 use Rattle.pgw_connection.proofs.CallLaws.{heard_nothing, heard_so}
+use Rattle.pgw_connection.proofs.ForetoldLaws.{foretold_on}
 use Rattle.pgw_connection.proofs.client.PgWireClient.hear_in_query.Goals as goal
 
 pub returns-in-Err-clause-heard : goal.returns-in-Err-clause-heard
@@ -16,3 +17,6 @@ returns-clause-heard g c =
     let cleared = c.clear.ensures.fresh usable ∙ ap (λ d. fresh (client_of d)) c.next_message.ensures.desk in
     heard_so (HeardInQuery g.H.SimpleQueryHandler.means) passes refl c.args.handler.now answer.new.self _ (sight_of c.clear.new.self) (sight_of answer.new.client) _ _ _ c.in-Ok.message c.is_ready-closing.result answer.result c.follow.result _ _
     c.in-Ok.ensures.came cleared c.is_ready-closing.ensures answer.ensures.means answer.ensures.cause.failed answer.ensures.ready c.follow.ensures.follows
+
+pub returns-clause-foretold : goal.returns-clause-foretold
+returns-clause-foretold g c = λ t. foretold_on _ _ _ _ _ _ (g.met.L.Link.knows t c.next_message.new.self.link) (c.next_message.ensures.foretold t) (c.follow.ensures.foretold t)

@@ -1,6 +1,7 @@
 use Rattle.std.proofs.Common.{arith, ◌∙◌, ap, sym}
 use Rattle.pgw_connection.specs.Desk.{client_of}
 use Rattle.pgw_connection.proofs.ReadingLaws.{first_caused, first_same, first_remote, passed_failed, passed_ready, passed_wanting, passed_after}
+use Rattle.pgw_connection.proofs.ForetoldLaws.{foretold_on}
 use Rattle.pgw_connection.proofs.client.PgWireClient.pass_over.Goals as goal
 
 pub returns-in-Err-clause-passed : goal.returns-in-Err-clause-passed
@@ -25,9 +26,19 @@ messages-preserved g c = record {
   own = first_caused c.messages.error c.first_of-error.result c.in-Ok.message c.first_of-error.ensures c.messages.invariant.own;
   same = first_same c.messages.error c.args.error c.first_of-error.result c.in-Ok.message c.first_of-error.ensures c.messages.invariant.same;
   remote = first_remote c.messages.error c.args.error c.first_of-error.result c.in-Ok.message c.first_of-error.ensures c.messages.invariant.remote;
+  foretold = λ t. foretold_on _ _ _ _ _ _ (g.met.L.Link.knows t c.messages.self.link) (c.messages.invariant.foretold t) (c.next_message.ensures.foretold t);
   later = omega (arith, c.messages.invariant.later, c.next_message.ensures.cause.later);
   passed = λ final x last broken p.
       c.messages.invariant.passed final x last broken
       (passed_after c.messages.error c.first_of-error.result x c.in-Ok.message _ (client_of c.next_message.new.self.desk) _ last _ _ final broken c.in-Ok.ensures.came
       (sym c.in-Ok-false.ensures.ready ∙ c.in-Ok-false.field-0-test) c.first_of-error.ensures (ap client_of c.next_message.ensures.desk) c.in-Ok-false.ensures.told p);
 }
+
+pub returns-in-Err-clause-foretold : goal.returns-in-Err-clause-foretold
+returns-in-Err-clause-foretold g c = λ t. foretold_on _ _ _ _ _ _ (g.met.L.Link.knows t c.messages.self.link) (c.messages.invariant.foretold t) (c.next_message.ensures.foretold t)
+
+pub returns-in-Ok-true-clause-foretold : goal.returns-in-Ok-true-clause-foretold
+returns-in-Ok-true-clause-foretold g c = λ t. foretold_on _ _ _ _ _ _ (g.met.L.Link.knows t c.messages.self.link) (c.messages.invariant.foretold t) (c.next_message.ensures.foretold t)
+
+pub returns-in-Err-noted-clause-foretold : goal.returns-in-Err-noted-clause-foretold
+returns-in-Err-noted-clause-foretold g c = λ t. foretold_on _ _ _ _ _ _ (g.met.L.Link.knows t c.messages.self.link) (c.messages.invariant.foretold t) (c.next_message.ensures.foretold t)

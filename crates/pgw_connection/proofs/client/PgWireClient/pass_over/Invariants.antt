@@ -4,7 +4,7 @@ use Rattle.pgw_handlers.specs.Client.{Client}
 use Rattle.pgw_handlers.specs.Handling.{IsCaused}
 use Rattle.pgw_connection.specs.Talk.{passes, is_remote}
 use Rattle.pgw_connection.specs.Desk.{client_of}
-use Rattle.pgw_connection.specs.Line.{Line, line}
+use Rattle.pgw_connection.specs.Line.{Line, Foretold, line}
 use Rattle.pgw_connection.specs.Reading.{PassedOver}
 use Rattle.pgw_connection.proofs.client.PgWireClient.pass_over.Given as goal
 
@@ -17,6 +17,8 @@ invariant-messages g l = record {
   own : IsCaused l.error 0 0 false;
   same : (l.error ≡ l.fn.error) ⊎ (passes l.error ≡ true);
   remote : (l.error ≡ l.fn.error) ⊎ (is_remote l.error ≡ true);
+  foretold : g.L.Link.foretells → Foretold (g.L.Link.left l.fn.self.link) (g.L.Link.left l.self.link)
+      (g.L.Link.tape l.fn.self.link) (g.L.Link.tape l.self.link);
   later : g.L.Link.faults l.fn.self.link ≤ g.L.Link.faults l.self.link;
   passed : (final : Line) (x : ClientError) (last : Client) (broken : Bool) →
       PassedOver l.error (client_of l.self.desk) (line (g.L.Link.tape l.self.link) (g.L.Link.faults l.self.link) l.self.inbox l.self.read l.self.limit) final x last broken →

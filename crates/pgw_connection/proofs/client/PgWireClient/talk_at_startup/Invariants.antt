@@ -3,7 +3,7 @@ use Rattle.pgw_handlers.specs.Startup.{HeardAtStartup}
 use Rattle.pgw_connection.specs.Talk.{End}
 use Rattle.pgw_connection.specs.Connecting.{never}
 use Rattle.pgw_connection.specs.Desk.{client_of}
-use Rattle.pgw_connection.specs.Line.{Line, line}
+use Rattle.pgw_connection.specs.Line.{Line, Foretold, line}
 use Rattle.pgw_connection.specs.Calls.{Talked}
 use Rattle.pgw_connection.proofs.client.PgWireClient.talk_at_startup.Given as goal
 
@@ -13,6 +13,8 @@ invariant-messages g l = record {
   usable : l.self.desk.broken ≡ false;
   limit : l.self.limit ≡ l.fn.self.limit;
   config : l.self.desk.config ≡ l.fn.self.desk.config;
+  foretold : g.L.Link.foretells → Foretold (g.L.Link.left l.fn.self.link) (g.L.Link.left l.self.link)
+      (g.L.Link.tape l.fn.self.link) (g.L.Link.tape l.self.link);
   later : g.L.Link.faults l.fn.self.link ≤ g.L.Link.faults l.self.link;
   talked : (final : Line) (last : End _) →
       Talked (HeardAtStartup g.S.StartupHandler.exchanges g.S.StartupHandler.means) never l.handler (client_of l.self.desk) (line (g.L.Link.tape l.self.link) (g.L.Link.faults l.self.link) l.self.inbox l.self.read l.self.limit) final last →
