@@ -1,5 +1,5 @@
 -- The session of `gen`, and its rows told shortly.
-use Rattle.std.specs.Prelude.{◌≡◌, ℕ, List, [], ◌∷◌, ◌++◌, length, codes, Some}
+use Rattle.std.specs.Prelude.{◌≡◌, ◌≤◌, ◌^◌, ℕ, List, [], ◌∷◌, ◌++◌, length, codes, Some}
 use Rattle.std.specs.List.{flat_map}
 use Rattle.sha2.specs.Sha256.{sha256}
 use Rattle.sha2.specs.Hashers.{Holds256}
@@ -55,3 +55,7 @@ IsSum sum rows = (sum.rows ≡ length rows) × Holds256 sum.hasher (payloads row
 
 abbrev pub Adds : List DataRow → Sum → Sum → Type 0
 Adds more old new = (rows : List DataRow) → IsSum old rows → IsSum new (rows ++ more)
+
+-- with those before them these are more than 64 bits can count
+abbrev pub AreTooMany : List DataRow → Sum → Type 0
+AreTooMany more sum = (rows : List DataRow) → IsSum sum rows → 2 ^ 64 ≤ length (rows ++ more)

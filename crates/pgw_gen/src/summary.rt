@@ -1,7 +1,7 @@
 //! The rows of a session, told shortly.
-ghost use Rattle.std.specs.Prelude.{◌≡◌, IfOk, OnOk};
+ghost use Rattle.std.specs.Prelude.{◌≡◌, ◌≤◌, ◌^◌, length, IfOk, OnOk, OnErr};
 ghost use Rattle.std.specs.List.{flat_map};
-ghost use Rattle.pgw_gen.specs.Summary.{Adds, answer_rows, response_rows, summary_of as summary_for};
+ghost use Rattle.pgw_gen.specs.Summary.{Adds, AreTooMany, answer_rows, report_rows, response_rows, summary_of as summary_for};
 
 use pgw_rows::data_rows::DataRows;
 use pgw_session::types::{Answer, Response, SessionReport};
@@ -27,7 +27,8 @@ struct Sum {
 impl Sum {
     // Adds the rows of a result.
     fn add_rows(&mut self, rows: &DataRows) -> Result<(), OutOfMemory>
-        ensures { OnOk result (Adds rows.now self.old self.new) }
+        ensures adds { OnOk result (Adds rows.now self.old self.new) }
+        ensures too_many { OnErr result (AreTooMany rows.now self.old) }
     {
         let Some(count) = self.rows.checked_add(rows.len() as u64) else {
             return Err(OutOfMemory);
@@ -40,7 +41,8 @@ impl Sum {
     }
 
     fn add_responses(&mut self, responses: &[Response]) -> Result<(), OutOfMemory>
-        ensures { OnOk result (Adds (flat_map response_rows responses.now) self.old self.new) }
+        ensures adds { OnOk result (Adds (flat_map response_rows responses.now) self.old self.new) }
+        ensures too_many { OnErr result (AreTooMany (flat_map response_rows responses.now) self.old) }
     {
         for response in responses {
             if let Response::Query(_tag, _fields, rows) = response {
@@ -51,7 +53,8 @@ impl Sum {
     }
 
     fn add_answers(&mut self, answers: &[Answer]) -> Result<(), OutOfMemory>
-        ensures { OnOk result (Adds (flat_map answer_rows answers.now) self.old self.new) }
+        ensures adds { OnOk result (Adds (flat_map answer_rows answers.now) self.old self.new) }
+        ensures too_many { OnErr result (AreTooMany (flat_map answer_rows answers.now) self.old) }
     {
         for answer in answers {
             if let Answer::Responses(responses) = answer {
@@ -62,9 +65,11 @@ impl Sum {
     }
 }
 
-/// The rows of a report, told shortly. A server's error instead of rows has none.
+/// The rows of a report, told shortly. A server's error instead of rows has none. It takes no memory: it fails only where
+/// there are more rows than 64 bits can count, which no memory holds.
 pub fn summary_of(report: &SessionReport) -> Result<GenSummary, OutOfMemory>
-    ensures { IfOk result (λ summary. summary ≡ summary_for report.now) }
+    ensures value { IfOk result (λ summary. summary ≡ summary_for report.now) }
+    ensures too_many { OnErr result (2 ^ 64 ≤ length (report_rows report.now)) }
 {
     let mut sum = Sum {
         rows: 0,
