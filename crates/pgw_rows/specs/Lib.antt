@@ -3,3 +3,5 @@ pub mod Runs
 pub mod Values
 pub mod Cuts
 pub mod Unread
+pub mod Lending
+pub mod Places

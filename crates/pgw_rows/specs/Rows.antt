@@ -1,5 +1,5 @@
 -- Rows, and the values in them (PostgreSQL 18, section 54.7, Message Formats, DataRow).
-use Rattle.std.specs.Prelude.{◌≡◌, ℕ, ◌+◌, List, [], ◌∷◌, slice_get, Option, Some, None, Result, Ok, Err}
+use Rattle.std.specs.Prelude.{◌≡◌, ℕ, ◌+◌, List, [], ◌∷◌, drop, slice_get, Option, Some, None, Result, Ok, Err}
 use Rattle.std.specs.Option.{option_copied}
 use Rattle.std.specs.Result.{result_ok}
 use Rattle.std.specs.Borrow.{Bor}
@@ -33,6 +33,10 @@ row_start fields row = record { fields = fields; passed = 0; bytes = row.payload
 abbrev pub GivesFirst : Waiting → Option DataRow → Waiting → Type 0
 GivesFirst old None new = (old.rows ≡ []) × (new ≡ old)
 GivesFirst old (Some row) new = (old.rows ≡ row ∷ new.rows) × (new.fields ≡ old.fields)
+
+-- the rows behind the first
+abbrev pub others_of : Waiting → Waiting
+others_of waiting = record waiting { rows = drop 1 waiting.rows }
 
 -- ---- values
 
@@ -95,7 +99,8 @@ abbrev pub lent : Result (Option (Bor (List ℕ))) PgWireClientError → Result 
 lent (Ok bytes) = Ok (option_copied bytes)
 lent (Err e) = Err e
 
--- a call lends the value at a place; NULL is none. Where no value stands it answers so
-abbrev pub IsLent : Option Standing → Result (Option (List ℕ)) PgWireClientError → Type 0
-IsLent None result = result ≡ Err client.DataRowIndexOutOfBounds
-IsLent (Some (field, (value, rest))) result = result ≡ Ok value
+-- a call lends the value at a place, and leaves the place behind it; NULL is none. Where no value stands it answers so
+-- and stays
+abbrev pub Lends : Option Standing → Place → Place → Result (Option (List ℕ)) PgWireClientError → Type 0
+Lends None old new result = (result ≡ Err client.DataRowIndexOutOfBounds) × (new ≡ old)
+Lends (Some (field, (value, rest))) old new result = (result ≡ Ok value) × (new ≡ behind old rest)

@@ -2,19 +2,11 @@
 use Rattle.std.specs.Prelude.{◌≡◌, ℕ, ◌-◌, ◌≤◌, ◌<◌, List, [], ◌∷◌, length, drop, slice_range, Option, Some, None}
 use Rattle.std.specs.Vec.Iter.{into_iter_items}
 use Rattle.pgw_query.specs.declared.data.DataRow.{DataRow}
-use Rattle.pgw_rows.specs.declared.source.Source.{Source}
-use Rattle.pgw_rows.specs.declared.source.Source.TheVariants.{Own, Lent}
 use Rattle.pgw_rows.specs.declared.unread.Unread.{Unread}
 use Rattle.pgw_rows.specs.declared.unread.RowPlace.{RowPlace}
 use Rattle.pgw_rows.specs.declared.unread.First.{First}
 use Rattle.pgw_rows.specs.declared.unread.First.TheVariants as first
-use Rattle.pgw_rows.specs.declared.unread.Step.{Step}
-use Rattle.pgw_rows.specs.declared.unread.Step.TheVariants as step
 use Rattle.pgw_rows.specs.Runs.{AreLeft, rows_from}
-
-abbrev pub source_bytes : Source → List ℕ
-source_bytes (Own octets) = octets
-source_bytes (Lent octets) = octets.now
 
 abbrev pub unread_rows : Unread → List DataRow
 unread_rows u = rows_from u.left (drop u.at u.bytes) (into_iter_items u.runs)
@@ -25,7 +17,7 @@ IsUnread u = (u.at ≤ length u.bytes) × AreLeft u.left (drop u.at u.bytes) (in
 -- what comes first was looked for
 abbrev pub Opens : Unread → Unread → First → Type 0
 Opens old new first.Nothing = (unread_rows old ≡ []) × (unread_rows new ≡ [])
-Opens old new (first.Alone row) = unread_rows old ≡ row ∷ unread_rows new
+Opens old new (first.Alone row) = (unread_rows old ≡ row ∷ unread_rows new) × (new.left ≡ 0)
 Opens old new first.InRun = (unread_rows new ≡ unread_rows old) × (0 < new.left)
 
 -- the row at a place, whose payload lies there
@@ -45,18 +37,11 @@ pub record PassesRow (old : Unread) (place : RowPlace) (new : Unread) : Type 0 w
   pub same : new.bytes ≡ old.bytes
   pub rows : unread_rows old ≡ row_at old place ∷ unread_rows new
 
--- what came first no longer waits
-abbrev pub Steps : Unread → Unread → Step → Type 0
-Steps old new step.Nothing = unread_rows old ≡ []
-Steps old new (step.Alone row) = unread_rows old ≡ row ∷ unread_rows new
-Steps old new (step.InRun place) = unread_rows old ≡ row_at new place ∷ unread_rows new
+-- it lies in the bytes
+abbrev pub IsWithin : List ℕ → RowPlace → Type 0
+IsWithin bytes place = (place.from ≤ place.to) × (place.to ≤ length bytes)
 
--- the row that came first, its payload in these bytes
-abbrev pub stepped : List ℕ → Step → Option DataRow
-stepped bytes step.Nothing = None
-stepped bytes (step.Alone row) = Some row
-stepped bytes (step.InRun place) = Some (record { field_count = place.field_count; payload = slice_range bytes place.from place.to })
-
-abbrev pub IsWithin : List ℕ → Step → Type 0
-IsWithin bytes (step.InRun place) = (place.from ≤ place.to) × (place.to ≤ length bytes)
-IsWithin bytes s = Unit {0}
+-- what came first no longer waits, and its payload lies at the place
+abbrev pub Steps : Unread → Unread → Option RowPlace → Type 0
+Steps old new None = (unread_rows old ≡ []) × (unread_rows new ≡ [])
+Steps old new (Some place) = (unread_rows old ≡ row_at new place ∷ unread_rows new) × IsWithin new.bytes place

@@ -1,51 +1,40 @@
 //! A row, read value by value.
 ghost use Rattle.std.specs.Prelude.{◌≡◌, ◌⊎◌, ◌≤◌, ◌==◌, length, slice_range};
-ghost use Rattle.pgw_rows.specs.Rows.{Answers, IsLent, lent, read_by, row_start, standing_at};
+ghost use Rattle.pgw_rows.specs.Rows.{Answers, Lends, lent, read_by, row_start, standing_at};
 
 use crate::cut::{cut_out, pass, read_value};
 use crate::from_sql::{FromSql, FromSqlText};
-use crate::source::Source;
 use pgw_backend::client_error::{PgWireClientError, PgWireClientResult};
 use pgw_backend::field_info::FieldInfo;
 use pgw_query::data::DataRow;
 use pgw_types::octets::Octets;
 use std::alloc::Global;
-use std::marker::Model;
 
-/// A row, read value by value.
-#[derive(Drop)]
+/// A row, read value by value. It borrows the row, so what it lends lives as long as that; a copy
+/// stands where it does.
+#[derive(Clone, Copy)]
 pub struct DataRowDecoder<'a> {
     fields: &'a [FieldInfo],
-    source: Source<'a>,
+    row: &'a Octets,
     passed: usize,
     at: usize,
     end: usize,
-}
-
-impl<'a> Model for DataRowDecoder<'a> {
-    ghost use Rattle.std.specs.Prelude.{◌≤◌, drop, take, length};
-    ghost use Rattle.pgw_rows.specs.Rows.{Place};
-    ghost use Rattle.pgw_rows.specs.Unread.{source_bytes};
-
-    ghost Value = { Place };
-
-    ghost view = { λ d. record { fields = d.fields.now; passed = d.passed; bytes = drop d.at (take d.end (source_bytes d.source)) } };
-
-    ghost invariant = { λ d. (d.at ≤ d.end) × (d.end ≤ length (source_bytes d.source)) };
+    ghost within: { (at ≤ end) × (end ≤ length row.now) },
 }
 
 impl<'a> DataRowDecoder<'a> {
+    ghost use Rattle.pgw_rows.specs.Places.{place_of};
+
     /// A row whose values have these columns.
-    pub fn new(fields: &'a [FieldInfo], row: DataRow) -> DataRowDecoder<'a>
-        ensures { result ≡ row_start fields.now row }
+    pub fn new(fields: &'a [FieldInfo], row: &'a DataRow) -> DataRowDecoder<'a>
+        ensures { place_of result ≡ row_start fields.now row.now }
     {
-        let end = row.payload.len();
         DataRowDecoder {
             fields,
-            source: Source::Own(row.payload),
+            row: &row.payload,
             passed: 0,
             at: 0,
-            end,
+            end: row.payload.len(),
         }
     }
 
@@ -58,11 +47,15 @@ impl<'a> DataRowDecoder<'a> {
     ) -> DataRowDecoder<'a>
         requires ordered { from ≤ to }
         requires within { to ≤ length bytes.now }
-        ensures { result ≡ record { fields = fields.now; passed = 0; bytes = slice_range bytes.now from to } }
+        ensures { place_of result ≡ record {
+          fields = fields.now;
+          passed = 0;
+          bytes = slice_range bytes.now from to;
+        } }
     {
         DataRowDecoder {
             fields,
-            source: Source::Lent(bytes),
+            row: bytes,
             passed: 0,
             at: from,
             end: to,
@@ -71,14 +64,14 @@ impl<'a> DataRowDecoder<'a> {
 
     /// How many columns are described, those that were read among them.
     pub fn len(&self) -> usize
-        ensures { result ≡ length self.now.fields }
+        ensures { result ≡ length (place_of self.now).fields }
     {
         self.fields.len()
     }
 
     /// Whether no column is described.
     pub fn is_empty(&self) -> bool
-        ensures { result ≡ (length self.now.fields == 0) }
+        ensures { result ≡ (length (place_of self.now).fields == 0) }
     {
         self.fields.is_empty()
     }
@@ -93,13 +86,15 @@ impl<'a> DataRowDecoder<'a> {
         &mut self,
         alloc: Global,
     ) -> PgWireClientResult<Option<T>>
-        ensures { Answers (T.FromSql.may_lack ⊎ T.FromSqlText.may_lack) (read_by T.of_binary T.of_text) (standing_at self.old) self.old self.new result }
+        ensures { Answers (T.FromSql.may_lack ⊎ T.FromSqlText.may_lack)
+            (read_by T.of_binary T.of_text) (standing_at (place_of self.old))
+            (place_of self.old) (place_of self.new) result }
     {
         let fields = self.fields;
         let index = self.passed;
         let at = self.at;
         let end = self.end;
-        let bytes = self.source.octets();
+        let bytes = self.row;
         match pass(
             fields,
             &bytes.as_slice()[..end],
@@ -122,16 +117,12 @@ impl<'a> DataRowDecoder<'a> {
 
     /// Lends the bytes of the next value, whatever its format; NULL is none. It takes no memory,
     /// and passes the value over and answers `DataRowIndexOutOfBounds` as `next_value` does.
-    pub fn next_raw(&mut self) -> PgWireClientResult<Option<&[u8]>>
-        ensures { IsLent (standing_at self.old) (lent result) }
+    pub fn next_raw(&mut self) -> PgWireClientResult<Option<&'a [u8]>>
+        ensures { Lends (standing_at (place_of self.old))
+            (place_of self.old) (place_of self.new) (lent result) }
     {
-        let end = self.end;
-        let cut = pass(
-            self.fields,
-            &self.source.octets().as_slice()[..end],
-            &mut self.passed,
-            &mut self.at,
-        )?;
-        Ok(cut_out(&self.source.octets().as_slice()[..end], cut))
+        let bytes = &self.row.as_slice()[..self.end];
+        let cut = pass(self.fields, bytes, &mut self.passed, &mut self.at)?;
+        Ok(cut_out(bytes, cut))
     }
 }

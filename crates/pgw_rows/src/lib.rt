@@ -15,7 +15,6 @@ pub mod result;
 pub mod row_iter;
 pub mod row_ref;
 mod run;
-mod source;
 mod text;
 mod truth;
 mod unread;

@@ -1,6 +1,8 @@
 //! The rows of a result.
 ghost use Rattle.std.specs.Prelude.{◌≡◌, [], slice_get, IfOk, OnErr};
 ghost use Rattle.std.specs.Option.{option_map};
+ghost use Rattle.std.specs.Borrow.{sem};
+ghost use Rattle.pgw_rows.specs.Places.{place_of};
 ghost use Rattle.pgw_rows.specs.Rows.{GivesFirst, row_start};
 
 use crate::data_rows::DataRows;
@@ -31,6 +33,8 @@ impl Model for DataRowsReader {
 }
 
 impl DataRowsReader {
+    ghost use Rattle.pgw_rows.specs.Lending.{LeavesOthers};
+
     /// Rows with their columns.
     pub fn new(fields: Listed<FieldInfo>, rows: DataRows) -> DataRowsReader
         ensures { result ≡ record { fields = fields; rows = rows } }
@@ -74,9 +78,10 @@ impl DataRowsReader {
     /// The first of the rows that wait, to be read, which then no longer waits: as `take_row`, and
     /// `DataRowDecoder::new` over the row with `fields`. It takes no memory.
     pub fn next_row(&mut self) -> Option<DataRowDecoder<'_>>
-        ensures { result ≡ option_map (row_start self.old.fields) (slice_get self.old.rows 0) }
+        ensures* left { sem 𝓛 (LeavesOthers self.entry) }
+        ensures first { option_map place_of result
+            ≡ option_map (row_start self.old.fields) (slice_get self.old.rows 0) }
     {
-        let step = self.unread.step();
-        self.unread.begin(step)
+        self.unread.next_row()
     }
 }

@@ -1,9 +1,10 @@
 //! Rows that wait to be read.
-ghost use Rattle.std.specs.Prelude.{◌≡◌, ◌<◌};
-ghost use Rattle.pgw_rows.specs.Runs.{AreRuns, rows_of};
+ghost use Rattle.std.specs.Prelude.{◌≡◌, ◌<◌, slice_get};
 ghost use Rattle.std.specs.Option.{option_map};
+ghost use Rattle.pgw_rows.specs.Runs.{AreRuns, rows_of};
+ghost use Rattle.pgw_rows.specs.Places.{place_of};
 ghost use Rattle.pgw_rows.specs.Rows.{row_start};
-ghost use Rattle.pgw_rows.specs.Unread.{IsPlace, IsUnread, IsWithin, Opens, PassesRow, Steps, stepped, unread_rows};
+ghost use Rattle.pgw_rows.specs.Unread.{IsPlace, IsUnread, IsWithin, Opens, PassesRow, Steps, row_at, unread_rows};
 
 use crate::decoder::DataRowDecoder;
 use crate::run::{HEAD, Run, head_of};
@@ -34,14 +35,6 @@ pub enum First {
     InRun,
 }
 
-/// What came first of them, and no longer waits.
-#[derive(Drop)]
-pub enum Step {
-    Nothing,
-    Alone(DataRow),
-    InRun(RowPlace),
-}
-
 /// Where a row's payload lies, and how many values it has.
 #[derive(Clone, Copy)]
 pub struct RowPlace {
@@ -51,6 +44,9 @@ pub struct RowPlace {
 }
 
 impl Unread {
+    ghost use Rattle.std.specs.Borrow.{sem};
+    ghost use Rattle.pgw_rows.specs.Lending.{LeavesUnread};
+
     /// The rows of some runs.
     pub fn over(fields: Listed<FieldInfo>, runs: Vec<Run>) -> Unread
         requires { AreRuns runs.items }
@@ -115,39 +111,60 @@ impl Unread {
         self.left -= 1;
     }
 
-    /// Passes what comes first over.
-    pub fn step(&mut self) -> Step
+    // Keeps the bytes of a row alone, so that they can be lent.
+    fn hold(&mut self, row: DataRow) -> RowPlace
+        requires none { self.old.left ≡ 0 }
+        requires are { IsUnread self.old }
+        ensures are { IsUnread self.new }
+        ensures columns { self.new.fields ≡ self.old.fields }
+        ensures rows { unread_rows self.new ≡ unread_rows self.old }
+        ensures place { row_at self.new result ≡ row }
+        ensures within { IsWithin self.new.bytes result }
+    {
+        let end = row.payload.len();
+        self.bytes = row.payload;
+        self.at = end;
+        RowPlace {
+            field_count: row.field_count,
+            from: 0,
+            to: end,
+        }
+    }
+
+    /// Passes what comes first over, and answers where its payload lies.
+    pub fn step(&mut self) -> Option<RowPlace>
         requires { IsUnread self.old }
         ensures are { IsUnread self.new }
         ensures columns { self.new.fields ≡ self.old.fields }
         ensures step { Steps self.old self.new result }
-        ensures within { IsWithin self.new.bytes result }
     {
         match self.open() {
-            First::Nothing => Step::Nothing,
-            First::Alone(row) => Step::Alone(row),
+            First::Nothing => None,
+            First::Alone(row) => Some(self.hold(row)),
             First::InRun => {
                 let place = self.place();
                 self.pass(place);
-                Step::InRun(place)
+                Some(place)
             }
         }
     }
 
     /// The place before the first value of a row that was passed over.
-    pub fn begin(&self, step: Step) -> Option<DataRowDecoder<'_>>
-        requires { IsWithin self.now.bytes step }
-        ensures { result ≡ option_map (row_start self.now.fields) (stepped self.now.bytes step) }
+    pub fn begin(&self, place: RowPlace) -> DataRowDecoder<'_>
+        requires { IsWithin self.now.bytes place }
+        ensures { place_of result ≡ row_start self.now.fields (row_at self.now place) }
     {
-        match step {
-            Step::Nothing => None,
-            Step::Alone(row) => Some(DataRowDecoder::new(self.fields.as_slice(), row)),
-            Step::InRun(place) => Some(DataRowDecoder::within(
-                self.fields.as_slice(),
-                &self.bytes,
-                place.from,
-                place.to,
-            )),
-        }
+        DataRowDecoder::within(self.fields.as_slice(), &self.bytes, place.from, place.to)
+    }
+
+    /// Passes what comes first over, and lends it, to be read.
+    pub fn next_row(&mut self) -> Option<DataRowDecoder<'_>>
+        requires { IsUnread self.old }
+        ensures* left { sem 𝓛 (LeavesUnread self.entry) }
+        ensures first { option_map place_of result
+            ≡ option_map (row_start self.old.fields) (slice_get (unread_rows self.old) 0) }
+    {
+        let place = self.step()?;
+        Some(self.begin(place))
     }
 }
