@@ -62,7 +62,8 @@ fn add_values<T: FromSql + FromSqlText + Debug + Drop>(
     payload: &[u8],
     words: &mut String,
 ) -> Result<(), OutOfMemory> {
-    let mut decoder = DataRowDecoder::new(columns, row(alloc, payload)?);
+    let row = row(alloc, payload)?;
+    let mut decoder = DataRowDecoder::new(columns, &row);
     two_values::<T>(alloc, &mut decoder, words)?;
     add(alloc, words, decoder.next_raw())
 }
@@ -73,7 +74,8 @@ fn add_lent(
     payload: &[u8],
     words: &mut String,
 ) -> Result<(), OutOfMemory> {
-    let mut decoder = DataRowDecoder::new(columns, row(alloc, payload)?);
+    let row = row(alloc, payload)?;
+    let mut decoder = DataRowDecoder::new(columns, &row);
     add(alloc, words, (decoder.len(), decoder.is_empty()))?;
     two_lent(alloc, &mut decoder, words)
 }
@@ -171,6 +173,46 @@ fn other_rows(rt: HostRuntime) -> Result<(), Fail> {
     )
 }
 
+const TWO_NUMBERS: &[Kind] = &[(PgType::Int4, FieldFormat::Text); 2];
+
+const THREE_NUMBERS: &[Kind] = &[(PgType::Int4, FieldFormat::Text); 3];
+
+/// Rows with NULL among other values, and what two of them are read as, with what is lent behind them.
+const NULLS: &[(&[Kind], &[u8], &str)] = &[
+    (
+        TWO_NUMBERS,
+        b"\xff\xff\xff\xff\0\0\0\x017",
+        "Ok(None); Ok(Some(7)); Err(DataRowIndexOutOfBounds); ",
+    ),
+    (
+        TWO_NUMBERS,
+        b"\0\0\0\x017\xff\xff\xff\xff",
+        "Ok(Some(7)); Ok(None); Err(DataRowIndexOutOfBounds); ",
+    ),
+    (
+        THREE_NUMBERS,
+        b"\0\0\0\x017\xff\xff\xff\xff\0\0\0\x018",
+        "Ok(Some(7)); Ok(None); Ok(Some([56])); ",
+    ),
+    (
+        THREE_NUMBERS,
+        b"\xff\xff\xff\xff\xff\xff\xff\xff\0\0\0\x018",
+        "Ok(None); Ok(None); Ok(Some([56])); ",
+    ),
+];
+
+// The values behind a NULL stand where they do: it has a length, and no bytes.
+#[test]
+fn nulls_among_values(rt: HostRuntime) -> Result<(), Fail> {
+    for (kinds, payload, wanted) in NULLS {
+        same(values::<i32>(rt.alloc(), kinds, payload), wanted)?;
+    }
+    same(
+        lent(rt.alloc(), TWO_NUMBERS, b"\xff\xff\xff\xff\0\0\0\x017"),
+        "(2, false); Ok(None); Ok(Some([55])); ",
+    )
+}
+
 // What two values of the next row are read as.
 fn add_row<T: FromSql + FromSqlText + Debug + Drop>(
     alloc: Global,
@@ -250,7 +292,7 @@ fn rows_in_order(rt: HostRuntime) -> Result<(), Fail> {
 }
 
 fn of_a_run(alloc: Global) -> Result<String, Fail> {
-    let columns = columns(alloc, &[(PgType::Int4, FieldFormat::Text); 2])?;
+    let columns = columns(alloc, TWO_NUMBERS)?;
     let rows = some_rows(alloc)?;
     Ok(all_rows::<i32>(alloc, DataRowsReader::new(columns, rows))?)
 }
