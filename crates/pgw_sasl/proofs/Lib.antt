@@ -3,3 +3,4 @@ pub mod TokenLaws
 pub mod OfferLaws
 pub mod LastingLaws
 pub mod EntryLaws
+pub mod UnregisteredLaws

@@ -5,6 +5,7 @@ ghost use Rattle.pgw_sasl.specs.Sasl.{ByOauth, SaslMeans};
 ghost use Rattle.pgw_sasl.specs.Scram.{ByScram};
 ghost use Rattle.pgw_server.specs.Entry.{LetsInBy};
 ghost use Rattle.pgw_server.specs.Lasting.{KeepsReady};
+ghost use Rattle.pgw_server.specs.Unregistered.{Nowhere, StaysUnregistered};
 
 use crate::handler::SASLAuthStartupHandler;
 use crate::validator::OauthValidator;
@@ -37,6 +38,21 @@ where
         (ByScram A.answers handler.now.scram) (ByOauth handler.now.oauth (λ o. validates o.validator))
         (P.provides handler.now.parameter_provider) (M.registers handler.now.registry))
         (ProvesSasl A.answers handler.now.scram (λ o. validates o.validator) handler.now.oauth) }
+{
+    let _handler = handler;
+}
+
+/// Where the handler registers nothing, a login that is registered nowhere stays so, and keeps its pass.
+pub fn sasl_without_a_registry_keeps_its_pass<A, P, G, M>(
+    handler: &SASLAuthStartupHandler<A, P, G, M>,
+)
+where
+    A: AuthSource,
+    P: ServerParameterProvider,
+    ensures { StaysUnregistered
+        (SaslMeans (offered_methods handler.now.scram handler.now.oauth)
+        (ByScram A.answers handler.now.scram) (ByOauth handler.now.oauth (λ o. validates o.validator))
+        (P.provides handler.now.parameter_provider) Nowhere) }
 {
     let _handler = handler;
 }

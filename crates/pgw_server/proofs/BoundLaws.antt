@@ -20,17 +20,28 @@ still_bound state bound ne = refl
 bound_is : (stage : Stage) (bound : ℕ) → IsBounded stage bound → bound_at stage ≡ Some bound
 bound_is stage bound is = still_bound stage.client.state stage.bound is.1 ∙ is.0
 
-reads_so : (stage : Stage) (bound : ℕ) (bytes : List ℕ) → IsBounded stage bound → reading stage bytes ≡ met bytes (client_front stage.started (Some bound) stage.client.protocol_version bytes)
-reads_so stage bound bytes is = ap (λ (b : Option ℕ). met bytes (client_front stage.started b stage.client.protocol_version bytes)) (bound_is stage bound is)
+reads_so : (stage : Stage) (bound : ℕ) (bytes : List ℕ) → IsBounded stage bound
+    → reading stage bytes ≡ met bytes (client_front stage.started (Some bound) stage.client.protocol_version bytes)
+reads_so stage bound bytes is = ap (λ (b : Option ℕ). met bytes
+    (client_front stage.started b stage.client.protocol_version bytes)) (bound_is stage bound is)
 
-pub little_waits : (stage : Stage) (bound : ℕ) (bytes : List ℕ) → IsBounded stage bound → reading stage bytes ≡ More → length bytes ≤ max 10000 bound
-little_waits stage bound bytes is more = front_waits stage.started bound stage.client.protocol_version bytes (sym (reads_so stage bound bytes is) ∙ more)
+pub little_waits : (stage : Stage) (bound : ℕ) (bytes : List ℕ) → IsBounded stage bound → reading stage bytes ≡ More
+    → length bytes ≤ max 10000 bound
+little_waits stage bound bytes is more = front_waits stage.started bound stage.client.protocol_version bytes
+    (sym (reads_so stage bound bytes is) ∙ more)
 
-reads_typed : (stage : Stage) (bound : ℕ) (bytes : List ℕ) → IsBounded stage bound → stage.started ≡ true → reading stage bytes ≡ met bytes (client_front true (Some bound) stage.client.protocol_version bytes)
-reads_typed stage bound bytes is on = reads_so stage bound bytes is ∙ ap (λ (b : Bool). met bytes (client_front b (Some bound) stage.client.protocol_version bytes)) on
+reads_typed : (stage : Stage) (bound : ℕ) (bytes : List ℕ) → IsBounded stage bound → stage.started ≡ true
+    → reading stage bytes ≡ met bytes (client_front true (Some bound) stage.client.protocol_version bytes)
+reads_typed stage bound bytes is on = reads_so stage bound bytes is
+    ∙ ap (λ (b : Bool). met bytes (client_front b (Some bound) stage.client.protocol_version bytes)) on
 
-pub long_refused : (stage : Stage) (bound : ℕ) (bytes : List ℕ) (found : Option (Message × List ℕ)) → IsBounded stage bound → stage.started ≡ true → 5 ≤ length bytes → bound < stated_length 1 bytes → header_front stage bytes ≡ Ok found → reading stage bytes ≡ Bad (MessageTooLarge bound (stated_length 1 bytes))
-long_refused stage bound bytes found is on long more header = reads_typed stage bound bytes is on ∙ beyond_refused bound stage.client.protocol_version bytes found long more header
+pub long_refused : (stage : Stage) (bound : ℕ) (bytes : List ℕ) (found : Option (Message × List ℕ))
+    → IsBounded stage bound → stage.started ≡ true → 5 ≤ length bytes → bound < stated_length 1 bytes
+    → header_front stage bytes ≡ Ok found → reading stage bytes ≡ Bad (MessageTooLarge bound (stated_length 1 bytes))
+long_refused stage bound bytes found is on long more header = reads_typed stage bound bytes is on
+    ∙ beyond_refused bound stage.client.protocol_version bytes found long more header
 
-pub header_first : (stage : Stage) (bound : ℕ) (bytes : List ℕ) (why : PgWireError) → IsBounded stage bound → stage.started ≡ true → header_front stage bytes ≡ Err why → reading stage bytes ≡ Bad why
-header_first stage bound bytes why is on header = reads_typed stage bound bytes is on ∙ header_refused bound stage.client.protocol_version bytes why header
+pub header_first : (stage : Stage) (bound : ℕ) (bytes : List ℕ) (why : PgWireError) → IsBounded stage bound
+    → stage.started ≡ true → header_front stage bytes ≡ Err why → reading stage bytes ≡ Bad why
+header_first stage bound bytes why is on header = reads_typed stage bound bytes is on
+    ∙ header_refused bound stage.client.protocol_version bytes why header

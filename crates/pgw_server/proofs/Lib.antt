@@ -6,3 +6,4 @@ pub mod EntryActs
 pub mod PasswordEntry
 pub mod PieceLaws
 pub mod BoundLaws
+pub mod UnregisteredLaws

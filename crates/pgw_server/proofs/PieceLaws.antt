@@ -21,17 +21,25 @@ behind_none (Over ending sent) = refl
 
 module _ {S R M E : Type 0} (play : Play S R M E) (steady : ReadsSteadily play) where
   -- bytes were put out before
-  continues_behind : (out piece : List ℕ) (course there : Course S R) → Continues play course piece there → Continues play (behind out course) piece (behind out there)
-  continues_behind out piece (Waits state sent pending) there (c, leads, is) = (c, leads, ap (behind out) is ∙ behind_behind out sent c)
+  continues_behind : (out piece : List ℕ) (course there : Course S R) → Continues play course piece there
+      → Continues play (behind out course) piece (behind out there)
+  continues_behind out piece (Waits state sent pending) there (c, leads, is) =
+      (c, leads, ap (behind out) is ∙ behind_behind out sent c)
   continues_behind out piece (Over ending sent) there is = ap (behind out) is
 
   -- the bytes before a piece lead to a place, from which the piece leads on
   abbrev Cut : S → List ℕ → List ℕ → Course S R → Type 0
-  Cut state bytes piece there = (course : Course S R) × Leads play state bytes course × Continues play course piece there
+  Cut state bytes piece there = (course : Course S R) × Leads play state bytes course
+      × Continues play course piece there
 
   -- it waits for the piece
-  waits_for : (state : S) (bytes piece : List ℕ) (there : Course S R) → play.read state bytes ≡ More → Leads play state (bytes ++ piece) there → Cut state bytes piece there
-  waits_for state bytes piece there more leads = (Waits state [] bytes, waits state bytes more, (there, leads, sym (behind_none there)))
+  waits_for : (state : S) (bytes piece : List ℕ) (there : Course S R) → play.read state bytes ≡ More
+      → Leads play state (bytes ++ piece) there → Cut state bytes piece there
+  waits_for state bytes piece there more leads = (
+    Waits state [] bytes,
+    waits state bytes more,
+    (there, leads, sym (behind_none there)),
+  )
 
   -- what the front of the bytes is where that of all is known
   data Fronts (state : S) (bytes : List ℕ) (all : Front M E) : Type 0 where
@@ -45,25 +53,32 @@ module _ {S R M E : Type 0} (play : Play S R M E) (steady : ReadsSteadily play) 
     | is_whole m len k ↦ same_now (k ∙ sym (read_more (play.read state) (steady state) bytes piece m len k))
   ]
 
-  pub cut_at : (state : S) (bytes piece all : List ℕ) (there : Course S R) → all ≡ bytes ++ piece → Leads play state all there → Cut state bytes piece there
+  pub cut_at : (state : S) (bytes piece all : List ℕ) (there : Course S R) → all ≡ bytes ++ piece
+      → Leads play state all there → Cut state bytes piece there
   cut_at state bytes piece all there is (waits s bs more) = elim (fronts s bytes piece) [
-    | none_yet k ↦ waits_for s bytes piece _ k (subst (λ (l : List ℕ). Leads play s l (Waits s [] bs)) is (waits s bs more))
-    | same_now k ↦ waits_for s bytes piece _ (k ∙ ap (play.read s) (sym is) ∙ more) (subst (λ (l : List ℕ). Leads play s l (Waits s [] bs)) is (waits s bs more))
+    | none_yet k ↦ waits_for s bytes piece _ k (subst (λ (l : List ℕ). Leads play s l (Waits s [] bs)) is
+        (waits s bs more))
+    | same_now k ↦ waits_for s bytes piece _ (k ∙ ap (play.read s) (sym is) ∙ more)
+        (subst (λ (l : List ℕ). Leads play s l (Waits s [] bs)) is (waits s bs more))
   ]
   cut_at state bytes piece all there is (stops s bs why ending bad refuses) = elim (fronts s bytes piece) [
-    | none_yet k ↦ waits_for s bytes piece _ k (subst (λ (l : List ℕ). Leads play s l (Over ending [])) is (stops s bs why ending bad refuses))
+    | none_yet k ↦ waits_for s bytes piece _ k (subst (λ (l : List ℕ). Leads play s l (Over ending [])) is
+        (stops s bs why ending bad refuses))
     | same_now k ↦ (Over ending [], stops s bytes why ending (k ∙ ap (play.read s) (sym is) ∙ bad) refuses, refl)
   ]
   cut_at state bytes piece all there is (breaks s bs ending b) = (Over ending [], breaks s bytes ending b, refl)
   cut_at state bytes piece all there is (ends s bs m len ending out whole step) = elim (fronts s bytes piece) [
-    | none_yet k ↦ waits_for s bytes piece _ k (subst (λ (l : List ℕ). Leads play s l (Over ending out)) is (ends s bs m len ending out whole step))
+    | none_yet k ↦ waits_for s bytes piece _ k (subst (λ (l : List ℕ). Leads play s l (Over ending out)) is
+        (ends s bs m len ending out whole step))
     | same_now k ↦ (Over ending out, ends s bytes m len ending out (k ∙ ap (play.read s) (sym is) ∙ whole) step, refl)
   ]
   cut_at state bytes piece all there is (goes s next bs m len out c whole step on) = elim (fronts s bytes piece) [
-    | none_yet k ↦ waits_for s bytes piece _ k (subst (λ (l : List ℕ). Leads play s l (behind out c)) is (goes s next bs m len out c whole step on))
+    | none_yet k ↦ waits_for s bytes piece _ k (subst (λ (l : List ℕ). Leads play s l (behind out c)) is
+        (goes s next bs m len out c whole step on))
     | same_now k ↦
         let here : play.read s bytes ≡ Whole m len = k ∙ ap (play.read s) (sym is) ∙ whole in
-        let rest : drop len bs ≡ drop len bytes ++ piece = ap (drop len) is ∙ drop-append-le len bytes piece ((steady s).within bytes m len here) in
+        let rest : drop len bs ≡ drop len bytes ++ piece = ap (drop len) is
+        ∙ drop-append-le len bytes piece ((steady s).within bytes m len here) in
         let cut = cut_at next (drop len bytes) piece (drop len bs) c rest on in
         (behind out cut.0, goes s next bytes m len out cut.0 here step cut.1, continues_behind out piece cut.0 c cut.2)
   ]
@@ -71,30 +86,50 @@ module _ {S R M E : Type 0} (play : Play S R M E) (steady : ReadsSteadily play) 
 -- ---- a server
 
 module _ (means : Acts) where
-  pub cut : (begin : Stage) (given piece : List ℕ) (there : Course Stage Ending) → Leads (serving means) begin (given ++ piece) there
-      → (course : Course Stage Ending) × Leads (serving means) begin given course × Continues (serving means) course piece there
-  cut begin given piece there leads = cut_at (serving means) steady_at begin given piece (given ++ piece) there refl leads
+  pub cut : (begin : Stage) (given piece : List ℕ) (there : Course Stage Ending)
+      → Leads (serving means) begin (given ++ piece) there → (course : Course Stage Ending)
+      × Leads (serving means) begin given course × Continues (serving means) course piece there
+  cut begin given piece there leads = cut_at (serving means) steady_at begin given piece (given ++ piece) there refl
+      leads
 
-  pub joined : (begin : Stage) (given : List ℕ) (course : Course Stage Ending) (pieces : List (List ℕ)) (there : Course Stage Ending) → Leads (serving means) begin given course → LeadOn means course pieces there
+  pub joined : (begin : Stage) (given : List ℕ) (course : Course Stage Ending) (pieces : List (List ℕ))
+      (there : Course Stage Ending) → Leads (serving means) begin given course → LeadOn means course pieces there
       → Leads (serving means) begin (given ++ concat pieces) there
-  joined begin given course [] there leads is = subst (λ (c : Course Stage Ending). Leads (serving means) begin (given ++ []) c) (sym is) (subst (λ (l : List ℕ). Leads (serving means) begin l course) (sym (append-nil given)) leads)
+  joined begin given course [] there leads is = subst
+      (λ (c : Course Stage Ending). Leads (serving means) begin (given ++ []) c) (sym is)
+      (subst (λ (l : List ℕ). Leads (serving means) begin l course) (sym (append-nil given)) leads)
   joined begin given course (piece ∷ pieces) there leads (mid, on, rest) =
-      subst (λ (l : List ℕ). Leads (serving means) begin l there) (append_assoc given piece (concat pieces)) (joined begin (given ++ piece) mid pieces there (leads_on (serving means) steady_at begin given course piece mid leads on) rest)
+      subst (λ (l : List ℕ). Leads (serving means) begin l there) (append_assoc given piece (concat pieces))
+      (joined begin (given ++ piece) mid pieces there
+      (leads_on (serving means) steady_at begin given course piece mid leads on) rest)
 
-  pub cuts : (begin : Stage) (given : List ℕ) (pieces : List (List ℕ)) (there : Course Stage Ending) → Leads (serving means) begin (given ++ concat pieces) there
-      → (course : Course Stage Ending) × Leads (serving means) begin given course × LeadOn means course pieces there
-  cuts begin given [] there leads = (there, subst (λ (l : List ℕ). Leads (serving means) begin l there) (append-nil given) leads, refl)
+  pub cuts : (begin : Stage) (given : List ℕ) (pieces : List (List ℕ)) (there : Course Stage Ending)
+      → Leads (serving means) begin (given ++ concat pieces) there → (course : Course Stage Ending)
+      × Leads (serving means) begin given course × LeadOn means course pieces there
+  cuts begin given [] there leads = (
+    there,
+    subst (λ (l : List ℕ). Leads (serving means) begin l there)
+        (append-nil given) leads,
+    refl,
+  )
   cuts begin given (piece ∷ pieces) there leads =
-      let rest = cuts begin (given ++ piece) pieces there (subst (λ (l : List ℕ). Leads (serving means) begin l there) (sym (append_assoc given piece (concat pieces))) leads) in
+      let rest = cuts begin (given ++ piece) pieces there
+      (subst (λ (l : List ℕ). Leads (serving means) begin l there) (sym (append_assoc given piece (concat pieces)))
+      leads) in
       let here = cut begin given piece rest.0 rest.1 in
       (here.0, here.1, (rest.0, here.2, rest.2))
 
   -- from the beginning
-  pub joined_from_none : (begin : Stage) (piece : List ℕ) (pieces : List (List ℕ)) (there : Course Stage Ending) → LeadOn means (Waits begin [] []) (piece ∷ pieces) there → Leads (serving means) begin (concat (piece ∷ pieces)) there
+  pub joined_from_none : (begin : Stage) (piece : List ℕ) (pieces : List (List ℕ)) (there : Course Stage Ending)
+      → LeadOn means (Waits begin [] []) (piece ∷ pieces) there
+      → Leads (serving means) begin (concat (piece ∷ pieces)) there
   joined_from_none begin piece pieces there (mid, (course, leads, is), rest) =
-      joined begin piece mid pieces there (subst (Leads (serving means) begin piece) (sym (is ∙ behind_none course)) leads) rest
+      joined begin piece mid pieces there (subst (Leads (serving means) begin piece) (sym (is ∙ behind_none course))
+      leads) rest
 
-  pub cuts_from_none : (begin : Stage) (piece : List ℕ) (pieces : List (List ℕ)) (there : Course Stage Ending) → Leads (serving means) begin (concat (piece ∷ pieces)) there → LeadOn means (Waits begin [] []) (piece ∷ pieces) there
+  pub cuts_from_none : (begin : Stage) (piece : List ℕ) (pieces : List (List ℕ)) (there : Course Stage Ending)
+      → Leads (serving means) begin (concat (piece ∷ pieces)) there
+      → LeadOn means (Waits begin [] []) (piece ∷ pieces) there
   cuts_from_none begin piece pieces there leads =
       let c = cuts begin piece pieces there leads in
       (c.0, (c.0, c.1, sym (behind_none c.0)), c.2)

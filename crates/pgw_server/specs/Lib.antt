@@ -7,3 +7,4 @@ pub mod Taken
 pub mod Entry
 pub mod Pieces
 pub mod Bound
+pub mod Unregistered

@@ -17,6 +17,7 @@ ghost use Rattle.pgw_server.specs.Lasting.{IsReady, KeepsReady, StaysReady};
 ghost use Rattle.pgw_server.specs.Pieces.{LeadOn};
 ghost use Rattle.pgw_server.specs.Server.{Stage, Ending, reading, serving};
 ghost use Rattle.pgw_server.specs.Taken.{taken_in, Accounts};
+ghost use Rattle.pgw_server.specs.Unregistered.{Nowhere, StaysUnregistered};
 
 use pgw_login::handler::StartupHandler;
 use pgw_login::provider::ServerParameterProvider;
@@ -88,4 +89,12 @@ pub fn a_bound_holds_until_the_login()
     // What waits has no more bytes than the bound says, or 10000.
     ensures little { (stage : Stage) (bound : ℕ) (bytes : List ℕ) →
         IsBounded stage bound → reading stage bytes ≡ More → length bytes ≤ max 10000 bound }
+{}
+
+/// Where a handler registers nothing, a login that is registered nowhere stays so, also at an end, and its pass is the one
+/// that it was made with: behind `finish` there is no handle and no guard, and the pass can be let go or used again.
+pub fn a_login_without_a_registry_keeps_its_pass<A: AuthSource, P: ServerParameterProvider>()
+    ensures cleartext { (source : A) (provider : P) → StaysUnregistered (CleartextMeans (A.answers source) (P.provides provider) Nowhere) }
+    ensures md5 { (source : A) (provider : P) → StaysUnregistered (Md5Means (A.answers source) (P.provides provider) Nowhere) }
+    ensures noop { StaysUnregistered (NoopMeans (λ m. Passes) Nowhere) }
 {}
