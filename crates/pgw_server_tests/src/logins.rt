@@ -1,6 +1,10 @@
 //! Logins, however their bytes are cut.
 
 use crate::servers::{Asks, compare, server_says};
+use crate::support::Said;
+use pgw_types::memory::OutOfMemory;
+use std::alloc::Global;
+use std::process::Abort;
 use std::test::Fail;
 
 // A client's bytes, what the server answers in the end, and what it puts out.
@@ -103,6 +107,44 @@ fn ends_stay(rt: HostRuntime) -> Result<(), Fail> {
     for (bytes, cut, answer, out) in ENDS {
         let said = server_says(&rt, rt.alloc(), Asks::Cleartext, bytes, *cut)?;
         compare(&rt, said, answer, out, *cut);
+    }
+    Ok(())
+}
+
+// What comes behind the startup message under a bound of 16 bytes, and what the server answers in the end: of a message
+// that says it has more, the header alone has come.
+const BOUNDED: &[(&[u8], &str)] = &[
+    (b"Q\0\0\0\x10", "waiting"),
+    (b"Q\0\0\0\x11", "message of 17 bytes, above the limit 16"),
+    (b"z\0", "invalid message type 122"),
+    (
+        b"p\0\0\x27\x11",
+        "message of 10001 bytes, above the limit 10000",
+    ),
+    (b"p\0\0\0\x0bsecret\0Q\0\0\0\x11", "finished"),
+];
+
+fn behind_startup(alloc: Global, bytes: &[u8]) -> Result<Vec<u8>, OutOfMemory> {
+    let mut all = Vec::new(alloc);
+    all.extend_from_slice(b"\0\0\0\x12\0\x03\0\0user\0bob\0\0")?;
+    all.extend_from_slice(bytes)?;
+    Ok(all)
+}
+
+fn compare_answer<R: Abort>(rt: &R, said: Said, answer: &str, cut: usize) {
+    assert_eq!(rt; said.answer.as_str(), answer, "cut at {cut}");
+    drop(said);
+}
+
+// A bound holds from the startup message on until the client may ask.
+#[test]
+fn bound_before_a_login(rt: HostRuntime) -> Result<(), Fail> {
+    for (bytes, answer) in BOUNDED {
+        let all = behind_startup(rt.alloc(), bytes)?;
+        for cut in [1, 100] {
+            let said = server_says(&rt, rt.alloc(), Asks::CleartextWithin(16), &all, cut)?;
+            compare_answer(&rt, said, answer, cut);
+        }
     }
     Ok(())
 }

@@ -14,6 +14,8 @@ use std::process::Abort;
 #[derive(Clone, Copy, Drop)]
 pub enum Asks {
     Cleartext,
+    // under this bound
+    CleartextWithin(u32),
     Md5,
     Scram,
 }
@@ -26,6 +28,7 @@ pub const PENCIL: &[u8] =
 fn cleartext<R: Abort>(
     rt: &R,
     alloc: Global,
+    bound: Option<u32>,
     bytes: &[u8],
     cut: usize,
 ) -> Result<Said, OutOfMemory> {
@@ -35,7 +38,7 @@ fn cleartext<R: Abort>(
         password: b"secret",
     };
     let handler = CleartextPasswordAuthStartupHandler::new(source, NoParameters, generator);
-    hear(rt, alloc, handler, seat, bytes, cut)
+    hear(rt, alloc, handler, seat, bound, bytes, cut)
 }
 
 // A server that asks for the password `themanwhochangedchina` of `zmjiang` under MD5, with a salt.
@@ -46,7 +49,7 @@ fn md5<R: Abort>(rt: &R, alloc: Global, bytes: &[u8], cut: usize) -> Result<Said
         password: b"md521fe459d77d3e3ea9c9fcd5c11030d30",
     };
     let handler = Md5PasswordAuthStartupHandler::new(source, NoParameters, generator);
-    hear(rt, alloc, handler, seat, bytes, cut)
+    hear(rt, alloc, handler, seat, None, bytes, cut)
 }
 
 // SCRAM with twelve rounds.
@@ -64,7 +67,7 @@ fn pencil() -> ScramAuth<OnePassword> {
 fn scram<R: Abort>(rt: &R, alloc: Global, bytes: &[u8], cut: usize) -> Result<Said, OutOfMemory> {
     let (generator, seat) = RandomPidSecretKeyGenerator::new(alloc)?;
     let handler = SASLAuthStartupHandler::new(NoParameters, generator).with_scram(pencil());
-    hear(rt, alloc, handler, seat, bytes, cut)
+    hear(rt, alloc, handler, seat, None, bytes, cut)
 }
 
 /// What a server says to a client's bytes, so many at a time.
@@ -76,7 +79,8 @@ pub fn server_says<R: Abort>(
     cut: usize,
 ) -> Result<Said, OutOfMemory> {
     match asks {
-        Asks::Cleartext => cleartext(rt, alloc, bytes, cut),
+        Asks::Cleartext => cleartext(rt, alloc, None, bytes, cut),
+        Asks::CleartextWithin(bound) => cleartext(rt, alloc, Some(bound), bytes, cut),
         Asks::Md5 => md5(rt, alloc, bytes, cut),
         Asks::Scram => scram(rt, alloc, bytes, cut),
     }

@@ -133,27 +133,36 @@ fn take_all<H: StartupHandler>(
     Ok(answer)
 }
 
-fn core_of<H: StartupHandler>(alloc: Global, handler: H, seat: PidSeat) -> ServerCore<H>
-    requires { (state : TheState) → state.seat ≡ seat → state.pass ≡ None → H.fits handler state }
+fn core_of<H: StartupHandler>(
+    alloc: Global,
+    handler: H,
+    seat: PidSeat,
+    bound: Option<u32>,
+) -> ServerCore<H>
+    requires { (state : TheState) → state.seat ≡ seat → state.pass ≡ None → state.registered ≡ None → H.fits handler state }
     ensures { H.fits result.handler result.login }
 {
     let client = DefaultClient::new(alloc, Text::new(alloc), false, ());
     let state = LoginState::new([7; 18], [1; 32], seat, None);
-    ServerCore::start(alloc, handler, client, state)
+    match bound {
+        Some(bound) => ServerCore::start_within(alloc, handler, client, state, bound),
+        None => ServerCore::start(alloc, handler, client, state),
+    }
 }
 
-/// What a server with this handler says to a client's bytes, so many at a time.
+/// What a server with this handler says to a client's bytes, so many at a time, under a bound if there is one.
 pub fn hear<H: StartupHandler + Drop, R: Abort>(
     rt: &R,
     alloc: Global,
     handler: H,
     seat: PidSeat,
+    bound: Option<u32>,
     bytes: &[u8],
     cut: usize,
 ) -> Result<Said, OutOfMemory>
-    requires { (state : TheState) → state.seat ≡ seat → state.pass ≡ None → H.fits handler state }
+    requires { (state : TheState) → state.seat ≡ seat → state.pass ≡ None → state.registered ≡ None → H.fits handler state }
 {
-    let mut core = core_of(alloc, handler, seat);
+    let mut core = core_of(alloc, handler, seat, bound);
     let mut out = BytesMut::new(alloc);
     let answer = take_all(alloc, &mut core, bytes, cut, &mut out);
     close(rt, core);
