@@ -1,8 +1,8 @@
 //! Which query of which connection is to be canceled, and the process numbers of connections.
 //!
 //! To a server it promises that each answer and each change is the sequential registry's, of the registry that threads
-//! share at its place in one legal history. That history has no events but the calls that its passes made. Of the
-//! process numbers it promises that no seat draws one twice, nor two seats that meet one and the same.
+//! share at its place in one legal history. Once all passes have met, it has no events but their
+//! calls. Of the process numbers it promises that no seat draws one twice, nor two seats that meet one and the same.
 #![tactic(auto)]
 
 pub mod call;
