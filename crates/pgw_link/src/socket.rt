@@ -1,5 +1,5 @@
 //! A client's socket, over TCP or of the system.
-ghost use Rattle.std.specs.Prelude.{◌≡◌};
+ghost use Rattle.std.specs.Prelude.{◌≡◌, nat_lt, is_some};
 ghost use Rattle.pgw_link.specs.Log.{tape_of};
 
 use crate::link::{Link, LinkFault};
@@ -27,8 +27,10 @@ impl ClientSocket {
         }
     }
 
-    /// Why a call failed last.
-    pub fn failure(&self) -> Option<&io::Error> {
+    /// Why a call failed last, if one has failed.
+    pub fn failure(&self) -> Option<&io::Error>
+        ensures { is_some result ≡ nat_lt 0 (socket_faults self.now) }
+    {
         match self {
             ClientSocket::Plain(link) => link.failure(),
             ClientSocket::Unix(link) => link.failure(),
@@ -37,7 +39,8 @@ impl ClientSocket {
 
     /// Closes the socket. Gives what its calls did, and why one failed last.
     pub fn into_failure(self) -> (Log, Option<io::Error>)
-        ensures { tape_of result.0 ≡ socket_tape self }
+        ensures log { tape_of result.0 ≡ socket_tape self }
+        ensures failure { is_some result.1 ≡ nat_lt 0 (socket_faults self) }
     {
         match self {
             ClientSocket::Plain(link) => link.into_failure(),

@@ -1,5 +1,5 @@
 //! Links over the system's streams.
-ghost use Rattle.std.specs.Prelude.{◌<◌, ◌≤◌, ◌≡◌, length, IfOk};
+ghost use Rattle.std.specs.Prelude.{◌<◌, ◌≤◌, ◌≡◌, length, nat_lt, is_some, IfOk};
 ghost use Rattle.std.specs.Io.KnownBytes.{ReadConsumes, WriteAppends};
 ghost use Rattle.pgw_link.specs.Tape.{Rose, new_tape};
 ghost use Rattle.pgw_link.specs.Log.{tape_of};
@@ -16,6 +16,7 @@ use std::os::unix::net::UnixStream;
 /// The one impl serves every stream. So what it tells of a read and hands to its caller are the bytes that the stream
 /// gave, for each stream that states its bytes. A socket's stream states none, and is served by the same code. All
 /// contact with a stream stays in here: what a link tells is a note of its calls, and only this ties it to a stream.
+/// That a flush of the link flushes the stream is code: no stream states what its flush does.
 #[derive(Drop)]
 pub struct StreamLink<S: Read + Write + Drop> {
     stream: S,
@@ -23,6 +24,7 @@ pub struct StreamLink<S: Read + Write + Drop> {
     faults: u64,
     failure: Option<io::Error>,
     ghost flushed_in: { log.flushed ≤ length log.wrote },
+    ghost told: { is_some failure ≡ nat_lt 0 faults },
 }
 
 /// A link over TCP.
@@ -52,14 +54,17 @@ impl<S: Read + Write + Drop> StreamLink<S> {
         self.faults
     }
 
-    /// Why a call failed last.
-    pub fn failure(&self) -> Option<&io::Error> {
+    /// Why a call failed last, if one has failed.
+    pub fn failure(&self) -> Option<&io::Error>
+        ensures { is_some result ≡ nat_lt 0 self.now.faults }
+    {
         self.failure.as_ref()
     }
 
     /// Closes the stream. Gives what its calls did, and why one failed last.
     pub fn into_failure(self) -> (Log, Option<io::Error>)
-        ensures { result.0 ≡ self.log }
+        ensures log { result.0 ≡ self.log }
+        ensures failure { is_some result.1 ≡ nat_lt 0 self.faults }
     {
         let StreamLink { log, failure, .. } = self;
         (log, failure)

@@ -209,14 +209,15 @@ impl Write for Faulty {
     }
 
     fn flush(&mut self) -> io::Result<()> {
-        Ok(())
+        self.answer(0).map(|_| ())
     }
 }
 
-// The bytes that move, what four reads answer, what three writes answer, and the faults of the writes and a flush.
+// The bytes that move, what four reads answer, what three writes answer, and the faults of the writes and of a flush
+// that fails.
 const OVER_STREAMS: &[(usize, [usize; 4], [usize; 3], u64)] = &[
-    (2, [2, 9, 9, 9], [2, 9, 9], 2),
-    (0, [0, 9, 9, 9], [9, 9, 9], 3),
+    (2, [2, 9, 9, 9], [2, 9, 9], 3),
+    (0, [0, 9, 9, 9], [9, 9, 9], 4),
 ];
 
 #[test]
@@ -228,11 +229,17 @@ fn links_over_streams(rt: HostRuntime) {
         assert_eq!(rt; link.faults(), 3);
         let mut link = StreamLink::new(Faulty { calls: 0, moves });
         assert_eq!(rt; writes(&mut link, b"abc"), *wrote);
-        assert!(rt; link.flush().is_ok());
+        assert!(rt; link.flush().is_err());
         assert_eq!(rt; link.faults(), *faults);
-        assert_eq!(rt; link.failure().map(|error| error.kind()), Some(ErrorKind::ConnectionReset));
+        assert_eq!(rt;
+            link.failure().map(|error| error.kind()),
+            Some(ErrorKind::ConnectionReset)
+        );
         let (_, why) = link.into_failure();
-        assert_eq!(rt; why.map(|error| error.kind()), Some(ErrorKind::ConnectionReset));
+        assert_eq!(rt;
+            why.map(|error| error.kind()),
+            Some(ErrorKind::ConnectionReset)
+        );
     }
 }
 
