@@ -1,5 +1,5 @@
 //! A client over a link.
-ghost use Rattle.std.specs.Prelude.{◌≡◌, ◌≤◌, ℕ, length};
+ghost use Rattle.std.specs.Prelude.{◌≡◌, ◌≤◌, ℕ, false, length};
 ghost use Rattle.pgw_connection.specs.Desk.{client_of};
 ghost use Rattle.pgw_connection.specs.Calls.{Kept, KeptRest, kept, kept_rest, link_sight};
 
@@ -24,12 +24,17 @@ pub struct PgWireClient<L: Link> {
     pub(crate) read: u64,
     pub(crate) limit: u64,
     ghost within: { read ≤ limit },
+    // A client that can be used has flushed all that it wrote.
+    ghost flushed: { desk.broken ≡ false → (L.tape link).flushed ≡ length (L.tape link).wrote },
 }
 
 impl<L: Link> PgWireClient<L> {
     /// Whether an earlier error left the client unusable. It takes no memory.
     pub fn is_broken(&self) -> bool
-        ensures { result ≡ self.now.desk.broken }
+        ensures broken { result ≡ self.now.desk.broken }
+        // A client that can be used has flushed all that it wrote.
+        ensures flushed { result ≡ false →
+            (L.tape self.now.link).flushed ≡ length (L.tape self.now.link).wrote }
     {
         self.desk.broken
     }

@@ -6,7 +6,8 @@ ghost use Rattle.pgw_handlers.specs.Handling.{HasCause};
 ghost use Rattle.pgw_handlers.specs.Startup.{startup, HeardAtStartup};
 ghost use Rattle.pgw_connection.specs.Talk.{end};
 ghost use Rattle.pgw_connection.specs.Desk.{client_of, first_client, cancel_bytes};
-ghost use Rattle.pgw_connection.specs.Line.{Foretold, line};
+ghost use Rattle.pgw_connection.specs.Line.{Foretold};
+ghost use Rattle.pgw_connection.specs.Lent.{line_of};
 ghost use Rattle.pgw_connection.specs.Calls.{IsUsable, HeardNext, Talked, Call};
 ghost use Rattle.pgw_connection.specs.Connecting.{never, LeadsTo, IsRefusedBy, NoLink, LogsIn, ConnectedAt, NotConnectedAt, Connected, NotConnected, SentOnce, NotSentOnce, Cancels};
 ghost use Rattle.pgw_link.specs.Tape.{new_tape};
@@ -37,14 +38,15 @@ impl<L: Link> PgWireClient<L> {
         requires { self.old.desk.broken ≡ false }
         ensures limit { self.new.limit ≡ self.old.limit }
         ensures config { self.new.desk.config ≡ self.old.desk.config }
-        ensures shrinks { OnOk result (length self.new.inbox + self.old.read < length self.old.inbox + self.new.read) }
+        ensures shrinks { OnOk result
+            (length self.new.inbox + self.old.read < length self.old.inbox + self.new.read) }
         ensures cause { HasCause (L.faults self.old.link) (L.faults self.new.link) false result }
         ensures foretold { L.foretells → Foretold (L.left self.old.link) (L.left self.new.link)
             (L.tape self.old.link) (L.tape self.new.link) }
         ensures usable { OnOk result (self.new.desk.broken ≡ false) }
-        ensures heard { HeardNext (HeardAtStartup S.exchanges S.means) never handler.old (client_of self.old.desk)
-            (line (L.tape self.old.link) (L.faults self.old.link) self.old.inbox self.old.read self.old.limit)
-            (line (L.tape self.new.link) (L.faults self.new.link) self.new.inbox self.new.read self.new.limit)
+        ensures heard { HeardNext (HeardAtStartup S.exchanges S.means) never handler.old
+            (client_of self.old.desk)
+            (line_of L.tape L.faults self.old) (line_of L.tape L.faults self.new)
             handler.new (client_of self.new.desk) self.new.desk.broken result }
     {
         let message = match self.next_message(alloc) {
@@ -74,9 +76,9 @@ impl<L: Link> PgWireClient<L> {
         ensures foretold { L.foretells → Foretold (L.left self.old.link) (L.left self.new.link)
             (L.tape self.old.link) (L.tape self.new.link) }
         ensures usable { OnOk result (self.new.desk.broken ≡ false) }
-        ensures talked { Talked (HeardAtStartup S.exchanges S.means) never handler.old (client_of self.old.desk)
-            (line (L.tape self.old.link) (L.faults self.old.link) self.old.inbox self.old.read self.old.limit)
-            (line (L.tape self.new.link) (L.faults self.new.link) self.new.inbox self.new.read self.new.limit)
+        ensures talked { Talked (HeardAtStartup S.exchanges S.means) never handler.old
+            (client_of self.old.desk)
+            (line_of L.tape L.faults self.old) (line_of L.tape L.faults self.new)
             (end result (client_of self.new.desk) self.new.desk.broken self.new.inbox) }
     {
         'messages: loop {
@@ -101,9 +103,9 @@ impl<L: Link> PgWireClient<L> {
         ensures foretold { L.foretells → Foretold (L.left self.old.link) (L.left self.new.link)
             (L.tape self.old.link) (L.tape self.new.link) }
         ensures usable { OnOk result (self.new.desk.broken ≡ false) }
-        ensures asked { Call (λ before after answer. S.means before startup after answer) (HeardAtStartup S.exchanges S.means) never handler (client_of self.old.desk)
-            (line (L.tape self.old.link) (L.faults self.old.link) self.old.inbox self.old.read self.old.limit)
-            (line (L.tape self.new.link) (L.faults self.new.link) self.new.inbox self.new.read self.new.limit)
+        ensures asked { Call (λ before after answer. S.means before startup after answer)
+            (HeardAtStartup S.exchanges S.means) never handler (client_of self.old.desk)
+            (line_of L.tape L.faults self.old) (line_of L.tape L.faults self.new)
             (end result (client_of self.new.desk) self.new.desk.broken self.new.inbox) }
     {
         self.desk.clear();
@@ -127,9 +129,9 @@ impl<L: Link> PgWireClient<L> {
         ensures foretold { L.foretells → Foretold (L.left self.old.link) (L.left self.new.link)
             (L.tape self.old.link) (L.tape self.new.link) }
         ensures usable { OnOk result (self.new.desk.broken ≡ false) }
-        ensures logs_in { LogsIn (λ before after answer. S.means before startup after answer) (HeardAtStartup S.exchanges S.means) handler (client_of self.old.desk)
-            (line (L.tape self.old.link) (L.faults self.old.link) self.old.inbox self.old.read self.old.limit)
-            (line (L.tape self.new.link) (L.faults self.new.link) self.new.inbox self.new.read self.new.limit)
+        ensures logs_in { LogsIn (λ before after answer. S.means before startup after answer)
+            (HeardAtStartup S.exchanges S.means) handler (client_of self.old.desk)
+            (line_of L.tape L.faults self.old) (line_of L.tape L.faults self.new)
             (client_of self.new.desk) result }
     {
         let information = match self.start(alloc, handler) {
@@ -156,6 +158,7 @@ fn address_for(alloc: Global, config: &Config) -> PgWireClientResult<Address>
 
 // A client over a link of its own, before a server told anything.
 fn client_over<L: Link>(alloc: Global, config: Config, link: L, limit: u64) -> PgWireClient<L>
+    requires { (L.tape link).flushed ≡ length (L.tape link).wrote }
     ensures client { client_of result.desk ≡ first_client config }
     ensures broken { result.desk.broken ≡ false }
     ensures link { result.link ≡ link }
@@ -176,10 +179,13 @@ fn client_over<L: Link>(alloc: Global, config: Config, link: L, limit: u64) -> P
 fn dial_to<D: Dialer>(address: &Address, dialer: &mut D) -> PgWireClientResult<D::Link>
     ensures faultless { IfOk result (λ link. D.Link.faults link ≡ 0) }
     ensures calm { OnOk result (D.faults dialer.new ≡ D.faults dialer.old) }
-    ensures dialled { IfOk result (λ link. Dialled address.now (D.tape dialer.old) (D.tape dialer.new) (D.Link.tape link)) }
+    ensures dialled { IfOk result
+        (λ link. Dialled address.now (D.tape dialer.old) (D.tape dialer.new) (D.Link.tape link)) }
     ensures offered { D.foretells → IfOk result (λ link. D.Link.left link ≡ D.offer dialer.old) }
     ensures later { D.faults dialer.old ≤ D.faults dialer.new }
-    ensures failed { IfErr result (NoLink D.foretells address.now (D.offer dialer.old) (D.offer dialer.new) (D.tape dialer.old) (D.tape dialer.new) (D.faults dialer.old) (D.faults dialer.new)) }
+    ensures failed { IfErr result
+        (NoLink D.foretells address.now (D.offer dialer.old) (D.offer dialer.new)
+        (D.tape dialer.old) (D.tape dialer.new) (D.faults dialer.old) (D.faults dialer.new)) }
 {
     match dialer.dial(address) {
         Ok(link) => Ok(link),
@@ -190,7 +196,8 @@ fn dial_to<D: Dialer>(address: &Address, dialer: &mut D) -> PgWireClientResult<D
 
 // Gives a client's link up.
 fn hang_up<D: Dialer>(client: PgWireClient<D::Link>, dialer: &mut D)
-    ensures counts { CountsClose (D.faults dialer.old) (D.faults dialer.new) (D.Link.faults client.link) }
+    ensures counts { CountsClose (D.faults dialer.old) (D.faults dialer.new)
+        (D.Link.faults client.link) }
     ensures shut { Shut (D.tape dialer.old) (D.tape dialer.new) (D.Link.tape client.link) }
 {
     let PgWireClient {
@@ -213,11 +220,18 @@ fn connect_at<D: Dialer, S: StartupHandler + Drop>(
     dialer: &mut D,
     limit: u64,
 ) -> PgWireClientResult<PgWireClient<D::Link>>
-    ensures connected { IfOk result (λ client. ConnectedAt (λ before after answer. S.means before startup after answer) (HeardAtStartup S.exchanges S.means) handler config limit address.now
-        (D.tape dialer.old) (D.tape dialer.new) (client_of client.desk) (line (D.Link.tape client.link) (D.Link.faults client.link) client.inbox client.read client.limit)) }
-    ensures failed { IfErr result (NotConnectedAt D.foretells (λ before after answer. S.means before startup after answer) (HeardAtStartup S.exchanges S.means) handler config limit address.now
-        (D.offer dialer.old) (D.offer dialer.new) (D.tape dialer.old) (D.tape dialer.new) (D.faults dialer.old) (D.faults dialer.new)) }
-    ensures foretold { D.foretells → IfOk result (λ client. Foretold (D.offer dialer.old) (D.Link.left client.link)
+    ensures connected { IfOk result
+        (λ client. ConnectedAt (λ before after answer. S.means before startup after answer)
+        (HeardAtStartup S.exchanges S.means) handler config limit address.now
+        (D.tape dialer.old) (D.tape dialer.new) (client_of client.desk)
+        (line_of D.Link.tape D.Link.faults client)) }
+    ensures failed { IfErr result
+        (NotConnectedAt D.foretells (λ before after answer. S.means before startup after answer)
+        (HeardAtStartup S.exchanges S.means) handler config limit address.now
+        (D.offer dialer.old) (D.offer dialer.new) (D.tape dialer.old) (D.tape dialer.new)
+        (D.faults dialer.old) (D.faults dialer.new)) }
+    ensures foretold { D.foretells → IfOk result
+        (λ client. Foretold (D.offer dialer.old) (D.Link.left client.link)
         new_tape (D.Link.tape client.link)) }
     ensures cause { HasCause (D.faults dialer.old) (D.faults dialer.new) false result }
     ensures usable { IfOk result (λ client. client.desk.broken ≡ false) }
@@ -243,8 +257,11 @@ fn connect_at<D: Dialer, S: StartupHandler + Drop>(
 
 // Writes some bytes over a link of its own, which is closed behind that.
 fn send_once<D: Dialer>(bytes: &[u8], address: &Address, dialer: &mut D) -> PgWireClientResult<()>
-    ensures sent { OnOk result (SentOnce address.now bytes.now (D.tape dialer.old) (D.tape dialer.new)) }
-    ensures failed { IfErr result (NotSentOnce D.foretells address.now bytes.now (D.offer dialer.old) (D.offer dialer.new) (D.tape dialer.old) (D.tape dialer.new) (D.faults dialer.old) (D.faults dialer.new)) }
+    ensures sent { OnOk result
+        (SentOnce address.now bytes.now (D.tape dialer.old) (D.tape dialer.new)) }
+    ensures failed { IfErr result
+        (NotSentOnce D.foretells address.now bytes.now (D.offer dialer.old) (D.offer dialer.new)
+        (D.tape dialer.old) (D.tape dialer.new) (D.faults dialer.old) (D.faults dialer.new)) }
     ensures later { D.faults dialer.old ≤ D.faults dialer.new }
 {
     let mut link = match dial_to(address, dialer) {
@@ -271,13 +288,21 @@ impl<L: Link> PgWireClient<L> {
     ) -> PgWireClientResult<PgWireClient<L>>
         // The client stands over the link that was dialled, the handler's meaning over it ended with what the server told of
         // itself, and that was taken in.
-        ensures connected { IfOk result (λ client. Connected (λ before after answer. S.means before startup after answer) (HeardAtStartup S.exchanges S.means) startup_handler config limit
-            (D.tape dialer.old) (D.tape dialer.new) (client_of client.desk) (line (L.tape client.link) (L.faults client.link) client.inbox client.read client.limit)) }
+        ensures connected { IfOk result
+            (λ client. Connected (λ before after answer. S.means before startup after answer)
+            (HeardAtStartup S.exchanges S.means) startup_handler config limit
+            (D.tape dialer.old) (D.tape dialer.new) (client_of client.desk)
+            (line_of L.tape L.faults client)) }
         // Else there is no address, or no link, or the login failed and its link was closed.
-        ensures refused { IfErr result (NotConnected (dialer.new ≡ dialer.old) D.foretells (λ before after answer. S.means before startup after answer) (HeardAtStartup S.exchanges S.means) startup_handler config limit
-            (D.offer dialer.old) (D.offer dialer.new) (D.tape dialer.old) (D.tape dialer.new) (D.faults dialer.old) (D.faults dialer.new)) }
+        ensures refused { IfErr result
+            (NotConnected (dialer.new ≡ dialer.old) D.foretells
+            (λ before after answer. S.means before startup after answer)
+            (HeardAtStartup S.exchanges S.means) startup_handler config limit
+            (D.offer dialer.old) (D.offer dialer.new) (D.tape dialer.old) (D.tape dialer.new)
+            (D.faults dialer.old) (D.faults dialer.new)) }
         // Of a dialer that knows its offer: the bytes taken are its front, and the end is answered behind the last byte.
-        ensures foretold { D.foretells → IfOk result (λ client. Foretold (D.offer dialer.old) (L.left client.link)
+        ensures foretold { D.foretells → IfOk result
+            (λ client. Foretold (D.offer dialer.old) (L.left client.link)
             new_tape (L.tape client.link)) }
         // IoError comes only where the dialer's count rose, and Broken never.
         ensures cause { HasCause (D.faults dialer.old) (D.faults dialer.new) false result }
@@ -297,13 +322,17 @@ impl<L: Link> PgWireClient<L> {
     /// Asks the server to cancel what it does for this client: over a link of its own, which is closed behind that.
     /// It dials once at most, and the client's own link stays as it is.
     pub fn cancel<D: Dialer>(&self, alloc: Global, dialer: &mut D) -> PgWireClientResult<()>
-        ensures broken { self.now.desk.broken ≡ true → (result ≡ Err client.Broken) × (dialer.new ≡ dialer.old) }
+        ensures broken { self.now.desk.broken ≡ true → (result ≡ Err client.Broken) ×
+            (dialer.new ≡ dialer.old) }
         // One request was written to a link to the client's address and flushed; or why not.
-        ensures cancels { self.now.desk.broken ≡ false → Cancels (dialer.new ≡ dialer.old) D.foretells self.now.desk.config
+        ensures cancels { self.now.desk.broken ≡ false → Cancels (dialer.new ≡ dialer.old)
+            D.foretells self.now.desk.config
             (cancel_bytes self.now.desk.process_id self.now.desk.secret_key)
-            (D.offer dialer.old) (D.offer dialer.new) (D.tape dialer.old) (D.tape dialer.new) (D.faults dialer.old) (D.faults dialer.new) result }
+            (D.offer dialer.old) (D.offer dialer.new) (D.tape dialer.old) (D.tape dialer.new)
+            (D.faults dialer.old) (D.faults dialer.new) result }
         // IoError comes only where the dialer's count rose.
-        ensures cause { HasCause (D.faults dialer.old) (D.faults dialer.new) self.now.desk.broken result }
+        ensures cause { HasCause (D.faults dialer.old) (D.faults dialer.new) self.now.desk.broken
+            result }
     {
         if self.desk.broken {
             return Err(PgWireClientError::Broken);

@@ -5,7 +5,8 @@ ghost use Rattle.pgw_session.specs.declared.types.Request.{Request as TheRequest
 ghost use Rattle.pgw_handlers.specs.Handling.{HasCause, IsCaused};
 ghost use Rattle.pgw_handlers.specs.declared.client_info.ReadyState.TheVariants.{Pending};
 ghost use Rattle.pgw_connection.specs.Desk.{client_of};
-ghost use Rattle.pgw_connection.specs.Line.{Foretold, line};
+ghost use Rattle.pgw_connection.specs.Line.{Foretold};
+ghost use Rattle.pgw_connection.specs.Lent.{line_of};
 ghost use Rattle.pgw_connection.specs.Calls.{IsUsable};
 ghost use Rattle.pgw_connection.specs.Talk.{is_remote};
 ghost use Rattle.pgw_connection.specs.Extended.{none_gathered, finish, is_suspended};
@@ -76,8 +77,7 @@ impl<L: Link> PgWireClient<L> {
             (L.tape self.old.link) (L.tape self.new.link) }
         ensures usable { IsUsable no_error result self.new.desk.broken }
         ensures synced { Synced H.means handler.old (client_of self.old.desk)
-            (line (L.tape self.old.link) (L.faults self.old.link) self.old.inbox self.old.read self.old.limit)
-            (line (L.tape self.new.link) (L.faults self.new.link) self.new.inbox self.new.read self.new.limit)
+            (line_of L.tape L.faults self.old) (line_of L.tape L.faults self.new)
             handler.new (client_of self.new.desk) due result self.new.desk.broken }
     {
         if !due {
@@ -114,8 +114,7 @@ impl<L: Link> PgWireClient<L> {
             (L.tape self.old.link) (L.tape self.new.link) }
         ensures usable { IsUsable is_remote result self.new.desk.broken }
         ensures settled { Settled H.means due handler.old (client_of self.old.desk)
-            (line (L.tape self.old.link) (L.faults self.old.link) self.old.inbox self.old.read self.old.limit)
-            (line (L.tape self.new.link) (L.faults self.new.link) self.new.inbox self.new.read self.new.limit)
+            (line_of L.tape L.faults self.old) (line_of L.tape L.faults self.new)
             error handler.new (client_of self.new.desk) result self.new.desk.broken }
     {
         match self.sync(alloc, handler, due) {
@@ -143,14 +142,15 @@ impl<L: Link> PgWireClient<L> {
         requires usable { self.old.desk.broken ≡ false }
         ensures limit { self.new.limit ≡ self.old.limit }
         ensures config { self.new.desk.config ≡ self.old.desk.config }
-        ensures goes_on { result ≡ Ok Pending → (self.new.inbox ≡ self.old.inbox) × (self.new.read ≡ self.old.read) }
+        ensures goes_on { result ≡ Ok Pending → (self.new.inbox ≡ self.old.inbox) ×
+            (self.new.read ≡ self.old.read) }
         ensures cause { HasCause (L.faults self.old.link) (L.faults self.new.link) false result }
         ensures foretold { L.foretells → Foretold (L.left self.old.link) (L.left self.new.link)
             (L.tape self.old.link) (L.tape self.new.link) }
         ensures usable { IsUsable is_remote result self.new.desk.broken }
-        ensures heeded { HeededOne H.means kind handler.old (client_of self.old.desk) gathered.old message
-            (line (L.tape self.old.link) (L.faults self.old.link) self.old.inbox self.old.read self.old.limit)
-            (line (L.tape self.new.link) (L.faults self.new.link) self.new.inbox self.new.read self.new.limit)
+        ensures heeded { HeededOne H.means kind handler.old (client_of self.old.desk) gathered.old
+            message
+            (line_of L.tape L.faults self.old) (line_of L.tape L.faults self.new)
             handler.new (client_of self.new.desk) gathered.new result self.new.desk.broken }
     {
         match role(kind, false, &message) {
@@ -191,14 +191,14 @@ impl<L: Link> PgWireClient<L> {
         requires usable { self.old.desk.broken ≡ false }
         ensures limit { self.new.limit ≡ self.old.limit }
         ensures config { self.new.desk.config ≡ self.old.desk.config }
-        ensures shrinks { result ≡ Ok Pending → length self.new.inbox + self.old.read < length self.old.inbox + self.new.read }
+        ensures shrinks { result ≡ Ok Pending → length self.new.inbox + self.old.read < length
+            self.old.inbox + self.new.read }
         ensures cause { HasCause (L.faults self.old.link) (L.faults self.new.link) false result }
         ensures foretold { L.foretells → Foretold (L.left self.old.link) (L.left self.new.link)
             (L.tape self.old.link) (L.tape self.new.link) }
         ensures usable { IsUsable is_remote result self.new.desk.broken }
         ensures heeded { HeededNext H.means kind handler.old (client_of self.old.desk) gathered.old
-            (line (L.tape self.old.link) (L.faults self.old.link) self.old.inbox self.old.read self.old.limit)
-            (line (L.tape self.new.link) (L.faults self.new.link) self.new.inbox self.new.read self.new.limit)
+            (line_of L.tape L.faults self.old) (line_of L.tape L.faults self.new)
             handler.new (client_of self.new.desk) gathered.new self.new.desk.broken result }
     {
         match self.next_message(alloc) {
@@ -225,10 +225,11 @@ impl<L: Link> PgWireClient<L> {
         ensures foretold { L.foretells → Foretold (L.left self.old.link) (L.left self.new.link)
             (L.tape self.old.link) (L.tape self.new.link) }
         ensures usable { IsUsable is_remote result self.new.desk.broken }
-        ensures exchanged { Exchanged H.means kind handler.old (client_of self.old.desk) none_gathered
-            (line (L.tape self.old.link) (L.faults self.old.link) self.old.inbox self.old.read self.old.limit)
-            (line (L.tape self.new.link) (L.faults self.new.link) self.new.inbox self.new.read self.new.limit)
-            (finish result handler.new (client_of self.new.desk) self.new.desk.broken self.new.inbox) }
+        ensures exchanged { Exchanged H.means kind handler.old (client_of self.old.desk)
+            none_gathered
+            (line_of L.tape L.faults self.old) (line_of L.tape L.faults self.new)
+            (finish result handler.new (client_of self.new.desk) self.new.desk.broken
+            self.new.inbox) }
     {
         let mut gathered = nothing_gathered(alloc);
         'messages: loop {
@@ -256,9 +257,9 @@ impl<L: Link> PgWireClient<L> {
             (L.tape self.old.link) (L.tape self.new.link) }
         ensures usable { IsUsable may_stay result self.new.desk.broken }
         ensures called { Called H.means request.now handler.old (client_of self.old.desk)
-            (line (L.tape self.old.link) (L.faults self.old.link) self.old.inbox self.old.read self.old.limit)
-            (line (L.tape self.new.link) (L.faults self.new.link) self.new.inbox self.new.read self.new.limit)
-            (finish result handler.new (client_of self.new.desk) self.new.desk.broken self.new.inbox) }
+            (line_of L.tape L.faults self.old) (line_of L.tape L.faults self.new)
+            (finish result handler.new (client_of self.new.desk) self.new.desk.broken
+            self.new.inbox) }
     {
         let messages = match sends_of(alloc, request) {
             Ok(messages) => messages,
@@ -277,9 +278,11 @@ impl<L: Link> PgWireClient<L> {
 
     // What becomes of a client for whose request memory was wanting.
     pub(crate) fn starve(&mut self) -> PgWireClientError
-        ensures broken { self.old.desk.broken ≡ true → (result ≡ client.Broken) × (self.new ≡ self.old) }
-        ensures starved { self.old.desk.broken ≡ false → (result ≡ client.OutOfMemory) × (self.new.desk.broken ≡ true) }
-        ensures line { line (L.tape self.new.link) (L.faults self.new.link) self.new.inbox self.new.read self.new.limit ≡ line (L.tape self.old.link) (L.faults self.old.link) self.old.inbox self.old.read self.old.limit }
+        ensures broken { self.old.desk.broken ≡ true → (result ≡ client.Broken) ×
+            (self.new ≡ self.old) }
+        ensures starved { self.old.desk.broken ≡ false → (result ≡ client.OutOfMemory) ×
+            (self.new.desk.broken ≡ true) }
+        ensures line { line_of L.tape L.faults self.new ≡ line_of L.tape L.faults self.old }
         ensures link { self.new.link ≡ self.old.link }
         ensures within { self.new.read ≤ self.new.limit }
         ensures config { self.new.desk.config ≡ self.old.desk.config }
@@ -302,15 +305,19 @@ impl<L: Link> PgWireClient<L> {
         ensures within { self.new.read ≤ self.new.limit }
         ensures limit { self.new.limit ≡ self.old.limit }
         ensures config { self.new.desk.config ≡ self.old.desk.config }
-        ensures cause { HasCause (L.faults self.old.link) (L.faults self.new.link) self.old.desk.broken result }
+        ensures cause { HasCause (L.faults self.old.link) (L.faults self.new.link)
+            self.old.desk.broken result }
         ensures foretold { L.foretells → Foretold (L.left self.old.link) (L.left self.new.link)
             (L.tape self.old.link) (L.tape self.new.link) }
-        ensures broken { self.old.desk.broken ≡ true → (result ≡ Err client.Broken) × (self.new ≡ self.old) × (handler.new ≡ handler.old) }
-        ensures usable { self.old.desk.broken ≡ false → IsUsable may_stay result self.new.desk.broken }
-        ensures called { (q : TheRequest) → IfOk request (λ r. r ≡ q) → self.old.desk.broken ≡ false → Called H.means q handler.old (client_of self.old.desk)
-            (line (L.tape self.old.link) (L.faults self.old.link) self.old.inbox self.old.read self.old.limit)
-            (line (L.tape self.new.link) (L.faults self.new.link) self.new.inbox self.new.read self.new.limit)
-            (finish result handler.new (client_of self.new.desk) self.new.desk.broken self.new.inbox) }
+        ensures broken { self.old.desk.broken ≡ true → (result ≡ Err client.Broken) ×
+            (self.new ≡ self.old) × (handler.new ≡ handler.old) }
+        ensures usable { self.old.desk.broken ≡ false → IsUsable may_stay result
+            self.new.desk.broken }
+        ensures called { (q : TheRequest) → IfOk request (λ r. r ≡ q) → self.old.desk.broken ≡ false
+            → Called H.means q handler.old (client_of self.old.desk)
+            (line_of L.tape L.faults self.old) (line_of L.tape L.faults self.new)
+            (finish result handler.new (client_of self.new.desk) self.new.desk.broken
+            self.new.inbox) }
     {
         if self.desk.broken {
             drop(request);

@@ -46,7 +46,9 @@ impl<'a, L: Link, H: ExtendedQueryHandler> ExtendedQueryClient<'a, L, H> {
         alloc: Global,
         request: Result<Request, OutOfMemory>,
     ) -> PgWireClientResult<(Gathered<H::QueryResponse>, bool)>
-        ensures asks { (q : TheRequest) → IfOk request (λ r. r ≡ q) → Asks L.foretells L.left L.tape L.faults H.means q both self.old.handler.now self.new.handler.now self.old.client.now self.new.client.now result }
+        ensures asks { (q : TheRequest) → IfOk request (λ r. r ≡ q) → Asks L.foretells L.left L.tape
+            L.faults H.means q both self.old.handler.now self.new.handler.now self.old.client.now
+            self.new.client.now result }
         ensures same_client { self.new.client.ghost_name ≡ self.old.client.ghost_name }
         ensures same_handler { self.new.handler.ghost_name ≡ self.old.handler.ghost_name }
     {
@@ -55,7 +57,9 @@ impl<'a, L: Link, H: ExtendedQueryHandler> ExtendedQueryClient<'a, L, H> {
 
     // Memory was wanting for a request.
     fn starve(&mut self) -> PgWireClientError
-        ensures asks { (q : TheRequest) → Asks L.foretells L.left L.tape L.faults H.means q both self.old.handler.now self.new.handler.now self.old.client.now self.new.client.now (Err result) }
+        ensures asks { (q : TheRequest) → Asks L.foretells L.left L.tape L.faults H.means q both
+            self.old.handler.now self.new.handler.now self.old.client.now self.new.client.now
+            (Err result) }
         ensures same_client { self.new.client.ghost_name ≡ self.old.client.ghost_name }
         ensures same_handler { self.new.handler.ghost_name ≡ self.old.handler.ghost_name }
     {
@@ -70,7 +74,10 @@ impl<'a, L: Link, H: ExtendedQueryHandler> ExtendedQueryClient<'a, L, H> {
         query: &str,
         param_types: &[u32],
     ) -> PgWireClientResult<PrepareResponse>
-        ensures asks { Asks L.foretells L.left L.tape L.faults H.means (request.Prepare (option_copied name.entry) query.now param_types.now) (prepared (option_copied name.entry)) self.old.handler.now self.new.handler.now self.old.client.now self.new.client.now result }
+        ensures asks { Asks L.foretells L.left L.tape L.faults H.means
+            (request.Prepare (option_copied name.entry) query.now param_types.now)
+            (prepared (option_copied name.entry)) self.old.handler.now self.new.handler.now
+            self.old.client.now self.new.client.now result }
         ensures same_client { self.new.client.ghost_name ≡ self.old.client.ghost_name }
         ensures same_handler { self.new.handler.ghost_name ≡ self.old.handler.ghost_name }
     {
@@ -96,7 +103,10 @@ impl<'a, L: Link, H: ExtendedQueryHandler> ExtendedQueryClient<'a, L, H> {
         params: Listed<Option<Octets>>,
         result_formats: Listed<i16>,
     ) -> PgWireClientResult<()>
-        ensures asks { Asks L.foretells L.left L.tape L.faults H.means (request.Bind (option_copied portal.entry) (option_copied statement.entry) params result_formats) no_answer self.old.handler.now self.new.handler.now self.old.client.now self.new.client.now result }
+        ensures asks { Asks L.foretells L.left L.tape L.faults H.means
+            (request.Bind (option_copied portal.entry) (option_copied statement.entry) params
+            result_formats) no_answer self.old.handler.now self.new.handler.now self.old.client.now
+            self.new.client.now result }
         ensures same_client { self.new.client.ghost_name ≡ self.old.client.ghost_name }
         ensures same_handler { self.new.handler.ghost_name ≡ self.old.handler.ghost_name }
     {
@@ -114,7 +124,9 @@ impl<'a, L: Link, H: ExtendedQueryHandler> ExtendedQueryClient<'a, L, H> {
         portal: Option<&str>,
         max_rows: i32,
     ) -> PgWireClientResult<ExecuteResult<Listed<H::QueryResponse>>>
-        ensures asks { Asks L.foretells L.left L.tape L.faults H.means (request.Execute (option_copied portal.entry) max_rows) executed self.old.handler.now self.new.handler.now self.old.client.now self.new.client.now result }
+        ensures asks { Asks L.foretells L.left L.tape L.faults H.means
+            (request.Execute (option_copied portal.entry) max_rows) executed self.old.handler.now
+            self.new.handler.now self.old.client.now self.new.client.now result }
         ensures same_client { self.new.client.ghost_name ≡ self.old.client.ghost_name }
         ensures same_handler { self.new.handler.ghost_name ≡ self.old.handler.ghost_name }
     {
@@ -130,7 +142,9 @@ impl<'a, L: Link, H: ExtendedQueryHandler> ExtendedQueryClient<'a, L, H> {
         alloc: Global,
         target: DescribeTarget<'_>,
     ) -> PgWireClientResult<DescribeResponse>
-        ensures asks { Asks L.foretells L.left L.tape L.faults H.means (request.Describe (target_of target.entry)) described self.old.handler.now self.new.handler.now self.old.client.now self.new.client.now result }
+        ensures asks { Asks L.foretells L.left L.tape L.faults H.means
+            (request.Describe (target_of target.entry)) described self.old.handler.now
+            self.new.handler.now self.old.client.now self.new.client.now result }
         ensures same_client { self.new.client.ghost_name ≡ self.old.client.ghost_name }
         ensures same_handler { self.new.handler.ghost_name ≡ self.old.handler.ghost_name }
     {
@@ -145,7 +159,9 @@ impl<'a, L: Link, H: ExtendedQueryHandler> ExtendedQueryClient<'a, L, H> {
 
     /// Closes a statement or a portal.
     pub fn close(&mut self, alloc: Global, target: DescribeTarget<'_>) -> PgWireClientResult<()>
-        ensures asks { Asks L.foretells L.left L.tape L.faults H.means (request.Close (target_of target.entry)) no_answer self.old.handler.now self.new.handler.now self.old.client.now self.new.client.now result }
+        ensures asks { Asks L.foretells L.left L.tape L.faults H.means
+            (request.Close (target_of target.entry)) no_answer self.old.handler.now
+            self.new.handler.now self.old.client.now self.new.client.now result }
         ensures same_client { self.new.client.ghost_name ≡ self.old.client.ghost_name }
         ensures same_handler { self.new.handler.ghost_name ≡ self.old.handler.ghost_name }
     {
@@ -163,7 +179,9 @@ impl<'a, L: Link, H: ExtendedQueryHandler> ExtendedQueryClient<'a, L, H> {
         param_types: &[u32],
         params: Listed<Option<Octets>>,
     ) -> PgWireClientResult<Listed<H::QueryResponse>>
-        ensures asks { Asks L.foretells L.left L.tape L.faults H.means (request.Query sql.now param_types.now params) all_responses self.old.handler.now self.new.handler.now self.old.client.now self.new.client.now result }
+        ensures asks { Asks L.foretells L.left L.tape L.faults H.means
+            (request.Query sql.now param_types.now params) all_responses self.old.handler.now
+            self.new.handler.now self.old.client.now self.new.client.now result }
         ensures same_client { self.new.client.ghost_name ≡ self.old.client.ghost_name }
         ensures same_handler { self.new.handler.ghost_name ≡ self.old.handler.ghost_name }
     {

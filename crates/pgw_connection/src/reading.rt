@@ -2,7 +2,8 @@
 ghost use Rattle.std.specs.Prelude.{◌≡◌, ◌⊎◌, ◌≤◌, ◌<◌, ◌+◌, length, true, false, Ok, Err, OnOk, OnErr, IfErr, IsErrOf};
 ghost use Rattle.pgw_backend.specs.declared.client_error.PgWireClientError.TheVariants as client;
 ghost use Rattle.pgw_connection.specs.Desk.{client_of};
-ghost use Rattle.pgw_connection.specs.Line.{Foretold, line};
+ghost use Rattle.pgw_connection.specs.Line.{Foretold};
+ghost use Rattle.pgw_connection.specs.Lent.{line_of};
 ghost use Rattle.pgw_connection.specs.Reading.{ReadOnce, Came, PassedOver, awaited};
 ghost use Rattle.pgw_link.specs.Foresight.{Ends, Foreseen};
 ghost use Rattle.pgw_client.specs.Wire.{IsOwn};
@@ -61,17 +62,18 @@ impl<L: Link> PgWireClient<L> {
         ensures limit { self.new.limit ≡ self.old.limit }
         ensures later { self.old.read ≤ self.new.read }
         ensures grows { result ≡ Ok true → self.old.read < self.new.read }
-        ensures kept { OnOk result (length self.new.inbox + self.old.read ≡ length self.old.inbox + self.new.read) }
+        ensures kept { OnOk result
+            (length self.new.inbox + self.old.read ≡ length self.old.inbox + self.new.read) }
         ensures chunk { length self.new.inbox ≤ length self.old.inbox + 8192 }
         ensures limited { self.old.read ≡ self.old.limit → IsErrOf result client.ReadLimit }
         ensures below { IsErrOf result client.ReadLimit → self.old.read ≡ self.old.limit }
         ensures cause { HasCause (L.faults self.old.link) (L.faults self.new.link) false result }
         ensures foreseen { L.foretells → Foreseen (L.left self.old.link) (L.left self.new.link)
             (L.tape self.old.link) (L.tape self.new.link) }
-        ensures ends { L.foretells → Ends (L.left self.new.link) (L.tape self.old.link) (L.tape self.new.link) }
+        ensures ends { L.foretells → Ends (L.left self.new.link) (L.tape self.old.link)
+            (L.tape self.new.link) }
         ensures reads { ReadOnce
-            (line (L.tape self.old.link) (L.faults self.old.link) self.old.inbox self.old.read self.old.limit)
-            (line (L.tape self.new.link) (L.faults self.new.link) self.new.inbox self.new.read self.new.limit) result }
+            (line_of L.tape L.faults self.old) (line_of L.tape L.faults self.new) result }
     {
         if self.read >= self.limit {
             return Err(PgWireClientError::ReadLimit);
@@ -95,19 +97,21 @@ impl<L: Link> PgWireClient<L> {
     /// Reads once, no more than 8192 bytes and no more than the limit leaves. False at the link's end.
     #[tactic(auto, using(crate::proofs::ForetoldLaws::foretold_still))]
     pub fn fill(&mut self) -> PgWireClientResult<bool>
-        ensures broken { self.old.desk.broken ≡ true → (result ≡ Err client.Broken) × (self.new ≡ self.old) }
+        ensures broken { self.old.desk.broken ≡ true → (result ≡ Err client.Broken) ×
+            (self.new ≡ self.old) }
         // ReadLimit comes exactly where the limit is reached.
-        ensures limited { self.old.desk.broken ≡ false → self.old.read ≡ self.old.limit → IsErrOf result client.ReadLimit }
+        ensures limited { self.old.desk.broken ≡ false → self.old.read ≡ self.old.limit → IsErrOf
+            result client.ReadLimit }
         ensures below { IsErrOf result client.ReadLimit → self.old.read ≡ self.old.limit }
         // It reads once: true comes only where bytes came.
         ensures grows { result ≡ Ok true → self.old.read < self.new.read }
         // The link is read once, or not at all where the limit is reached. What was read stands behind what stood in the
         // buffer; where the end is answered, it finds flushed what was flushed before.
         ensures reads { self.old.desk.broken ≡ false → ReadOnce
-            (line (L.tape self.old.link) (L.faults self.old.link) self.old.inbox self.old.read self.old.limit)
-            (line (L.tape self.new.link) (L.faults self.new.link) self.new.inbox self.new.read self.new.limit) result }
+            (line_of L.tape L.faults self.old) (line_of L.tape L.faults self.new) result }
         ensures buffered { length self.new.inbox ≤ length self.old.inbox + 8192 }
-        ensures cause { HasCause (L.faults self.old.link) (L.faults self.new.link) self.old.desk.broken result }
+        ensures cause { HasCause (L.faults self.old.link) (L.faults self.new.link)
+            self.old.desk.broken result }
         // Of a link that knows what is to come: the bytes taken are its front, and the end is answered behind the last byte.
         ensures foretold { L.foretells → Foretold (L.left self.old.link) (L.left self.new.link)
             (L.tape self.old.link) (L.tape self.new.link) }
@@ -137,11 +141,15 @@ impl<L: Link> PgWireClient<L> {
         &mut self,
         alloc: Global,
     ) -> PgWireClientResult<ReadyState<PgWireBackendMessage>>
-        ensures broken { self.old.desk.broken ≡ true → (result ≡ Err client.Broken) × (self.new ≡ self.old) }
-        ensures polled { self.old.desk.broken ≡ false → Polled self.old.desk.protocol_version self.old.inbox self.new.inbox self.new.desk.broken result }
+        ensures broken { self.old.desk.broken ≡ true → (result ≡ Err client.Broken) ×
+            (self.new ≡ self.old) }
+        ensures polled { self.old.desk.broken ≡ false → Polled self.old.desk.protocol_version
+            self.old.inbox self.new.inbox self.new.desk.broken result }
         // Where Pending comes, fewer bytes are in the buffer than the message at its front has.
-        ensures awaits { self.old.desk.broken ≡ false → result ≡ Ok Pending → length self.old.inbox < awaited self.old.inbox }
-        ensures empty { self.old.desk.broken ≡ false → length self.old.inbox ≡ 0 → (result ≡ Ok Pending) × (self.new ≡ self.old) }
+        ensures awaits { self.old.desk.broken ≡ false → result ≡ Ok Pending → length
+            self.old.inbox < awaited self.old.inbox }
+        ensures empty { self.old.desk.broken ≡ false → length self.old.inbox ≡ 0 →
+            (result ≡ Ok Pending) × (self.new ≡ self.old) }
         ensures calm { self.old.desk.broken ≡ false → IfErr result IsOwn }
         ensures client { client_of self.new.desk ≡ client_of self.old.desk }
         ensures link { self.new.link ≡ self.old.link }
@@ -169,13 +177,13 @@ impl<L: Link> PgWireClient<L> {
     pub(crate) fn next_message(&mut self, alloc: Global) -> PgWireClientResult<PgWireBackendMessage>
         ensures desk { self.new.desk ≡ self.old.desk }
         ensures limit { self.new.limit ≡ self.old.limit }
-        ensures shrinks { OnOk result (length self.new.inbox + self.old.read < length self.old.inbox + self.new.read) }
+        ensures shrinks { OnOk result
+            (length self.new.inbox + self.old.read < length self.old.inbox + self.new.read) }
         ensures cause { HasCause (L.faults self.old.link) (L.faults self.new.link) false result }
         ensures foretold { L.foretells → Foretold (L.left self.old.link) (L.left self.new.link)
             (L.tape self.old.link) (L.tape self.new.link) }
         ensures came { Came (client_of self.old.desk)
-            (line (L.tape self.old.link) (L.faults self.old.link) self.old.inbox self.old.read self.old.limit)
-            (line (L.tape self.new.link) (L.faults self.new.link) self.new.inbox self.new.read self.new.limit) result }
+            (line_of L.tape L.faults self.old) (line_of L.tape L.faults self.new) result }
     {
         'reads: loop {
             match self.inbox.next_message(alloc, self.desk.protocol_version) {
@@ -209,10 +217,10 @@ impl<L: Link> PgWireClient<L> {
             (L.tape self.old.link) (L.tape self.new.link) }
         // An error behind which the client can be used is the one given, or one behind which it goes on.
         ensures usable { (self.new.desk.broken ≡ true) ⊎ (result ≡ error) ⊎ (passes result ≡ true) }
-        ensures remote { (self.new.desk.broken ≡ true) ⊎ (result ≡ error) ⊎ (is_remote result ≡ true) }
+        ensures remote { (self.new.desk.broken ≡ true) ⊎ (result ≡ error) ⊎
+            (is_remote result ≡ true) }
         ensures passed { PassedOver error (client_of self.old.desk)
-            (line (L.tape self.old.link) (L.faults self.old.link) self.old.inbox self.old.read self.old.limit)
-            (line (L.tape self.new.link) (L.faults self.new.link) self.new.inbox self.new.read self.new.limit)
+            (line_of L.tape L.faults self.old) (line_of L.tape L.faults self.new)
             result (client_of self.new.desk) self.new.desk.broken }
     {
         'messages: loop {

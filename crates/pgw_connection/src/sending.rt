@@ -5,7 +5,8 @@ ghost use Rattle.pgw_client.specs.SessionSteps.{Wrote, WroteSome};
 ghost use Rattle.pgw_handlers.specs.Handling.{HasCause, IsCaused, OfError};
 ghost use Rattle.pgw_connection.specs.Talk.{passes, is_refusal};
 ghost use Rattle.pgw_connection.specs.Desk.{client_of};
-ghost use Rattle.pgw_connection.specs.Line.{Foretold, line};
+ghost use Rattle.pgw_connection.specs.Line.{Foretold};
+ghost use Rattle.pgw_connection.specs.Lent.{line_of};
 ghost use Rattle.pgw_connection.specs.Calls.{IsUsable, goes_on_if, Puts, Opens, GivesUp, Follows};
 
 use crate::client::PgWireClient;
@@ -54,8 +55,10 @@ impl<L: Link> PgWireClient<L> {
         ensures foretold { L.foretells → Foretold (L.left self.old.link) (L.left self.new.link)
             (L.tape self.old.link) (L.tape self.new.link) }
         ensures clean { OnOk result (L.faults self.new.link ≡ L.faults self.old.link) }
-        ensures wrote { OnOk result (Wrote (L.tape self.old.link) (L.tape self.new.link) self.old.desk.out.items) }
-        ensures failed { OnErr result (WroteSome (L.tape self.old.link) (L.tape self.new.link) self.old.desk.out.items) }
+        ensures wrote { OnOk result
+            (Wrote (L.tape self.old.link) (L.tape self.new.link) self.old.desk.out.items) }
+        ensures failed { OnErr result
+            (WroteSome (L.tape self.old.link) (L.tape self.new.link) self.old.desk.out.items) }
         ensures within { (L.tape self.old.link).flushed ≤ length (L.tape self.old.link).wrote }
     {
         match send(&mut self.link, self.desk.out.as_slice()) {
@@ -81,8 +84,7 @@ impl<L: Link> PgWireClient<L> {
         ensures foretold { L.foretells → Foretold (L.left self.old.link) (L.left self.new.link)
             (L.tape self.old.link) (L.tape self.new.link) }
         ensures puts { Puts self.old.desk.out.items
-            (line (L.tape self.old.link) (L.faults self.old.link) self.old.inbox self.old.read self.old.limit)
-            (line (L.tape self.new.link) (L.faults self.new.link) self.new.inbox self.new.read self.new.limit) result }
+            (line_of L.tape L.faults self.old) (line_of L.tape L.faults self.new) result }
     {
         if self.desk.out.len() == 0 {
             return Ok(());
@@ -101,8 +103,7 @@ impl<L: Link> PgWireClient<L> {
             (L.tape self.old.link) (L.tape self.new.link) }
         ensures usable { IsUsable is_refusal result self.new.desk.broken }
         ensures opens { Opens self.old.desk.broken self.old.desk.out.items
-            (line (L.tape self.old.link) (L.faults self.old.link) self.old.inbox self.old.read self.old.limit)
-            (line (L.tape self.new.link) (L.faults self.new.link) self.new.inbox self.new.read self.new.limit)
+            (line_of L.tape L.faults self.old) (line_of L.tape L.faults self.new)
             opened result self.new.desk.broken }
     {
         if self.desk.broken {
@@ -138,8 +139,7 @@ impl<L: Link> PgWireClient<L> {
             (L.tape self.old.link) (L.tape self.new.link) }
         ensures usable { (self.new.desk.broken ≡ true) ⊎ (goes_on_if goes_on result ≡ true) }
         ensures gives_up { GivesUp (goes_on_if goes_on) closing (client_of self.old.desk)
-            (line (L.tape self.old.link) (L.faults self.old.link) self.old.inbox self.old.read self.old.limit)
-            (line (L.tape self.new.link) (L.faults self.new.link) self.new.inbox self.new.read self.new.limit)
+            (line_of L.tape L.faults self.old) (line_of L.tape L.faults self.new)
             error result (client_of self.new.desk) self.new.desk.broken }
     {
         if !goes_on_if(goes_on, &error) {
@@ -170,9 +170,9 @@ impl<L: Link> PgWireClient<L> {
         ensures foretold { L.foretells → Foretold (L.left self.old.link) (L.left self.new.link)
             (L.tape self.old.link) (L.tape self.new.link) }
         ensures usable { IsUsable (goes_on_if goes_on) result self.new.desk.broken }
-        ensures follows { Follows (goes_on_if goes_on) closing self.old.desk.broken self.old.desk.out.items (client_of self.old.desk)
-            (line (L.tape self.old.link) (L.faults self.old.link) self.old.inbox self.old.read self.old.limit)
-            (line (L.tape self.new.link) (L.faults self.new.link) self.new.inbox self.new.read self.new.limit)
+        ensures follows { Follows (goes_on_if goes_on) closing self.old.desk.broken
+            self.old.desk.out.items (client_of self.old.desk)
+            (line_of L.tape L.faults self.old) (line_of L.tape L.faults self.new)
             answer result (client_of self.new.desk) self.new.desk.broken }
     {
         if self.desk.broken {

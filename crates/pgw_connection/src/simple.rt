@@ -5,7 +5,8 @@ ghost use Rattle.pgw_handlers.specs.Handling.{HasCause};
 ghost use Rattle.pgw_handlers.specs.Simple.{simple_query, HeardInQuery};
 ghost use Rattle.pgw_connection.specs.Talk.{end, passes};
 ghost use Rattle.pgw_connection.specs.Desk.{client_of};
-ghost use Rattle.pgw_connection.specs.Line.{Foretold, line};
+ghost use Rattle.pgw_connection.specs.Line.{Foretold};
+ghost use Rattle.pgw_connection.specs.Lent.{line_of};
 ghost use Rattle.pgw_connection.specs.Calls.{IsUsable, may_go_on, HeardNext, Talked, Call};
 
 use crate::client::PgWireClient;
@@ -26,14 +27,15 @@ impl<L: Link> PgWireClient<L> {
         requires { self.old.desk.broken ≡ false }
         ensures limit { self.new.limit ≡ self.old.limit }
         ensures config { self.new.desk.config ≡ self.old.desk.config }
-        ensures shrinks { OnOk result (length self.new.inbox + self.old.read < length self.old.inbox + self.new.read) }
+        ensures shrinks { OnOk result
+            (length self.new.inbox + self.old.read < length self.old.inbox + self.new.read) }
         ensures cause { HasCause (L.faults self.old.link) (L.faults self.new.link) false result }
         ensures foretold { L.foretells → Foretold (L.left self.old.link) (L.left self.new.link)
             (L.tape self.old.link) (L.tape self.new.link) }
         ensures usable { IsUsable passes result self.new.desk.broken }
-        ensures heard { HeardNext (HeardInQuery H.means) passes handler.old (client_of self.old.desk)
-            (line (L.tape self.old.link) (L.faults self.old.link) self.old.inbox self.old.read self.old.limit)
-            (line (L.tape self.new.link) (L.faults self.new.link) self.new.inbox self.new.read self.new.limit)
+        ensures heard { HeardNext (HeardInQuery H.means) passes handler.old
+            (client_of self.old.desk)
+            (line_of L.tape L.faults self.old) (line_of L.tape L.faults self.new)
             handler.new (client_of self.new.desk) self.new.desk.broken result }
     {
         let message = match self.next_message(alloc) {
@@ -64,8 +66,7 @@ impl<L: Link> PgWireClient<L> {
             (L.tape self.old.link) (L.tape self.new.link) }
         ensures usable { IsUsable passes result self.new.desk.broken }
         ensures talked { Talked (HeardInQuery H.means) passes handler.old (client_of self.old.desk)
-            (line (L.tape self.old.link) (L.faults self.old.link) self.old.inbox self.old.read self.old.limit)
-            (line (L.tape self.new.link) (L.faults self.new.link) self.new.inbox self.new.read self.new.limit)
+            (line_of L.tape L.faults self.old) (line_of L.tape L.faults self.new)
             (end result (client_of self.new.desk) self.new.desk.broken self.new.inbox) }
     {
         'messages: loop {
@@ -86,23 +87,27 @@ impl<L: Link> PgWireClient<L> {
         query: &str,
     ) -> PgWireClientResult<Listed<H::QueryResponse>>
         // A client that an earlier error left unusable stays as it is.
-        ensures broken { self.old.desk.broken ≡ true → (result ≡ Err client.Broken) × (self.new ≡ self.old) }
+        ensures broken { self.old.desk.broken ≡ true → (result ≡ Err client.Broken) ×
+            (self.new ≡ self.old) }
         // Else the query is opened as the handler means it, and each message is heard so up to the end of the call, over
         // the bytes that stood in the buffer and those that were read; what it sent is what was written. It answers Ok at
         // ReadyForQuery and at no other message.
-        ensures asked { self.old.desk.broken ≡ false → Call (λ before after answer. H.means before (simple_query query.now) after answer) (HeardInQuery H.means) passes
+        ensures asked { self.old.desk.broken ≡ false → Call
+            (λ before after answer. H.means before (simple_query query.now) after answer)
+            (HeardInQuery H.means) passes
             handler (client_of self.old.desk)
-            (line (L.tape self.old.link) (L.faults self.old.link) self.old.inbox self.old.read self.old.limit)
-            (line (L.tape self.new.link) (L.faults self.new.link) self.new.inbox self.new.read self.new.limit)
+            (line_of L.tape L.faults self.old) (line_of L.tape L.faults self.new)
             (end result (client_of self.new.desk) self.new.desk.broken self.new.inbox) }
         // IoError comes only where a call of the link failed, and Broken from no other client than the one above.
-        ensures cause { HasCause (L.faults self.old.link) (L.faults self.new.link) self.old.desk.broken result }
+        ensures cause { HasCause (L.faults self.old.link) (L.faults self.new.link)
+            self.old.desk.broken result }
         // Of a link that knows what is to come: the bytes taken are its front, and the end is answered behind the last byte.
         ensures foretold { L.foretells → Foretold (L.left self.old.link) (L.left self.new.link)
             (L.tape self.old.link) (L.tape self.new.link) }
         // Behind an answer the client can be used. Behind an error it can be where that is the server's or a message
         // without place, or where the opening was refused; and behind no other.
-        ensures usable { self.old.desk.broken ≡ false → IsUsable may_go_on result self.new.desk.broken }
+        ensures usable { self.old.desk.broken ≡ false → IsUsable may_go_on result
+            self.new.desk.broken }
         ensures within { self.new.read ≤ self.new.limit }
         ensures limit { self.new.limit ≡ self.old.limit }
         ensures config { self.new.desk.config ≡ self.old.desk.config }
