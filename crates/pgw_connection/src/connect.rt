@@ -63,7 +63,6 @@ impl<L: Link> PgWireClient<L> {
     }
 
     // Hands messages to the handler until it has logged in.
-    #[tactic(auto, using(crate::proofs::ForetoldLaws::foretold_still))]
     fn talk_at_startup<S: StartupHandler>(
         &mut self,
         alloc: Global,

@@ -211,7 +211,6 @@ impl<L: Link> PgWireClient<L> {
     }
 
     // The messages of a call, up to its end.
-    #[tactic(auto, using(crate::proofs::ForetoldLaws::foretold_still))]
     fn exchange<H: ExtendedQueryHandler>(
         &mut self,
         alloc: Global,

@@ -1,8 +1,8 @@
 //! A client of a PostgreSQL server, as a value that asks by handlers of the caller's own.
 //!
 //! To a caller it promises that each call is the handler's meaning over the bytes that were read and written for it, why
-//! each error came, which errors leave the client usable, and that where a call other than `fill` is the first to meet the
-//! link's end, it awaited a message, and all that was sent had been flushed, if it was flushed as the call began.
+//! each error came, which errors leave the client usable, and that where a call other than `fill` meets the link's end, it
+//! awaited a message, and all that was sent had been flushed.
 #![tactic(auto)]
 
 pub mod client;

@@ -52,7 +52,6 @@ impl<L: Link> PgWireClient<L> {
     }
 
     // Hands messages to the handler until the query ends.
-    #[tactic(auto, using(crate::proofs::ForetoldLaws::foretold_still))]
     fn talk_in_query<H: SimpleQueryHandler>(
         &mut self,
         alloc: Global,

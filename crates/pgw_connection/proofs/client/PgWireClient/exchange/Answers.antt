@@ -10,15 +10,9 @@ messages-preserved g c =
       usable = c.in-Ok-Pending.ensures.usable;
       limit = h.limit ∙ c.messages.invariant.limit;
       config = h.config ∙ c.messages.invariant.config;
-      foretold = λ t. foretold_on _ _ _ _ _ _ (g.met.L.Link.knows t c.messages.self.link) (c.messages.invariant.foretold t) (c.heed_next.ensures.foretold t);
+      foretold = λ t is now rest. c.messages.invariant.foretold t is now (foretold_on _ _ _ _ _ _ (g.met.L.Link.knows t c.heed_next.new.self.link) (c.heed_next.ensures.foretold t) rest);
       later = omega (arith, c.messages.invariant.later, h.cause.later);
       exchanged = λ final last rest.
           let one = rw c.in-Ok-Pending.field-0-is at c.in-Ok-Pending.ensures.heeded in
           c.messages.invariant.exchanged final last (exchanged_on g.H.ExtendedQueryHandler.means c.args.kind _ _ _ _ _ _ _ _ final last one.0 rest);
     }
-
-pub returns-in-Ok-Ready-clause-foretold : goal.returns-in-Ok-Ready-clause-foretold
-returns-in-Ok-Ready-clause-foretold g c = λ t. foretold_on _ _ _ _ _ _ (g.met.L.Link.knows t c.messages.self.link) (c.messages.invariant.foretold t) (c.heed_next.ensures.foretold t)
-
-pub returns-in-Err-clause-foretold : goal.returns-in-Err-clause-foretold
-returns-in-Err-clause-foretold g c = λ t. foretold_on _ _ _ _ _ _ (g.met.L.Link.knows t c.messages.self.link) (c.messages.invariant.foretold t) (c.heed_next.ensures.foretold t)

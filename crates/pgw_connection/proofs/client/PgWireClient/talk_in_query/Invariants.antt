@@ -1,4 +1,5 @@
-use Rattle.std.proofs.Common.{◌≡◌, ◌≤◌, ◌+◌, ◌-◌, length, false}
+use Rattle.std.proofs.Common.{◌≡◌, ◌≤◌, ◌+◌, ◌-◌, length, false, ℕ, List, Option}
+use Rattle.pgw_link.specs.Tape.{Tape}
 use Rattle.pgw_handlers.specs.Simple.{HeardInQuery}
 use Rattle.pgw_connection.specs.Talk.{passes, End}
 use Rattle.pgw_connection.specs.Desk.{client_of}
@@ -12,8 +13,8 @@ invariant-messages g l = record {
   usable : l.self.desk.broken ≡ false;
   limit : l.self.limit ≡ l.fn.self.limit;
   config : l.self.desk.config ≡ l.fn.self.desk.config;
-  foretold : g.L.Link.foretells → Foretold (g.L.Link.left l.fn.self.link) (g.L.Link.left l.self.link)
-      (g.L.Link.tape l.fn.self.link) (g.L.Link.tape l.self.link);
+  foretold : g.L.Link.foretells → (is : Option (List ℕ)) (now : Tape) → Foretold (g.L.Link.left l.self.link) is (g.L.Link.tape l.self.link) now →
+      Foretold (g.L.Link.left l.fn.self.link) is (g.L.Link.tape l.fn.self.link) now;
   later : g.L.Link.faults l.fn.self.link ≤ g.L.Link.faults l.self.link;
   talked : (final : Line) (last : End _) →
       Talked (HeardInQuery g.H.SimpleQueryHandler.means) passes l.handler (client_of l.self.desk) (line (g.L.Link.tape l.self.link) (g.L.Link.faults l.self.link) l.self.inbox l.self.read l.self.limit) final last →
