@@ -1,5 +1,5 @@
 -- What is printed of a session with the server that a connection text names.
-use Rattle.std.proofs.Common.{◌≡◌, ◌≢◌, ◌<◌, ℕ, List, [], ◌∷◌, ◌++◌, codes, None, Result, Ok, Err, refl, sym, ap, subst, ◌∙◌, inl, inr}
+use Rattle.std.proofs.Common.{◌≡◌, ◌≢◌, ℕ, List, [], ◌∷◌, ◌++◌, codes, Some, None, Result, Ok, Err, refl, sym, ap, subst, ◌∙◌, inl, inr, arith}
 use Rattle.std.specs.Result.{IfOk, OnOk, IsErrOf}
 use Rattle.std.proofs.lemmas.List.{append_cancel_left}
 use Rattle.pgw_types.specs.declared.memory.OutOfMemory.{OutOfMemory}
@@ -23,24 +23,29 @@ use Rattle.pgw_client.specs.Session.{Reports}
 use Rattle.pgw_prog.specs.declared.command.Connection.{Connection}
 use Rattle.pgw_prog.specs.declared.printed.Printed.{Printed}
 use Rattle.pgw_prog.specs.Held.{Says, status_of}
-use Rattle.pgw_prog.specs.OverLink.{OverLink}
-use Rattle.pgw_prog.specs.Connected.{input_for, DialledOnce, HeldSession, Talked, PrintsRefusal, PrintsTalk, PrintsAt, PrintsBy, Connects, CanConnect, PrintsReport}
+use Rattle.pgw_prog.specs.OverLink.{LinkSpan, OverLink}
+use Rattle.pgw_prog.specs.Connected.{input_for, DialSpan, DialledOnce, HeldSession, Talked, PrintsRefusal, PrintsTalk, PrintsAt, PrintsBy, Connects, CanConnect, PrintsReport}
 use Rattle.pgw_prog.specs.Printing.{report_lines, error_line, result_text}
+use Rattle.pgw_prog.proofs.OverLaws.{foretold_less, from_fresh}
 use Rattle.pgw_prog.proofs.TextLaws.{error_same, no_report}
 
 -- a link that was dialled and then closed
-pub once : (to : Address) (old between new : DialTape) (first after : Tape) → Dialled to old between first → Shut between new after → DialledOnce to old new first after
-once to old between new first after d s = record { dials = s.dials ∙ d.dials; address = s.address ∙ d.address; fresh = d.fresh; shut = s.shut }
+pub once : (to : Address) (old between new : DialTape) (first after : Tape) → Dialled to old between first → Shut between new after → DialledOnce to old new after
+once to old between new first after d s = record { dialled = s.dialled ∙ d.dialled; shut = s.shut ∙ ap (λ (l : List Tape). l ++ after ∷ []) d.shut }
 
 -- a session over a link that was dialled and then closed
-pub held_session : {tells : Type 0} {input : Input} {limit : ℕ} {to : Address} {old between new : DialTape} {before dialled now faults : ℕ} {first after : Tape} {outcome : Result SessionReport PgWireClientError}
-    → dialled ≡ before → CountsClose dialled now faults → (IsErrOf outcome client.IoError → 0 < faults) → (tells → Dialled to old between first) → (tells → Shut between new after) → (tells → OverLink input limit first after faults outcome)
-    → HeldSession tells input limit to old new before now outcome
-held_session {tells} {input} {limit} {to} {old} {between} {new} {before} {dialled} {now} {faults} {first} {after} {outcome} same counts io dials shuts over = record {
-  faults = faults;
-  counts = subst (λ (n : ℕ). CountsClose n now faults) same counts;
-  io = io;
-  over = λ t. (first, after, once to old between new first after (dials t) (shuts t), over t);
+pub held_session : (input : Input) (limit : ℕ) (to : Address) (dialer : DialSpan) (between : DialTape) (dialled : ℕ) (more : Type 0) (link : LinkSpan) (outcome : Result SessionReport PgWireClientError)
+    → (dialer.foretells → more) → (dialer.foretells → link.was ≡ dialer.offer) → dialled ≡ dialer.before → CountsClose dialled dialer.now link.now → link.before ≡ 0
+    → Dialled to dialer.old between link.old → Shut between dialer.new link.new → OverLink input limit more link outcome → HeldSession input limit to dialer outcome
+held_session input limit to dialer between dialled more link outcome known offered same counts none dials shuts over = record {
+  after = link.new;
+  once = once to dialer.old between dialer.new link.old link.new dials shuts;
+  faults = link.now;
+  counts = subst (λ (n : ℕ). CountsClose n dialer.now link.now) same counts;
+  was = link.was;
+  offered = offered;
+  is = link.is;
+  over = from_fresh input limit dialer.foretells link outcome dials.fresh none (foretold_less known over);
 }
 
 -- the answer of a session that completes is its report
@@ -48,30 +53,27 @@ says_report : (report : SessionReport) (outcome : Result SessionReport PgWireCli
 says_report report (Ok answer) same memory = (ap report_lines same, refl)
 says_report report (Err e) same memory = absurd (memory (ap Err same))
 
-module _ (nonce : List ℕ) (tells : Type 0) (old new : DialTape) (before now : ℕ) (asked : Connection) (p : Printed) where
-  talk_reported : (input : Input) (limit : ℕ) (to : Address) (segments : List (List Event)) → tells → (Rose before now → ⊥) → refused_config input.config ≡ None → Completes input limit old.offer segments
-      → (outcome : Result SessionReport PgWireClientError) → Talked tells input limit to old new before now outcome → (IsErrOf outcome client.OutOfMemory → ⊥) → (result_text outcome ≡ report_lines (report_of input segments)) × (status_of outcome ≡ 0)
-  talk_reported input limit to segments t still clear c outcome (inl none) memory = absurd (still none.rose)
-  talk_reported input limit to segments t still clear c outcome (inr held) memory =
-      let over = held.over t in
-      let made = over.2 in
-      let can = subst (λ (left : List ℕ). Completes input limit left segments) (sym made.fresh.left) c in
-      says_report (report_of input segments) outcome (over.3.reports clear segments can (λ some. still (held.counts.failed some))) memory
+module _ (nonce : List ℕ) (dialer : DialSpan) (asked : Connection) (p : Printed) where
+  talk_reported : (input : Input) (limit : ℕ) (to : Address) (offer : List ℕ) (segments : List (List Event)) → dialer.foretells → (Rose dialer.before dialer.now → ⊥) → dialer.offer ≡ Some offer → refused_config input.config ≡ None → Completes input limit offer segments
+      → (outcome : Result SessionReport PgWireClientError) → Talked input limit to dialer outcome → (IsErrOf outcome client.OutOfMemory → ⊥) → (result_text outcome ≡ report_lines (report_of input segments)) × (status_of outcome ≡ 0)
+  talk_reported input limit to offer segments t still known clear c outcome (inl none) memory = absurd (still none.rose)
+  talk_reported input limit to offer segments t still known clear c outcome (inr held) memory =
+      says_report (report_of input segments) outcome (held.over.reports t clear offer (held.offered t ∙ known) segments c (λ some. still (held.counts.failed (omega (arith, some))))) memory
 
-  at_reported : (config : Config) (to : Address) (answer : Result Address PgWireClientError) (segments : List (List Event)) → tells → (Rose before now → ⊥) → answer ≡ Ok to → refused_config config ≡ None
-      → Completes (input_for asked nonce config) asked.limit old.offer segments → PrintsAt nonce tells old new before now asked config answer p
+  at_reported : (config : Config) (to : Address) (answer : Result Address PgWireClientError) (offer : List ℕ) (segments : List (List Event)) → dialer.foretells → (Rose dialer.before dialer.now → ⊥) → dialer.offer ≡ Some offer → answer ≡ Ok to
+      → refused_config config ≡ None → Completes (input_for asked nonce config) asked.limit offer segments → PrintsAt nonce dialer asked config answer p
       → (p.text.items ≡ report_lines (report_of (input_for asked nonce config) segments)) × (p.status ≡ 0)
-  at_reported config to (Ok address) segments t still is clear c prints =
-      let told = talk_reported (input_for asked nonce config) asked.limit address segments t still clear c prints.outcome prints.talked prints.memory in
+  at_reported config to (Ok address) offer segments t still known is clear c prints =
+      let told = talk_reported (input_for asked nonce config) asked.limit address offer segments t still known clear c prints.outcome prints.talked prints.memory in
       (prints.says.0 ∙ told.0, prints.says.1 ∙ told.1)
-  at_reported config to (Err e) segments t still is clear c prints = cc
+  at_reported config to (Err e) offer segments t still known is clear c prints = cc
 
-  pub reported : (segments : List (List Event)) (can : CanConnect asked nonce old.offer segments) → tells → (Rose before now → ⊥) → Connects nonce tells old new before now asked p
+  pub reported : (offer : List ℕ) (segments : List (List Event)) (can : CanConnect asked nonce offer segments) → dialer.foretells → (Rose dialer.before dialer.now → ⊥) → dialer.offer ≡ Some offer → Connects nonce dialer asked p
       → (p.text.items ≡ report_lines (report_of (input_for asked nonce can.config) segments)) × (p.status ≡ 0)
-  reported segments can t still connects =
+  reported offer segments can t still known connects =
       let same : connects.outcome ≡ Ok can.config = sym (connects.only (Ok can.config) can.leads.0) in
-      let prints = subst (λ (o : Result Config PgWireClientError). PrintsBy nonce tells old new before now asked o p) same connects.prints in
-      at_reported can.config can.address (address_of can.config) segments t still can.leads.1 can.clear can.completes prints
+      let prints = subst (λ (o : Result Config PgWireClientError). PrintsBy nonce dialer asked o p) same connects.prints in
+      at_reported can.config can.address (address_of can.config) offer segments t still known can.leads.1 can.clear can.completes prints
 
   refusal_io : (e : PgWireClientError) → PrintsRefusal e p → p.text.items ≡ error_line client.IoError → ⊥
   refusal_io e prints is = subst IsRefusal (error_same e (sym prints.2.0 ∙ is)) prints.0
@@ -80,30 +82,30 @@ module _ (nonce : List ℕ) (tells : Type 0) (old new : DialTape) (before now : 
   outcome_io (Ok r) is = absurd (no_report r client.IoError is)
   outcome_io (Err e) is = ap Err (error_same e is)
 
-  talk_io : (input : Input) (limit : ℕ) (to : Address) (outcome : Result SessionReport PgWireClientError) → Talked tells input limit to old new before now outcome → outcome ≡ Err client.IoError → Rose before now
+  talk_io : (input : Input) (limit : ℕ) (to : Address) (outcome : Result SessionReport PgWireClientError) → Talked input limit to dialer outcome → outcome ≡ Err client.IoError → Rose dialer.before dialer.now
   talk_io input limit to outcome (inl none) is = none.rose
-  talk_io input limit to outcome (inr held) is = held.counts.failed (held.io is)
+  talk_io input limit to outcome (inr held) is = let rose = held.over.cause.io is in held.counts.failed (omega (arith, rose))
 
-  at_io : (config : Config) (answer : Result Address PgWireClientError) → PrintsAt nonce tells old new before now asked config answer p → p.text.items ≡ error_line client.IoError → Rose before now
+  at_io : (config : Config) (answer : Result Address PgWireClientError) → PrintsAt nonce dialer asked config answer p → p.text.items ≡ error_line client.IoError → Rose dialer.before dialer.now
   at_io config (Ok address) prints is = talk_io (input_for asked nonce config) asked.limit address prints.outcome prints.talked (outcome_io prints.outcome (sym prints.says.0 ∙ is))
   at_io config (Err e) prints is = absurd (refusal_io e prints is)
 
-  by_io : (outcome : Result Config PgWireClientError) → PrintsBy nonce tells old new before now asked outcome p → p.text.items ≡ error_line client.IoError → Rose before now
+  by_io : (outcome : Result Config PgWireClientError) → PrintsBy nonce dialer asked outcome p → p.text.items ≡ error_line client.IoError → Rose dialer.before dialer.now
   by_io (Ok config) prints is = at_io config (address_of config) prints is
   by_io (Err e) prints is = absurd (refusal_io e prints is)
 
   -- the error of a link is printed only where the dialer's count rose
-  pub prints_io : Connects nonce tells old new before now asked p → p.text.items ≡ error_line client.IoError → Rose before now
+  pub prints_io : Connects nonce dialer asked p → p.text.items ≡ error_line client.IoError → Rose dialer.before dialer.now
   prints_io connects is = by_io connects.outcome connects.prints is
 
   -- the same behind what was written before
-  pub report_written : (segments : List (List Event)) (can : CanConnect asked nonce old.offer segments) → tells → (Rose before now → ⊥) → Connects nonce tells old new before now asked p
-      → (was is : List ℕ) → is ≡ was ++ p.text.items → PrintsReport asked nonce old.offer segments can was is p.status
-  report_written segments can t still connects was is wrote =
-      let whole = reported segments can t still connects in
+  pub report_written : (offer : List ℕ) (segments : List (List Event)) (can : CanConnect asked nonce offer segments) → dialer.foretells → (Rose dialer.before dialer.now → ⊥) → dialer.offer ≡ Some offer → Connects nonce dialer asked p
+      → (was is : List ℕ) → is ≡ was ++ p.text.items → PrintsReport asked nonce offer segments can was is p.status
+  report_written offer segments can t still known connects was is wrote =
+      let whole = reported offer segments can t still known connects in
       inr (whole.1, wrote ∙ ap (λ (text : List ℕ). was ++ text) whole.0)
 
-  pub io_written : Connects nonce tells old new before now asked p → (was is : List ℕ) → is ≡ was ++ p.text.items → is ≡ was ++ error_line client.IoError → Rose before now
+  pub io_written : Connects nonce dialer asked p → (was is : List ℕ) → is ≡ was ++ p.text.items → is ≡ was ++ error_line client.IoError → Rose dialer.before dialer.now
   io_written connects was is wrote says = prints_io connects (append_cancel_left was p.text.items (error_line client.IoError) (sym wrote ∙ says))
 
 -- a session that ends so
@@ -119,35 +121,34 @@ address_refused : (port : ℕ) (addrs : List HostAddr) (hosts : List Host) (e : 
 address_refused port [] hosts e is = host_refused port hosts e is
 address_refused port (addr ∷ more) hosts e is = cc
 
-module _ (nonce : List ℕ) (tells : Type 0) (old new : DialTape) (before now : ℕ) (asked : Connection) where
+module _ (nonce : List ℕ) (dialer : DialSpan) (asked : Connection) where
   pub talk_printed : (config : Config) (address : Address) (outcome : Result SessionReport PgWireClientError) (r : Result Printed OutOfMemory) → address_of config ≡ Ok address
-      → ((IsErrOf outcome client.OutOfMemory → ⊥) → Talked tells (input_for asked nonce config) asked.limit address old new before now outcome)
+      → ((IsErrOf outcome client.OutOfMemory → ⊥) → Talked (input_for asked nonce config) asked.limit address dialer outcome)
       → IfOk r (λ p. Says p (result_text outcome) (status_of outcome)) → OnOk r (IsErrOf outcome client.OutOfMemory → ⊥)
-      → IfOk r (PrintsAt nonce tells old new before now asked config (address_of config))
+      → IfOk r (PrintsAt nonce dialer asked config (address_of config))
   talk_printed config address outcome (Ok p) is talked says memory =
-      let prints : PrintsTalk tells (input_for asked nonce config) asked.limit address old new before now p = record { outcome = outcome; talked = talked memory; memory = memory; says = says } in
-      subst (λ (answer : Result Address PgWireClientError). PrintsAt nonce tells old new before now asked config answer p) (sym is) prints
+      let prints : PrintsTalk (input_for asked nonce config) asked.limit address dialer p = record { outcome = outcome; talked = talked memory; memory = memory; says = says } in
+      subst (λ (answer : Result Address PgWireClientError). PrintsAt nonce dialer asked config answer p) (sym is) prints
   talk_printed config address outcome (Err e) is talked says memory = tt
 
   pub no_address_printed : (config : Config) (e : PgWireClientError) (r : Result Printed OutOfMemory) → (e ≢ client.OutOfMemory → address_of config ≡ Err e)
       → IfOk r (λ p. Says p (error_line e) 1) → OnOk r (IsErrOf (failed e) client.OutOfMemory → ⊥)
-      → IfOk r (PrintsAt nonce tells old new before now asked config (address_of config))
+      → IfOk r (PrintsAt nonce dialer asked config (address_of config))
   no_address_printed config e (Ok p) given says memory =
       let other : e ≢ client.OutOfMemory = λ same. memory (ap Err same) in
       let is = given other in
       let prints : PrintsRefusal e p = (address_refused (first_port config.port) config.hostaddr config.host e is, other, says) in
-      subst (λ (answer : Result Address PgWireClientError). PrintsAt nonce tells old new before now asked config answer p) (sym is) prints
+      subst (λ (answer : Result Address PgWireClientError). PrintsAt nonce dialer asked config answer p) (sym is) prints
   no_address_printed config e (Err none) given says memory = tt
 
   pub text_printed : (config : Config) (r : Result Printed OutOfMemory) → HasOutcome asked.text (Ok config) → ((other : Result Config PgWireClientError) → HasOutcome asked.text other → Answers (Ok config) other)
-      → IfOk r (PrintsAt nonce tells old new before now asked config (address_of config)) → IfOk r (Connects nonce tells old new before now asked)
+      → IfOk r (PrintsAt nonce dialer asked config (address_of config)) → IfOk r (Connects nonce dialer asked)
   text_printed config (Ok p) has only prints = record { outcome = Ok config; has = has; only = only; prints = prints }
   text_printed config (Err e) has only prints = tt
 
   pub refusal_printed : (e : PgWireClientError) (r : Result Printed OutOfMemory) → IsParsed asked.text (Err e) → ((other : Result Config PgWireClientError) → HasOutcome asked.text other → Answers (Err e) other) → IsRefusal e
-      → IfOk r (λ p. Says p (error_line e) 1) → OnOk r (IsErrOf (failed e) client.OutOfMemory → ⊥)
-      → IfOk r (Connects nonce tells old new before now asked)
+      → IfOk r (λ p. Says p (error_line e) 1) → OnOk r (e ≢ client.OutOfMemory)
+      → IfOk r (Connects nonce dialer asked)
   refusal_printed e (Ok p) parsed only refusal says memory =
-      let unlike : e ≢ client.OutOfMemory = λ same. memory (ap Err same) in
-      record { outcome = Err e; has = parsed unlike; only = λ other has. only other has unlike; prints = (refusal, unlike, says) }
+      record { outcome = Err e; has = parsed memory; only = λ other has. only other has memory; prints = (refusal, memory, says) }
   refusal_printed e (Err none) parsed only refusal says memory = tt

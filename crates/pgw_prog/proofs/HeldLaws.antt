@@ -1,10 +1,11 @@
 -- What is printed of a session over a link in memory.
-use Rattle.std.proofs.Common.{◌≡◌, ◌≢◌, ◌≤◌, ◌+◌, ℕ, suc, List, [], ◌∷◌, ◌++◌, length, Bool, ◌||◌, ◌&&◌, nat_lt, nat_le, true, false, refl, ◌∙◌, sym, ap, subst, append_assoc, inl, inr, None, Result, Ok, Err, arith}
+use Rattle.std.proofs.Common.{◌≡◌, ◌≢◌, ◌≤◌, ◌+◌, ◌*◌, ℕ, suc, List, [], ◌∷◌, ◌++◌, length, Bool, ◌||◌, ◌&&◌, nat_lt, nat_le, true, false, refl, ◌∙◌, sym, ap, subst, append_assoc, inl, inr, Option, Some, None, Result, Ok, Err, arith}
 use Rattle.std.proofs.lemmas.Bool.Decides.{nat_tests}
 use Rattle.std.proofs.lemmas.List.{length-append}
 use Rattle.std.specs.Result.{IfOk, OnOk, IsErrOf}
-use Rattle.pgw_link.specs.Tape.{Tape}
-use Rattle.pgw_link.specs.Calls.{is_reached}
+use Rattle.pgw_link.specs.Tape.{Tape, MovedBy, new_tape}
+use Rattle.pgw_link.specs.Foresight.{Foreseen}
+use Rattle.pgw_link.specs.Calls.{is_reached, number_of}
 use Rattle.pgw_link.specs.Memory.{Making}
 use Rattle.pgw_types.specs.declared.memory.OutOfMemory.{OutOfMemory}
 use Rattle.pgw_backend.specs.declared.client_error.PgWireClientError.{PgWireClientError}
@@ -17,19 +18,20 @@ use Rattle.pgw_session.specs.Demands.{refused_config}
 use Rattle.pgw_session.specs.Events.{Event}
 use Rattle.pgw_session.specs.Input.{Input}
 use Rattle.pgw_session.specs.Transcript.{Completed, Completes, report_of}
-use Rattle.pgw_client.specs.Session.{MovedBy, Reports, KeepsPace}
+use Rattle.pgw_client.specs.Session.{Reports}
 use Rattle.pgw_prog.specs.declared.printed.Printed.{Printed}
 use Rattle.pgw_course.specs.Course.{Over}
 use Rattle.pgw_session.specs.Talk.{conversation, whole_talk}
 use Rattle.pgw_session.proofs.Whole.{conversation_completes}
 use Rattle.pgw_script.specs.declared.script.Script.{Script}
-use Rattle.pgw_prog.specs.Held.{Session, PrintsSession, Says, PrintsOutcome, Holds, NamesCall, IsNear, Moves, first_tape, status_of}
-use Rattle.pgw_prog.specs.OverLink.{OverLink}
+use Rattle.pgw_prog.specs.Held.{Session, PrintsSession, Says, PrintsOutcome, Holds, NamesCall, IsNear, memory_span, status_of}
+use Rattle.pgw_prog.specs.OverLink.{LinkSpan, OverLink}
 use Rattle.pgw_prog.specs.Printing.{session_text}
+use Rattle.pgw_prog.proofs.OverLaws.{from_fresh}
 
 -- which calls failed, of those made by then
 abbrev pub FailsBy : Making → Tape → ℕ → Type 0
-FailsBy made after faults = nat_lt 0 faults ≡ (is_reached made.reads after.reads || is_reached made.writes after.writes)
+FailsBy made after faults = nat_lt 0 faults ≡ (is_reached made.reads (number_of after.reads) || is_reached made.writes (number_of after.writes))
 
 -- a listed call that was made is among as many calls, or more
 named_by : (n : ℕ) (ns : List ℕ) (made most : ℕ) (b : Bool) → (nat_lt 0 n && nat_le n made) ≡ b → made ≤ most → (is_reached ns made ≡ true → NamesCall ns most) → (b || is_reached ns made) ≡ true → NamesCall (n ∷ ns) most
@@ -42,39 +44,50 @@ pub named : (ns : List ℕ) (made most : ℕ) → made ≤ most → is_reached n
 named [] made most le h = cc
 named (n ∷ ns) made most le h = named_by n ns made most (nat_lt 0 n && nat_le n made) refl le (named ns made most le) h
 
-near : (made : Making) (limit : ℕ) (after : Tape) (taken sent : List ℕ) (reads writes : Bool) → is_reached made.reads after.reads ≡ reads → is_reached made.writes after.writes ≡ writes
-    → KeepsPace limit (first_tape made) after taken sent → (reads || writes) ≡ true → IsNear made taken sent
-near made limit after taken sent true writes is_read is_written pace h = let most = pace.reads in inl (named made.reads after.reads (length taken + 1) (omega (arith, most)) is_read)
-near made limit after taken sent false true is_read is_written pace h = let most = pace.writes in inr (named made.writes after.writes (length sent + 1) (omega (arith, most)) is_written)
-near made limit after taken sent false false is_read is_written pace h = cc
+near : (made : Making) (after : Tape) (reads writes : Bool) → is_reached made.reads (number_of after.reads) ≡ reads → is_reached made.writes (number_of after.writes) ≡ writes
+    → after.reads ≤ length after.took + 1 → after.writes ≤ length after.wrote + 1 → (reads || writes) ≡ true → IsNear made after.took after.wrote
+near made after true writes is_read is_written few_reads few_writes h = inl (named made.reads (number_of after.reads) (length after.took + 1) (omega (arith, few_reads)) is_read)
+near made after false true is_read is_written few_reads few_writes h = inr (named made.writes (number_of after.writes) (length after.wrote + 1) (omega (arith, few_writes)) is_written)
+near made after false false is_read is_written few_reads few_writes h = cc
 
-module _ (input : Input) (limit : ℕ) (made : Making) (after : Tape) (outcome : Result SessionReport PgWireClientError) where
-  pub session_of : (first : Tape) (now : ℕ) → first ≡ first_tape made → OverLink input limit first after now outcome → FailsBy made after now → Moves made after → Session input limit made after now outcome
-  session_of first now same given fails moves =
-      let over = subst (λ (t : Tape). OverLink input limit t after now outcome) same given in
+-- what is said of a session over a link that was new
+pub from_new : (input : Input) (limit : ℕ) (made : Making) (link : LinkSpan) (left : List ℕ) (outcome : Result SessionReport PgWireClientError) → link.old ≡ new_tape → link.was ≡ Some made.server → link.is ≡ Some left → link.before ≡ 0
+    → OverLink input limit (Unit {0}) link outcome → OverLink input limit (Unit {0}) (memory_span made link.new left link.now) outcome
+from_new input limit made link left outcome fresh was is none over =
+    let of : LinkSpan → Type 0 = λ (l : LinkSpan). OverLink input limit (Unit {0}) l outcome in
+    let one = from_fresh input limit (Unit {0}) link outcome fresh none over in
+    let two = subst (λ (w : Option (List ℕ)). of (record { old = new_tape; new = link.new; was = w; is = link.is; before = 0; now = link.now })) was one in
+    subst (λ (w : Option (List ℕ)). of (record { old = new_tape; new = link.new; was = Some made.server; is = w; before = 0; now = link.now })) is two
+
+module _ (input : Input) (limit : ℕ) (made : Making) (after : Tape) (left : List ℕ) (outcome : Result SessionReport PgWireClientError) where
+  pub session_of : (now : ℕ) → OverLink input limit (Unit {0}) (memory_span made after left now) outcome → FailsBy made after now → length made.server ≤ length left + made.cut * after.reads → length after.wrote ≤ made.cut * after.writes
+      → Session input limit made after left now outcome
+  session_of now over fails taken_in sent_in =
       let paced = over.paced in
-      let taken : List ℕ = paced.0 in
-      let sent : List ℕ = paced.1 in
-      let left : length made.server ≡ length taken + length after.left = ap length paced.2 ∙ length-append taken after.left in
-      let wrote : length after.wrote ≡ length sent = ap length paced.3 in
+      let pace = paced.4 in
+      let took : length after.took ≡ length paced.0 = ap length paced.2 in
+      let wrote : length after.wrote ≡ length paced.1 = ap length paced.3 in
+      let known = over.foreseen tt in
+      let all : length made.server ≡ length after.took + length left = ap length known.consumes ∙ length-append known.taken left ∙ ap (λ (t : List ℕ). length t + length left) (sym known.took) in
       record {
         over = over;
-        cut = (taken, sent, paced.2, paced.3, (omega (arith, left, moves.0), omega (arith, wrote, moves.1)));
+        cut = record { reads = omega (arith, all, taken_in); writes = sent_in };
         fails = fails;
         io_near = λ e.
-            let failed = over.io e in
+            let failed = over.cause.io e in
             let some : nat_lt 0 now ≡ true = grind (arith, nat_tests, failed) in
-            (taken, sent, paced.2, paced.3, near made limit after taken sent (is_reached made.reads after.reads) (is_reached made.writes after.writes) refl refl paced.4 (sym fails ∙ some));
-        no_io = λ reads writes e. let failed = over.io e in
+            near made after (is_reached made.reads (number_of after.reads)) (is_reached made.writes (number_of after.writes)) refl refl (omega (arith, pace.reads, took)) (omega (arith, pace.writes, wrote)) (sym fails ∙ some);
+        no_io = λ reads writes e. let failed = over.cause.io e in
             let some : nat_lt 0 now ≡ false = fails ∙ rw (reads, writes) refl in
             absurd (grind (arith, nat_tests, some, failed));
       }
 
-  pub printed : (faults : ℕ) → (FailsBy made after faults → Moves made after → Session input limit made after faults outcome) → (r : Result Printed OutOfMemory)
-      → IfOk r (λ p. p.text.items ≡ session_text after.wrote outcome) → IfOk r (λ p. p.status ≡ status_of outcome) → IfOk r (λ p. IsErrOf outcome client.OutOfMemory → ⊥) → IfOk r (λ p. FailsBy made after faults) → IfOk r (λ p. Moves made after)
-      → IfOk r (PrintsSession input limit made)
-  printed faults session (Ok p) text status memory fails moves = record { after = after; faults = faults; outcome = outcome; session = session fails moves; memory = memory; text = text; status = status }
-  printed faults session (Err e) text status memory fails moves = tt
+  pub printed : (faults : ℕ) → OverLink input limit (Unit {0}) (memory_span made after left faults) outcome → (r : Result Printed OutOfMemory)
+      → IfOk r (λ p. p.text.items ≡ session_text after.wrote outcome) → IfOk r (λ p. p.status ≡ status_of outcome) → OnOk r (IsErrOf outcome client.OutOfMemory → ⊥) → OnOk r (FailsBy made after faults)
+      → OnOk r (length made.server ≤ length left + made.cut * after.reads) → OnOk r (length after.wrote ≤ made.cut * after.writes) → IfOk r (PrintsSession input limit made)
+  printed faults over (Ok p) text status memory fails taken_in sent_in =
+      record { after = after; left = left; faults = faults; outcome = outcome; session = session_of faults over fails taken_in sent_in; memory = memory; text = text; status = status }
+  printed faults over (Err e) text status memory fails taken_in sent_in = tt
 
 -- what was written is what a transcript sends that the bytes to come complete
 same_sent : (input : Input) (limit : ℕ) (segments : List (List Event)) (left taken more sent : List ℕ) (report : SessionReport)
@@ -86,13 +99,14 @@ same_sent input limit segments left taken more sent report are d c =
     let both : Over (whole_talk d.segments) sent ≡ Over (whole_talk segments) c.sent = sym one ∙ ap (conversation input) same ∙ two in
     cc
 
-completed_by : (input : Input) (limit : ℕ) (segments : List (List Event)) (first after : Tape) (text : List ℕ) (status : ℕ) (outcome : Result SessionReport PgWireClientError) → first.wrote ≡ []
-    → (c : Completes input limit first.left segments) → IfOk outcome (λ report. MovedBy first after (λ taken sent. Completed input taken sent report)) → Reports (report_of input segments) outcome
+completed_by : (input : Input) (limit : ℕ) (segments : List (List Event)) (server left : List ℕ) (after : Tape) (text : List ℕ) (status : ℕ) (outcome : Result SessionReport PgWireClientError) → Foreseen (Some server) (Some left) new_tape after
+    → (c : Completes input limit server segments) → IfOk outcome (λ report. MovedBy new_tape after (λ taken sent. Completed input taken sent report)) → Reports (report_of input segments) outcome
     → (IsErrOf outcome client.OutOfMemory → ⊥) → text ≡ session_text after.wrote outcome → status ≡ status_of outcome → (text ≡ session_text c.sent (Ok (report_of input segments))) × (status ≡ 0)
-completed_by input limit segments first after text status (Ok report) fresh c completed reports memory is ends =
-    let wrote : after.wrote ≡ c.sent = completed.3 ∙ ap (λ (w : List ℕ). w ++ completed.1) fresh ∙ same_sent input limit segments first.left completed.0 after.left completed.1 report completed.2 completed.4 c in
+completed_by input limit segments server left after text status (Ok report) known c completed reports memory is ends =
+    let all : server ≡ completed.0 ++ left = known.consumes ∙ ap (λ (t : List ℕ). t ++ left) (sym known.took ∙ completed.2) in
+    let wrote : after.wrote ≡ c.sent = completed.3 ∙ same_sent input limit segments server completed.0 left completed.1 report all completed.4 c in
     (is ∙ ap (λ (w : List ℕ). session_text w (Ok report)) wrote ∙ ap (λ (r : SessionReport). session_text c.sent (Ok r)) reports, ends)
-completed_by input limit segments first after text status (Err e) fresh c completed reports memory is ends = absurd (memory (ap Err reports))
+completed_by input limit segments server left after text status (Err e) known c completed reports memory is ends = absurd (memory (ap Err reports))
 
 -- where no call is listed, the whole text of a transcript that the bytes to come complete is printed
 pub completed_text_printed : (input : Input) (limit : ℕ) (made : Making) (p : Printed) (segments : List (List Event)) → refused_config input.config ≡ None → made.reads ≡ [] → made.writes ≡ []
@@ -100,7 +114,8 @@ pub completed_text_printed : (input : Input) (limit : ℕ) (made : Making) (p : 
 completed_text_printed input limit made p segments clear reads writes c prints =
     let s = prints.session in
     let none : nat_lt 0 prints.faults ≡ false = s.fails ∙ rw (reads, writes) refl in
-    completed_by input limit segments (first_tape made) prints.after p.text.items p.status prints.outcome refl c s.over.completed (s.over.reports clear segments c (λ rose. absurd (grind (arith, nat_tests, none, rose)))) prints.memory prints.text prints.status
+    completed_by input limit segments made.server prints.left prints.after p.text.items p.status prints.outcome (s.over.foreseen tt) c s.over.completed
+    (s.over.reports tt clear made.server refl segments c (λ rose. absurd (grind (arith, nat_tests, none, rose)))) prints.memory prints.text prints.status
 
 -- what is printed of a connection text that was read, and of one that was refused
 pub held : (s : Script) (config : Config) (r : Result Printed OutOfMemory) → HasOutcome s.config (Ok config) → ((other : Result Config PgWireClientError) → HasOutcome s.config other → Answers (Ok config) other)

@@ -3,5 +3,5 @@ pub mod OverLaws
 pub mod HeldLaws
 pub mod TextLaws
 pub mod ConnectLaws
-pub mod ProgramLaws
 pub mod GenLaws
+pub mod ProgramLaws

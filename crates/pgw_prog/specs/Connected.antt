@@ -1,7 +1,7 @@
 -- The session with the server that a connection text names.
-use Rattle.std.specs.Prelude.{◌≡◌, ◌≢◌, ◌⊎◌, ◌<◌, ℕ, List, ◌++◌, Some, None, Result, Ok, Err, IsErrOf}
-use Rattle.pgw_link.specs.Tape.{Tape, Rose, counted}
-use Rattle.pgw_link.specs.Dials.{DialTape, IsFresh, NotDialled, CountsClose}
+use Rattle.std.specs.Prelude.{◌≡◌, ◌≢◌, ◌⊎◌, ℕ, List, [], ◌∷◌, ◌++◌, true, Option, None, Result, Ok, Err, IsErrOf}
+use Rattle.pgw_link.specs.Tape.{Tape, Rose, new_tape}
+use Rattle.pgw_link.specs.Dials.{DialTape, NotDialled, CountsClose}
 use Rattle.pgw_conninfo.specs.declared.address.Address.{Address}
 use Rattle.pgw_backend.specs.declared.client_error.PgWireClientError.{PgWireClientError}
 use Rattle.pgw_backend.specs.declared.client_error.PgWireClientError.TheVariants as client
@@ -37,44 +37,74 @@ abbrev pub Dials : Command → Address → Type 0
 Dials (command.Connect asked) address = (config : Config) × LeadsTo asked config address
 Dials _ address = ⊥
 
--- one link was dialled, which told this first, and closed, when it told that
-pub record DialledOnce (to : Address) (old new : DialTape) (first after : Tape) : Type 0 where
-  pub dials : new.dials ≡ counted old.dials
-  pub address : new.address ≡ Some to
-  pub fresh : IsFresh old.offer first
-  pub shut : new.shut ≡ Some after
+-- What a dialer told before a command and behind it: its history, the bytes that its next link had to come where they are
+-- known, which is where `foretells` holds, how often it had failed. `same`: it is as it was.
+pub record DialSpan : Type 1 where
+  pub old : DialTape
+  pub new : DialTape
+  pub foretells : Type 0
+  pub offer : Option (List ℕ)
+  pub before : ℕ
+  pub now : ℕ
+  pub same : Type 0
+
+abbrev pub dial_span : {D : Type 0} → (D → DialTape) → Type 0 → (D → Option (List ℕ)) → (D → ℕ) → D → D → DialSpan
+dial_span tape foretells offer faults old new =
+    record {
+      old = tape old;
+      new = tape new;
+      foretells = foretells;
+      offer = offer old;
+      before = faults old;
+      now = faults new;
+      same = new ≡ old;
+    }
+
+-- one link was dialled, and closed, when it told this
+pub record DialledOnce (to : Address) (old new : DialTape) (after : Tape) : Type 0 where
+  pub dialled : new.dialled ≡ old.dialled ++ (to, true) ∷ []
+  pub shut : new.shut ≡ old.shut ++ after ∷ []
 
 -- one dial was made, which gave no link, or one that was closed again
 abbrev pub UsedOnce : Address → DialTape → DialTape → Type 0
-UsedOnce to old new = NotDialled old new ⊎ ((first after : Tape) × DialledOnce to old new first after)
+UsedOnce to old new = NotDialled to old new ⊎ ((after : Tape) × DialledOnce to old new after)
 
 -- the dialer is as it was, or it was used once, for the address of the configuration
-abbrev pub LeavesFor : Config → Type 0 → Type 0 → DialTape → DialTape → Type 0
-LeavesFor config same tells old new = same ⊎ ((address : Address) × (address_of config ≡ Ok address) × (tells → UsedOnce address old new))
+abbrev pub LeavesFor : Config → DialSpan → Type 0
+LeavesFor config dialer =
+    dialer.same ⊎ ((address : Address) × (address_of config ≡ Ok address) × UsedOnce address dialer.old dialer.new)
 
 -- the dialer is as it was, or it was used once, for the address that the command dials
-abbrev pub LeavesDialer : Command → Type 0 → Type 0 → DialTape → DialTape → Type 0
-LeavesDialer command same tells old new = same ⊎ ((address : Address) × Dials command address × (tells → UsedOnce address old new))
+abbrev pub LeavesDialer : Command → DialSpan → Type 0
+LeavesDialer command dialer =
+    dialer.same ⊎ ((address : Address) × Dials command address × UsedOnce address dialer.old dialer.new)
 
 -- ---- the answer
 
 -- the dial failed, and that is the answer
-pub record FoundNoLink (tells : Type 0) (old new : DialTape) (before now : ℕ) (outcome : Result SessionReport PgWireClientError) : Type 0 where
+pub record FoundNoLink (to : Address) (dialer : DialSpan)
+    (outcome : Result SessionReport PgWireClientError) : Type 0 where
   pub failed : outcome ≡ Err client.IoError
-  pub rose : Rose before now
-  pub tape : tells → NotDialled old new
+  pub rose : Rose dialer.before dialer.now
+  pub tape : NotDialled to dialer.old dialer.new
 
--- A session was held over a link of the dialer, which was closed. Where a call of the link failed, the dialer's count
--- rose.
-pub record HeldSession (tells : Type 0) (input : Input) (limit : ℕ) (to : Address) (old new : DialTape) (before now : ℕ) (outcome : Result SessionReport PgWireClientError) : Type 0 where
+-- A session was held over a new link of the dialer, which was closed: what the link told then, and how often it had failed.
+-- Where a call of it failed, the dialer's count rose.
+pub record HeldSession (input : Input) (limit : ℕ) (to : Address) (dialer : DialSpan)
+    (outcome : Result SessionReport PgWireClientError) : Type 0 where
+  pub after : Tape
+  pub once : DialledOnce to dialer.old dialer.new after
   pub faults : ℕ
-  pub counts : CountsClose before now faults
-  pub io : IsErrOf outcome client.IoError → 0 < faults
-  pub over : tells → (first after : Tape) × DialledOnce to old new first after × OverLink input limit first after faults outcome
+  pub counts : CountsClose dialer.before dialer.now faults
+  pub was : Option (List ℕ)
+  pub offered : dialer.foretells → was ≡ dialer.offer
+  pub is : Option (List ℕ)
+  pub over : OverLink input limit dialer.foretells
+      (record { old = new_tape; new = after; was = was; is = is; before = 0; now = faults }) outcome
 
 -- one of the two
-abbrev pub Talked : Type 0 → Input → ℕ → Address → DialTape → DialTape → ℕ → ℕ → Result SessionReport PgWireClientError → Type 0
-Talked tells input limit to old new before now outcome = FoundNoLink tells old new before now outcome ⊎ HeldSession tells input limit to old new before now outcome
+abbrev pub Talked : Input → ℕ → Address → DialSpan → Result SessionReport PgWireClientError → Type 0
+Talked input limit to dialer outcome = FoundNoLink to dialer outcome ⊎ HeldSession input limit to dialer outcome
 
 -- ---- what is printed
 
@@ -83,28 +113,28 @@ abbrev pub PrintsRefusal : PgWireClientError → Printed → Type 0
 PrintsRefusal e p = IsRefusal e × (e ≢ client.OutOfMemory) × Says p (error_line e) 1
 
 -- the answer, for which memory sufficed
-pub record PrintsTalk (tells : Type 0) (input : Input) (limit : ℕ) (to : Address) (old new : DialTape) (before now : ℕ) (p : Printed) : Type 0 where
+pub record PrintsTalk (input : Input) (limit : ℕ) (to : Address) (dialer : DialSpan) (p : Printed) : Type 0 where
   pub outcome : Result SessionReport PgWireClientError
-  pub talked : Talked tells input limit to old new before now outcome
+  pub talked : Talked input limit to dialer outcome
   pub memory : IsErrOf outcome client.OutOfMemory → ⊥
   pub says : Says p (result_text outcome) (status_of outcome)
 
 -- what is printed at the address, or of the refusal that there is none
-abbrev pub PrintsAt : List ℕ → Type 0 → DialTape → DialTape → ℕ → ℕ → Connection → Config → Result Address PgWireClientError → Printed → Type 0
-PrintsAt nonce tells old new before now asked config (Ok address) p = PrintsTalk tells (input_for asked nonce config) asked.limit address old new before now p
-PrintsAt nonce tells old new before now asked config (Err e) p = PrintsRefusal e p
+abbrev pub PrintsAt : List ℕ → DialSpan → Connection → Config → Result Address PgWireClientError → Printed → Type 0
+PrintsAt nonce dialer asked config (Ok address) p = PrintsTalk (input_for asked nonce config) asked.limit address dialer p
+PrintsAt nonce dialer asked config (Err e) p = PrintsRefusal e p
 
 -- what is printed where the connection text has this outcome
-abbrev pub PrintsBy : List ℕ → Type 0 → DialTape → DialTape → ℕ → ℕ → Connection → Result Config PgWireClientError → Printed → Type 0
-PrintsBy nonce tells old new before now asked (Ok config) p = PrintsAt nonce tells old new before now asked config (address_of config) p
-PrintsBy nonce tells old new before now asked (Err e) p = PrintsRefusal e p
+abbrev pub PrintsBy : List ℕ → DialSpan → Connection → Result Config PgWireClientError → Printed → Type 0
+PrintsBy nonce dialer asked (Ok config) p = PrintsAt nonce dialer asked config (address_of config) p
+PrintsBy nonce dialer asked (Err e) p = PrintsRefusal e p
 
 -- what is printed is what the one outcome of the connection text gives
-pub record Connects (nonce : List ℕ) (tells : Type 0) (old new : DialTape) (before now : ℕ) (asked : Connection) (p : Printed) : Type 0 where
+pub record Connects (nonce : List ℕ) (dialer : DialSpan) (asked : Connection) (p : Printed) : Type 0 where
   pub outcome : Result Config PgWireClientError
   pub has : HasOutcome asked.text outcome
   pub only : (other : Result Config PgWireClientError) → HasOutcome asked.text other → other ≡ outcome
-  pub prints : PrintsBy nonce tells old new before now asked outcome p
+  pub prints : PrintsBy nonce dialer asked outcome p
 
 -- ---- completeness
 
@@ -118,6 +148,7 @@ pub record CanConnect (asked : Connection) (nonce offer : List ℕ) (segments : 
   pub completes : Completes (input_for asked nonce config) asked.limit offer segments
 
 -- its report is printed, or memory ran out
-abbrev pub PrintsReport : (asked : Connection) (nonce offer : List ℕ) (segments : List (List Event)) → CanConnect asked nonce offer segments → List ℕ → List ℕ → ℕ → Type 0
+abbrev pub PrintsReport : (asked : Connection) (nonce offer : List ℕ) (segments : List (List Event))
+    → CanConnect asked nonce offer segments → List ℕ → List ℕ → ℕ → Type 0
 PrintsReport asked nonce offer segments can before now status =
     (status ≡ 4) ⊎ ((status ≡ 0) × (now ≡ before ++ report_lines (report_of (input_for asked nonce can.config) segments)))

@@ -1,8 +1,8 @@
 -- The session of a script.
-use Rattle.std.specs.Prelude.{◌≡◌, ◌≢◌, ◌⊎◌, ◌<◌, ◌≤◌, ◌+◌, ◌*◌, ◌++◌, ◌||◌, nat_lt, ℕ, List, [], length, None, Result, Ok, Err, IsErrOf}
+use Rattle.std.specs.Prelude.{◌≡◌, ◌≢◌, ◌⊎◌, ◌<◌, ◌≤◌, ◌+◌, ◌*◌, ◌++◌, ◌||◌, nat_lt, ℕ, List, [], length, Some, None, Result, Ok, Err, IsErrOf}
 use Rattle.std.specs.List.{Any}
-use Rattle.pgw_link.specs.Tape.{Tape}
-use Rattle.pgw_link.specs.Calls.{is_reached}
+use Rattle.pgw_link.specs.Tape.{Tape, new_tape}
+use Rattle.pgw_link.specs.Calls.{is_reached, number_of}
 use Rattle.pgw_link.specs.Memory.{Making}
 use Rattle.pgw_backend.specs.declared.client_error.PgWireClientError.{PgWireClientError}
 use Rattle.pgw_backend.specs.declared.client_error.PgWireClientError.TheVariants as client
@@ -14,8 +14,7 @@ use Rattle.pgw_session.specs.Demands.{refused_config}
 use Rattle.pgw_session.specs.Events.{Event}
 use Rattle.pgw_session.specs.Input.{Input}
 use Rattle.pgw_session.specs.Transcript.{Completes, report_of}
-use Rattle.pgw_client.specs.Session.{MovedBy}
-use Rattle.pgw_prog.specs.OverLink.{OverLink}
+use Rattle.pgw_prog.specs.OverLink.{LinkSpan, OverLink}
 use Rattle.pgw_script.specs.declared.script.Script.{Script}
 use Rattle.pgw_prog.specs.declared.printed.Printed.{Printed}
 use Rattle.pgw_prog.specs.Printing.{session_text}
@@ -28,9 +27,10 @@ input_of s config = record { config = record config { protocol_version = s.proto
 abbrev pub making_of : Script → Making
 making_of s = record { server = s.server; cut = s.cut; reads = s.fail_reads; writes = s.fail_writes }
 
--- the server's bytes are to come, and nothing was done
-abbrev pub first_tape : Making → Tape
-first_tape made = record { left = made.server; wrote = []; flushed = 0; ended = None; reads = 0; writes = 0 }
+-- a new link in memory, what it tells after some calls, what is to come then, and how many calls failed
+abbrev pub memory_span : Making → Tape → List ℕ → ℕ → LinkSpan
+memory_span made after left faults =
+    record { old = new_tape; new = after; was = Some made.server; is = Some left; before = 0; now = faults }
 
 -- one of these numbers is that of a call, counted from 1, and is at most this
 abbrev pub NamesCall : List ℕ → ℕ → Type 0
@@ -40,24 +40,24 @@ NamesCall numbers most = Any (λ n. (0 < n) × (n ≤ most)) numbers
 abbrev pub IsNear : Making → List ℕ → List ℕ → Type 0
 IsNear made taken sent = NamesCall made.reads (length taken + 1) ⊎ NamesCall made.writes (length sent + 1)
 
--- no more was moved than the calls made allow
-abbrev pub Moves : Making → Tape → Type 0
-Moves made after = (length made.server ≤ length after.left + made.cut * after.reads) × (length after.wrote ≤ made.cut * after.writes)
-
 -- no call moved more bytes than the cut
-abbrev pub InCuts : Making → Tape → List ℕ → List ℕ → Type 0
-InCuts made after taken sent = (length taken ≤ made.cut * after.reads) × (length sent ≤ made.cut * after.writes)
+pub record InCuts (made : Making) (after : Tape) : Type 0 where
+  pub reads : length after.took ≤ made.cut * after.reads
+  pub writes : length after.wrote ≤ made.cut * after.writes
 
--- What a session over a new link in memory gives: what the link tells afterwards, how many calls failed, the answer.
-pub record Session (input : Input) (limit : ℕ) (made : Making) (after : Tape) (faults : ℕ) (outcome : Result SessionReport PgWireClientError) : Type 0 where
+-- What a session over a new link in memory gives: what the link tells afterwards, what is to come, how many calls failed,
+-- the answer.
+pub record Session (input : Input) (limit : ℕ) (made : Making) (after : Tape) (left : List ℕ)
+    (faults : ℕ) (outcome : Result SessionReport PgWireClientError) : Type 0 where
   -- what a session over any link gives
-  pub over : OverLink input limit (first_tape made) after faults outcome
+  pub over : OverLink input limit (Unit {0}) (memory_span made after left faults) outcome
   -- the cut holds of each call
-  pub cut : MovedBy (first_tape made) after (InCuts made after)
+  pub cut : InCuts made after
   -- a call failed just where one was made whose number is listed
-  pub fails : nat_lt 0 faults ≡ (is_reached made.reads after.reads || is_reached made.writes after.writes)
+  pub fails : nat_lt 0 faults
+      ≡ (is_reached made.reads (number_of after.reads) || is_reached made.writes (number_of after.writes))
   -- so the error of the link comes only where a listed call is near,
-  pub io_near : IsErrOf outcome client.IoError → MovedBy (first_tape made) after (IsNear made)
+  pub io_near : IsErrOf outcome client.IoError → IsNear made after.took after.wrote
   -- and never where none is listed
   pub no_io : made.reads ≡ [] → made.writes ≡ [] → IsErrOf outcome client.IoError → ⊥
 
@@ -68,9 +68,10 @@ status_of (Err e) = 1
 -- what is printed is the text of such a session, for which memory sufficed
 pub record PrintsSession (input : Input) (limit : ℕ) (made : Making) (p : Printed) : Type 0 where
   pub after : Tape
+  pub left : List ℕ
   pub faults : ℕ
   pub outcome : Result SessionReport PgWireClientError
-  pub session : Session input limit made after faults outcome
+  pub session : Session input limit made after left faults outcome
   pub memory : IsErrOf outcome client.OutOfMemory → ⊥
   pub text : p.text.items ≡ session_text after.wrote outcome
   pub status : p.status ≡ status_of outcome

@@ -1,35 +1,73 @@
 -- Reading a whole source, and writing a whole text.
-use Rattle.std.specs.Prelude.{◌≡◌, ◌<◌, ◌≤◌, ℕ, ◌+◌, List, [], ◌++◌, length, take}
+use Rattle.std.specs.Prelude.{◌≡◌, ◌<◌, ◌≤◌, ℕ, ◌+◌, List, ◌++◌, length, take, Option}
+use Rattle.std.specs.Io.KnownBytes.{Consumes, IsAtEnd}
 use Rattle.pgw_link.specs.Tape.{Rose}
 use Rattle.pgw_link.specs.Stream.{SourceTape, SinkTape}
 use Rattle.pgw_prog.specs.declared.transfer.ReadFault.{ReadFault}
 use Rattle.pgw_prog.specs.declared.transfer.ReadFault.TheVariants as fault
 
--- these bytes were all that the source had, and no more than a script may have; at most one read more than bytes
+-- What a source told before some calls and behind them: its history, the bytes to come where they are known, how often it
+-- had failed. `same`: it is as it was.
+pub record SourceSpan : Type 1 where
+  pub old : SourceTape
+  pub new : SourceTape
+  pub was : Option (List ℕ)
+  pub is : Option (List ℕ)
+  pub before : ℕ
+  pub now : ℕ
+  pub same : Type 0
+
+-- the same of a sink
+pub record SinkSpan : Type 1 where
+  pub old : SinkTape
+  pub new : SinkTape
+  pub before : ℕ
+  pub now : ℕ
+  pub same : Type 0
+
+abbrev pub source_span : {S : Type 0} → (S → SourceTape) → (S → Option (List ℕ)) → (S → ℕ) → S → S → SourceSpan
+source_span tape left faults old new =
+    record {
+      old = tape old;
+      new = tape new;
+      was = left old;
+      is = left new;
+      before = faults old;
+      now = faults new;
+      same = new ≡ old;
+    }
+
+abbrev pub sink_span : {S : Type 0} → (S → SinkTape) → (S → ℕ) → S → S → SinkSpan
+sink_span tape faults old new =
+    record { old = tape old; new = tape new; before = faults old; now = faults new; same = new ≡ old }
+
+-- these bytes were taken, and then the source answered its end; they are no more than a script may have
 pub record TookWhole (old new : SourceTape) (text : List ℕ) : Type 0 where
-  pub all : old.left ≡ text
-  pub at_end : new.left ≡ []
+  pub took : new.took ≡ old.took ++ text
+  pub ended : new.ended ≡ old.ended + 1
   pub short : length text ≤ 16777216
-  pub reads : new.reads ≤ old.reads + length text + 1
 
--- more than a script may have was taken, or a read failed, or memory ran out
-abbrev pub StopsAt : ReadFault → ℕ → Type 0
-StopsAt fault.TooLong taken = 16777216 < taken
-StopsAt fault.Source taken = Unit {0}
-StopsAt fault.OutOfMemory taken = Unit {0}
-
--- these bytes were taken, and then reading stopped
-pub record TookSome (old new : SourceTape) (why : ReadFault) : Type 0 where
+-- bytes were taken, by at most one read more than bytes; those that are known to come begin with them, and where the end
+-- was answered no more are
+pub record TookFront (source : SourceSpan) : Type 0 where
   pub taken : List ℕ
-  pub left : old.left ≡ taken ++ new.left
-  pub stops : StopsAt why (length taken)
-  pub reads : new.reads ≤ old.reads + length taken + 1
+  pub took : source.new.took ≡ source.old.took ++ taken
+  pub reads : source.new.reads ≤ source.old.reads + length taken + 1
+  pub foreseen : Consumes source.was source.is taken
+  pub at_end : source.old.ended < source.new.ended → IsAtEnd source.is
 
--- the count rose where the source failed, and stayed elsewhere
-abbrev pub Counts : ReadFault → ℕ → ℕ → Type 0
-Counts fault.TooLong before now = now ≡ before
-Counts fault.Source before now = Rose before now
-Counts fault.OutOfMemory before now = now ≡ before
+-- more bytes were taken than a script may have
+pub record TookTooMany (old new : SourceTape) : Type 0 where
+  pub taken : List ℕ
+  pub took : new.took ≡ old.took ++ taken
+  pub long : 16777216 < length taken
+
+-- Why a source was not read to its end: it was too long, or it failed before its end, which its count tells, or memory ran
+-- out.
+abbrev pub Stops : SourceSpan → ReadFault → Type 0
+Stops source fault.TooLong = (source.now ≡ source.before) × TookTooMany source.old source.new
+Stops source fault.Source = Rose source.before source.now × (source.new.ended ≡ source.old.ended)
+Stops source fault.OutOfMemory = source.now ≡ source.before
 
 -- all of the text was appended, by at most one write for each byte
 pub record WroteWhole (old new : SinkTape) (text : List ℕ) : Type 0 where

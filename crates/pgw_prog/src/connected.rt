@@ -1,10 +1,10 @@
 //! The session with the server that a connection text names.
-ghost use Rattle.std.specs.Prelude.{◌≡◌, ◌≤◌, IfOk, OnOk, IsErrOf};
+ghost use Rattle.std.specs.Prelude.{◌≡◌, ◌≢◌, ◌≤◌, IfOk, OnOk, IsErrOf};
 ghost use Rattle.pgw_backend.specs.declared.client_error.PgWireClientError.TheVariants as client;
 ghost use Rattle.pgw_prog.specs.declared.command.Command.TheVariants as kind;
-ghost use Rattle.pgw_prog.specs.Connected.{input_for, Connects, LeavesDialer, LeavesFor, PrintsAt, Talked, UsedOnce};
+ghost use Rattle.pgw_prog.specs.Connected.{input_for, dial_span, Connects, LeavesDialer, LeavesFor, PrintsAt, Talked, UsedOnce};
 ghost use Rattle.pgw_prog.specs.Held.{Says, status_of as status_for};
-ghost use Rattle.pgw_prog.specs.Printing.{result_text};
+ghost use Rattle.pgw_prog.specs.Printing.{error_line, result_text};
 ghost use Rattle.pgw_config.specs.Address.{address_of};
 
 use crate::command::Connection;
@@ -12,7 +12,7 @@ use crate::held::status_of;
 use crate::over_link::hold_over;
 use crate::printed::Printed;
 use crate::printing::put_result;
-use crate::told::told_of_outcome;
+use crate::told::{told_of_outcome, told_of_refusal};
 use pgw_backend::client_error::{PgWireClientError, PgWireClientResult};
 use pgw_config::config::Config;
 use pgw_conninfo::address::Address;
@@ -31,9 +31,10 @@ fn talk<D: Dialer>(
     nonce: &[u8; 18],
 ) -> PgWireClientResult<SessionReport>
     ensures later { D.faults dialer.old ≤ D.faults dialer.new }
-    ensures used { D.tells → UsedOnce address.now (D.tape dialer.old) (D.tape dialer.new) }
+    ensures used { UsedOnce address.now (D.tape dialer.old) (D.tape dialer.new) }
     ensures talked { (IsErrOf result client.OutOfMemory → ⊥) →
-        Talked D.tells (input_for asked.now nonce.now config.now) asked.now.limit address.now (D.tape dialer.old) (D.tape dialer.new) (D.faults dialer.old) (D.faults dialer.new) result }
+        Talked (input_for asked.now nonce.now config.now) asked.now.limit address.now
+        (dial_span D.tape D.foretells D.offer D.faults dialer.old dialer.new) result }
 {
     let mut link = match dialer.dial(address) {
         Ok(link) => link,
@@ -50,6 +51,7 @@ fn talk<D: Dialer>(
 fn print_outcome(
     alloc: Global,
     outcome: &PgWireClientResult<SessionReport>,
+    told: String,
 ) -> Result<Printed, OutOfMemory>
     ensures says { IfOk result (λ p. Says p (result_text outcome.now) (status_for outcome.now)) }
     ensures memory { OnOk result (IsErrOf outcome.now client.OutOfMemory → ⊥) }
@@ -57,7 +59,6 @@ fn print_outcome(
     let status = status_of(outcome)?;
     let mut text = Vec::new(alloc);
     put_result(&mut text, outcome)?;
-    let told = told_of_outcome(alloc, outcome);
     Ok(Printed { text, status, told })
 }
 
@@ -69,7 +70,24 @@ fn print_result(
     ensures says { IfOk result (λ p. Says p (result_text outcome) (status_for outcome)) }
     ensures memory { OnOk result (IsErrOf outcome client.OutOfMemory → ⊥) }
 {
-    let printed = print_outcome(alloc, &outcome);
+    let told = told_of_outcome(alloc, &outcome);
+    let printed = print_outcome(alloc, &outcome, told);
+    drop(outcome);
+    printed
+}
+
+// Prints why a connection text is refused. Want of memory is no refusal to be printed.
+fn print_refusal(
+    alloc: Global,
+    text: &str,
+    error: PgWireClientError,
+) -> Result<Printed, OutOfMemory>
+    ensures says { IfOk result (λ p. Says p (error_line error) 1) }
+    ensures memory { OnOk result (error ≢ client.OutOfMemory) }
+{
+    let told = told_of_refusal(alloc, text, &error);
+    let outcome = Err(error);
+    let printed = print_outcome(alloc, &outcome, told);
     drop(outcome);
     printed
 }
@@ -83,8 +101,11 @@ fn connect_with<D: Dialer>(
     nonce: &[u8; 18],
 ) -> Result<Printed, OutOfMemory>
     ensures later { D.faults dialer.old ≤ D.faults dialer.new }
-    ensures leaves { LeavesFor config.now (dialer.new ≡ dialer.old) D.tells (D.tape dialer.old) (D.tape dialer.new) }
-    ensures prints { IfOk result (PrintsAt nonce.now D.tells (D.tape dialer.old) (D.tape dialer.new) (D.faults dialer.old) (D.faults dialer.new) asked.now config.now (address_of config.now)) }
+    ensures leaves { LeavesFor config.now
+        (dial_span D.tape D.foretells D.offer D.faults dialer.old dialer.new) }
+    ensures prints { IfOk result (PrintsAt nonce.now
+        (dial_span D.tape D.foretells D.offer D.faults dialer.old dialer.new)
+        asked.now config.now (address_of config.now)) }
 {
     match config.address(alloc) {
         Ok(address) => {
@@ -103,8 +124,10 @@ pub fn connect<D: Dialer>(
     nonce: &[u8; 18],
 ) -> Result<Printed, OutOfMemory>
     ensures later { D.faults dialer.old ≤ D.faults dialer.new }
-    ensures leaves { LeavesDialer (kind.Connect asked.now) (dialer.new ≡ dialer.old) D.tells (D.tape dialer.old) (D.tape dialer.new) }
-    ensures prints { IfOk result (Connects nonce.now D.tells (D.tape dialer.old) (D.tape dialer.new) (D.faults dialer.old) (D.faults dialer.new) asked.now) }
+    ensures leaves { LeavesDialer (kind.Connect asked.now)
+        (dial_span D.tape D.foretells D.offer D.faults dialer.old dialer.new) }
+    ensures prints { IfOk result (Connects nonce.now
+        (dial_span D.tape D.foretells D.offer D.faults dialer.old dialer.new) asked.now) }
 {
     match Config::parse(alloc, asked.text.as_str()) {
         Ok(config) => {
@@ -112,6 +135,6 @@ pub fn connect<D: Dialer>(
             drop(config);
             printed
         }
-        Err(error) => print_result(alloc, Err(error)),
+        Err(error) => print_refusal(alloc, asked.text.as_str(), error),
     }
 }

@@ -1,15 +1,11 @@
 //! A session of any size over a link, its rows told shortly.
-ghost use Rattle.std.specs.Prelude.{◌≡◌, ◌<◌, List, length, IfErr, IfOk, IsErrOf};
-ghost use Rattle.pgw_backend.specs.declared.client_error.PgWireClientError.TheVariants as client;
-ghost use Rattle.pgw_link.specs.Tape.{Rose};
-ghost use Rattle.pgw_session.specs.Events.{Event};
-ghost use Rattle.pgw_session.specs.Transcript.{Completes, report_of};
-ghost use Rattle.pgw_client.specs.Session.{ErrorCause, InLockstep, IoHasCause, KeepsPace, MovedBy};
-ghost use Rattle.pgw_gen.specs.Summary.{gen_config, gen_input, gen_query, summary_of as summary_for};
-ghost use Rattle.pgw_prog.specs.GenSession.{Gives, Sums, Tells, Told};
+ghost use Rattle.std.specs.Prelude.{◌≡◌, IfOk};
+ghost use Rattle.pgw_gen.specs.Summary.{gen_config, gen_query};
+ghost use Rattle.pgw_prog.specs.GenSession.{OverLinkShortly, Told};
+ghost use Rattle.pgw_prog.specs.OverLink.{link_span};
 
-use pgw_backend::client_error::PgWireClientResult;
-use pgw_client::session::run_session;
+use crate::over_link::hold_over;
+use pgw_backend::client_error::{PgWireClientError, PgWireClientResult};
 use pgw_config::config::Config;
 use pgw_gen::summary::{GenSummary, summary_of};
 use pgw_link::link::Link;
@@ -36,7 +32,10 @@ fn summed(outcome: PgWireClientResult<SessionReport>) -> PgWireClientResult<GenS
     ensures { Told outcome result }
 {
     match outcome {
-        Ok(report) => Ok(summary_of(&report)?),
+        Ok(report) => match summary_of(&report) {
+            Ok(summary) => Ok(summary),
+            Err(OutOfMemory) => Err(PgWireClientError::OutOfMemory),
+        },
         Err(error) => Err(error),
     }
 }
@@ -49,30 +48,14 @@ pub fn gen_session<L: Link>(
     nonce: &[u8; 18],
     limit: u64,
 ) -> PgWireClientResult<GenSummary>
-    // IoError comes only where a call of the link failed.
-    ensures cause { IoHasCause (L.faults link.old) (L.faults link.new) result }
-    // Where a call of the link failed, IoError is the answer.
-    ensures failing { L.tells → L.faults link.old < L.faults link.new → IsErrOf result client.IoError }
+    ensures session { OverLinkShortly nonce.now limit L.foretells
+        (link_span L.tape L.left L.faults link.old link.new) result }
     // What the link was made with stays.
     ensures kept { L.plan link.new ≡ L.plan link.old }
-    // The answer is the summary of a completed session's report, whose bytes were read and written.
-    ensures completed { L.tells → IfOk result (λ summary. MovedBy (L.tape link.old) (L.tape link.new) (λ taken sent. Sums nonce.now taken sent summary)) }
-    // Each error has its cause, and no other comes.
-    ensures causes { L.tells → IfErr result (λ e. MovedBy (L.tape link.old) (L.tape link.new) (λ taken sent. ErrorCause (gen_input nonce.now) limit (length (L.tape link.old).wrote) (L.tape link.new) taken sent e)) }
-    // Whatever the answer: the bytes taken are those of a legal prefix. What was written are the encodings of the messages
-    // sent in it, all of them, or a front of them after IoError and want of memory.
-    ensures told { L.tells → MovedBy (L.tape link.old) (L.tape link.new) (Tells nonce.now result) }
-    // It is within the limit, in few calls, and in step.
-    ensures paced { L.tells → MovedBy (L.tape link.old) (L.tape link.new) (KeepsPace limit (L.tape link.old) (L.tape link.new)) }
-    ensures lockstep { L.tells → InLockstep (gen_input nonce.now) (L.tape link.old) (L.tape link.new) }
-    // Where the bytes to come complete a transcript within the limit and no call of the link failed, the answer is the
-    // summary of its report.
-    ensures reports { L.tells → (segments : List (List Event)) → Completes (gen_input nonce.now) limit (L.tape link.old).left segments →
-        (Rose (L.faults link.old) (L.faults link.new) → ⊥) → Gives (summary_for (report_of (gen_input nonce.now) segments)) result }
 {
     let config = config(alloc)?;
     let requests = [request(alloc)?];
-    let outcome = run_session(alloc, link, &config, &requests, nonce, limit);
+    let outcome = hold_over(alloc, link, &config, &requests, nonce, limit);
     drop(requests);
     drop(config);
     summed(outcome)

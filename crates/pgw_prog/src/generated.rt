@@ -1,13 +1,14 @@
 //! A session of any size, made from a number.
 ghost use Rattle.std.specs.Prelude.{◌≡◌, ◌<◌, ◌^◌, ◌++◌, ℕ, OnOk, IfOk};
 ghost use Rattle.pgw_gen.specs.Stream.{IsStream};
+ghost use Rattle.pgw_prog.specs.GenSession.{Gives};
 ghost use Rattle.pgw_prog.specs.Generated.{SaysGen, stream_summary, summary_text};
 ghost use Rattle.pgw_prog.specs.Held.{Says};
 
 use crate::gen_session::gen_session;
 use crate::pieces::{put, put_decimal, put_hex};
 use crate::printed::Printed;
-use pgw_backend::client_error::PgWireClientResult;
+use pgw_backend::client_error::{PgWireClientError, PgWireClientResult};
 use pgw_gen::stream::stream;
 use pgw_gen::summary::GenSummary;
 use pgw_link::memory::MemoryLink;
@@ -45,17 +46,22 @@ fn says(alloc: Global, summary: &GenSummary, bytes: u64) -> Result<Printed, OutO
     })
 }
 
-// Holds the session over what the server sends.
+// Holds the session over what the server sends. Where that is a stream, no error comes but want of memory.
 fn hold(alloc: Global, server: Octets, nonce: &[u8; 18]) -> PgWireClientResult<GenSummary>
-    ensures { IfOk result (λ summary. (count start : ℕ) → count < 2 ^ 64 → IsStream count start server → summary ≡ stream_summary count start) }
+    ensures { (count start : ℕ) → count < 2 ^ 64 → IsStream count start server →
+        Gives (stream_summary count start) result }
 {
     let limit = server.len() as u64;
     let mut link = MemoryLink::new(alloc, server, CUT, Listed::new(alloc), Listed::new(alloc));
-    gen_session(alloc, &mut link, nonce, limit)
+    let held = gen_session(alloc, &mut link, nonce, limit);
+    if link.was_short_of_memory() {
+        drop(held);
+        return Err(PgWireClientError::OutOfMemory);
+    }
+    held
 }
 
-/// Holds the session over its stream, and prints how many rows and bytes it had, and the digest of its rows. The stream
-/// completes the session, so no error comes but want of memory.
+/// Holds the session over its stream, and prints how many rows and bytes it had, and the digest of its rows.
 pub fn generate(
     alloc: Global,
     rows: u32,
@@ -70,7 +76,9 @@ pub fn generate(
     let len = bytes.len() as u64;
     match hold(alloc, Octets::from_bytes(bytes), nonce) {
         Ok(summary) => says(alloc, &summary, len),
+        // The stream completes the session, so no other error comes.
         Err(error) => {
+            prove!(matches!(&error, PgWireClientError::OutOfMemory));
             drop(error);
             Err(OutOfMemory)
         }

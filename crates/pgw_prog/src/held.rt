@@ -1,15 +1,17 @@
 //! The session of a script.
 ghost use Rattle.std.specs.Prelude.{◌≡◌, ◌≢◌, ◌<◌, ◌≤◌, ◌+◌, ◌*◌, ◌||◌, nat_lt, [], length, None, Ok, Err, IfOk, OnOk, IsErrOf};
 ghost use Rattle.pgw_backend.specs.declared.client_error.PgWireClientError.TheVariants as client;
-ghost use Rattle.pgw_prog.specs.Held.{input_of, first_tape, Moves, status_of as status_for, Says, PrintsSession, PrintsOutcome, Holds};
-ghost use Rattle.pgw_link.specs.Calls.{is_reached};
-ghost use Rattle.pgw_link.specs.Memory.{tape_of, faults_of, making_of};
+ghost use Rattle.pgw_prog.specs.Held.{input_of, InCuts, status_of as status_for, Says, PrintsSession, PrintsOutcome, Holds};
+ghost use Rattle.pgw_client.specs.Input.{input_with};
+ghost use Rattle.pgw_link.specs.Calls.{is_reached, number_of};
+ghost use Rattle.pgw_link.specs.Memory.{memory_tape, memory_left, faults_of, making_of};
+ghost use Rattle.pgw_link.specs.Tape.{new_tape};
 ghost use Rattle.pgw_prog.specs.Printing.{session_text};
 
 use crate::over_link::hold_over;
 use crate::printed::Printed;
 use crate::printing::put_session;
-use crate::told::told_of_outcome;
+use crate::told::{told_of_outcome, told_of_refusal};
 use pgw_backend::client_error::{PgWireClientError, PgWireClientResult};
 use pgw_config::config::Config;
 use pgw_link::memory::MemoryLink;
@@ -43,19 +45,32 @@ fn versioned(script: &Script, mut config: Config) -> Config
 }
 
 // Prints a session's report or its error behind what was written. Want of memory is no answer to be printed.
-fn print_session(
+fn print_with(
     alloc: Global,
     written: &[u8],
     outcome: &PgWireClientResult<SessionReport>,
+    told: String,
 ) -> Result<Printed, OutOfMemory>
-    ensures says { IfOk result (λ p. Says p (session_text written.now outcome.now) (status_for outcome.now)) }
+    ensures says { IfOk result (λ p. Says p (session_text written.now outcome.now)
+        (status_for outcome.now)) }
     ensures memory { OnOk result (IsErrOf outcome.now client.OutOfMemory → ⊥) }
 {
     let status = status_of(outcome)?;
     let mut text = Vec::new(alloc);
     put_session(&mut text, written, outcome)?;
-    let told = told_of_outcome(alloc, outcome);
     Ok(Printed { text, status, told })
+}
+
+fn print_session(
+    alloc: Global,
+    written: &[u8],
+    outcome: &PgWireClientResult<SessionReport>,
+) -> Result<Printed, OutOfMemory>
+    ensures says { IfOk result (λ p. Says p (session_text written.now outcome.now)
+        (status_for outcome.now)) }
+    ensures memory { OnOk result (IsErrOf outcome.now client.OutOfMemory → ⊥) }
+{
+    print_with(alloc, written, outcome, told_of_outcome(alloc, outcome))
 }
 
 /// Prints what a session over this link gave.
@@ -64,11 +79,17 @@ fn print_outcome(
     link: &MemoryLink,
     outcome: &PgWireClientResult<SessionReport>,
 ) -> Result<Printed, OutOfMemory>
-    ensures text { IfOk result (λ p. p.text.items ≡ session_text (tape_of link.now).wrote outcome.now) }
+    ensures text { IfOk result (λ p. p.text.items
+        ≡ session_text (memory_tape link.now).wrote outcome.now) }
     ensures status { IfOk result (λ p. p.status ≡ status_for outcome.now) }
     ensures memory { OnOk result (IsErrOf outcome.now client.OutOfMemory → ⊥) }
-    ensures moves { IfOk result (λ p. Moves (making_of link.now) (tape_of link.now)) }
-    ensures fails { IfOk result (λ p. nat_lt 0 (faults_of link.now) ≡ (is_reached (making_of link.now).reads (tape_of link.now).reads || is_reached (making_of link.now).writes (tape_of link.now).writes)) }
+    ensures taken { OnOk result (length (making_of link.now).server
+        ≤ length (memory_left link.now) + (making_of link.now).cut * (memory_tape link.now).reads) }
+    ensures sent { OnOk result (length (memory_tape link.now).wrote
+        ≤ (making_of link.now).cut * (memory_tape link.now).writes) }
+    ensures fails { OnOk result (nat_lt 0 (faults_of link.now)
+        ≡ (is_reached (making_of link.now).reads (number_of (memory_tape link.now).reads)
+        || is_reached (making_of link.now).writes (number_of (memory_tape link.now).writes))) }
 {
     if link.was_short_of_memory() {
         return Err(OutOfMemory);
@@ -85,9 +106,11 @@ fn run(
     nonce: &[u8; 18],
     limit: u64,
 ) -> Result<Printed, OutOfMemory>
-    requires new { tape_of link.old ≡ first_tape (making_of link.old) }
+    requires new { memory_tape link.old ≡ new_tape }
+    requires left { memory_left link.old ≡ (making_of link.old).server }
     requires faultless { faults_of link.old ≡ 0 }
-    ensures { IfOk result (PrintsSession (record { config = config.now; requests = requests.now; nonce = nonce.now }) limit (making_of link.old)) }
+    ensures { IfOk result (PrintsSession (input_with config.now requests.now nonce.now) limit
+        (making_of link.old)) }
 {
     let outcome = hold_over(alloc, link, config, requests, nonce, limit);
     let printed = print_outcome(alloc, link, &outcome);
@@ -104,8 +127,10 @@ fn link_of(
     fail_writes: Listed<u64>,
 ) -> Result<MemoryLink, OutOfMemory>
     requires { 0 < cut }
-    ensures made { IfOk result (λ link. making_of link ≡ record { server = server; cut = cut; reads = fail_reads; writes = fail_writes }) }
-    ensures first { IfOk result (λ link. tape_of link ≡ first_tape (making_of link)) }
+    ensures made { IfOk result (λ link. making_of link
+        ≡ record { server = server; cut = cut; reads = fail_reads; writes = fail_writes }) }
+    ensures first { IfOk result (λ link. memory_tape link ≡ new_tape) }
+    ensures left { IfOk result (λ link. memory_left link ≡ (making_of link).server) }
     ensures faultless { IfOk result (λ link. faults_of link ≡ 0) }
 {
     let server = server.into_octets()?;
@@ -145,12 +170,17 @@ fn hold_with(alloc: Global, script: Script, config: Config) -> Result<Printed, O
 }
 
 /// Prints why a connection text is refused. Want of memory is no refusal to be printed.
-fn print_refusal(alloc: Global, error: PgWireClientError) -> Result<Printed, OutOfMemory>
+fn print_refusal(
+    alloc: Global,
+    text: &str,
+    error: PgWireClientError,
+) -> Result<Printed, OutOfMemory>
     ensures says { IfOk result (λ p. Says p (session_text [] (Err error)) 1) }
     ensures memory { OnOk result (error ≢ client.OutOfMemory) }
 {
+    let told = told_of_refusal(alloc, text, &error);
     let outcome = Err(error);
-    let printed = print_session(alloc, b"", &outcome);
+    let printed = print_with(alloc, b"", &outcome, told);
     drop(outcome);
     printed
 }
@@ -162,6 +192,6 @@ pub fn hold(alloc: Global, script: Script) -> Result<Printed, OutOfMemory>
 {
     match Config::parse(alloc, script.config.as_str()) {
         Ok(config) => hold_with(alloc, script, config),
-        Err(error) => print_refusal(alloc, error),
+        Err(error) => print_refusal(alloc, script.config.as_str(), error),
     }
 }

@@ -1,7 +1,7 @@
 //! A session over a link.
-ghost use Rattle.std.specs.Prelude.{◌≡◌, ◌<◌, IsErrOf};
-ghost use Rattle.pgw_backend.specs.declared.client_error.PgWireClientError.TheVariants as client;
-ghost use Rattle.pgw_prog.specs.OverLink.{OverLink};
+ghost use Rattle.std.specs.Prelude.{◌≡◌};
+ghost use Rattle.pgw_client.specs.Input.{input_with};
+ghost use Rattle.pgw_prog.specs.OverLink.{link_span, OverLink};
 
 use pgw_backend::client_error::PgWireClientResult;
 use pgw_client::session::run_session;
@@ -10,7 +10,7 @@ use pgw_link::link::Link;
 use pgw_session::types::{Request, SessionReport};
 use std::alloc::Global;
 
-/// Holds a session over a link on which no call has failed.
+/// Holds a session over a link, as `run_session` does, whose clauses are one record here.
 pub fn hold_over<L: Link>(
     alloc: Global,
     link: &mut L,
@@ -19,9 +19,8 @@ pub fn hold_over<L: Link>(
     nonce: &[u8; 18],
     limit: u64,
 ) -> PgWireClientResult<SessionReport>
-    requires { L.faults link.old ≡ 0 }
-    ensures over { L.tells → OverLink (record { config = config.now; requests = requests.now; nonce = nonce.now }) limit (L.tape link.old) (L.tape link.new) (L.faults link.new) result }
-    ensures io { IsErrOf result client.IoError → 0 < L.faults link.new }
+    ensures session { OverLink (input_with config.now requests.now nonce.now) limit L.foretells
+        (link_span L.tape L.left L.faults link.old link.new) result }
     ensures kept { L.plan link.new ≡ L.plan link.old }
 {
     run_session(alloc, link, config, requests, nonce, limit)

@@ -1,19 +1,13 @@
 //! The program: the words of the command line, the source and the sink.
-ghost use Rattle.std.specs.Prelude.{◌≡◌, ◌≢◌, ◌⊎◌, ◌<◌, ◌≤◌, ◌++◌, ℕ, List, Err, map, codes, decimal, string_bytes, IfOk, IfErr, OnOk, OnErr};
-ghost use Rattle.pgw_link.specs.Tape.{Rose};
+ghost use Rattle.std.specs.Prelude.{◌≡◌, ◌≢◌, ◌≤◌, ◌++◌, map, codes, decimal, string_bytes, IfOk, IfErr, OnOk};
 ghost use Rattle.pgw_prog.specs.declared.command.Command.TheVariants as kind;
 ghost use Rattle.pgw_prog.specs.declared.program.Stop.TheVariants as stop;
 ghost use Rattle.pgw_prog.specs.Command.{command_for};
-ghost use Rattle.pgw_backend.specs.declared.client_error.PgWireClientError.TheVariants as client;
-ghost use Rattle.pgw_session.specs.Events.{Event};
-ghost use Rattle.pgw_script.specs.declared.script.Script.{Script as TheScript};
-ghost use Rattle.pgw_prog.specs.declared.command.Connection.{Connection as TheConnection};
-ghost use Rattle.pgw_prog.specs.Connected.{Connects, LeavesDialer, CanConnect, PrintsReport};
-ghost use Rattle.pgw_prog.specs.Generated.{PrintsGen};
+ghost use Rattle.pgw_prog.specs.Connected.{dial_span, LeavesDialer};
 ghost use Rattle.pgw_prog.specs.Held.{Says};
-ghost use Rattle.pgw_prog.specs.Program.{AnswersText, AnswersScript, Answers, Prints, PrintsFront, Completing, PrintsWhole, ListsFailure, TookFront, Appended, CountsStop};
-ghost use Rattle.pgw_prog.specs.Printing.{error_line, session_text};
+ghost use Rattle.pgw_prog.specs.Program.{AnswersText, AnswersScript, Answers, Appended, CountsStop, Ran};
 ghost use Rattle.pgw_prog.specs.Pieces.{line_end};
+ghost use Rattle.pgw_prog.specs.Transfer.{source_span, sink_span, TookFront};
 
 use crate::command::{Command, command_of};
 use crate::connected::connect;
@@ -169,9 +163,11 @@ fn answer_text(alloc: Global, text: Vec<u8>) -> Result<Printed, OutOfMemory>
 
 fn answer_script<I: Source>(alloc: Global, input: &mut I) -> Result<Printed, Stop>
     ensures no_fault { OnOk result (I.faults input.new ≡ I.faults input.old) }
-    ensures cause { IfErr result (λ e. CountsStop e (I.faults input.old) (I.faults input.new)) }
-    ensures took { I.tells → TookFront (I.tape input.old) (I.tape input.new) }
-    ensures answers { I.tells → IfOk result (AnswersScript (I.tape input.old).left) }
+    ensures cause { IfErr result (λ e. CountsStop e
+        (source_span I.tape I.left I.faults input.old input.new)) }
+    ensures took { TookFront (source_span I.tape I.left I.faults input.old input.new) }
+    ensures answers { IfOk result (AnswersScript
+        (source_span I.tape I.left I.faults input.old input.new)) }
 {
     match read_whole(alloc, input) {
         Ok(text) => Ok(answer_text(alloc, text)?),
@@ -192,11 +188,15 @@ fn answer<I: Source, D: Dialer>(
     nonce: &[u8; 18],
 ) -> Result<Printed, Stop>
     ensures no_fault { OnOk result (I.faults input.new ≡ I.faults input.old) }
-    ensures cause { IfErr result (λ e. CountsStop e (I.faults input.old) (I.faults input.new)) }
-    ensures took { I.tells → TookFront (I.tape input.old) (I.tape input.new) }
-    ensures answers { IfOk result (Answers HELP.now VERSION.now command I.tells (I.tape input.old).left (Connects nonce.now D.tells (D.tape dialer.old) (D.tape dialer.new) (D.faults dialer.old) (D.faults dialer.new))) }
+    ensures cause { IfErr result (λ e. CountsStop e
+        (source_span I.tape I.left I.faults input.old input.new)) }
+    ensures took { TookFront (source_span I.tape I.left I.faults input.old input.new) }
+    ensures answers { IfOk result (Answers HELP.now VERSION.now nonce.now
+        (source_span I.tape I.left I.faults input.old input.new)
+        (dial_span D.tape D.foretells D.offer D.faults dialer.old dialer.new) command) }
     ensures later { D.faults dialer.old ≤ D.faults dialer.new }
-    ensures leaves { LeavesDialer command (dialer.new ≡ dialer.old) D.tells (D.tape dialer.old) (D.tape dialer.new) }
+    ensures leaves { LeavesDialer command
+        (dial_span D.tape D.foretells D.offer D.faults dialer.old dialer.new) }
     ensures unread { command ≢ kind.Script → input.new ≡ input.old }
     ensures source { IfErr result (λ e. e ≡ stop.Source → command ≡ kind.Script) }
 {
@@ -218,13 +218,20 @@ fn answer_words<I: Source, D: Dialer>(
     nonce: &[u8; 18],
 ) -> Result<Printed, Stop>
     ensures no_fault { OnOk result (I.faults input.new ≡ I.faults input.old) }
-    ensures cause { IfErr result (λ e. CountsStop e (I.faults input.old) (I.faults input.new)) }
-    ensures took { I.tells → TookFront (I.tape input.old) (I.tape input.new) }
-    ensures answers { IfOk result (Answers HELP.now VERSION.now (command_for (map string_bytes words.now)) I.tells (I.tape input.old).left (Connects nonce.now D.tells (D.tape dialer.old) (D.tape dialer.new) (D.faults dialer.old) (D.faults dialer.new))) }
+    ensures cause { IfErr result (λ e. CountsStop e
+        (source_span I.tape I.left I.faults input.old input.new)) }
+    ensures took { TookFront (source_span I.tape I.left I.faults input.old input.new) }
+    ensures answers { IfOk result (Answers HELP.now VERSION.now nonce.now
+        (source_span I.tape I.left I.faults input.old input.new)
+        (dial_span D.tape D.foretells D.offer D.faults dialer.old dialer.new)
+        (command_for (map string_bytes words.now))) }
     ensures later { D.faults dialer.old ≤ D.faults dialer.new }
-    ensures leaves { LeavesDialer (command_for (map string_bytes words.now)) (dialer.new ≡ dialer.old) D.tells (D.tape dialer.old) (D.tape dialer.new) }
-    ensures unread { command_for (map string_bytes words.now) ≢ kind.Script → input.new ≡ input.old }
-    ensures source { IfErr result (λ e. e ≡ stop.Source → command_for (map string_bytes words.now) ≡ kind.Script) }
+    ensures leaves { LeavesDialer (command_for (map string_bytes words.now))
+        (dial_span D.tape D.foretells D.offer D.faults dialer.old dialer.new) }
+    ensures unread { command_for (map string_bytes words.now) ≢ kind.Script →
+        input.new ≡ input.old }
+    ensures source { IfErr result (λ e. e ≡ stop.Source →
+        command_for (map string_bytes words.now) ≡ kind.Script) }
 {
     let command = command_of(alloc, words)?;
     answer(alloc, words, command, input, dialer, nonce)
@@ -233,7 +240,7 @@ fn answer_words<I: Source, D: Dialer>(
 /// Tells people a text. That a write of it fails changes nothing.
 fn tell<E: Sink>(errors: &mut E, text: &str)
     ensures later { E.faults errors.old ≤ E.faults errors.new }
-    ensures writes { E.tells → Appended (E.tape errors.old) (E.tape errors.new) }
+    ensures writes { Appended (E.tape errors.old) (E.tape errors.new) }
 {
     let _ = write_whole(errors, text.as_bytes());
 }
@@ -250,46 +257,12 @@ pub fn run_program_with<I: Source, O: Sink, E: Sink, D: Dialer>(
     nonce: &[u8; 18],
     _words32: &[u8; 32],
 ) -> u8
-    ensures status { result ≤ 4 }
-    // At 0, 1 and 2 the whole text of the answer is written, and the status is the answer's.
-    ensures prints { result ≤ 2 → Prints HELP.now VERSION.now (command_for (map string_bytes words.now)) I.tells O.tells (I.tape input.old).left (Connects nonce.now D.tells (D.tape dialer.old) (D.tape dialer.new) (D.faults dialer.old) (D.faults dialer.new)) (O.tape output.old).wrote (O.tape output.new).wrote result }
-    // 3 comes only where a read for a script failed, and then nothing is written, or where a write failed: what is
-    // written then is a front of the text.
-    ensures fault { result ≡ 3 →
-        ((command_for (map string_bytes words.now) ≡ kind.Script) × Rose (I.faults input.old) (I.faults input.new) × (output.new ≡ output.old))
-        ⊎ (Rose (O.faults output.old) (O.faults output.new) × PrintsFront HELP.now VERSION.now (command_for (map string_bytes words.now)) I.tells O.tells (I.tape input.old).left (Connects nonce.now D.tells (D.tape dialer.old) (D.tape dialer.new) (D.faults dialer.old) (D.faults dialer.new)) (O.tape output.old).wrote (O.tape output.new).wrote) }
-    // It comes wherever one failed.
-    ensures source_fault { I.faults input.old < I.faults input.new → (result ≡ 3) × (output.new ≡ output.old) }
-    ensures sink_fault { O.faults output.old < O.faults output.new → result ≡ 3 }
-    // At 4 memory ran out, and nothing is written.
-    ensures silent { result ≡ 4 → output.new ≡ output.old }
-    // A script that lists no call to fail, and whose server's bytes complete its session, is printed whole.
-    ensures completes { I.tells → O.tells → ¬ (Rose (I.faults input.old) (I.faults input.new)) → ¬ (Rose (O.faults output.old) (O.faults output.new)) → command_for (map string_bytes words.now) ≡ kind.Script →
-        (script : TheScript) (segments : List (List Event)) (c : Completing (I.tape input.old).left script segments) → PrintsWhole (I.tape input.old).left script segments c (O.tape output.old).wrote (O.tape output.new).wrote result }
-    // IoError is printed only of a script that lists a read at most one more than the bytes read, or a write at most one
-    // more than the bytes sent.
-    ensures io { I.tells → O.tells → command_for (map string_bytes words.now) ≡ kind.Script → result ≡ 1 → (sent : List ℕ) →
-        (O.tape output.new).wrote ≡ (O.tape output.old).wrote ++ session_text sent (Err client.IoError) → ListsFailure (I.tape input.old).left sent }
-    // At most one read more than bytes read, and one write more than bytes written. Only a script is read.
-    ensures reads { I.tells → TookFront (I.tape input.old) (I.tape input.new) }
-    ensures writes { O.tells → Appended (O.tape output.old) (O.tape output.new) }
-    ensures unread { command_for (map string_bytes words.now) ≢ kind.Script → input.new ≡ input.old }
-    // Whatever the status: at most one dial is made, to the address of the connection text, and its link is closed; no
-    // other command and no refused text touches the dialer.
-    ensures dials { D.faults dialer.old ≤ D.faults dialer.new }
-    ensures leaves { LeavesDialer (command_for (map string_bytes words.now)) (dialer.new ≡ dialer.old) D.tells (D.tape dialer.old) (D.tape dialer.new) }
-    // A session with a server, whose bytes complete it, is reported whole.
-    ensures connects { D.tells → O.tells → ¬ (Rose (D.faults dialer.old) (D.faults dialer.new)) → ¬ (Rose (O.faults output.old) (O.faults output.new)) →
-        (asked : TheConnection) → command_for (map string_bytes words.now) ≡ kind.Connect asked → (segments : List (List Event)) (can : CanConnect asked nonce.now (D.tape dialer.old).offer segments) →
-        PrintsReport asked nonce.now (D.tape dialer.old).offer segments can (O.tape output.old).wrote (O.tape output.new).wrote result }
-    // Of a session with a server IoError is printed only where the dialer's count rose.
-    ensures connect_io { O.tells → (asked : TheConnection) → command_for (map string_bytes words.now) ≡ kind.Connect asked → result ≡ 1 →
-        (O.tape output.new).wrote ≡ (O.tape output.old).wrote ++ error_line client.IoError → Rose (D.faults dialer.old) (D.faults dialer.new) }
-    // Of a session of any size the number of its rows is printed, the length of its stream, and the digest of its rows.
-    ensures generates { O.tells → ¬ (Rose (O.faults output.old) (O.faults output.new)) → (rows start : ℕ) → command_for (map string_bytes words.now) ≡ kind.Gen rows start →
-        PrintsGen rows start (O.tape output.old).wrote (O.tape output.new).wrote result }
+    ensures run { Ran HELP.now VERSION.now nonce.now (command_for (map string_bytes words.now))
+        (source_span I.tape I.left I.faults input.old input.new)
+        (sink_span O.tape O.faults output.old output.new)
+        (dial_span D.tape D.foretells D.offer D.faults dialer.old dialer.new) result }
     // What people are told is appended to what was written before.
-    ensures told { E.tells → Appended (E.tape errors.old) (E.tape errors.new) }
+    ensures told { Appended (E.tape errors.old) (E.tape errors.new) }
     ensures told_faults { E.faults errors.old ≤ E.faults errors.new }
 {
     match answer_words(alloc, words, input, dialer, nonce) {
@@ -328,51 +301,17 @@ pub fn run_program<I: Source, O: Sink, D: Dialer>(
     nonce: &[u8; 18],
     words32: &[u8; 32],
 ) -> u8
-    ensures status { result ≤ 4 }
-    // At 0, 1 and 2 the whole text of the answer is written, and the status is the answer's.
-    ensures prints { result ≤ 2 → Prints HELP.now VERSION.now (command_for (map string_bytes words.now)) I.tells O.tells (I.tape input.old).left (Connects nonce.now D.tells (D.tape dialer.old) (D.tape dialer.new) (D.faults dialer.old) (D.faults dialer.new)) (O.tape output.old).wrote (O.tape output.new).wrote result }
-    // 3 comes only where a read for a script failed, and then nothing is written, or where a write failed: what is
-    // written then is a front of the text.
-    ensures fault { result ≡ 3 →
-        ((command_for (map string_bytes words.now) ≡ kind.Script) × Rose (I.faults input.old) (I.faults input.new) × (output.new ≡ output.old))
-        ⊎ (Rose (O.faults output.old) (O.faults output.new) × PrintsFront HELP.now VERSION.now (command_for (map string_bytes words.now)) I.tells O.tells (I.tape input.old).left (Connects nonce.now D.tells (D.tape dialer.old) (D.tape dialer.new) (D.faults dialer.old) (D.faults dialer.new)) (O.tape output.old).wrote (O.tape output.new).wrote) }
-    // It comes wherever one failed.
-    ensures source_fault { I.faults input.old < I.faults input.new → (result ≡ 3) × (output.new ≡ output.old) }
-    ensures sink_fault { O.faults output.old < O.faults output.new → result ≡ 3 }
-    // At 4 memory ran out, and nothing is written.
-    ensures silent { result ≡ 4 → output.new ≡ output.old }
-    // A script that lists no call to fail, and whose server's bytes complete its session, is printed whole.
-    ensures completes { I.tells → O.tells → ¬ (Rose (I.faults input.old) (I.faults input.new)) → ¬ (Rose (O.faults output.old) (O.faults output.new)) → command_for (map string_bytes words.now) ≡ kind.Script →
-        (script : TheScript) (segments : List (List Event)) (c : Completing (I.tape input.old).left script segments) → PrintsWhole (I.tape input.old).left script segments c (O.tape output.old).wrote (O.tape output.new).wrote result }
-    // IoError is printed only of a script that lists a read at most one more than the bytes read, or a write at most one
-    // more than the bytes sent.
-    ensures io { I.tells → O.tells → command_for (map string_bytes words.now) ≡ kind.Script → result ≡ 1 → (sent : List ℕ) →
-        (O.tape output.new).wrote ≡ (O.tape output.old).wrote ++ session_text sent (Err client.IoError) → ListsFailure (I.tape input.old).left sent }
-    // At most one read more than bytes read, and one write more than bytes written. Only a script is read.
-    ensures reads { I.tells → TookFront (I.tape input.old) (I.tape input.new) }
-    ensures writes { O.tells → Appended (O.tape output.old) (O.tape output.new) }
-    ensures unread { command_for (map string_bytes words.now) ≢ kind.Script → input.new ≡ input.old }
-    // Whatever the status: at most one dial is made, to the address of the connection text, and its link is closed; no
-    // other command and no refused text touches the dialer.
-    ensures dials { D.faults dialer.old ≤ D.faults dialer.new }
-    ensures leaves { LeavesDialer (command_for (map string_bytes words.now)) (dialer.new ≡ dialer.old) D.tells (D.tape dialer.old) (D.tape dialer.new) }
-    // A session with a server, whose bytes complete it, is reported whole.
-    ensures connects { D.tells → O.tells → ¬ (Rose (D.faults dialer.old) (D.faults dialer.new)) → ¬ (Rose (O.faults output.old) (O.faults output.new)) →
-        (asked : TheConnection) → command_for (map string_bytes words.now) ≡ kind.Connect asked → (segments : List (List Event)) (can : CanConnect asked nonce.now (D.tape dialer.old).offer segments) →
-        PrintsReport asked nonce.now (D.tape dialer.old).offer segments can (O.tape output.old).wrote (O.tape output.new).wrote result }
-    // Of a session with a server IoError is printed only where the dialer's count rose.
-    ensures connect_io { O.tells → (asked : TheConnection) → command_for (map string_bytes words.now) ≡ kind.Connect asked → result ≡ 1 →
-        (O.tape output.new).wrote ≡ (O.tape output.old).wrote ++ error_line client.IoError → Rose (D.faults dialer.old) (D.faults dialer.new) }
-    // Of a session of any size the number of its rows is printed, the length of its stream, and the digest of its rows.
-    ensures generates { O.tells → ¬ (Rose (O.faults output.old) (O.faults output.new)) → (rows start : ℕ) → command_for (map string_bytes words.now) ≡ kind.Gen rows start →
-        PrintsGen rows start (O.tape output.old).wrote (O.tape output.new).wrote result }
+    ensures run { Ran HELP.now VERSION.now nonce.now (command_for (map string_bytes words.now))
+        (source_span I.tape I.left I.faults input.old input.new)
+        (sink_span O.tape O.faults output.old output.new)
+        (dial_span D.tape D.foretells D.offer D.faults dialer.old dialer.new) result }
 {
     run_program_with(
         alloc,
         words,
         input,
         output,
-        &mut Silence,
+        &mut Silence::new(),
         dialer,
         nonce,
         words32,

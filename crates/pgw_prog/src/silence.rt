@@ -1,22 +1,30 @@
 //! A sink that nobody reads.
 ghost use Rattle.std.specs.Prelude.{◌≡◌};
 
+use pgw_link::log::{Log, Note};
 use pgw_link::stream::{Sink, SinkFault};
 
 /// Takes whatever is written to it, and keeps nothing.
-#[derive(Clone, Copy, Debug)]
-pub struct Silence;
+#[derive(Drop)]
+pub struct Silence {
+    log: Log,
+}
+
+impl Silence {
+    pub fn new() -> Silence {
+        Silence { log: Log::new() }
+    }
+}
 
 impl Sink for Silence {
-    ghost use Rattle.std.specs.Prelude.{[]};
+    ghost use Rattle.pgw_link.specs.Stream.{sink_tape_of};
 
-    ghost tells = { ⊥ };
-
-    ghost tape = { λ s. record { wrote = []; writes = 0 } };
+    ghost tape = { λ s. sink_tape_of s.log };
 
     ghost faults = { λ s. 0 };
 
     fn write(&mut self, piece: &[u8]) -> Result<usize, SinkFault> {
+        self.log = self.log.then(&Note::Wrote(piece, piece.len()));
         Ok(piece.len())
     }
 }

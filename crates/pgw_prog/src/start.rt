@@ -1,11 +1,14 @@
 //! The program over standard input and output and the system's sockets.
 
+use crate::command::{Command, command_of};
 use crate::program::run_program_with;
 use crate::told::{NO_MEMORY, NO_RANDOM_BYTES};
 use pgw_link::socket_dialer::{SocketDialer, Timeouts};
 use pgw_link::standard::{StdSink, StdSource};
+use pgw_types::memory::OutOfMemory;
 use rand::RngExt;
 use rand::rngs::StdRng;
+use std::alloc::Global;
 use std::{env, io};
 
 /// Runs the command that the words behind the program's name ask for, and says with which status to end.
@@ -33,14 +36,38 @@ fn words_of(rt: &HostRuntime) -> io::Result<Vec<String>> {
     Ok(words)
 }
 
-/// Runs a command over standard input and output, with fresh bytes.
-fn run(rt: &HostRuntime, words: &[String]) -> u8 {
+/// Whether the command that these words ask for wants random bytes: only a session with a server does.
+fn wants_random_bytes(alloc: Global, words: &[String]) -> Result<bool, OutOfMemory> {
+    match command_of(alloc, words)? {
+        Command::Connect(asked) => {
+            drop(asked);
+            Ok(true)
+        }
+        Command::Help | Command::Version | Command::Script | Command::Usage => Ok(false),
+        Command::Gen(..) => Ok(false),
+    }
+}
+
+/// Runs a command over standard input and output, with fresh bytes where it wants them.
+pub fn run(rt: &HostRuntime, words: &[String]) -> u8 {
+    match wants_random_bytes(rt.alloc(), words) {
+        Ok(true) => run_fresh(rt, words),
+        Ok(false) => run_with(rt, words, &[0; 18], &[0; 32]),
+        Err(OutOfMemory) => told(rt, NO_MEMORY, 4),
+    }
+}
+
+fn run_fresh(rt: &HostRuntime, words: &[String]) -> u8 {
     let rng: io::Result<StdRng> = rand::make_rng(rt);
     let Ok(mut rng) = rng else {
         return told(rt, NO_RANDOM_BYTES, 3);
     };
     let nonce: [u8; 18] = rng.random();
     let words32: [u8; 32] = rng.random();
+    run_with(rt, words, &nonce, &words32)
+}
+
+fn run_with(rt: &HostRuntime, words: &[String], nonce: &[u8; 18], words32: &[u8; 32]) -> u8 {
     let mut input = StdSource::new(rt.reader());
     let mut output = StdSink::new(io::writer(rt));
     let mut errors = StdSink::new(rt.stderr());
@@ -52,7 +79,7 @@ fn run(rt: &HostRuntime, words: &[String]) -> u8 {
         &mut output,
         &mut errors,
         &mut dialer,
-        &nonce,
-        &words32,
+        nonce,
+        words32,
     )
 }

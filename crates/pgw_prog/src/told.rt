@@ -1,8 +1,11 @@
 //! What people are told on standard error. No clause speaks of these texts; where memory runs out, nothing is told.
 
 use pgw_backend::client_error::{PgWireClientError, PgWireClientResult};
+use pgw_conninfo::part::Part;
+use pgw_conninfo::text::cut;
 use pgw_script::expected::expected_at;
 use pgw_session::types::SessionReport;
+use pgw_types::memory::OutOfMemory;
 use std::alloc::{AllocError, Global};
 use std::fmt::Write;
 
@@ -125,5 +128,66 @@ pub fn told_of_outcome(alloc: Global, outcome: &PgWireClientResult<SessionReport
     match outcome {
         Ok(_) => String::new(alloc),
         Err(error) => or_empty(alloc, sentence(alloc, error)),
+    }
+}
+
+/// The number of the part with this key, counted from 1, where a password stands before it.
+fn behind_password(parts: &[Part], key: &str) -> Option<u64> {
+    let mut has_password = false;
+    for (index, part) in parts.iter().enumerate() {
+        match part {
+            Part::Password(_) => has_password = true,
+            Part::Host(_) => {}
+            Part::Pair(name, _) => {
+                if name.as_str() == key {
+                    return if has_password {
+                        Some(index as u64 + 1)
+                    } else {
+                        None
+                    };
+                }
+                if name.as_str() == "password" {
+                    has_password = true;
+                }
+            }
+        }
+    }
+    None
+}
+
+fn unknown_key(
+    alloc: Global,
+    text: &str,
+    key: &str,
+    error: &PgWireClientError,
+) -> Result<String, OutOfMemory> {
+    let parts = cut(alloc, text)?;
+    let number = behind_password(parts.parts.as_slice(), key);
+    drop(parts);
+    match number {
+        Some(number) => Ok(format!(in alloc;
+            "part {number} of the connection text, behind its password, has an unknown key\n"
+        )?),
+        None => Ok(sentence(alloc, error)?),
+    }
+}
+
+fn refusal(alloc: Global, text: &str, error: &PgWireClientError) -> Result<String, OutOfMemory> {
+    match error {
+        PgWireClientError::UnknownConfig(key) => unknown_key(alloc, text, key.as_str(), error),
+        PgWireClientError::InvalidUtf8ConfigValue(bytes) => Ok(format!(in alloc;
+            "a value of the connection text, of {} bytes, is not UTF-8\n",
+            bytes.as_slice().len()
+        )?),
+        _ => Ok(sentence(alloc, error)?),
+    }
+}
+
+/// Why a connection text is refused. A key that stands behind a password is not shown, since it may be a part of a
+/// password with a blank, nor are the bytes of a value.
+pub fn told_of_refusal(alloc: Global, text: &str, error: &PgWireClientError) -> String {
+    match refusal(alloc, text, error) {
+        Ok(told) => told,
+        Err(OutOfMemory) => String::new(alloc),
     }
 }

@@ -1,7 +1,7 @@
 //! Reading a whole source, and writing a whole text.
 ghost use Rattle.std.specs.Prelude.{◌≡◌, ◌≤◌, IfOk, IfErr, OnOk, OnErr};
 ghost use Rattle.pgw_link.specs.Tape.{HasCause};
-ghost use Rattle.pgw_prog.specs.Transfer.{Counts, TookWhole, TookSome, WroteWhole, WroteFront};
+ghost use Rattle.pgw_prog.specs.Transfer.{source_span, Stops, TookFront, TookWhole, WroteWhole, WroteFront};
 
 use pgw_link::stream::{Sink, SinkFault, Source};
 use std::alloc::Global;
@@ -24,9 +24,10 @@ pub enum ReadFault {
 pub fn read_whole<I: Source>(alloc: Global, input: &mut I) -> Result<Vec<u8>, ReadFault>
     ensures later { I.faults input.old ≤ I.faults input.new }
     ensures no_fault { OnOk result (I.faults input.new ≡ I.faults input.old) }
-    ensures cause { IfErr result (λ e. Counts e (I.faults input.old) (I.faults input.new)) }
-    ensures whole { I.tells → IfOk result (λ text. TookWhole (I.tape input.old) (I.tape input.new) text.items) }
-    ensures some { I.tells → IfErr result (λ e. TookSome (I.tape input.old) (I.tape input.new) e) }
+    ensures front { TookFront (source_span I.tape I.left I.faults input.old input.new) }
+    ensures whole { IfOk result (λ text. TookWhole (I.tape input.old) (I.tape input.new)
+        text.items) }
+    ensures stops { IfErr result (Stops (source_span I.tape I.left I.faults input.old input.new)) }
 {
     let mut text = Vec::new(alloc);
     while text.len() <= SCRIPT_LIMIT {
@@ -48,8 +49,8 @@ pub fn read_whole<I: Source>(alloc: Global, input: &mut I) -> Result<Vec<u8>, Re
 pub fn write_whole<O: Sink>(output: &mut O, text: &[u8]) -> Result<(), SinkFault>
     ensures cause { HasCause (O.faults output.old) (O.faults output.new) result }
     ensures no_fault { OnOk result (O.faults output.new ≡ O.faults output.old) }
-    ensures wrote { O.tells → OnOk result (WroteWhole (O.tape output.old) (O.tape output.new) text.now) }
-    ensures failed { O.tells → OnErr result (WroteFront (O.tape output.old) (O.tape output.new) text.now) }
+    ensures wrote { OnOk result (WroteWhole (O.tape output.old) (O.tape output.new) text.now) }
+    ensures failed { OnErr result (WroteFront (O.tape output.old) (O.tape output.new) text.now) }
 {
     let mut at = 0;
     while at < text.len() {

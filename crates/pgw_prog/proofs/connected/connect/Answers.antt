@@ -4,9 +4,9 @@ use Rattle.pgw_prog.proofs.connected.connect.Goals as goal
 pub returns-in-Ok-clause-prints : goal.returns-in-Ok-clause-prints
 returns-in-Ok-clause-prints g c =
     let e = rw c.as_str.ensures.value at c.in-Ok.ensures in
-    text_printed c.args.nonce.now _ _ _ _ _ c.args.asked.now c.in-Ok.config c.connect_with-printed.result e.parsed e.only c.connect_with-printed.ensures.prints
+    text_printed c.args.nonce.now _ c.args.asked.now c.in-Ok.config c.connect_with-printed.result e.parsed e.only c.connect_with-printed.ensures.prints
 
 pub returns-in-Err-clause-prints : goal.returns-in-Err-clause-prints
 returns-in-Err-clause-prints g c =
     let e = rw c.as_str.ensures.value at c.in-Err.ensures in
-    refusal_printed c.args.nonce.now _ _ _ _ _ c.args.asked.now c.in-Err.error c.print_result.result e.parsed e.only e.refusals c.print_result.ensures.says c.print_result.ensures.memory
+    refusal_printed c.args.nonce.now _ c.args.asked.now c.in-Err.error c.print_refusal.result e.parsed e.only e.refusals c.print_refusal.ensures.says c.print_refusal.ensures.memory

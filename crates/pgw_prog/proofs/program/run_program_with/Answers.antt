@@ -1,54 +1,53 @@
-use Rattle.std.proofs.Common.{arith, refl, inr}
-use Rattle.pgw_prog.proofs.ConnectLaws.{report_written, io_written}
-use Rattle.pgw_prog.proofs.ProgramLaws.{whole_written, listed_written}
-use Rattle.pgw_prog.proofs.GenLaws.{generates}
+use Rattle.std.proofs.Common.{refl, subst}
+use Rattle.pgw_prog.specs.declared.program.Stop.{Stop}
+use Rattle.pgw_prog.specs.Connected.{DialSpan, dial_span}
+use Rattle.pgw_prog.specs.Transfer.{SourceSpan, SinkSpan, source_span, sink_span}
+use Rattle.pgw_prog.specs.Program.{CountsStop}
+use Rattle.pgw_prog.proofs.ProgramLaws.{ran_written, ran_unwritten, ran_unread, ran_short}
 use Rattle.pgw_prog.proofs.program.run_program_with.Goals as goal
 
-pub returns-in-Ok-write_whole-clause-prints : goal.returns-in-Ok-write_whole-clause-prints
-returns-in-Ok-write_whole-clause-prints g c = λ some. record {
-  printed = c.in-Ok.printed;
-  answers = c.in-Ok.ensures.answers;
-  wrote = λ writes. rw c.deref.ensures.value at ((c.in-Ok-write_whole.ensures.wrote writes).wrote);
-  ends = refl;
-}
+pub returns-in-Ok-write_whole-clause-run : goal.returns-in-Ok-write_whole-clause-run
+returns-in-Ok-write_whole-clause-run g c =
+    let e = c.in-Ok.ensures in
+    let I = g.I.Source in
+    let O = g.O.Sink in
+    let D = g.D.Dialer in
+    let source : SourceSpan = source_span I.tape I.left I.faults c.args.input.now c.answer_words.new.input in
+    let sink : SinkSpan = sink_span O.tape O.faults c.args.output.now c.write_whole.new.output in
+    let dialer : DialSpan = dial_span D.tape D.foretells D.offer D.faults c.args.dialer.now c.answer_words.new.dialer in
+    ran_written _ _ _ _ source sink dialer c.in-Ok.printed e.answers e.no_fault e.took e.unread e.later e.leaves (rw c.deref.ensures.value at c.in-Ok-write_whole.ensures.wrote) c.in-Ok-write_whole.ensures.no_fault
 
-pub returns-in-Ok-write_whole-clause-fault : goal.returns-in-Ok-write_whole-clause-fault
-returns-in-Ok-write_whole-clause-fault g c = λ e. absurd (omega (arith, e, c.in-Ok.printed.bound))
+pub returns-in-Ok-clause-run : goal.returns-in-Ok-clause-run
+returns-in-Ok-clause-run g c =
+    let e = c.in-Ok.ensures in
+    let I = g.I.Source in
+    let O = g.O.Sink in
+    let D = g.D.Dialer in
+    let source : SourceSpan = source_span I.tape I.left I.faults c.args.input.now c.answer_words.new.input in
+    let sink : SinkSpan = sink_span O.tape O.faults c.args.output.now c.write_whole.new.output in
+    let dialer : DialSpan = dial_span D.tape D.foretells D.offer D.faults c.args.dialer.now c.answer_words.new.dialer in
+    ran_unwritten _ _ _ _ source sink dialer c.in-Ok.printed e.answers e.no_fault e.took e.unread e.later e.leaves (rw c.deref.ensures.value at c.in-Err.ensures.failed) c.in-Err.ensures.cause.failed
 
-pub returns-in-Ok-write_whole-clause-silent : goal.returns-in-Ok-write_whole-clause-silent
-returns-in-Ok-write_whole-clause-silent g c = λ e. absurd (omega (arith, e, c.in-Ok.printed.bound))
+pub returns-in-Err-Source-clause-run : goal.returns-in-Err-Source-clause-run
+returns-in-Err-Source-clause-run g c =
+    let e = c.in-Err-Source.ensures in
+    let is = c.in-Err-Source.field-0-is in
+    let I = g.I.Source in
+    let O = g.O.Sink in
+    let D = g.D.Dialer in
+    let source : SourceSpan = source_span I.tape I.left I.faults c.args.input.now c.answer_words.new.input in
+    let sink : SinkSpan = sink_span O.tape O.faults c.args.output.now c.args.output.now in
+    let dialer : DialSpan = dial_span D.tape D.foretells D.offer D.faults c.args.dialer.now c.answer_words.new.dialer in
+    ran_unread _ _ _ _ source sink dialer (e.source is) (subst (λ (s : Stop). CountsStop s source) is e.cause) e.took e.unread e.later e.leaves refl refl refl
 
-pub returns-in-Ok-write_whole-clause-completes : goal.returns-in-Ok-write_whole-clause-completes
-returns-in-Ok-write_whole-clause-completes g c = λ reads writes still quiet is script segments can.
-    let answers = rw is at c.in-Ok.ensures.answers in
-    whole_written _ script segments can c.in-Ok.printed _ _ (answers reads) (rw c.deref.ensures.value at ((c.in-Ok-write_whole.ensures.wrote writes).wrote))
-
-pub returns-in-Ok-write_whole-clause-io : goal.returns-in-Ok-write_whole-clause-io
-returns-in-Ok-write_whole-clause-io g c = λ reads writes is one sent text.
-    let answers = rw is at c.in-Ok.ensures.answers in
-    listed_written _ sent c.in-Ok.printed _ _ (answers reads) (rw c.deref.ensures.value at ((c.in-Ok-write_whole.ensures.wrote writes).wrote)) text
-
-pub returns-in-Ok-write_whole-clause-connects : goal.returns-in-Ok-write_whole-clause-connects
-returns-in-Ok-write_whole-clause-connects g c = λ t writes still quiet asked is segments can.
-    let connects = rw is at c.in-Ok.ensures.answers in
-    report_written _ _ _ _ _ _ asked c.in-Ok.printed segments can t still connects _ _ (rw c.deref.ensures.value at ((c.in-Ok-write_whole.ensures.wrote writes).wrote))
-
-pub returns-in-Ok-write_whole-clause-connect_io : goal.returns-in-Ok-write_whole-clause-connect_io
-returns-in-Ok-write_whole-clause-connect_io g c = λ writes asked is one text.
-    let connects = rw is at c.in-Ok.ensures.answers in
-    io_written _ _ _ _ _ _ asked c.in-Ok.printed connects _ _ (rw c.deref.ensures.value at ((c.in-Ok-write_whole.ensures.wrote writes).wrote)) text
-
-pub returns-in-Ok-write_whole-clause-generates : goal.returns-in-Ok-write_whole-clause-generates
-returns-in-Ok-write_whole-clause-generates g c = λ writes quiet rows start is.
-    let says = rw is at c.in-Ok.ensures.answers in
-    generates rows start c.in-Ok.printed _ _ says (rw c.deref.ensures.value at ((c.in-Ok-write_whole.ensures.wrote writes).wrote))
-
-pub returns-in-Ok-clause-fault : goal.returns-in-Ok-clause-fault
-returns-in-Ok-clause-fault g c = λ three. inr (
-  c.in-Err.ensures.cause.failed,
-  record {
-    printed = c.in-Ok.printed;
-    answers = c.in-Ok.ensures.answers;
-    wrote = λ writes. let front = rw c.deref.ensures.value at (c.in-Err.ensures.failed writes) in (front.count, front.count_in, front.wrote);
-  },
-)
+pub returns-clause-run : goal.returns-clause-run
+returns-clause-run g c =
+    let e = c.in-Err-OutOfMemory.ensures in
+    let is = c.in-Err-OutOfMemory.field-0-is in
+    let I = g.I.Source in
+    let O = g.O.Sink in
+    let D = g.D.Dialer in
+    let source : SourceSpan = source_span I.tape I.left I.faults c.args.input.now c.answer_words.new.input in
+    let sink : SinkSpan = sink_span O.tape O.faults c.args.output.now c.args.output.now in
+    let dialer : DialSpan = dial_span D.tape D.foretells D.offer D.faults c.args.dialer.now c.answer_words.new.dialer in
+    ran_short _ _ _ _ source sink dialer (subst (λ (s : Stop). CountsStop s source) is e.cause) e.took e.unread e.later e.leaves refl refl refl

@@ -1,11 +1,11 @@
-use Rattle.std.proofs.Common.{◌≡◌, ◌≤◌, ◌+◌, ◌-◌, ◌++◌, length}
+use Rattle.std.proofs.Common.{◌≡◌, ◌-◌, length}
+use Rattle.pgw_prog.proofs.TransferLaws.{Drawn}
 use Rattle.pgw_prog.proofs.transfer.read_whole.Given as goal
 
 abbrev pub invariant-loop-chunk : goal.invariant-loop-chunk
 invariant-loop-chunk g l = record {
   same : g.I.Source.faults l.input ≡ g.I.Source.faults l.fn.input;
-  left : g.I.Source.tells → (g.I.Source.tape l.fn.input).left ≡ l.text.items ++ (g.I.Source.tape l.input).left;
-  reads : g.I.Source.tells → (g.I.Source.tape l.input).reads ≤ (g.I.Source.tape l.fn.input).reads + length l.text.items;
+  drawn : Drawn (g.I.Source.tape l.fn.input) (g.I.Source.tape l.input) (g.I.Source.left l.fn.input) (g.I.Source.left l.input) l.text.items;
 }
 
 abbrev pub decreases-loop-chunk : goal.decreases-loop-chunk

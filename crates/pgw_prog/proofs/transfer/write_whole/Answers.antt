@@ -9,6 +9,6 @@ loop-at-preserved g c =
     record {
       at_in = omega (arith, e.bound);
       same = e.no_fault ∙ i.same;
-      wrote = λ t. put_on (g.O.Sink.tape c.args.output.now) c.args.text.now c.loop-at.at c.in_ok-at.field-0 (e.moved t) (i.wrote t);
-      writes = λ t. let p = e.moved t in omega (arith, p.writes, i.writes t, e.some);
+      wrote = put_on (g.O.Sink.tape c.args.output.now) c.args.text.now c.loop-at.at c.in_ok-at.field-0 e.moved i.wrote;
+      writes = let p = e.moved in omega (arith, p.writes, i.writes, e.some);
     }

@@ -5,8 +5,8 @@ abbrev pub invariant-loop-at : goal.invariant-loop-at
 invariant-loop-at g l = record {
   at_in : l.at ≤ length l.fn.text;
   same : g.O.Sink.faults l.output ≡ g.O.Sink.faults l.fn.output;
-  wrote : g.O.Sink.tells → (g.O.Sink.tape l.output).wrote ≡ (g.O.Sink.tape l.fn.output).wrote ++ take l.at l.fn.text;
-  writes : g.O.Sink.tells → (g.O.Sink.tape l.output).writes ≤ (g.O.Sink.tape l.fn.output).writes + l.at;
+  wrote : (g.O.Sink.tape l.output).wrote ≡ (g.O.Sink.tape l.fn.output).wrote ++ take l.at l.fn.text;
+  writes : (g.O.Sink.tape l.output).writes ≤ (g.O.Sink.tape l.fn.output).writes + l.at;
 }
 
 abbrev pub decreases-loop-at : goal.decreases-loop-at
