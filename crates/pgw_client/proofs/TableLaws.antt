@@ -12,13 +12,14 @@ use Rattle.pgw_backend.specs.declared.client_error.PgWireClientError.TheVariants
 use Rattle.pgw_backend.specs.declared.client_error.ScramFault.TheVariants as scram_fault
 use Rattle.pgw_types.specs.declared.error.ScramMessageFault.{ScramMessageFault}
 use Rattle.pgw_hash.specs.Saslprep.{prepared}
+use Rattle.pgw_scram.specs.declared.exchange.ClientLogin.{ClientLogin}
 use Rattle.pgw_scram.specs.declared.messages.ServerFirst.{ServerFirst}
 use Rattle.pgw_scram.specs.declared.messages.ServerFinal.{ServerFinal}
 use Rattle.pgw_scram.specs.declared.messages.ServerFinal.TheVariants.{Signature, Failed}
 use Rattle.pgw_scram.specs.Base64.{nonce_text, salt_of}
 use Rattle.pgw_scram.specs.Readers.{read_server_first, read_server_final}
 use Rattle.pgw_scram.specs.Answers.{unless_so, first_of}
-use Rattle.pgw_scram.specs.Refusals.{begins_with, parts_refusal, verifier_refusal}
+use Rattle.pgw_scram.specs.Refusals.{user_refusal, begins_with, parts_refusal, verifier_refusal}
 use Rattle.pgw_session.specs.declared.stage.Kind.{Kind}
 use Rattle.pgw_session.specs.declared.stage.Role.{Role}
 use Rattle.pgw_session.specs.declared.stage.Role.TheVariants.{Taken, Closing, Completing, Failing, Misplaced}
@@ -29,10 +30,10 @@ use Rattle.pgw_session.specs.declared.stage.Next.TheVariants.{Goes}
 use Rattle.pgw_session.specs.Input.{Input}
 use Rattle.pgw_session.specs.Requests.{passes_over, role}
 use Rattle.pgw_session.specs.Segments.{is_news, is_ready}
-use Rattle.pgw_session.specs.Logins.{user_of, password_of, first_refusal, final_refusal, expected_of, first_message, final_message}
+use Rattle.pgw_session.specs.Logins.{user_of, password_of, scram_login, methods_refusal, first_refusal, final_refusal, expected_of, first_message, final_message}
 use Rattle.pgw_session.specs.Table.{news_or, by_welcome, unless, by_login, by_first, by_final, misplaced, by_role, by_ready, after}
 use Rattle.pgw_client.specs.Wire.{IsOwn}
-use Rattle.pgw_client.specs.Machine.{IsAble, IsGood}
+use Rattle.pgw_client.specs.Machine.{IsGood}
 
 -- ---- logins
 
@@ -57,72 +58,71 @@ final_own expected (Err why) = tt
 final_own expected (Ok (Failed text)) = tt
 final_own expected (Ok (Signature text)) = unless_own (bytes_eq text expected) (client.ScramError scram_fault.SignatureMismatch) tt
 
-unless_good : (input : Input) (o : Option ClientError) (n : Next) → AreOwn o → IsGood input n → IsGood input (unless o n)
-unless_good input None n own good = good
-unless_good input (Some e) n own good = own
+unless_good : (o : Option ClientError) (n : Next) → AreOwn o → IsGood n → IsGood (unless o n)
+unless_good None n own good = good
+unless_good (Some e) n own good = own
 
--- a SCRAM login begins where nothing is refused
-scram_good : (input : Input) (methods : List (List ℕ)) (a b c : Bool) (reply : Option Frontend) → b ≡ is_utf8 (password_of input)
-    → IsGood input (unless (first_of (unless_so a (client.UnsupportedSASLAuthMethods methods)) (first_of (unless_so b (client.ScramError scram_fault.PasswordNotUtf8)) (unless_so c (client.InvalidConfig (codes "user"))))) (Goes Challenged reply))
-scram_good input methods false b c reply is = tt
-scram_good input methods true false c reply is = tt
-scram_good input methods true true false reply is = refl
-scram_good input methods true true true reply is = sym is
+methods_own : (input : Input) (methods : List (List ℕ)) → AreOwn (methods_refusal input methods)
+methods_own input methods = go (list_any (bytes_eq (codes "SCRAM-SHA-256")) methods)
+  where
+    go : (a : Bool) → AreOwn (first_of (unless_so a (client.UnsupportedSASLAuthMethods methods)) (first_of (unless_so (is_utf8 (password_of input)) (client.ScramError scram_fault.PasswordNotUtf8)) (user_refusal (prepared (user_of input)))))
+    go true = two_own (is_utf8 (password_of input)) (is_some (prepared (user_of input))) (client.ScramError scram_fault.PasswordNotUtf8) (client.InvalidConfig (codes "user")) tt refl
+    go false = tt
 
-news_good : (input : Input) (b : Bool) (s : Stage) (n : Next) → IsAble input s → IsGood input n → IsGood input (news_or b s n)
-news_good input true s n able good = able
-news_good input false s n able good = good
+news_good : (b : Bool) (s : Stage) (n : Next) → IsGood n → IsGood (news_or b s n)
+news_good true s n good = tt
+news_good false s n good = good
 
-welcome_good : (input : Input) (m : Backend) → IsGood input (by_welcome m)
-welcome_good input (backend.ReadyForQuery m) = tt
-welcome_good input (backend.ErrorResponse e) = tt
-welcome_good input m = tt
+welcome_good : (m : Backend) → IsGood (by_welcome m)
+welcome_good (backend.ReadyForQuery m) = tt
+welcome_good (backend.ErrorResponse e) = tt
+welcome_good m = tt
 
-login_good : (input : Input) (m : Backend) → IsGood input (by_login input m)
+login_good : (input : Input) (m : Backend) → IsGood (by_login input m)
 login_good input (backend.Authentication authentication.CleartextPassword) = tt
 login_good input (backend.Authentication (authentication.MD5Password salt)) = tt
 login_good input (backend.Authentication (authentication.SASL methods)) =
-    scram_good input methods (list_any (bytes_eq (codes "SCRAM-SHA-256")) methods) (is_utf8 (password_of input)) (is_some (prepared (user_of input))) (Some (first_message input)) refl
+    unless_good (methods_refusal input methods) (Goes (Challenged (scram_login input)) (Some (first_message (scram_login input)))) (methods_own input methods) tt
 login_good input (backend.Authentication authentication.Ok) = tt
-login_good input m = welcome_good input m
+login_good input m = welcome_good m
 
-first_good : (input : Input) (m : Backend) → IsGood input (by_first input m)
-first_good input (backend.Authentication (authentication.SASLContinue first)) = unless_good input (first_refusal input first) (Goes (Proving (expected_of input first)) (Some (final_message input first))) (parts_own (nonce_text input.nonce) (read_server_first first)) tt
-first_good input (backend.Authentication authentication.Ok) = tt
-first_good input (backend.ErrorResponse e) = tt
-first_good input m = tt
+first_good : (login : ClientLogin) (m : Backend) → IsGood (by_first login m)
+first_good login (backend.Authentication (authentication.SASLContinue first)) = unless_good (first_refusal login first) (Goes (Proving (expected_of login first)) (Some (final_message login first))) (parts_own login.nonce (read_server_first first)) tt
+first_good login (backend.Authentication authentication.Ok) = tt
+first_good login (backend.ErrorResponse e) = tt
+first_good login m = tt
 
-final_good : (input : Input) (expected : List ℕ) (m : Backend) → IsGood input (by_final expected m)
-final_good input expected (backend.Authentication (authentication.SASLFinal final)) = unless_good input (final_refusal expected final) (Goes Admitted None) (final_own expected (read_server_final final)) tt
-final_good input expected (backend.Authentication authentication.Ok) = tt
-final_good input expected (backend.ErrorResponse e) = tt
-final_good input expected m = tt
+final_good : (expected : List ℕ) (m : Backend) → IsGood (by_final expected m)
+final_good expected (backend.Authentication (authentication.SASLFinal final)) = unless_good (final_refusal expected final) (Goes Admitted None) (final_own expected (read_server_final final)) tt
+final_good expected (backend.Authentication authentication.Ok) = tt
+final_good expected (backend.ErrorResponse e) = tt
+final_good expected m = tt
 
 -- ---- requests
 
-misplaced_good : (input : Input) (b : Bool) → IsGood input (misplaced b)
-misplaced_good input true = tt
-misplaced_good input false = tt
+misplaced_good : (b : Bool) → IsGood (misplaced b)
+misplaced_good true = tt
+misplaced_good false = tt
 
-role_good : (input : Input) (k : Kind) (r : Role) → IsGood input (by_role k r)
-role_good input k (Taken rows) = tt
-role_good input k Closing = tt
-role_good input k Completing = tt
-role_good input k Failing = tt
-role_good input k Misplaced = misplaced_good input (passes_over k)
+role_good : (k : Kind) (r : Role) → IsGood (by_role k r)
+role_good k (Taken rows) = tt
+role_good k Closing = tt
+role_good k Completing = tt
+role_good k Failing = tt
+role_good k Misplaced = misplaced_good (passes_over k)
 
-ready_good : (input : Input) (b : Bool) → IsGood input (by_ready b)
-ready_good input true = tt
-ready_good input false = tt
+ready_good : (b : Bool) → IsGood (by_ready b)
+ready_good true = tt
+ready_good false = tt
 
-pub after_good : (input : Input) (s : Stage) (m : Backend) → IsGood input (after input s m)
-after_good input Starting m = news_good input (is_news m) Starting (by_login input m) tt (login_good input m)
-after_good input Challenged m = first_good input m
-after_good input (Proving expected) m = final_good input expected m
-after_good input Admitted m = news_good input (is_news m) Admitted (by_welcome m) tt (welcome_good input m)
-after_good input (Answering k rows) m = role_good input k (role k rows m)
-after_good input PassingOver m = ready_good input (is_ready m)
+pub after_good : (input : Input) (s : Stage) (m : Backend) → IsGood (after input s m)
+after_good input Starting m = news_good (is_news m) Starting (by_login input m) (login_good input m)
+after_good input (Challenged login) m = first_good login m
+after_good input (Proving expected) m = final_good expected m
+after_good input Admitted m = news_good (is_news m) Admitted (by_welcome m) (welcome_good m)
+after_good input (Answering k rows) m = role_good k (role k rows m)
+after_good input PassingOver m = ready_good (is_ready m)
 
 -- what the table answers is good
-pub next_good : (input : Input) (s : Stage) (m : Backend) (n : Next) → n ≡ after input s m → IsGood input n
-next_good input s m n is = subst (IsGood input) (sym is) (after_good input s m)
+pub next_good : (input : Input) (s : Stage) (m : Backend) (n : Next) → n ≡ after input s m → IsGood n
+next_good input s m n is = subst IsGood (sym is) (after_good input s m)

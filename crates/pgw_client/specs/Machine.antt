@@ -1,7 +1,6 @@
 -- What the code's steps answer, by the machine of a session. No clause of `run_session` on transcripts cites it; the
 -- claims on dialogues rest on it.
 use Rattle.std.specs.Prelude.{◌≡◌, ◌<◌, ℕ, List, [], ◌++◌, true, false, Bool, Some, Result, Ok, Err}
-use Rattle.std.specs.Str.{is_utf8}
 use Rattle.pgw_backend.specs.Front.{front, More}
 use Rattle.pgw_backend.specs.declared.backend.PgWireBackendMessage.{PgWireBackendMessage as Backend}
 use Rattle.pgw_backend.specs.declared.client_error.PgWireClientError.{PgWireClientError as ClientError}
@@ -9,12 +8,9 @@ use Rattle.pgw_backend.specs.declared.client_error.PgWireClientError.TheVariants
 use Rattle.pgw_course.specs.Course.{Move, On, Ends, Course, Waits, Over, run}
 use Rattle.pgw_session.specs.declared.types.SessionReport.{SessionReport}
 use Rattle.pgw_session.specs.declared.notes.Notes.{Notes}
-use Rattle.pgw_session.specs.declared.stage.Stage.{Stage}
-use Rattle.pgw_session.specs.declared.stage.Stage.TheVariants.{Challenged}
 use Rattle.pgw_session.specs.declared.stage.Next.{Next}
-use Rattle.pgw_session.specs.declared.stage.Next.TheVariants.{Goes, Refuses}
+use Rattle.pgw_session.specs.declared.stage.Next.TheVariants.{Refuses}
 use Rattle.pgw_session.specs.Input.{Input}
-use Rattle.pgw_session.specs.Logins.{password_of}
 use Rattle.pgw_session.specs.Segments.{is_ready}
 use Rattle.pgw_session.specs.Standings.{standing_by}
 use Rattle.pgw_session.specs.Transcript.{report_with}
@@ -50,16 +46,10 @@ pub record IsWhole (end : End Notes) (report : SessionReport) : Type 0 where
   pub outcome : end.outcome ≡ Complete
   pub reported : report_at end.notes ≡ report
 
--- where a SCRAM login has begun, the password is UTF-8
-abbrev pub IsAble : Input → Stage → Type 0
-IsAble input Challenged = is_utf8 (password_of input) ≡ true
-IsAble input s = Unit {0}
-
--- what the table may say: an error of the messages is refused, and where a SCRAM login begins the password is UTF-8
-abbrev pub IsGood : Input → Next → Type 0
-IsGood input (Refuses e) = IsOwn e
-IsGood input (Goes s reply) = IsAble input s
-IsGood input n = Unit {0}
+-- what the table may say: an error of the messages is refused
+abbrev pub IsGood : Next → Type 0
+IsGood (Refuses e) = IsOwn e
+IsGood n = Unit {0}
 
 -- what taking a message answers
 abbrev pub Moved : NotesMove → Notes → List ℕ → List ℕ → Result Bool ClientError → Type 0
@@ -87,12 +77,6 @@ Advanced input old new old_buffer new_buffer old_out new_out (Ok progress.Done) 
     (end : End Notes) × IsWhole end (report_at new) × (new_out ≡ old_out) × ((sent : List ℕ) → runs input old sent old_buffer ≡ Over end sent)
 Advanced input old new old_buffer new_buffer old_out new_out (Err e) =
     (new_out ≡ old_out) × Unless e ((end : End Notes) × (error_of end.outcome ≡ Some e) × ((sent : List ℕ) → runs input old sent old_buffer ≡ Over end sent))
-
--- where the session goes on it stays able to log in
-abbrev pub StaysAble : Input → Notes → Progress → Type 0
-StaysAble input new progress.More = IsAble input new.stage
-StaysAble input new progress.Went = IsAble input new.stage
-StaysAble input new progress.Done = Unit {0}
 
 -- a message that was taken is gone from the buffer
 abbrev pub Shortens : Progress → ℕ → ℕ → Type 0

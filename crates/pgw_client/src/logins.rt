@@ -1,19 +1,18 @@
 //! What a client sends to log in.
-ghost use Rattle.std.specs.Prelude.{◌≡◌, codes, Some, None, true, is_some, option_map, unwrap_or, IfOk};
+ghost use Rattle.std.specs.Prelude.{◌≡◌, codes, Some, None, true, false, is_some, option_map, unwrap_or, IfOk, IfSome, IfNone};
 ghost use Rattle.std.specs.List.{list_any};
 ghost use Rattle.std.specs.Str.{bytes_eq, is_utf8};
 ghost use Rattle.pgw_hash.specs.Saslprep.{prepared};
-ghost use Rattle.pgw_scram.specs.Base64.{nonce_text};
 ghost use Rattle.pgw_wire.specs.Reading.{lossy};
-ghost use Rattle.pgw_session.specs.Logins.{cleartext_message, final_refusal, first_message, md5_message, password_message, password_of, scram_user, user_of};
+ghost use Rattle.pgw_session.specs.Logins.{cleartext_message, final_refusal, first_message, md5_message, password_message, password_of, scram_login, user_of};
 ghost use Rattle.pgw_client.specs.Input.{input_of};
 
 use crate::input::Input;
 use pgw_backend::client_error::{PgWireClientError, ScramFault};
 use pgw_frontend::frontend::PgWireFrontendMessage;
 use pgw_hash::md5_password::hash_md5_password;
-use pgw_hash::saslprep::saslprep;
-use pgw_scram::exchange::client_first;
+use pgw_scram::binding::ClientBinding;
+use pgw_scram::exchange::{ClientLogin, client_first};
 use pgw_scram::messages::ServerFinal;
 use pgw_scram::nonce::random_nonce;
 use pgw_startup::password::{Password, PasswordMessageFamily};
@@ -103,37 +102,44 @@ pub fn offers_scram(methods: &Listed<Text>) -> bool
     methods.as_slice().iter().any(|method| is_scram(method))
 }
 
-/// Whether some bytes are UTF-8.
-pub fn is_utf8(bytes: &[u8]) -> bool
-    ensures { result ≡ is_utf8 bytes.now }
+/// The password, where it is UTF-8.
+pub fn text_password<'a>(input: &Input<'a>) -> Option<&'a str>
+    ensures text { IfSome result (λ t. (t.now ≡ password_of (input_of input.now)) × (is_utf8 (password_of (input_of input.now)) ≡ true)) }
+    ensures none { IfNone result (is_utf8 (password_of (input_of input.now)) ≡ false) }
 {
-    match str::from_utf8(bytes) {
-        Ok(_) => true,
-        Err(_) => false,
+    match str::from_utf8(password_of(input)) {
+        Ok(text) => Some(text),
+        Err(_) => None,
     }
 }
 
-/// The user name as SCRAM has it: prepared, or empty where it has no prepared form.
-pub fn scram_user(alloc: Global, input: &Input<'_>) -> Result<Text, OutOfMemory>
-    ensures { IfOk result (λ text. text ≡ scram_user (input_of input.now)) }
-{
-    match saslprep(alloc, user_of(input))? {
-        Some(user) => Ok(user),
-        None => Ok(Text::new(alloc)),
-    }
-}
-
-/// The first message of the login, of a prepared user name (SASLInitialResponse).
-pub fn first_message(
+/// Who logs in by SCRAM, of the prepared user name and the password.
+pub fn scram_login(
     alloc: Global,
     input: &Input<'_>,
-    user: &Text,
-) -> Result<PgWireFrontendMessage, OutOfMemory>
-    requires { user.now ≡ scram_user (input_of input.now) }
-    ensures { IfOk result (λ m. m ≡ first_message (input_of input.now)) }
+    user: Text,
+    password: &str,
+) -> Result<ClientLogin, OutOfMemory>
+    requires user { prepared (user_of (input_of input.now)) ≡ Some user }
+    requires password { password.now ≡ password_of (input_of input.now) }
+    ensures { IfOk result (λ login. login ≡ scram_login (input_of input.now)) }
 {
-    let nonce = random_nonce(alloc, input.nonce)?;
-    let text = client_first(alloc, user.as_str(), nonce.as_str())?;
+    Ok(ClientLogin {
+        binding: ClientBinding::None,
+        user,
+        password: Text::from_str(alloc, password)?,
+        nonce: random_nonce(alloc, input.nonce)?,
+    })
+}
+
+/// The first message of the login (SASLInitialResponse).
+pub fn first_message(
+    alloc: Global,
+    login: &ClientLogin,
+) -> Result<PgWireFrontendMessage, OutOfMemory>
+    ensures { IfOk result (λ m. m ≡ first_message login.now) }
+{
+    let text = client_first(alloc, login)?;
     let payload = Octets::from_slice(alloc, text.as_str().as_bytes())?;
     let auth_method = Text::from_str(alloc, "SCRAM-SHA-256")?;
     Ok(PgWireFrontendMessage::PasswordMessageFamily(PasswordMessageFamily::SASLInitialResponse(

@@ -8,7 +8,7 @@ ghost use Rattle.pgw_session.specs.Machine.{answered, moves_by, opens_next, send
 ghost use Rattle.pgw_session.specs.Notes.{answer_for, notes_book};
 ghost use Rattle.pgw_client.specs.Wire.{IsEnd, IsOwn, Unless, PutOut};
 ghost use Rattle.pgw_client.specs.Input.{input_of};
-ghost use Rattle.pgw_client.specs.Machine.{Advanced, IsAble, IsGood, Moved, Passed, Shortens, Started, StaysAble, notes_end, report_at};
+ghost use Rattle.pgw_client.specs.Machine.{Advanced, IsGood, Moved, Passed, Shortens, Started, notes_end, report_at};
 
 use crate::inbox::Inbox;
 use crate::input::Input;
@@ -100,7 +100,6 @@ pub fn start(
 ) -> Result<Notes, PgWireClientError>
     requires { out.old.items ≡ [] }
     ensures own { IfErr result IsOwn }
-    ensures able { IfOk result (λ notes. IsAble (input_of input.now) notes.stage) }
     ensures start { Started (input_of input.now) out.new.items result }
 {
     let startup = match startup_message(alloc, input) {
@@ -321,7 +320,7 @@ fn follow(
     next: Next,
     out: &mut BytesMut,
 ) -> Result<bool, PgWireClientError>
-    requires good { IsGood (input_of input.now) next }
+    requires good { IsGood next }
     requires clean { notes.old.first_passed ≡ None }
     ensures own { IfErr result IsOwn }
     ensures moved { Moved (moves_by notes_book (input_of input.now) notes.old message next) notes.new out.old.items out.new.items result }
@@ -346,7 +345,6 @@ fn step(
     message: PgWireBackendMessage,
     out: &mut BytesMut,
 ) -> Result<bool, PgWireClientError>
-    requires able { IsAble (input_of input.now) notes.old.stage }
     requires clean { notes.old.first_passed ≡ None }
     ensures own { IfErr result IsOwn }
     ensures moved { Moved (moves_by notes_book (input_of input.now) notes.old message (after (input_of input.now) notes.old.stage message)) notes.new out.old.items out.new.items result }
@@ -368,7 +366,6 @@ fn take(
     message: PgWireBackendMessage,
     out: &mut BytesMut,
 ) -> Result<bool, PgWireClientError>
-    requires { IsAble (input_of input.now) notes.old.stage }
     ensures own { IfErr result IsOwn }
     ensures moved { Moved (turn_by notes_book (input_of input.now) notes.old message notes.old.first_passed) notes.new out.old.items out.new.items result }
 {
@@ -386,9 +383,7 @@ fn take_next(
     buffer: &mut Inbox,
     out: &mut BytesMut,
 ) -> Result<Progress, PgWireClientError>
-    requires { IsAble (input_of input.now) notes.old.stage }
     ensures own { IfErr result IsOwn }
-    ensures able { IfOk result (StaysAble (input_of input.now) notes.new) }
     ensures shorter { IfOk result (λ taken. Shortens taken (length buffer.old) (length buffer.new)) }
     ensures step { Advanced (input_of input.now) notes.old notes.new buffer.old buffer.new out.old.items out.new.items result }
 {
@@ -412,9 +407,7 @@ pub fn advance(
     buffer: &mut Inbox,
     out: &mut BytesMut,
 ) -> Result<Progress, PgWireClientError>
-    requires { IsAble (input_of input.now) notes.old.stage }
     ensures own { IfErr result IsOwn }
-    ensures able { IfOk result (StaysAble (input_of input.now) notes.new) }
     ensures shorter { IfOk result (λ taken. Shortens taken (length buffer.old) (length buffer.new)) }
     ensures step { Advanced (input_of input.now) notes.old notes.new buffer.old buffer.new out.old.items out.new.items result }
 {

@@ -10,7 +10,6 @@ ghost use Rattle.pgw_client.specs.Demands.{Refuses};
 ghost use Rattle.pgw_client.specs.Session.{IoHasCause, Causes, InLockstep, KeepsPace, LeavesFlushed, Reports, Tells};
 ghost use Rattle.pgw_client.specs.Wire.{IsNoDemand};
 ghost use Rattle.pgw_client.specs.Input.{input_of, input_with};
-ghost use Rattle.pgw_client.specs.Machine.{IsAble};
 ghost use Rattle.pgw_client.specs.SessionSteps.{Conversed, Filled, ReadsNothing, Session, TookAll, Wrote, WroteSome};
 
 use crate::demands::check_config;
@@ -53,8 +52,6 @@ fn take_all<L: Link>(
     notes: &mut Notes,
     buffer: &mut Inbox,
 ) -> PgWireClientResult<bool>
-    requires { IsAble (input_of input.now) notes.old.stage }
-    ensures able { IfOk result (λ done. done ≡ false → IsAble (input_of input.now) notes.new.stage) }
     ensures cause { IoHasCause (L.faults link.old) (L.faults link.new) result }
     ensures talk { IfErr result IsNoDemand }
     ensures clean { (IsErrOf result PgWireClientError.IoError → ⊥) → L.faults link.new ≡ L.faults link.old }
@@ -122,7 +119,6 @@ fn converse<L: Link>(
     notes: &mut Notes,
     limit: u64,
 ) -> PgWireClientResult<()>
-    requires { IsAble (input_of input.now) notes.old.stage }
     ensures cause { IoHasCause (L.faults link.old) (L.faults link.new) result }
     ensures talk { IfErr result IsNoDemand }
     ensures clean { (IsErrOf result PgWireClientError.IoError → ⊥) → L.faults link.new ≡ L.faults link.old }

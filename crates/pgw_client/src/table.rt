@@ -1,20 +1,18 @@
 //! What a message does at a stage of the open segment.
-ghost use Rattle.std.specs.Prelude.{◌≡◌, true, IfOk};
-ghost use Rattle.std.specs.Str.{is_utf8};
+ghost use Rattle.std.specs.Prelude.{◌≡◌, Some, IfOk};
+ghost use Rattle.pgw_hash.specs.Saslprep.{prepared};
 ghost use Rattle.pgw_scram.specs.Answers.{AnswersClient};
-ghost use Rattle.pgw_scram.specs.Base64.{nonce_text};
 ghost use Rattle.pgw_scram.specs.Client.{replied};
-ghost use Rattle.pgw_session.specs.Logins.{password_of, scram_user};
+ghost use Rattle.pgw_session.specs.Logins.{first_message, password_of, scram_login, user_of};
 ghost use Rattle.pgw_session.specs.Requests.{behind_error, role};
 ghost use Rattle.pgw_session.specs.Segments.{is_news, is_ready};
 ghost use Rattle.pgw_session.specs.Table.{after, by_final, by_first, by_login, by_role, by_welcome};
 ghost use Rattle.pgw_client.specs.Input.{input_of};
-ghost use Rattle.pgw_client.specs.Machine.{IsAble};
 
 use crate::input::Input;
 use crate::logins::{
-    cleartext_message, final_refusal, first_message, is_utf8, md5_message, offers_scram,
-    password_of, response_message, scram_user, user_of,
+    cleartext_message, final_refusal, first_message, md5_message, offers_scram, response_message,
+    scram_login, text_password, user_of,
 };
 use crate::requests::sync;
 use pgw_backend::backend::PgWireBackendMessage;
@@ -22,8 +20,7 @@ use pgw_backend::client_error::{PgWireClientError, ScramFault};
 use pgw_frontend::frontend::PgWireFrontendMessage;
 use pgw_hash::saslprep::saslprep;
 use pgw_query::response::ErrorResponse;
-use pgw_scram::exchange::{ClientReply, client_final};
-use pgw_scram::nonce::random_nonce;
+use pgw_scram::exchange::{ClientLogin, client_final};
 use pgw_session::stage::{Kind, Next, Role, Stage};
 use pgw_startup::authentication::Authentication;
 use pgw_startup::negotiate::negotiated_version;
@@ -32,7 +29,6 @@ use pgw_types::memory::OutOfMemory;
 use pgw_types::octets::Octets;
 use pgw_types::text::Text;
 use std::alloc::Global;
-use std::str;
 
 /// Whether the message is ReadyForQuery.
 pub fn is_ready(message: &PgWireBackendMessage) -> bool
@@ -189,17 +185,35 @@ fn by_methods(alloc: Global, input: &Input<'_>, methods: &Listed<Text>) -> Resul
         let methods = methods.duplicate()?;
         return Ok(Next::Refuses(PgWireClientError::UnsupportedSASLAuthMethods(methods)));
     }
-    if !is_utf8(password_of(input)) {
+    let Some(password) = text_password(input) else {
         return Ok(Next::Refuses(PgWireClientError::ScramError(ScramFault::PasswordNotUtf8)));
-    }
+    };
     match saslprep(alloc, user_of(input))? {
-        Some(user) => {
-            let sent = first_message(alloc, input, &user)?;
-            Ok(Next::Goes(Stage::Challenged, Some(sent)))
-        }
+        Some(user) => begin_scram(alloc, input, user, password),
         None => {
             let key = Text::from_str(alloc, "user")?;
             Ok(Next::Refuses(PgWireClientError::InvalidConfig(key)))
+        }
+    }
+}
+
+// Begins a SCRAM login.
+fn begin_scram(
+    alloc: Global,
+    input: &Input<'_>,
+    user: Text,
+    password: &str,
+) -> Result<Next, OutOfMemory>
+    requires user { prepared (user_of (input_of input.now)) ≡ Some user }
+    requires password { password.now ≡ password_of (input_of input.now) }
+    ensures { IfOk result (λ n. n ≡ Next.Goes (Stage.Challenged (scram_login (input_of input.now))) (Some (first_message (scram_login (input_of input.now))))) }
+{
+    let login = scram_login(alloc, input, user, password)?;
+    match first_message(alloc, &login) {
+        Ok(sent) => Ok(Next::Goes(Stage::Challenged(login), Some(sent))),
+        Err(e) => {
+            drop(login);
+            Err(e)
         }
     }
 }
@@ -240,33 +254,11 @@ fn by_login(
     }
 }
 
-// The reply to the server's first text, where that is not refused.
-fn reply_to(
-    alloc: Global,
-    input: &Input<'_>,
-    first: &Octets,
-) -> Result<ClientReply, PgWireClientError>
-    requires { is_utf8 (password_of (input_of input.now)) ≡ true }
-    ensures { AnswersClient result (replied (scram_user (input_of input.now)) (password_of (input_of input.now)) (nonce_text (input_of input.now).nonce) first.now) }
-{
-    let user = scram_user(alloc, input)?;
-    let nonce = random_nonce(alloc, input.nonce)?;
-    let password = str::from_utf8(password_of(input)).unwrap();
-    client_final(
-        alloc,
-        user.as_str(),
-        password,
-        nonce.as_str(),
-        first.as_slice(),
-    )
-}
-
 // The server's first text.
-fn by_server_first(alloc: Global, input: &Input<'_>, first: &Octets) -> Result<Next, OutOfMemory>
-    requires { is_utf8 (password_of (input_of input.now)) ≡ true }
-    ensures { IfOk result (λ n. n ≡ by_first (input_of input.now) (PgWireBackendMessage.Authentication (Authentication.SASLContinue first.now))) }
+fn by_server_first(alloc: Global, login: &ClientLogin, first: &Octets) -> Result<Next, OutOfMemory>
+    ensures { IfOk result (λ n. n ≡ by_first login.now (PgWireBackendMessage.Authentication (Authentication.SASLContinue first.now))) }
 {
-    match reply_to(alloc, input, first) {
+    match client_final(alloc, login, first.as_slice()) {
         Ok(reply) => {
             let expected = Octets::from_slice(alloc, &reply.signature)?;
             let sent = response_message(alloc, &reply.message)?;
@@ -280,15 +272,14 @@ fn by_server_first(alloc: Global, input: &Input<'_>, first: &Octets) -> Result<N
 // Where server-first is awaited.
 fn by_first(
     alloc: Global,
-    input: &Input<'_>,
+    login: &ClientLogin,
     message: &PgWireBackendMessage,
 ) -> Result<Next, OutOfMemory>
-    requires { is_utf8 (password_of (input_of input.now)) ≡ true }
-    ensures { IfOk result (λ n. n ≡ by_first (input_of input.now) message.now) }
+    ensures { IfOk result (λ n. n ≡ by_first login.now message.now) }
 {
     match message {
         PgWireBackendMessage::Authentication(request) => match request {
-            Authentication::SASLContinue(first) => by_server_first(alloc, input, first),
+            Authentication::SASLContinue(first) => by_server_first(alloc, login, first),
             _ => Ok(Next::Wrong),
         },
         PgWireBackendMessage::ErrorResponse(error) => refuses(error),
@@ -331,7 +322,6 @@ pub fn after(
     stage: &Stage,
     message: &PgWireBackendMessage,
 ) -> Result<Next, OutOfMemory>
-    requires { IsAble (input_of input.now) stage.now }
     ensures { IfOk result (λ n. n ≡ after (input_of input.now) stage.now message.now) }
 {
     match stage {
@@ -342,7 +332,7 @@ pub fn after(
                 by_login(alloc, input, message)
             }
         }
-        Stage::Challenged => by_first(alloc, input, message),
+        Stage::Challenged(login) => by_first(alloc, login, message),
         Stage::Proving(expected) => by_final(alloc, expected, message),
         Stage::Admitted => {
             if is_news(message) {

@@ -14,7 +14,7 @@ use Rattle.pgw_hash.specs.Saslprep.{prepared}
 use Rattle.pgw_scram.specs.declared.messages.ServerFirst.{ServerFirst}
 use Rattle.pgw_scram.specs.declared.messages.ServerFinal.{ServerFinal}
 use Rattle.pgw_scram.specs.declared.messages.ServerFinal.TheVariants.{Signature, Failed}
-use Rattle.pgw_scram.specs.Base64.{nonce_text, salt_of}
+use Rattle.pgw_scram.specs.Base64.{salt_of}
 use Rattle.pgw_scram.specs.Readers.{read_server_first, read_server_final}
 use Rattle.pgw_scram.specs.Answers.{unless_so, first_of}
 use Rattle.pgw_scram.specs.Refusals.{begins_with, parts_refusal, verifier_refusal}
@@ -24,15 +24,9 @@ use Rattle.pgw_session.specs.declared.stage.Next.{Next}
 use Rattle.pgw_session.specs.declared.stage.Next.TheVariants.{Goes}
 use Rattle.pgw_session.specs.Input.{Input}
 use Rattle.pgw_session.specs.Requests.{passes_over}
-use Rattle.pgw_session.specs.Logins.{user_of, password_of, first_message, final_message, expected_of, methods_refusal, first_refusal, final_refusal}
+use Rattle.pgw_session.specs.Logins.{user_of, password_of, scram_login, first_message, final_message, expected_of, methods_refusal, first_refusal, final_refusal}
 use Rattle.pgw_session.specs.Table.{unless, misplaced, after as table}
-use Rattle.pgw_client.specs.Machine.{IsAble}
 use Rattle.pgw_default_handlers.specs.Causes.{IsAlwaysCaused, RefusesCaused}
-use Rattle.pgw_default_handlers.specs.Startup.{is_able, login_next, next_if}
-
-pub able_now : (input : Input) (stage : Stage) → is_able input stage ≡ true → IsAble input stage
-able_now input Challenged is = is
-able_now input stage is = tt
 
 -- ---- what is refused
 
@@ -74,14 +68,14 @@ misplaced_caused true = tt
 misplaced_caused false = tt
 
 table_caused : (input : Input) (stage : Stage) (request : Authentication) → RefusesCaused (table input stage (backend.Authentication request))
-table_caused input Starting (authentication.SASL methods) = unless_caused (methods_refusal input methods) Challenged (Some (first_message input)) (methods_caused input methods)
+table_caused input Starting (authentication.SASL methods) = unless_caused (methods_refusal input methods) (Challenged (scram_login input)) (Some (first_message (scram_login input))) (methods_caused input methods)
 table_caused input Starting authentication.Ok = tt
 table_caused input Starting authentication.CleartextPassword = tt
 table_caused input Starting (authentication.MD5Password salt) = tt
 table_caused input Starting request = tt
-table_caused input Challenged (authentication.SASLContinue first) =
-    unless_caused (first_refusal input first) (Proving (expected_of input first)) (Some (final_message input first)) (parts_caused (nonce_text input.nonce) (read_server_first first))
-table_caused input Challenged request = tt
+table_caused input (Challenged login) (authentication.SASLContinue first) =
+    unless_caused (first_refusal login first) (Proving (expected_of login first)) (Some (final_message login first)) (parts_caused login.nonce (read_server_first first))
+table_caused input (Challenged login) request = tt
 table_caused input (Proving expected) (authentication.SASLFinal final) = unless_caused (final_refusal expected final) Admitted None (verifier_caused expected (read_server_final final))
 table_caused input (Proving expected) request = tt
 table_caused input Admitted authentication.Ok = tt
@@ -89,10 +83,6 @@ table_caused input Admitted request = tt
 table_caused input (Answering kind rows) request = misplaced_caused (passes_over kind)
 table_caused input PassingOver request = tt
 
-able_caused : (able : Bool) (input : Input) (stage : Stage) (request : Authentication) → RefusesCaused (next_if able input stage (backend.Authentication request))
-able_caused true input stage request = table_caused input stage request
-able_caused false input stage request = λ before now broken. tt
-
 -- an authentication request is refused for a cause of its own
-pub next_caused : (input : Input) (stage : Stage) (request : Authentication) (n : Next) → n ≡ login_next input stage (backend.Authentication request) → RefusesCaused n
-next_caused input stage request n is = subst RefusesCaused (sym is) (able_caused (is_able input stage) input stage request)
+pub next_caused : (input : Input) (stage : Stage) (request : Authentication) (n : Next) → n ≡ table input stage (backend.Authentication request) → RefusesCaused n
+next_caused input stage request n is = subst RefusesCaused (sym is) (table_caused input stage request)

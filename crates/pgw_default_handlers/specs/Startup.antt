@@ -1,6 +1,5 @@
 -- What the default handler of a login means: it logs in by the table of a session's startup segment.
 use Rattle.std.specs.Prelude.{◌≡◌, ◌⊎◌, pos, negsuc, [], Bool, true, false, Option, Some, None, Ok, Err, Result}
-use Rattle.std.specs.Str.{is_utf8}
 use Rattle.pgw_wire.specs.declared.secret_key.SecretKey.TheVariants.{I32}
 use Rattle.pgw_startup.specs.declared.backend_key_data.BackendKeyData.{BackendKeyData}
 use Rattle.pgw_startup.specs.declared.negotiate.NegotiateProtocolVersion.{NegotiateProtocolVersion}
@@ -10,7 +9,6 @@ use Rattle.pgw_backend.specs.declared.backend.PgWireBackendMessage.{PgWireBacken
 use Rattle.pgw_backend.specs.declared.backend.PgWireBackendMessage.TheVariants as backend
 use Rattle.pgw_backend.specs.declared.client_error.PgWireClientError.{PgWireClientError as ClientError}
 use Rattle.pgw_backend.specs.declared.client_error.PgWireClientError.TheVariants as client
-use Rattle.pgw_backend.specs.declared.client_error.ScramFault.TheVariants.{PasswordNotUtf8}
 use Rattle.pgw_frontend.specs.declared.frontend.PgWireFrontendMessage.{PgWireFrontendMessage as Frontend}
 use Rattle.pgw_frontend.specs.Frontend.{encoding}
 use Rattle.pgw_config.specs.declared.config.Config.{Config}
@@ -19,7 +17,6 @@ use Rattle.pgw_session.specs.declared.stage.Stage.TheVariants.{Starting, Challen
 use Rattle.pgw_session.specs.declared.stage.Next.{Next}
 use Rattle.pgw_session.specs.declared.stage.Next.TheVariants as next
 use Rattle.pgw_session.specs.Input.{Input}
-use Rattle.pgw_session.specs.Logins.{password_of}
 use Rattle.pgw_session.specs.Segments.{startup_message}
 use Rattle.pgw_session.specs.Table.{after as table}
 use Rattle.pgw_handlers.specs.declared.client_info.ReadyState.TheVariants.{Pending, Ready}
@@ -36,7 +33,7 @@ login_input h config = record { config = config; requests = []; nonce = h.nonce 
 
 -- within a SCRAM login a server says nothing else
 abbrev pub is_exchange : Stage → Bool
-is_exchange Challenged = true
+is_exchange (Challenged login) = true
 is_exchange (Proving expected) = true
 is_exchange stage = false
 
@@ -56,19 +53,6 @@ abbrev pub begun : DefaultStartupHandler → DefaultStartupHandler
 begun h = record h { stage = Starting; process_id = negsuc 0; secret_key = I32 (pos 0) }
 
 -- ---- an authentication request
-
--- where server-first is awaited the password is to be UTF-8
-abbrev pub is_able : Input → Stage → Bool
-is_able input Challenged = is_utf8 (password_of input)
-is_able input stage = true
-
-abbrev pub next_if : Bool → Input → Stage → Backend → Next
-next_if true input stage m = table input stage m
-next_if false input stage m = next.Refuses (client.ScramError PasswordNotUtf8)
-
--- what the table says of a message; a password that is not UTF-8 is refused
-abbrev pub login_next : Input → Stage → Backend → Next
-login_next input stage m = next_if (is_able input stage) input stage m
 
 -- one message is sent, or none
 abbrev pub SendsReply : Option Frontend → Sight → Sight → Result (Unit {0}) ClientError → Type 0
@@ -91,7 +75,7 @@ Starves before after answer = Refuses (λ e. e ≡ client.OutOfMemory) before af
 
 abbrev pub LogsIn : Backend → Standing DefaultStartupHandler → Standing DefaultStartupHandler → Answer ServerInformation → Type 0
 LogsIn m before after answer =
-    Follows (login_next (login_input before.handler before.sight.client.config) before.handler.stage m) m before after answer ⊎ Starves before after answer
+    Follows (table (login_input before.handler before.sight.client.config) before.handler.stage m) m before after answer ⊎ Starves before after answer
 
 -- ---- the others
 

@@ -3,15 +3,15 @@ ghost use Rattle.std.specs.Prelude.{◌≡◌, pos, negsuc, IfOk};
 ghost use Rattle.pgw_wire.specs.declared.secret_key.SecretKey.TheVariants.{I32};
 ghost use Rattle.pgw_session.specs.declared.stage.Stage.TheVariants.{Starting};
 ghost use Rattle.pgw_session.specs.Segments.{startup_message};
+ghost use Rattle.pgw_session.specs.Table.{after as table};
 ghost use Rattle.pgw_client.specs.Input.{input_of};
 ghost use Rattle.pgw_handlers.specs.Handling.{standing, pending, HasCause};
 ghost use Rattle.pgw_default_handlers.specs.Causes.{RefusesCaused};
-ghost use Rattle.pgw_default_handlers.specs.Startup.{Follows, SendsReply, is_able, login_input, login_next};
+ghost use Rattle.pgw_default_handlers.specs.Startup.{Follows, SendsReply, login_input};
 
 use pgw_backend::backend::PgWireBackendMessage;
-use pgw_backend::client_error::{PgWireClientError, PgWireClientResult, ScramFault};
+use pgw_backend::client_error::PgWireClientResult;
 use pgw_client::input::Input;
-use pgw_client::logins::{is_utf8, password_of};
 use pgw_client::machine::startup_message;
 use pgw_client::table::after;
 use pgw_config::config::Config;
@@ -34,33 +34,6 @@ pub struct DefaultStartupHandler {
     stage: Stage,
     process_id: i32,
     secret_key: SecretKey,
-}
-
-// Where server-first is awaited the password is to be UTF-8.
-fn is_able(input: &Input<'_>, stage: &Stage) -> bool
-    ensures { result ≡ is_able (input_of input.now) stage.now }
-{
-    match stage {
-        Stage::Challenged => is_utf8(password_of(input)),
-        _ => true,
-    }
-}
-
-// What the table says of a message. A password that is not UTF-8 is refused.
-#[tactic(auto, using(crate::proofs::StartupLaws::able_now))]
-fn table_next(
-    alloc: Global,
-    input: &Input<'_>,
-    stage: &Stage,
-    message: &PgWireBackendMessage,
-) -> Result<Next, OutOfMemory>
-    ensures { IfOk result (λ n. n ≡ login_next (input_of input.now) stage.now message.now) }
-{
-    if !is_able(input, stage) {
-        let fault = ScramFault::PasswordNotUtf8;
-        return Ok(Next::Refuses(PgWireClientError::ScramError(fault)));
-    }
-    after(alloc, input, stage, message)
 }
 
 // Sends a message, if there is one.
@@ -99,14 +72,14 @@ impl DefaultStartupHandler {
         config: &Config,
         message: &PgWireBackendMessage,
     ) -> Result<Next, OutOfMemory>
-        ensures { IfOk result (λ n. n ≡ login_next (login_input self.now config.now) self.now.stage message.now) }
+        ensures { IfOk result (λ n. n ≡ table (login_input self.now config.now) self.now.stage message.now) }
     {
         let input = Input {
             config,
             requests: &[],
             nonce: &self.nonce,
         };
-        table_next(alloc, &input, &self.stage, message)
+        after(alloc, &input, &self.stage, message)
     }
 
     // The message that begins the connection.
@@ -165,7 +138,7 @@ impl StartupHandler for DefaultStartupHandler {
 
     fn in_exchange(&self) -> bool {
         match self.stage {
-            Stage::Challenged | Stage::Proving(_) => true,
+            Stage::Challenged(_) | Stage::Proving(_) => true,
             _ => false,
         }
     }

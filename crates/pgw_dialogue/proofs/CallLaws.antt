@@ -1,14 +1,11 @@
 -- The calls of a dialogue: what they start from, and what they leave.
 use Rattle.std.proofs.Common.{◌≡◌, ℕ, zero, suc, List, [], ◌∷◌, ◌++◌, Bool, true, false, Some, None, Result, Ok, Err, inl, inr, arith, refl, ◌∙◌, ap, sym, subst}
-use Rattle.std.specs.Prelude.{IfOk}
 use Rattle.pgw_types.specs.declared.error.PgWireError.{PgWireError}
 use Rattle.pgw_backend.specs.declared.client_error.PgWireClientError.{PgWireClientError as ClientError}
 use Rattle.pgw_backend.specs.declared.client_error.PgWireClientError.TheVariants as client
 use Rattle.pgw_course.specs.Course.{Waits, Over, onto}
 use Rattle.pgw_frontend.specs.Frontend.{encodings}
 use Rattle.pgw_session.specs.declared.notes.Notes.{Notes}
-use Rattle.pgw_session.specs.declared.stage.Stage.{Stage}
-use Rattle.pgw_session.specs.declared.stage.Stage.TheVariants.{Challenged}
 use Rattle.pgw_session.specs.Demands.{refused_config}
 use Rattle.pgw_session.specs.Failures.{EndsAs}
 use Rattle.pgw_session.specs.Input.{Input}
@@ -17,46 +14,15 @@ use Rattle.pgw_session.specs.Segments.{startup_message}
 use Rattle.pgw_session.specs.Talk.{conversation}
 use Rattle.pgw_session.proofs.FailureLaws.{ends_as}
 use Rattle.pgw_client.specs.Demands.{Checked, IsInvalidConfig}
-use Rattle.pgw_client.specs.Machine.{IsAble, notes_end, Started}
+use Rattle.pgw_client.specs.Machine.{notes_end, Started}
 use Rattle.pgw_client.specs.Wire.{Unless}
 use Rattle.pgw_client.proofs.DemandLaws.{refused_key}
 use Rattle.pgw_client.proofs.SessionTakingLaws.{memory_or}
 use Rattle.pgw_dialogue.specs.declared.dialogue.Dialogue.{Dialogue}
-use Rattle.pgw_dialogue.specs.declared.phase.State.{State}
 use Rattle.pgw_dialogue.specs.declared.phase.State.TheVariants as state
-use Rattle.pgw_dialogue.specs.Able.{able_while, is_able}
-use Rattle.pgw_dialogue.specs.Answers.{answer_behind, state_behind, waiting_answer}
 use Rattle.pgw_dialogue.specs.Dialogue.{Awaits, input_at, Stands, StartCause, Starts}
 use Rattle.pgw_dialogue.proofs.DialogueLaws.{stands_as, stands_in}
 use Rattle.pgw_dialogue.proofs.TalkLaws.{start_is, waits_in}
-
--- ---- the password of a SCRAM login
-
-pub able_now : (input : Input) (stage : Stage) → is_able input stage ≡ true → IsAble input stage
-able_now input Challenged is = is
-able_now input stage is = tt
-
-pub able_is : (input : Input) (stage : Stage) → IsAble input stage → is_able input stage ≡ true
-able_is input Challenged able = able
-able_is input stage able = refl
-
--- as long as it takes bytes
-pub able_going : (input : Input) (stage : Stage) (s : State) → s ≡ state.Going → able_while s input stage ≡ true → IsAble input stage
-able_going input stage s is able = able_now input stage (subst (λ x. able_while x input stage ≡ true) is able)
-
-able_waiting : (input : Input) (stage : Stage) (room closed : ℕ) → IsAble input stage → able_while (state_behind (waiting_answer room closed)) input stage ≡ true
-able_waiting input stage zero closed able = refl
-able_waiting input stage (suc room) zero able = able_is input stage able
-able_waiting input stage (suc room) (suc closed) able = able_is input stage able
-
-able_refused : (input : Input) (stage : Stage) (e : ClientError) → able_while (state_behind (Err e)) input stage ≡ true
-able_refused input stage client.OutOfMemory = refl
-able_refused input stage e = refl
-
-pub able_behind : (input : Input) (stage : Stage) (fed : Result Bool ClientError) (room closed : ℕ) → IfOk fed (λ done. done ≡ false → IsAble input stage) → able_while (state_behind (answer_behind fed room closed)) input stage ≡ true
-able_behind input stage (Ok true) room closed able = refl
-able_behind input stage (Ok false) room closed able = able_waiting input stage room closed (able refl)
-able_behind input stage (Err e) room closed able = able_refused input stage e
 
 -- ---- the beginning
 

@@ -1,4 +1,3 @@
-pub mod Able
 pub mod Answers
 pub mod Steps
 pub mod Dialogue

@@ -10,7 +10,6 @@ ghost use Rattle.pgw_session.specs.Failures.{EndsAs};
 ghost use Rattle.pgw_session.specs.Input.{Input as TheInput};
 ghost use Rattle.pgw_session.specs.Transcript.{Completed};
 ghost use Rattle.pgw_dialogue.specs.declared.phase.DialoguePhase.TheVariants as phase;
-ghost use Rattle.pgw_dialogue.specs.Able.{able_while};
 ghost use Rattle.pgw_dialogue.specs.Answers.{answer_behind, state_behind, taken_of, waiting_answer};
 
 use crate::phase::{DialoguePhase, State};
@@ -38,7 +37,6 @@ pub struct Dialogue<'a> {
     // How many bytes more it may take.
     room: u64,
     state: State,
-    ghost able: { able_while state (input_with config.now requests.now nonce) notes.stage ≡ true },
 }
 
 // Written out, so that a caller lets one go by one call.

@@ -1,7 +1,6 @@
 //! The messages of a piece, taken one by one.
 ghost use Rattle.std.specs.Prelude.{◌≡◌, ◌++◌, false, length, take, IfOk, IfErr, OnOk};
 ghost use Rattle.pgw_client.specs.Input.{input_of};
-ghost use Rattle.pgw_client.specs.Machine.{IsAble};
 ghost use Rattle.pgw_client.specs.Wire.{IsOwn};
 ghost use Rattle.pgw_dialogue.specs.Steps.{Took};
 
@@ -21,8 +20,6 @@ fn take_all(
     inbox: &mut Inbox,
     out: &mut BytesMut,
 ) -> PgWireClientResult<bool>
-    requires { IsAble (input_of input.now) notes.old.stage }
-    ensures able { IfOk result (λ done. done ≡ false → IsAble (input_of input.now) notes.new.stage) }
     ensures own { IfErr result IsOwn }
     ensures took { Took (input_of input.now) notes.old notes.new inbox.old inbox.new out.old.items out.new.items result }
 {
@@ -45,8 +42,6 @@ pub fn feed(
     bytes: &[u8],
     out: &mut BytesMut,
 ) -> PgWireClientResult<bool>
-    requires { IsAble (input_of input.now) notes.old.stage }
-    ensures able { IfOk result (λ done. done ≡ false → IsAble (input_of input.now) notes.new.stage) }
     ensures own { IfErr result IsOwn }
     ensures took { Took (input_of input.now) notes.old notes.new (inbox.old ++ bytes.now) inbox.new out.old.items out.new.items result }
 {

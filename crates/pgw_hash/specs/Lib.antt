@@ -1,6 +1,6 @@
 pub mod Xor
 pub mod Hmac
-pub mod HmacKeys
+pub mod Codes
 pub mod Pbkdf2
 pub mod Saslprep
 pub mod Md5Password

@@ -1,10 +1,10 @@
 //! HMAC with SHA-256.
-ghost use Rattle.std.specs.Prelude.{◌≡◌, ℕ, ◌≤◌, List, ◌++◌, length};
+ghost use Rattle.std.specs.Prelude.{◌≡◌, ℕ, ◌≤◌, List, [], ◌++◌, length};
 ghost use Rattle.sha2.specs.Sha256.{sha256};
 ghost use Rattle.sha2.specs.Hashers.{Holds256};
 ghost use Rattle.pgw_hash.specs.Xor.{xor};
 ghost use Rattle.pgw_hash.specs.Hmac.{hmac_sha256, block_key, zero_filled, ipad, opad};
-ghost use Rattle.pgw_hash.specs.HmacKeys.{IsKeyed};
+ghost use Rattle.pgw_hash.specs.Codes.{HasTaken};
 
 use crate::xor::xor_into;
 use sha2::{Digest, Sha256};
@@ -19,44 +19,71 @@ const OPAD: [u8; 64] = [0x5c; 64];
 pub fn hmac_sha256(key: &[u8], text: &[u8]) -> [u8; 32]
     ensures { result ≡ hmac_sha256 key.now text.now }
 {
-    HmacKey::new(key).code(text)
+    Hmac::new(key).code(text)
 }
 
-/// A key made ready: both blocks that begin with it are hashed once, however many codes are made.
+/// A code in the making: its text is taken in part by part, and no memory is taken.
 #[derive(Drop)]
-pub(crate) struct HmacKey {
+pub struct Hmac {
     inner: Sha256,
     outer: Sha256,
 }
 
-impl HmacKey {
-    pub(crate) fn new(key: &[u8]) -> HmacKey
-        ensures { IsKeyed key.now result }
+impl Hmac {
+    /// The code under a key, with nothing taken in. Both blocks that begin with the key are hashed.
+    pub fn new(key: &[u8]) -> Hmac
+        ensures { HasTaken key.now [] result }
     {
         let block = block_key(key);
-        HmacKey {
+        Hmac {
             inner: padded(block, &IPAD),
             outer: padded(block, &OPAD),
         }
     }
 
-    /// The code of a text.
-    pub(crate) fn code(&self, text: &[u8]) -> [u8; 32]
-        ensures { (key : List ℕ) → IsKeyed key self.now → result ≡ hmac_sha256 key text.now }
+    /// Takes in the next part of the text.
+    pub fn update(&mut self, part: &[u8])
+        ensures { (key text : List ℕ) → HasTaken key text self.old → HasTaken key (text ++ part.now) self.new }
     {
-        self.code_of_parts(text, &[])
+        self.inner.update(part);
     }
 
-    /// The code of a text in two parts.
-    pub(crate) fn code_of_parts(&self, first: &[u8], second: &[u8]) -> [u8; 32]
-        ensures { (key : List ℕ) → IsKeyed key self.now → result ≡ hmac_sha256 key (first.now ++ second.now) }
+    /// The code of all that was taken in.
+    pub fn finalize(self) -> [u8; 32]
+        ensures { (key text : List ℕ) → HasTaken key text self → result ≡ hmac_sha256 key text }
     {
-        let mut inner = copy_of(&self.inner);
-        inner.update(first);
-        inner.update(second);
-        let mut outer = copy_of(&self.outer);
+        let Hmac { inner, mut outer } = self;
         outer.update(inner.finalize());
         outer.finalize()
+    }
+
+    /// The code of a text, where nothing was taken in: the key is hashed once for many codes.
+    pub(crate) fn code(&self, text: &[u8]) -> [u8; 32]
+        ensures { (key : List ℕ) → HasTaken key [] self.now → result ≡ hmac_sha256 key text.now }
+    {
+        let mut code = self.copy();
+        code.update(text);
+        code.finalize()
+    }
+
+    /// The same of a text in two parts.
+    pub(crate) fn code_of_parts(&self, first: &[u8], second: &[u8]) -> [u8; 32]
+        ensures { (key : List ℕ) → HasTaken key [] self.now → result ≡ hmac_sha256 key (first.now ++ second.now) }
+    {
+        let mut code = self.copy();
+        code.update(first);
+        code.update(second);
+        code.finalize()
+    }
+
+    // A copy takes no memory.
+    fn copy(&self) -> Hmac
+        ensures { result ≡ self.now }
+    {
+        Hmac {
+            inner: copy_of(&self.inner),
+            outer: copy_of(&self.outer),
+        }
     }
 }
 

@@ -9,4 +9,4 @@ pub mod laws;
 pub mod md5_password;
 pub mod pbkdf2;
 pub mod saslprep;
-mod xor;
+pub mod xor;

@@ -2,7 +2,7 @@
 ghost use Rattle.std.specs.Prelude.{◌≡◌, ◌≤◌, IfOk};
 ghost use Rattle.pgw_hash.specs.Pbkdf2.{hi, salted_password};
 
-use crate::hmac::HmacKey;
+use crate::hmac::Hmac;
 use crate::saslprep::saslprep;
 use crate::xor::xor_into;
 use pgw_types::memory::OutOfMemory;
@@ -16,7 +16,7 @@ pub fn hi(password: &[u8], salt: &[u8], count: u32) -> [u8; 32]
     requires { 1 ≤ count }
     ensures { result ≡ hi password.now salt.now count }
 {
-    let key = HmacKey::new(password);
+    let key = Hmac::new(password);
     let mut term = key.code_of_parts(salt, &FIRST_BLOCK.to_be_bytes());
     let mut total = term;
     for _ in 1..count {

@@ -6,6 +6,7 @@ use Rattle.std.proofs.lemmas.Str.{IsUtf8-append, IsUtf8-nil}
 use Rattle.pgw_types.specs.declared.error.ScramMessageFault.{ScramMessageFault}
 use Rattle.pgw_types.specs.Numbers.{number_in}
 use Rattle.pgw_hash.specs.Pbkdf2.{salted_password}
+use Rattle.pgw_scram.specs.declared.exchange.ClientLogin.{ClientLogin}
 use Rattle.pgw_scram.specs.declared.messages.ServerFirst.{ServerFirst}
 use Rattle.pgw_scram.specs.declared.messages.ServerFinal.TheVariants.{Signature}
 use Rattle.pgw_scram.specs.Attributes.{IsValue}
@@ -69,13 +70,13 @@ with_parts_text : (reading : Result ServerFirst ScramMessageFault) (made : Serve
 with_parts_text (Err why) made = (refl, IsUtf8-nil)
 with_parts_text (Ok parts) made = with_salt_text (salt_of parts.salt) (made parts) (λ bytes. (base64_value (made parts bytes), base64_utf8 (made parts bytes)))
 
-pub signature_text : (user password nonce first : List ℕ) → IsValue (signature user password nonce first) × IsUtf8 (signature user password nonce first)
+pub signature_text : (login : ClientLogin) (first : List ℕ) → IsValue (signature login first) × IsUtf8 (signature login first)
 unfolding signature
-signature_text user password nonce first =
-    with_parts_text (read_server_first first) (λ parts salt. server_signature (salted_password password salt parts.count) (exchanged user nonce first parts))
+signature_text login first =
+    with_parts_text (read_server_first first) (λ parts salt. server_signature (salted_password login.password salt parts.count) (exchanged login first parts))
 
 -- some server-final is accepted for every signature
-pub signature_is_read : (user password nonce first : List ℕ) → read_server_final (codes "v=" ++ signature user password nonce first) ≡ Ok (Signature (signature user password nonce first))
-signature_is_read user password nonce first =
-    let text = signature_text user password nonce first in
-    verifier_is_read (signature user password nonce first) text.0 text.1
+pub signature_is_read : (login : ClientLogin) (first : List ℕ) → read_server_final (codes "v=" ++ signature login first) ≡ Ok (Signature (signature login first))
+signature_is_read login first =
+    let text = signature_text login first in
+    verifier_is_read (signature login first) text.0 text.1

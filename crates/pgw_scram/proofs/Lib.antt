@@ -5,4 +5,4 @@ pub mod Base64Laws
 pub mod ExchangeLaws
 pub mod RefusalLaws
 pub mod HonestLaws
-mod Xoring
+pub mod BoundLaws

@@ -9,6 +9,7 @@ use Rattle.pgw_backend.specs.declared.client_error.PgWireClientError.TheVariants
 use Rattle.pgw_backend.specs.ClientError.{of_wire}
 use Rattle.pgw_hash.specs.Pbkdf2.{salted_password}
 use Rattle.pgw_scram.specs.declared.messages.ServerFirst.{ServerFirst}
+use Rattle.pgw_scram.specs.declared.exchange.ClientLogin.{ClientLogin}
 use Rattle.pgw_scram.specs.declared.exchange.ClientReply.{ClientReply}
 use Rattle.pgw_scram.specs.Answers.{AnswersClient, unless, answer_of}
 use Rattle.pgw_scram.specs.Base64.{base64, salt_of}
@@ -39,11 +40,11 @@ refused reading refusal x wire.OutOfMemory (Err d) refuses read is = λ other. a
 refused reading refusal x e (Err d) refuses read is = λ other. refused_by reading refusal x e d refuses (read (λ (same : e ≡ wire.OutOfMemory). cc)) is
 
 -- the reply to a server-first that is accepted
-pub replied_is : (user password nonce first salt : List ℕ) (parts : ServerFirst) (reply : ClientReply) → read_server_first first ≡ Ok parts → begins_with parts.nonce nonce ≡ true → salt_of parts.salt ≡ Some salt
-    → reply.message ≡ without_proof parts.nonce ++ codes ",p=" ++ base64 (client_proof (salted_password password salt parts.count) (exchanged user nonce first parts))
-    → reply.signature ≡ base64 (server_signature (salted_password password salt parts.count) (exchanged user nonce first parts)) → replied user password nonce first ≡ Ok reply
+pub replied_is : (login : ClientLogin) (first salt : List ℕ) (parts : ServerFirst) (reply : ClientReply) → read_server_first first ≡ Ok parts → begins_with parts.nonce login.nonce ≡ true → salt_of parts.salt ≡ Some salt
+    → reply.message ≡ without_proof login.binding parts.nonce ++ codes ",p=" ++ base64 (client_proof (salted_password login.password salt parts.count) (exchanged login first parts))
+    → reply.signature ≡ base64 (server_signature (salted_password login.password salt parts.count) (exchanged login first parts)) → replied login first ≡ Ok reply
 unfolding client_final signature
-replied_is user password nonce first salt parts reply read begins is_salt message text = rw (read, begins, is_salt, ← message, ← text) refl
+replied_is login first salt parts reply read begins is_salt message text = rw (read, begins, is_salt, ← message, ← text) refl
 
 same_refusal : {A B : Type 0} (refusal : Option PgWireClientError) (x : A) (y : B) (e : PgWireClientError) → unless refusal x ≡ Err e → unless refusal y ≡ Err e
 same_refusal None x y e is = cc

@@ -3,6 +3,7 @@ use Rattle.std.specs.Prelude.{ℕ, List, Option, Some, None, Result, Ok, Err, co
 use Rattle.pgw_hash.specs.Saslprep.{prepared}
 use Rattle.pgw_backend.specs.declared.client_error.PgWireClientError.{PgWireClientError}
 use Rattle.pgw_backend.specs.declared.client_error.PgWireClientError.TheVariants.{InvalidConfig}
+use Rattle.pgw_scram.specs.declared.exchange.ClientLogin.{ClientLogin}
 use Rattle.pgw_scram.specs.declared.exchange.ClientReply.{ClientReply}
 use Rattle.pgw_scram.specs.declared.client.ScramClientAuth.{ScramClientAuth}
 use Rattle.pgw_scram.specs.declared.client.ScramClientAuthWaitingForServerFirst.{ScramClientAuthWaitingForServerFirst as WaitingForServerFirst}
@@ -13,18 +14,22 @@ use Rattle.pgw_scram.specs.Exchange.{client_first, client_final, signature}
 use Rattle.pgw_scram.specs.Refusals.{first_refusal, final_refusal}
 
 -- client-final, and the signature that is expected for it
-abbrev pub reply_to : List ℕ → List ℕ → List ℕ → List ℕ → ClientReply
-reply_to user password nonce first = record { message = client_final user password nonce first; signature = signature user password nonce first }
+abbrev pub reply_to : ClientLogin → List ℕ → ClientReply
+reply_to login first = record { message = client_final login first; signature = signature login first }
 
 -- the reply, or why server-first is refused
-abbrev pub replied : List ℕ → List ℕ → List ℕ → List ℕ → Result ClientReply PgWireClientError
-replied user password nonce first = unless (first_refusal nonce first) (reply_to user password nonce first)
+abbrev pub replied : ClientLogin → List ℕ → Result ClientReply PgWireClientError
+replied login first = unless (first_refusal login.nonce first) (reply_to login first)
 
 -- ---- steps
 
+-- the login of a client, with its prepared user name and the nonce's text
+abbrev pub login_of : ScramClientAuth → List ℕ → List ℕ → ClientLogin
+login_of client user nonce = record { binding = client.binding; user = user; password = client.password; nonce = nonce }
+
 abbrev pub began_as : ScramClientAuth → List ℕ → Option (List ℕ) → Result (List ℕ × WaitingForServerFirst) PgWireClientError
 began_as client nonce None = Err (InvalidConfig (codes "user"))
-began_as client nonce (Some user) = Ok (client_first user nonce, record { user = user; password = client.password; nonce = nonce })
+began_as client nonce (Some user) = Ok (client_first (login_of client user nonce), record { login = login_of client user nonce })
 
 -- client-first, and a client that has sent it, of the nonce's bytes
 abbrev pub began : ScramClientAuth → List ℕ → Result (List ℕ × WaitingForServerFirst) PgWireClientError
@@ -32,8 +37,7 @@ began client nonce = began_as client (nonce_text nonce) (prepared client.usernam
 
 -- client-final, and a client that has sent it
 abbrev pub proved : WaitingForServerFirst → List ℕ → Result (List ℕ × WaitingForServerFinal) PgWireClientError
-proved client first =
-    unless (first_refusal client.nonce first) (client_final client.user client.password client.nonce first, record { signature = signature client.user client.password client.nonce first })
+proved client first = unless (first_refusal client.login.nonce first) (client_final client.login first, record { signature = signature client.login first })
 
 -- the server's signature is the one that is owed
 abbrev pub verified : WaitingForServerFinal → List ℕ → Result (Unit {0}) PgWireClientError

@@ -1,6 +1,7 @@
 pub mod Answers
 pub mod Attributes
 pub mod Base64
+pub mod Binding
 pub mod Messages
 pub mod Readers
 pub mod Formulas
@@ -9,5 +10,6 @@ pub mod Shown
 pub mod ShownMessages
 pub mod Refusals
 pub mod Client
+pub mod Offers
 pub mod Server
 pub mod Honest

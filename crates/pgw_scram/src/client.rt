@@ -4,7 +4,8 @@ ghost use Rattle.pgw_scram.specs.Answers.{AnswersClient};
 ghost use Rattle.pgw_scram.specs.Refusals.{final_refusal};
 ghost use Rattle.pgw_scram.specs.Client.{began, proved, verified};
 
-use crate::exchange::{client_final, client_first};
+use crate::binding::ClientBinding;
+use crate::exchange::{ClientLogin, client_final, client_first};
 use crate::messages::{ServerFinalIn, read_server_final};
 use crate::nonce::random_nonce;
 use pgw_backend::client_error::{PgWireClientError, PgWireClientResult, ScramFault};
@@ -19,14 +20,13 @@ use std::alloc::Global;
 pub struct ScramClientAuth {
     username: Text,
     password: Text,
+    binding: ClientBinding,
 }
 
 /// A client that has sent its first message.
 #[derive(Drop)]
 pub struct ScramClientAuthWaitingForServerFirst {
-    user: Text,
-    password: Text,
-    nonce: Text,
+    login: ClientLogin,
 }
 
 /// A client that has sent its last message.
@@ -36,10 +36,22 @@ pub struct ScramClientAuthWaitingForServerFinal {
 }
 
 impl ScramClientAuth {
+    /// A client that binds its login to nothing.
     pub fn new(username: Text, password: Text) -> ScramClientAuth
-        ensures { result ≡ record { username = username; password = password } }
+        ensures { result ≡ record { username = username; password = password; binding = ClientBinding.None } }
     {
-        ScramClientAuth { username, password }
+        ScramClientAuth {
+            username,
+            password,
+            binding: ClientBinding::None,
+        }
+    }
+
+    /// Sets what the client binds its login to.
+    pub fn configure_channel_binding(&mut self, binding: ClientBinding)
+        ensures { self.new ≡ record self.old { binding = binding } }
+    {
+        self.binding = binding;
     }
 
     /// The client's first message, or `InvalidConfig("user")` where the user name cannot be prepared.
@@ -53,15 +65,14 @@ impl ScramClientAuth {
         let Some(user) = saslprep(alloc, self.username.as_str())? else {
             return Err(PgWireClientError::InvalidConfig(Text::from_str(alloc, "user")?));
         };
-        let nonce = random_nonce(alloc, nonce)?;
-        let message = client_first(alloc, user.as_str(), nonce.as_str())?;
-        let password = self.password.duplicate()?;
-        let waiting = ScramClientAuthWaitingForServerFirst {
+        let login = ClientLogin {
+            binding: self.binding.duplicate()?,
             user,
-            password,
-            nonce,
+            password: self.password.duplicate()?,
+            nonce: random_nonce(alloc, nonce)?,
         };
-        Ok((message, waiting))
+        let message = client_first(alloc, &login)?;
+        Ok((message, ScramClientAuthWaitingForServerFirst { login }))
     }
 }
 
@@ -75,13 +86,7 @@ impl ScramClientAuthWaitingForServerFirst {
     ) -> PgWireClientResult<(Text, ScramClientAuthWaitingForServerFinal)>
         ensures { AnswersClient result (proved self.now message.now) }
     {
-        let reply = client_final(
-            alloc,
-            self.user.as_str(),
-            self.password.as_str(),
-            self.nonce.as_str(),
-            message,
-        )?;
+        let reply = client_final(alloc, &self.login, message)?;
         let signature = reply.signature;
         let waiting = ScramClientAuthWaitingForServerFinal { signature };
         Ok((reply.message, waiting))

@@ -1,5 +1,5 @@
 //! Base64 (RFC 4648, section 4).
-ghost use Rattle.std.specs.Prelude.{◌≡◌, IfOk, option_map};
+ghost use Rattle.std.specs.Prelude.{◌≡◌, ◌++◌, IfOk, option_map};
 ghost use Rattle.pgw_scram.specs.Base64.{base64, salt_of};
 
 use base64::DecodeAllocError;
@@ -15,6 +15,16 @@ pub(crate) fn encode(alloc: Global, bytes: &[u8]) -> Result<Text, OutOfMemory>
 {
     let text = STANDARD.encode(alloc, bytes)?;
     Ok(Text::from_string(text))
+}
+
+/// The text of bytes and more bytes behind them.
+pub(crate) fn encode_joined(alloc: Global, front: &[u8], back: &[u8]) -> Result<Text, OutOfMemory>
+    ensures { IfOk result (λ text. text ≡ base64 (front.now ++ back.now)) }
+{
+    let mut bytes = Vec::new(alloc);
+    bytes.extend_from_slice(front)?;
+    bytes.extend_from_slice(back)?;
+    encode(alloc, &bytes)
 }
 
 /// The text of 32 bytes, which has 44 characters. It takes no memory.

@@ -9,6 +9,7 @@ ghost use Rattle.pgw_scram.specs.Refusals.{begins_with};
 ghost use Rattle.pgw_scram.specs.Client.{replied};
 ghost use Rattle.pgw_scram.specs.Readers.{read_server_first};
 
+use crate::binding::ClientBinding;
 use crate::encoding::decode_salt;
 use crate::messages::ServerFirst;
 use crate::proof::{client_proof, server_signature};
@@ -27,20 +28,37 @@ pub fn client_first_bare(alloc: Global, user: &str, nonce: &str) -> Result<Text,
     Ok(Text::from_string(text))
 }
 
-/// The client's first message, of a prepared user name and the nonce's text.
+/// Who logs in, and what the messages of one exchange are made of.
+#[derive(Drop)]
+pub struct ClientLogin {
+    pub binding: ClientBinding,
+    /// In its prepared form.
+    pub user: Text,
+    pub password: Text,
+    /// In base64, as it is sent.
+    pub nonce: Text,
+}
+
+/// The client's first message.
 #[tactic(auto, unfolding(crate::specs::Exchange::client_first))]
-pub fn client_first(alloc: Global, user: &str, nonce: &str) -> Result<Text, OutOfMemory>
-    ensures { IfOk result (λ text. text ≡ client_first user.now nonce.now) }
+pub fn client_first(alloc: Global, login: &ClientLogin) -> Result<Text, OutOfMemory>
+    ensures { IfOk result (λ text. text ≡ client_first login.now) }
 {
-    let text = format!(in alloc; "n,,n={user},r={nonce}")?;
+    let header = login.binding.header();
+    let bare = client_first_bare(alloc, login.user.as_str(), login.nonce.as_str())?;
+    let bare = bare.as_str();
+    let text = format!(in alloc; "{header}{bare}")?;
     Ok(Text::from_string(text))
 }
 
 /// The client's last message without its proof.
-fn without_proof(alloc: Global, nonce: &str) -> Result<Text, OutOfMemory>
-    ensures { IfOk result (λ text. text ≡ without_proof nonce.now) }
+#[tactic(auto, unfolding(crate::specs::Exchange::without_proof))]
+fn without_proof(alloc: Global, binding: &ClientBinding, nonce: &str) -> Result<Text, OutOfMemory>
+    ensures { IfOk result (λ text. text ≡ without_proof binding.now nonce.now) }
 {
-    let text = format!(in alloc; "c=biws,r={nonce}")?;
+    let bound = binding.text(alloc)?;
+    let bound = bound.as_str();
+    let text = format!(in alloc; "c={bound},r={nonce}")?;
     Ok(Text::from_string(text))
 }
 
@@ -55,17 +73,19 @@ pub struct ClientReply {
 fn reply(
     alloc: Global,
     salted: &[u8],
-    bare: &str,
+    login: &ClientLogin,
     server_first: &[u8],
     server_nonce: &str,
 ) -> Result<ClientReply, OutOfMemory>
-    ensures message { IfOk result (λ r. r.message ≡ without_proof server_nonce.now ++ codes ",p=" ++ base64 (client_proof salted.now (auth_message bare.now server_first.now (without_proof server_nonce.now)))) }
-    ensures signature { IfOk result (λ r. r.signature ≡ base64 (server_signature salted.now (auth_message bare.now server_first.now (without_proof server_nonce.now)))) }
+    ensures message { IfOk result (λ r. r.message ≡ without_proof login.now.binding server_nonce.now ++ codes ",p=" ++ base64 (client_proof salted.now (auth_message (client_first_bare login.now.user login.now.nonce) server_first.now (without_proof login.now.binding server_nonce.now)))) }
+    ensures signature { IfOk result (λ r. r.signature ≡ base64 (server_signature salted.now (auth_message (client_first_bare login.now.user login.now.nonce) server_first.now (without_proof login.now.binding server_nonce.now)))) }
 {
-    let without = without_proof(alloc, server_nonce)?;
+    let bare = client_first_bare(alloc, login.user.as_str(), login.nonce.as_str())?;
+    let without = without_proof(alloc, &login.binding, server_nonce)?;
+    let bare = bare.as_str().as_bytes();
     let bytes = without.as_str().as_bytes();
-    let proof = client_proof(salted, bare.as_bytes(), server_first, bytes);
-    let signature = server_signature(salted, bare.as_bytes(), server_first, bytes);
+    let proof = client_proof(salted, bare, server_first, bytes);
+    let signature = server_signature(salted, bare, server_first, bytes);
     let message = with_proof(alloc, without.as_str(), &proof)?;
     Ok(ClientReply { message, signature })
 }
@@ -86,46 +106,35 @@ fn begins_with(text: &str, front: &str) -> bool
     text.as_bytes().starts_with(front.as_bytes())
 }
 
-/// The client's last message, of a prepared user name, a password, the nonce's text and the
-/// server's first message.
+/// The client's last message, behind the server's first one. In this order: `InvalidScramMessage`;
+/// `NonceMismatch` where the server's nonce does not begin with the client's; `SaltNotBase64`.
 pub fn client_final(
     alloc: Global,
-    user: &str,
-    password: &str,
-    nonce: &str,
+    login: &ClientLogin,
     server_first: &[u8],
 ) -> PgWireClientResult<ClientReply>
-    ensures { AnswersClient result (replied user.now password.now nonce.now server_first.now) }
+    ensures { AnswersClient result (replied login.now server_first.now) }
 {
     let parts = ServerFirst::read(alloc, server_first)?;
-    reply_to(alloc, user, password, nonce, server_first, &parts)
+    reply_to(alloc, login, server_first, &parts)
 }
 
 /// The same, of the parts of the server's first message.
 fn reply_to(
     alloc: Global,
-    user: &str,
-    password: &str,
-    nonce: &str,
+    login: &ClientLogin,
     server_first: &[u8],
     parts: &ServerFirst,
 ) -> PgWireClientResult<ClientReply>
     requires { read_server_first server_first.now ≡ Ok parts.now }
-    ensures { AnswersClient result (replied user.now password.now nonce.now server_first.now) }
+    ensures { AnswersClient result (replied login.now server_first.now) }
 {
-    if !begins_with(parts.nonce.as_str(), nonce) {
+    if !begins_with(parts.nonce.as_str(), login.nonce.as_str()) {
         return Err(PgWireClientError::ScramError(ScramFault::NonceMismatch));
     }
     let Some(salt) = decode_salt(alloc, parts.salt.as_str().as_bytes())? else {
         return Err(PgWireClientError::ScramError(ScramFault::SaltNotBase64));
     };
-    let salted = gen_salted_password(alloc, password, &salt, parts.count)?;
-    let bare = client_first_bare(alloc, user, nonce)?;
-    Ok(reply(
-        alloc,
-        &salted,
-        bare.as_str(),
-        server_first,
-        parts.nonce.as_str(),
-    )?)
+    let salted = gen_salted_password(alloc, login.password.as_str(), &salt, parts.count)?;
+    Ok(reply(alloc, &salted, login, server_first, parts.nonce.as_str())?)
 }

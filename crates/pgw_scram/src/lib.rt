@@ -5,6 +5,7 @@
 #![tactic(auto)]
 
 mod attributes;
+pub mod binding;
 pub mod client;
 mod code;
 mod encoding;
@@ -12,7 +13,7 @@ pub mod exchange;
 pub mod laws;
 pub mod messages;
 pub mod nonce;
+pub mod offer;
 pub mod password;
 pub mod proof;
 pub mod server;
-mod xor;

@@ -1,22 +1,19 @@
 //! The server's end of an exchange (RFC 5802, section 5).
-ghost use Rattle.std.specs.Prelude.{◌≡◌, ◌≤◌, ◌++◌, IfOk, OnOk, OnErr, Ok, Some, None, codes, IsUtf8};
+ghost use Rattle.std.specs.Prelude.{◌≡◌, ◌≤◌, IfOk, OnOk, OnErr, Ok, Some, None};
 ghost use Rattle.std.specs.Option.{option_copied};
 ghost use Rattle.pgw_scram.specs.Answers.{Answers};
-ghost use Rattle.pgw_scram.specs.Base64.{base64, nonce_text};
-ghost use Rattle.pgw_scram.specs.Server.{server_first, bound, server_final, waiting, offered, accepted_as, accepted};
+ghost use Rattle.pgw_scram.specs.Server.{waiting, offered_to, offered, accepted_as, accepted};
 
-use crate::encoding::encode;
 use crate::messages::{ClientFinal, ClientFirst};
-use crate::nonce::random_nonce;
+use crate::offer::{Offer, is_misbound, server_final};
 use crate::password::Password;
-use crate::proof::{client_proof, server_signature};
+use crate::proof::{client_key, proof_by, server_key, signature_by};
 use pgw_types::error::{PgWireError, PgWireResult, ScramMessageFault};
 use pgw_types::listed::Duplicate;
 use pgw_types::memory::OutOfMemory;
 use pgw_types::octets::Octets;
 use pgw_types::text::Text;
 use std::alloc::Global;
-use std::str;
 
 /// The number of rounds where none is set.
 pub const SCRAM_ITERATIONS: usize = 4096;
@@ -31,12 +28,9 @@ pub struct ScramServerAuth {
 /// A server that has sent its first message.
 #[derive(Drop)]
 pub struct ScramServerAuthWaitingForClientFinal {
-    user: Text,
-    bare: Text,
-    server_first: Text,
-    nonce: Text,
-    binding: Text,
-    salted: Octets,
+    offer: Offer,
+    client_key: [u8; 32],
+    server_key: [u8; 32],
 }
 
 impl Default for ScramServerAuth {
@@ -44,34 +38,6 @@ impl Default for ScramServerAuth {
 
     fn default() -> ScramServerAuth {
         ScramServerAuth::new()
-    }
-}
-
-/// The server's first message, of the whole nonce, the salt's bytes and the count.
-fn server_first(alloc: Global, nonce: &str, salt: &[u8], count: u32) -> Result<Text, OutOfMemory>
-    ensures { IfOk result (λ text. text ≡ server_first nonce.now salt.now count) }
-{
-    let salt = encode(alloc, salt)?;
-    let salt = salt.as_str();
-    let text = format!(in alloc; "r={nonce},s={salt},i={count}")?;
-    Ok(Text::from_string(text))
-}
-
-fn binding_of(
-    alloc: Global,
-    header: &[u8],
-    certificate_hash: Option<&[u8]>,
-) -> Result<Text, OutOfMemory>
-    ensures { IfOk result (λ text. text ≡ base64 (bound header.now (option_copied certificate_hash.entry))) }
-{
-    match certificate_hash {
-        Some(hash) if header.starts_with(b"p=tls-server-end-point,") => {
-            let mut bytes = Vec::new(alloc);
-            bytes.extend_from_slice(header)?;
-            bytes.extend_from_slice(hash)?;
-            encode(alloc, &bytes)
-        }
-        _ => encode(alloc, header),
     }
 }
 
@@ -115,8 +81,8 @@ impl ScramServerAuth {
         self.iterations = iterations;
     }
 
-    /// The server's first message. In this order: `InvalidScramMessage`; `SaltRequired` where the
-    /// password has no salt.
+    /// The server's first message. In this order: `InvalidScramMessage` for the message's form, then
+    /// for a header that does not suit the server; `SaltRequired` where the password has no salt.
     pub fn on_client_first_message(
         &self,
         alloc: Global,
@@ -127,16 +93,32 @@ impl ScramServerAuth {
         ensures { Answers result (offered self.now message.now password.now nonce.now) }
     {
         let parts = ClientFirst::read(alloc, message)?;
+        self.offer(alloc, parts, password, nonce)
+    }
+
+    /// The same, of the parts of the client's first message.
+    pub fn offer(
+        &self,
+        alloc: Global,
+        parts: ClientFirst,
+        password: &Password,
+        nonce: &[u8; 18],
+    ) -> PgWireResult<(Text, ScramServerAuthWaitingForClientFinal)>
+        ensures { Answers result (offered_to self.now parts password.now nonce.now) }
+    {
+        if is_misbound(self.certificate_hash(), parts.header.as_str()) {
+            return Err(PgWireError::InvalidScramMessage(ScramMessageFault::ChannelBinding));
+        }
         let Some(salt) = password.salt() else {
             return Err(PgWireError::SaltRequired);
         };
-        let waiting = self.offer(alloc, parts, salt, password.password(), nonce)?;
-        let message = waiting.server_first.duplicate()?;
+        let waiting = self.waiting(alloc, parts, salt, password.password(), nonce)?;
+        let message = waiting.offer.server_first.duplicate()?;
         Ok((message, waiting))
     }
 
-    /// The server that has sent its first message, of the parts of the client's.
-    fn offer(
+    // The server that has sent its first message.
+    fn waiting(
         &self,
         alloc: Global,
         parts: ClientFirst,
@@ -146,48 +128,20 @@ impl ScramServerAuth {
     ) -> Result<ScramServerAuthWaitingForClientFinal, OutOfMemory>
         ensures { IfOk result (λ server. server ≡ waiting self.now parts salt.now salted.now own.now) }
     {
-        let nonce = whole_nonce(alloc, parts.nonce.as_str(), own)?;
-        let server_first = server_first(alloc, nonce.as_str(), salt, self.iterations)?;
-        let binding = binding_of(
+        let offer = Offer::new(
             alloc,
-            parts.header.as_str().as_bytes(),
+            parts,
             self.certificate_hash(),
+            salt,
+            self.iterations,
+            own,
         )?;
-        let salted = Octets::from_slice(alloc, salted)?;
         Ok(ScramServerAuthWaitingForClientFinal {
-            user: parts.user,
-            bare: parts.bare,
-            server_first,
-            nonce,
-            binding,
-            salted,
+            offer,
+            client_key: client_key(salted),
+            server_key: server_key(salted),
         })
     }
-}
-
-/// The nonce of an exchange, of the client's and the bytes of the server's own.
-fn whole_nonce(alloc: Global, nonce: &str, own: &[u8; 18]) -> Result<Text, OutOfMemory>
-    ensures { IfOk result (λ text. text ≡ nonce.now ++ nonce_text own.now) }
-{
-    let own = random_nonce(alloc, own)?;
-    joined(alloc, nonce, own.as_str())
-}
-
-fn joined(alloc: Global, front: &str, back: &str) -> Result<Text, OutOfMemory>
-    ensures { IfOk result (λ text. text ≡ front.now ++ back.now) }
-{
-    let text = format!(in alloc; "{front}{back}")?;
-    Ok(Text::from_string(text))
-}
-
-/// The server's last message with a signature's text.
-fn server_final(alloc: Global, signature: &[u8; 44]) -> Result<Text, OutOfMemory>
-    requires { IsUtf8 signature.now }
-    ensures { IfOk result (λ text. text ≡ codes "v=" ++ signature.now) }
-{
-    let signature = str::from_utf8(signature).unwrap();
-    let text = format!(in alloc; "v={signature}")?;
-    Ok(Text::from_string(text))
 }
 
 impl ScramServerAuthWaitingForClientFinal {
@@ -197,29 +151,22 @@ impl ScramServerAuthWaitingForClientFinal {
     pub fn on_client_final_message(&self, alloc: Global, message: &[u8]) -> PgWireResult<Text>
         ensures { Answers result (accepted self.now message.now) }
     {
-        let parts = ClientFinal::read(alloc, message)?;
+        let parts = self.offer.answer(alloc, message)?;
         self.accept(alloc, &parts)
     }
 
-    /// The server's last message, of the parts of the client's.
+    // The server's last message, of the parts of the client's.
     fn accept(&self, alloc: Global, parts: &ClientFinal) -> PgWireResult<Text>
         ensures { Answers result (accepted_as self.now (Ok parts.now)) }
     {
-        if parts.binding != self.binding {
-            return Err(PgWireError::InvalidScramMessage(ScramMessageFault::ChannelBinding));
-        }
-        if parts.nonce != self.nonce {
-            return Err(PgWireError::InvalidScramMessage(ScramMessageFault::Nonce));
-        }
-        let salted = self.salted.as_slice();
-        let bare = self.bare.as_str().as_bytes();
-        let server_first = self.server_first.as_str().as_bytes();
+        let bare = self.offer.bare.as_str().as_bytes();
+        let server_first = self.offer.server_first.as_str().as_bytes();
         let without_proof = parts.without_proof.as_str().as_bytes();
-        let proof = client_proof(salted, bare, server_first, without_proof);
+        let proof = proof_by(&self.client_key, bare, server_first, without_proof);
         if parts.proof.as_str().as_bytes() != proof.as_slice() {
-            return Err(PgWireError::InvalidPassword(self.user.duplicate()?));
+            return Err(PgWireError::InvalidPassword(self.offer.user.duplicate()?));
         }
-        let signature = server_signature(salted, bare, server_first, without_proof);
+        let signature = signature_by(&self.server_key, bare, server_first, without_proof);
         Ok(server_final(alloc, &signature)?)
     }
 }

@@ -2,16 +2,17 @@
 use crate::shared::{same, same_bytes, same_reply, same_text, sent, told};
 use pgw_backend::client_error::PgWireClientResult;
 use pgw_hash::pbkdf2::gen_salted_password;
+use pgw_scram::binding::ClientBinding;
 use pgw_scram::client::{
     ScramClientAuth, ScramClientAuthWaitingForServerFinal, ScramClientAuthWaitingForServerFirst,
 };
-use pgw_scram::exchange::{client_final, client_first, client_first_bare};
+use pgw_scram::exchange::{ClientLogin, client_final, client_first, client_first_bare};
 use pgw_scram::messages::{ClientFinal, ClientFirst, ServerFinal, ServerFirst};
 use pgw_scram::nonce::random_nonce;
 use pgw_scram::password::Password;
 use pgw_scram::proof::{client_proof, server_signature};
 use pgw_scram::server::{SCRAM_ITERATIONS, ScramServerAuth};
-use pgw_types::error::PgWireResult;
+use pgw_types::error::{PgWireError, PgWireResult};
 use pgw_types::listed::Duplicate;
 use pgw_types::memory::OutOfMemory;
 use pgw_types::octets::Octets;
@@ -85,6 +86,21 @@ const REPLIES: &[(&str, &str, &[u8], &str, &str)] = &[
     ),
 ];
 
+// Who logs in and binds nothing.
+fn login(
+    alloc: Global,
+    user: &str,
+    password: &str,
+    nonce: &str,
+) -> Result<ClientLogin, OutOfMemory> {
+    Ok(ClientLogin {
+        binding: ClientBinding::None,
+        user: Text::from_str(alloc, user)?,
+        password: Text::from_str(alloc, password)?,
+        nonce: Text::from_str(alloc, nonce)?,
+    })
+}
+
 // The client's last message, and the signature's text.
 fn replied(
     alloc: Global,
@@ -92,7 +108,10 @@ fn replied(
     nonce: &str,
     first: &[u8],
 ) -> PgWireClientResult<(Text, [u8; 44])> {
-    let reply = client_final(alloc, "user", password, nonce, first)?;
+    let login = login(alloc, "user", password, nonce)?;
+    let reply = client_final(alloc, &login, first);
+    drop(login);
+    let reply = reply?;
     let signature = reply.signature;
     Ok((reply.message, signature))
 }
@@ -253,8 +272,14 @@ fn user_names(rt: HostRuntime) -> Result<(), Fail> {
 fn first_messages(rt: HostRuntime) -> Result<(), Fail> {
     let bare = client_first_bare(rt.alloc(), "bob", "abc");
     same_text(bare, "n=bob,r=abc")?;
-    let first = client_first(rt.alloc(), "bob", "abc");
-    same_text(first, "n,,n=bob,r=abc")
+    same_text(first_of_bob(rt.alloc()), "n,,n=bob,r=abc")
+}
+
+fn first_of_bob(alloc: Global) -> Result<Text, OutOfMemory> {
+    let login = login(alloc, "bob", "", "abc")?;
+    let first = client_first(alloc, &login);
+    drop(login);
+    first
 }
 
 /// What both ends say of a name and a password that are not ASCII, and of which the password cannot be prepared. The proof
@@ -321,6 +346,76 @@ const OFFERS: &[(&[u8], &str)] = &[
 fn client_refusals(rt: HostRuntime) -> Result<(), Fail> {
     for (offer, text) in OFFERS {
         same(sent(rt.alloc(), ended(rt.alloc(), "bob", "", offer)), text)?;
+    }
+    Ok(())
+}
+
+/// What a client binds, its first message, and its last to an offer. The proofs were computed with Python's hashlib.
+const BINDINGS: &[(Bound, &str, &str)] = &[
+    (
+        Bound::None,
+        "n,,n=bob,r=AAAAAAAAAAAAAAAAAAAAAAAA",
+        "c=biws,r=AAAAAAAAAAAAAAAAAAAAAAAA,p=LV1AtPPgg62lH/kNXEPi8jPYzFxxz12IlnvNtrL7KgY=",
+    ),
+    (
+        Bound::NotOffered,
+        "y,,n=bob,r=AAAAAAAAAAAAAAAAAAAAAAAA",
+        "c=eSws,r=AAAAAAAAAAAAAAAAAAAAAAAA,p=0pCI1f2gy8p88o7iU6Xu+0y/ePdBpimN3Nrde9s5P4Y=",
+    ),
+    (
+        Bound::EndPoint,
+        "p=tls-server-end-point,,n=bob,r=AAAAAAAAAAAAAAAAAAAAAAAA",
+        "c=cD10bHMtc2VydmVyLWVuZC1wb2ludCwsAAEC,r=AAAAAAAAAAAAAAAAAAAAAAAA,p=F1CGZoTYF96EWYquCEViaXHFeTQ7zsrsuVQWsqsuOy0=",
+    ),
+];
+
+#[derive(Clone, Copy, Drop)]
+enum Bound {
+    None,
+    NotOffered,
+    EndPoint,
+}
+
+fn binding(alloc: Global, bound: Bound) -> Result<ClientBinding, OutOfMemory> {
+    match bound {
+        Bound::None => Ok(ClientBinding::None),
+        Bound::NotOffered => Ok(ClientBinding::NotOffered),
+        Bound::EndPoint => Ok(ClientBinding::EndPoint(Octets::from_slice(alloc, &[0, 1, 2])?)),
+    }
+}
+
+// A client that has begun, with its first message.
+fn begun_with(
+    alloc: Global,
+    bound: Bound,
+) -> PgWireClientResult<(Text, ScramClientAuthWaitingForServerFirst)> {
+    let binding = binding(alloc, bound)?;
+    let copy = binding.duplicate();
+    drop(binding);
+    let user = Text::from_str(alloc, "bob")?;
+    let mut client = ScramClientAuth::new(user, Text::from_str(alloc, "")?);
+    client.configure_channel_binding(copy?);
+    let begun = client.build_client_first(alloc, &[0; 18]);
+    drop(client);
+    begun
+}
+
+fn ended_with(
+    alloc: Global,
+    bound: Bound,
+) -> PgWireClientResult<(Text, ScramClientAuthWaitingForServerFinal)> {
+    let begun = begun_with(alloc, bound)?;
+    let offer = b"r=AAAAAAAAAAAAAAAAAAAAAAAA,s=YmFy,i=1";
+    let ended = begun.1.build_client_final(alloc, offer);
+    drop(begun);
+    ended
+}
+
+#[test]
+fn client_bindings(rt: HostRuntime) -> Result<(), Fail> {
+    for (bound, first, last) in BINDINGS {
+        same(sent(rt.alloc(), begun_with(rt.alloc(), *bound)), first)?;
+        same(sent(rt.alloc(), ended_with(rt.alloc(), *bound)), last)?;
     }
     Ok(())
 }
@@ -489,20 +584,46 @@ fn server_refusals(rt: HostRuntime) -> Result<(), Fail> {
     Ok(())
 }
 
-/// A client's first message and its last, which is refused for its nonce alone: the binding is the header's, with the hash
-/// where the header names the end point.
-const BOUND: &[(&[u8], &[u8])] = &[
+/// Whether a server has a certificate, a client's first message and its last, and the fault: of those that suit the server
+/// it is the nonce alone.
+const BOUND: &[(bool, &[u8], &[u8], &str)] = &[
     (
+        true,
         b"p=tls-server-end-point,,n=foo,r=",
         b"c=cD10bHMtc2VydmVyLWVuZC1wb2ludCwsAAEC,r=,p=",
+        "Nonce",
     ),
-    (b"y,,n=foo,r=", b"c=eSws,r=,p="),
-    (b"n,,n=foo,r=", b"c=biws,r=,p="),
+    (true, b"n,,n=foo,r=", b"c=biws,r=,p=", "Nonce"),
+    (false, b"y,,n=foo,r=", b"c=eSws,r=,p=", "Nonce"),
+    (false, b"n,,n=foo,r=", b"c=biws,r=,p=", "Nonce"),
+    (true, b"y,,n=foo,r=", b"c=eSws,r=,p=", "ChannelBinding"),
+    (true, b"p=tls-unique,,n=foo,r=", b"", "ChannelBinding"),
+    (
+        true,
+        b"p=tls-server-end-points,,n=foo,r=",
+        b"",
+        "ChannelBinding",
+    ),
+    (
+        true,
+        b"p=tls-server-end-point,,n=foo,r=",
+        b"c=cD10bHMtc2VydmVyLWVuZC1wb2ludCws,r=,p=",
+        "ChannelBinding",
+    ),
+    (
+        false,
+        b"p=tls-server-end-point,,n=foo,r=",
+        b"",
+        "ChannelBinding",
+    ),
+    (false, b"p=tls-unique,,n=foo", b"", "Grammar"),
 ];
 
-fn with_hash(alloc: Global) -> Result<ScramServerAuth, OutOfMemory> {
+fn with_hash(alloc: Global, has_certificate: bool) -> Result<ScramServerAuth, OutOfMemory> {
     let mut server = ScramServerAuth::new();
-    server.configure_certificate_hash(alloc, &[0, 1, 2])?;
+    if has_certificate {
+        server.configure_certificate_hash(alloc, &[0, 1, 2])?;
+    }
     Ok(server)
 }
 
@@ -518,18 +639,26 @@ fn bound_by(
     answer
 }
 
-fn bound(alloc: Global, first: &[u8], last: &[u8]) -> PgWireResult<Text> {
-    let server = with_hash(alloc)?;
+fn bound(alloc: Global, has_certificate: bool, first: &[u8], last: &[u8]) -> PgWireResult<Text> {
+    let server = with_hash(alloc, has_certificate)?;
     let answer = bound_by(alloc, &server, first, last);
     drop(server);
     answer
 }
 
+// The fault in a message that was refused for one.
+fn fault_of(alloc: Global, answer: PgWireResult<Text>) -> Result<String, OutOfMemory> {
+    match answer {
+        Err(PgWireError::InvalidScramMessage(fault)) => told(alloc, fault),
+        other => told(alloc, other),
+    }
+}
+
 #[test]
 fn bindings(rt: HostRuntime) -> Result<(), Fail> {
-    for (first, last) in BOUND {
-        let answer = bound(rt.alloc(), first, last);
-        same(told(rt.alloc(), answer), "Err(InvalidScramMessage(Nonce))")?;
+    for (has_certificate, first, last, fault) in BOUND {
+        let answer = bound(rt.alloc(), *has_certificate, first, last);
+        same(fault_of(rt.alloc(), answer), fault)?;
     }
     Ok(())
 }

@@ -34,7 +34,7 @@ use Rattle.pgw_session.specs.declared.types.Request.TheVariants as request
 use Rattle.pgw_session.specs.declared.types.Target.TheVariants as target
 use Rattle.pgw_session.specs.Input.{Input}
 use Rattle.pgw_session.specs.Requests.{sends_of}
-use Rattle.pgw_session.specs.Logins.{user_of, password_of, methods_refusal, expected_of}
+use Rattle.pgw_session.specs.Logins.{user_of, password_of, scram_login, methods_refusal, expected_of}
 use Rattle.pgw_scram.specs.Answers.{unless_so, first_of}
 use Rattle.pgw_scram.specs.Refusals.{begins_with, parts_refusal, verifier_refusal}
 use Rattle.pgw_session.specs.Failures.{Place, Before, AtFirst, AtFinal, Behind, refusal_at, Unreadable, Unsendable, FailsAtStartup}
@@ -132,8 +132,8 @@ session_sends input = record {
   startup = tt;
   cleartext = tt;
   md5 = λ salt. tt;
-  first = tt;
-  final = λ first. tt;
+  first = λ login. tt;
+  final = λ login first. tt;
   sends = λ k d lt. request_sends (get_or input.requests k d);
   round = tt;
 }
@@ -177,7 +177,7 @@ refusal_startup : (input : Input) (p : Place) (m : Backend) → StartupIf (refus
 refusal_startup input p (backend.ErrorResponse e) = tt
 refusal_startup input Before (backend.Authentication (authentication.SASL methods)) = methods_startup input methods
 refusal_startup input AtFirst (backend.Authentication (authentication.SASLContinue first)) = parts_startup (nonce_text input.nonce) (read_server_first first)
-refusal_startup input (AtFinal first) (backend.Authentication (authentication.SASLFinal final)) = proof_startup (expected_of input first) (read_server_final final)
+refusal_startup input (AtFinal first) (backend.Authentication (authentication.SASLFinal final)) = proof_startup (expected_of (scram_login input) first) (read_server_final final)
 refusal_startup input Before (backend.Authentication a) = tt
 refusal_startup input AtFirst (backend.Authentication a) = tt
 refusal_startup input (AtFinal first) (backend.Authentication a) = tt

@@ -18,9 +18,11 @@ use Rattle.pgw_session.specs.declared.stage.Stage.{Stage}
 use Rattle.pgw_session.specs.declared.stage.Stage.TheVariants.{Starting, Challenged, Proving, Admitted, Answering, PassingOver}
 use Rattle.pgw_session.specs.declared.stage.Next.{Next}
 use Rattle.pgw_session.specs.declared.stage.Next.TheVariants.{Goes, Closes, Wrong, Refuses, PassesOver}
+use Rattle.pgw_scram.specs.Base64.{nonce_text}
+use Rattle.pgw_scram.specs.declared.exchange.ClientLogin.{ClientLogin}
 use Rattle.pgw_session.specs.Input.{Input}
 use Rattle.pgw_session.specs.Events.{Event, Sent, Got}
-use Rattle.pgw_session.specs.Logins.{Login, Unasked, Cleartext, Md5, Scram, login_events, IsAccepted, cleartext_message, md5_message, first_message, final_message, methods_refusal, first_refusal, expected_of, final_refusal}
+use Rattle.pgw_session.specs.Logins.{Login, Unasked, Cleartext, Md5, Scram, login_events, IsAccepted, cleartext_message, md5_message, scram_login, first_message, final_message, methods_refusal, first_refusal, expected_of, final_refusal}
 use Rattle.pgw_session.specs.declared.stage.Role.{Role}
 use Rattle.pgw_session.specs.declared.stage.Role.TheVariants.{Taken, Closing, Completing, Failing, Misplaced}
 use Rattle.pgw_session.specs.Requests.{sends_of, passes_over, role}
@@ -34,13 +36,13 @@ abbrev IsFinal : List ℕ → List Event → Type 0
 IsFinal expected es = (final : List ℕ) × (more : List Event) × (es ≡ Got (backend.Authentication (authentication.SASLFinal final)) ∷ more) × (final_refusal expected final ≡ None) × IsUpToReady is_news more
 
 -- server-first in its place
-abbrev IsFirst : Input → List Event → Type 0
-IsFirst input es = (first : List ℕ) × (more : List Event) × (es ≡ Got (backend.Authentication (authentication.SASLContinue first)) ∷ Sent (final_message input first) ∷ more) × (first_refusal input first ≡ None) × IsFinal (expected_of input first) more
+abbrev IsFirst : ClientLogin → List Event → Type 0
+IsFirst login es = (first : List ℕ) × (more : List Event) × (es ≡ Got (backend.Authentication (authentication.SASLContinue first)) ∷ Sent (final_message login first) ∷ more) × (first_refusal login first ≡ None) × IsFinal (expected_of login first) more
 
 -- what may follow at a stage, to the segment's end
 abbrev pub Rest : Input → Stage → List Event → Type 0
 Rest input Starting es = IsGreeting input es
-Rest input Challenged es = IsFirst input es
+Rest input (Challenged login) es = IsFirst login es
 Rest input (Proving expected) es = IsFinal expected es
 Rest input Admitted es = IsUpToReady is_news es
 Rest input (Answering k rows) es = IsAnswer k rows es
@@ -112,7 +114,7 @@ greeting_by input m es g = go g.news g.login g.are g.all g.accepted
         subst (λ x. RestBy input (after input Starting x) es) (sym same) (g.rest, rest, g.ends)
     go [] (Scram methods first final) are all accepted =
         let same : m ≡ backend.Authentication (authentication.SASL methods) = cc in
-        let rest : es ≡ Sent _ ∷ Got (backend.Authentication (authentication.SASLContinue first)) ∷ Sent (final_message input first) ∷ Got (backend.Authentication (authentication.SASLFinal final)) ∷ g.rest = cc in
+        let rest : es ≡ Sent _ ∷ Got (backend.Authentication (authentication.SASLContinue first)) ∷ Sent (final_message (scram_login input) first) ∷ Got (backend.Authentication (authentication.SASLFinal final)) ∷ g.rest = cc in
         subst (λ x. RestBy input (after input Starting x) es) (sym same)
         (unless_by input (methods_refusal input methods) _ es accepted.0 (_, rest, (first, _, refl, accepted.1, (final, g.rest, refl, accepted.2, g.ends))))
 
@@ -143,10 +145,10 @@ passing_by input m es false r = (es, refl, r)
 
 pub rest_by : (input : Input) (s : Stage) (m : Backend) (es : List Event) → Rest input s (Got m ∷ es) → RestBy input (after input s m) es
 rest_by input Starting m es r = greeting_by input m es r
-rest_by input Challenged m es r =
+rest_by input (Challenged login) m es r =
     let same : m ≡ backend.Authentication (authentication.SASLContinue r.0) = let are = r.2 in cc in
-    let rest : es ≡ Sent (final_message input r.0) ∷ r.1 = let are = r.2 in cc in
-    subst (λ x. RestBy input (by_first input x) es) (sym same) (unless_by input (first_refusal input r.0) _ es r.3 (r.1, rest, r.4))
+    let rest : es ≡ Sent (final_message login r.0) ∷ r.1 = let are = r.2 in cc in
+    subst (λ x. RestBy input (by_first login x) es) (sym same) (unless_by input (first_refusal login r.0) _ es r.3 (r.1, rest, r.4))
 rest_by input (Proving expected) m es r =
     let same : m ≡ backend.Authentication (authentication.SASLFinal r.0) = let are = r.2 in cc in
     let rest : es ≡ r.1 = let are = r.2 in cc in
@@ -181,7 +183,7 @@ asked_by input (backend.Authentication (authentication.MD5Password salt)) es r =
 asked_by input (backend.Authentication (authentication.SASL methods)) es r =
     by_unless input Starting (backend.Authentication (authentication.SASL methods)) es (methods_refusal input methods) _ goes r
   where
-    goes : methods_refusal input methods ≡ None → RestBy input (Goes Challenged (Some (first_message input))) es → IsGreeting input (Got (backend.Authentication (authentication.SASL methods)) ∷ es)
+    goes : methods_refusal input methods ≡ None → RestBy input (Goes (Challenged (scram_login input)) (Some (first_message (scram_login input)))) es → IsGreeting input (Got (backend.Authentication (authentication.SASL methods)) ∷ es)
     goes accepted r =
         let f = r.2 in
         let g = f.4 in
@@ -189,7 +191,7 @@ asked_by input (backend.Authentication (authentication.SASL methods)) es r =
           news = [];
           login = Scram methods f.0 g.0;
           rest = g.1;
-          are = ap (λ (l : List Event). Got (backend.Authentication (authentication.SASL methods)) ∷ l) (r.1 ∙ ap (λ (l : List Event). Sent _ ∷ l) (f.2 ∙ ap (λ (l : List Event). Got (backend.Authentication (authentication.SASLContinue f.0)) ∷ Sent (final_message input f.0) ∷ l) g.2));
+          are = ap (λ (l : List Event). Got (backend.Authentication (authentication.SASL methods)) ∷ l) (r.1 ∙ ap (λ (l : List Event). Sent _ ∷ l) (f.2 ∙ ap (λ (l : List Event). Got (backend.Authentication (authentication.SASLContinue f.0)) ∷ Sent (final_message (scram_login input) f.0) ∷ l) g.2));
           all = tt;
           accepted = (accepted, f.3, g.3);
           ends = g.4;
@@ -226,11 +228,11 @@ pub by_rest : (input : Input) (s : Stage) (m : Backend) (es : List Event) → Re
 by_rest input Starting m es r =
     news_by input Starting m es (is_news m) (by_login input m) refl
     (λ is g. record { news = m ∷ g.news; login = g.login; rest = g.rest; are = ap (λ (l : List Event). Got m ∷ l) g.are; all = (is, g.all); accepted = g.accepted; ends = g.ends }) (asked_by input m es) r
-by_rest input Challenged m es r = firsts m r
+by_rest input (Challenged login) m es r = firsts m r
   where
-    firsts : (m : Backend) → RestBy input (by_first input m) es → IsFirst input (Got m ∷ es)
+    firsts : (m : Backend) → RestBy input (by_first login m) es → IsFirst login (Got m ∷ es)
     firsts (backend.Authentication (authentication.SASLContinue first)) r =
-        by_unless input Challenged (backend.Authentication (authentication.SASLContinue first)) es (first_refusal input first) _
+        by_unless input (Challenged login) (backend.Authentication (authentication.SASLContinue first)) es (first_refusal login first) _
         (λ accepted r. (first, r.0, ap (λ (l : List Event). Got (backend.Authentication (authentication.SASLContinue first)) ∷ l) r.1, accepted, r.2)) r
     firsts (backend.Authentication authentication.Ok) r = absurd r
     firsts m r = absurd r
@@ -254,8 +256,8 @@ idle = record { status = status.Idle }
 up_now : (p : Backend → Bool) → IsUpToReady p (Got (backend.ReadyForQuery idle) ∷ [])
 up_now p = up_last p idle [] refl
 
-some_final_rest : (input : Input) (first : List ℕ) → (m : Backend) × (es : List Event) × IsFinal (expected_of input first) (Got m ∷ es)
-some_final_rest input first = let f = some_final input first in (_, _, (f.0, Got (backend.ReadyForQuery idle) ∷ [], refl, f.1, up_now is_news))
+some_final_rest : (login : ClientLogin) (first : List ℕ) → (m : Backend) × (es : List Event) × IsFinal (expected_of login first) (Got m ∷ es)
+some_final_rest login first = let f = some_final login first in (_, _, (f.0, Got (backend.ReadyForQuery idle) ∷ [], refl, f.1, up_now is_news))
 
 -- each row has a message that closes it, with nothing before it
 closing : (k : Kind) (rows : Bool) → (m : Backend) × (role k rows m ≡ Closing)
@@ -268,15 +270,16 @@ closing kind.DescribePortal rows = (backend.ReadyForQuery idle, refl)
 closing kind.Close rows = (backend.ReadyForQuery idle, refl)
 closing kind.Query rows = (backend.ReadyForQuery idle, refl)
 
--- the signature that is expected is that behind some server-first
+-- the nonce is the session's, and the signature that is expected is that behind some server-first
 abbrev pub Expects : Input → Stage → Type 0
-Expects input (Proving expected) = (first : List ℕ) × (expected ≡ expected_of input first)
+Expects input (Challenged login) = login.nonce ≡ nonce_text input.nonce
+Expects input (Proving expected) = (login : ClientLogin) × (first : List ℕ) × (expected ≡ expected_of login first)
 Expects input s = Unit {0}
 
 pub some_got : (input : Input) (s : Stage) → Expects input s → (m : Backend) × (es : List Event) × Rest input s (Got m ∷ es)
 some_got input Starting e = (backend.ReadyForQuery idle, [], record { news = []; login = Unasked; rest = Got (backend.ReadyForQuery idle) ∷ []; are = refl; all = tt; accepted = tt; ends = up_now is_news })
-some_got input Challenged e = let f = some_first input in let g = some_final_rest input f.0 in (_, _, (f.0, Got g.0 ∷ g.1, refl, f.1, g.2))
-some_got input (Proving expected) e = let g = some_final_rest input e.0 in (g.0, g.1, subst (λ (x : List ℕ). IsFinal x (Got g.0 ∷ g.1)) (sym e.1) g.2)
+some_got input (Challenged login) e = let f = some_first input login e in let g = some_final_rest login f.0 in (_, _, (f.0, Got g.0 ∷ g.1, refl, f.1, g.2))
+some_got input (Proving expected) e = let g = some_final_rest e.0 e.1 in (g.0, g.1, subst (λ (x : List ℕ). IsFinal x (Got g.0 ∷ g.1)) (sym e.2) g.2)
 some_got input Admitted e = (_, _, up_now is_news)
 some_got input (Answering k rows) e = let c = closing k rows in (c.0, [], record { ms = []; behind = rows; last = c.0; rest = []; are = refl; taken = refl; ends = subst (λ x. IsEnd k x []) (sym c.1) refl })
 some_got input PassingOver e = (_, _, up_now is_other)
@@ -317,7 +320,7 @@ got_answer k rows es r = subst BeginsGot (sym r.are) (go r.ms)
 
 begins_got : (input : Input) (s : Stage) (es : List Event) → Rest input s es → BeginsGot es
 begins_got input Starting es r = got_greeting input es r
-begins_got input Challenged es r = subst BeginsGot (sym r.2) tt
+begins_got input (Challenged login) es r = subst BeginsGot (sym r.2) tt
 begins_got input (Proving expected) es r = subst BeginsGot (sym r.2) tt
 begins_got input Admitted es r = got_up is_news es r
 begins_got input (Answering k rows) es r = got_answer k rows es r
@@ -357,14 +360,15 @@ Logs closed es p = (closed ≡ []) × (place_of es ≡ p) × (IsSimple es → �
 -- what is known of the closed segments and the open one's events at a stage
 abbrev pub StandsAt : Input → List (List Event) → List Event → Stage → Type 0
 StandsAt input closed es Starting = Logs closed es Before
-StandsAt input closed es Challenged = Logs closed es AtFirst
-StandsAt input closed es (Proving expected) = (first : List ℕ) × (expected ≡ expected_of input first) × Logs closed es (AtFinal first)
+StandsAt input closed es (Challenged login) = (login ≡ scram_login input) × Logs closed es AtFirst
+StandsAt input closed es (Proving expected) = (first : List ℕ) × (expected ≡ expected_of (scram_login input) first) × Logs closed es (AtFinal first)
 StandsAt input closed es Admitted = Logs closed es Behind
 StandsAt input closed es (Answering k rows) = (closed ≡ [] → ⊥) × (IsSimple es → passes_over k ≡ true) × (passes_over k ≡ true → IsSimple es)
 StandsAt input closed es PassingOver = closed ≡ [] → ⊥
 
 pub stands_expects : (input : Input) (closed : List (List Event)) (es : List Event) (s : Stage) → StandsAt input closed es s → Expects input s
-stands_expects input closed es (Proving expected) stands = (stands.0, stands.1)
+stands_expects input closed es (Challenged login) stands = ap (λ (l : ClientLogin). l.nonce) stands.0
+stands_expects input closed es (Proving expected) stands = (scram_login input, stands.0, stands.1)
 stands_expects input closed es s stands = tt
 
 -- and behind a message
@@ -403,22 +407,22 @@ login_stands : (input : Input) (closed : List (List Event)) (es : List Event) (m
 login_stands input closed es (backend.Authentication authentication.CleartextPassword) l = logs_on closed es Before Behind _ (cleartext_message input ∷ []) l refl
 login_stands input closed es (backend.Authentication (authentication.MD5Password salt)) l = logs_on closed es Before Behind _ (md5_message input salt ∷ []) l refl
 login_stands input closed es (backend.Authentication (authentication.SASL methods)) l =
-    logs_unless input closed es Before (backend.Authentication (authentication.SASL methods)) (methods_refusal input methods) _ l refl (logs_on closed es Before AtFirst _ (first_message input ∷ []) l refl)
+    logs_unless input closed es Before (backend.Authentication (authentication.SASL methods)) (methods_refusal input methods) _ l refl (refl, logs_on closed es Before AtFirst _ (first_message (scram_login input) ∷ []) l refl)
 login_stands input closed es (backend.ReadyForQuery ready) l = tt
 login_stands input closed es (backend.ErrorResponse e) l = logs_refused input closed es Before (backend.ErrorResponse e) _ l refl
 login_stands input closed es (backend.Authentication authentication.Ok) l = logs_wrong input closed es Before (backend.Authentication authentication.Ok) l refl
 login_stands input closed es m l = logs_wrong input closed es Before m l refl
 
-first_stands : (input : Input) (closed : List (List Event)) (es : List Event) (m : Backend) → Logs closed es AtFirst → StandsBy input closed es m (by_first input m)
+first_stands : (input : Input) (closed : List (List Event)) (es : List Event) (m : Backend) → Logs closed es AtFirst → StandsBy input closed es m (by_first (scram_login input) m)
 first_stands input closed es (backend.Authentication (authentication.SASLContinue first)) l =
-    logs_unless input closed es AtFirst (backend.Authentication (authentication.SASLContinue first)) (first_refusal input first) _ l refl (first, refl, logs_on closed es AtFirst (AtFinal first) _ (final_message input first ∷ []) l refl)
+    logs_unless input closed es AtFirst (backend.Authentication (authentication.SASLContinue first)) (first_refusal (scram_login input) first) _ l refl (first, refl, logs_on closed es AtFirst (AtFinal first) _ (final_message (scram_login input) first ∷ []) l refl)
 first_stands input closed es (backend.ErrorResponse e) l = logs_refused input closed es AtFirst (backend.ErrorResponse e) _ l refl
 first_stands input closed es (backend.Authentication authentication.Ok) l = logs_wrong input closed es AtFirst (backend.Authentication authentication.Ok) l refl
 first_stands input closed es m l = logs_wrong input closed es AtFirst m l refl
 
-final_stands : (input : Input) (closed : List (List Event)) (es : List Event) (first : List ℕ) (m : Backend) → Logs closed es (AtFinal first) → StandsBy input closed es m (by_final (expected_of input first) m)
+final_stands : (input : Input) (closed : List (List Event)) (es : List Event) (first : List ℕ) (m : Backend) → Logs closed es (AtFinal first) → StandsBy input closed es m (by_final (expected_of (scram_login input) first) m)
 final_stands input closed es first (backend.Authentication (authentication.SASLFinal final)) l =
-    logs_unless input closed es (AtFinal first) (backend.Authentication (authentication.SASLFinal final)) (final_refusal (expected_of input first) final) _ l refl (logs_on closed es (AtFinal first) Behind _ [] l refl)
+    logs_unless input closed es (AtFinal first) (backend.Authentication (authentication.SASLFinal final)) (final_refusal (expected_of (scram_login input) first) final) _ l refl (logs_on closed es (AtFinal first) Behind _ [] l refl)
 final_stands input closed es first (backend.ErrorResponse e) l = logs_refused input closed es (AtFinal first) (backend.ErrorResponse e) _ l refl
 final_stands input closed es first (backend.Authentication authentication.Ok) l = logs_wrong input closed es (AtFinal first) (backend.Authentication authentication.Ok) l refl
 final_stands input closed es first m l = logs_wrong input closed es (AtFinal first) m l refl
@@ -440,7 +444,7 @@ stands_by input closed es Starting m l = go (is_news m) refl
     go : (b : Bool) → is_news m ≡ b → StandsBy input closed es m (news_or b Starting (by_login input m))
     go true is = logs_on closed es Before Before m [] l (known_place Before m is)
     go false is = login_stands input closed es m l
-stands_by input closed es Challenged m l = first_stands input closed es m l
+stands_by input closed es (Challenged login) m l = subst (λ (x : ClientLogin). StandsBy input closed es m (by_first x m)) (sym l.0) (first_stands input closed es m l.1)
 stands_by input closed es (Proving expected) m l = subst (λ e. StandsBy input closed es m (by_final e m)) (sym l.1) (final_stands input closed es l.0 m l.2)
 stands_by input closed es Admitted m l = go (is_news m) refl
   where

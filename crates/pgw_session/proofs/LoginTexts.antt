@@ -16,10 +16,12 @@ use Rattle.pgw_hash.specs.Md5Password.{md5_hex, md5_password}
 use Rattle.pgw_scram.specs.Base64.{nonce_text, salt_of}
 use Rattle.pgw_scram.proofs.Base64Laws.{salt_of-nil}
 use Rattle.pgw_scram.proofs.ExchangeLaws.{least_server_first, nonce_is_read, signature_is_read}
+use Rattle.pgw_scram.specs.declared.exchange.ClientLogin.{ClientLogin}
+use Rattle.pgw_scram.specs.Readers.{read_server_first}
 use Rattle.pgw_session.specs.Input.{Input}
 use Rattle.pgw_backend.specs.declared.client_error.PgWireClientError.TheVariants as client
 use Rattle.pgw_backend.specs.declared.client_error.ScramFault.TheVariants as scram_fault
-use Rattle.pgw_session.specs.Logins.{scram_user, password_of, first_refusal, expected_of, final_refusal}
+use Rattle.pgw_session.specs.Logins.{first_refusal, expected_of, final_refusal}
 use Rattle.pgw_scram.specs.Answers.{unless_so, first_of}
 use Rattle.pgw_scram.specs.Refusals.{parts_refusal, verifier_refusal, begins_with}
 
@@ -32,20 +34,21 @@ begins_itself : (xs : List ℕ) → begins_with xs xs ≡ true
 begins_itself xs = (starts_is Decides-eqb xs xs (begins_with xs xs) refl).1 [] (sym (append-nil xs))
 
 -- some server-first is accepted
-pub some_first : (input : Input) → (first : List ℕ) × (first_refusal input first ≡ None)
-some_first input = (
+pub some_first : (input : Input) (login : ClientLogin) → login.nonce ≡ nonce_text input.nonce → (first : List ℕ) × (first_refusal login first ≡ None)
+some_first input login same = (
   least_server_first (nonce_text input.nonce),
-  ap (parts_refusal (nonce_text input.nonce)) (nonce_is_read input.nonce)
+  ap (λ (nonce : List ℕ). parts_refusal nonce (read_server_first (least_server_first (nonce_text input.nonce)))) same
+      ∙ ap (parts_refusal (nonce_text input.nonce)) (nonce_is_read input.nonce)
       ∙ ap (λ b. first_of (unless_so b (client.ScramError scram_fault.NonceMismatch)) (unless_so (is_some (salt_of [])) (client.ScramError scram_fault.SaltNotBase64))) (begins_itself (nonce_text input.nonce))
       ∙ ap (λ (o : Option (List ℕ)). unless_so (is_some o) (client.ScramError scram_fault.SaltNotBase64)) salt_of-nil,
 )
 
 -- and behind it some server-final
-pub some_final : (input : Input) (first : List ℕ) → (final : List ℕ) × (final_refusal (expected_of input first) final ≡ None)
-some_final input first = (
-  codes "v=" ++ expected_of input first,
-  ap (verifier_refusal (expected_of input first)) (signature_is_read (scram_user input) (password_of input) (nonce_text input.nonce) first)
-      ∙ ap (λ b. unless_so b (client.ScramError scram_fault.SignatureMismatch)) (same_bytes (expected_of input first)),
+pub some_final : (login : ClientLogin) (first : List ℕ) → (final : List ℕ) × (final_refusal (expected_of login first) final ≡ None)
+some_final login first = (
+  codes "v=" ++ expected_of login first,
+  ap (verifier_refusal (expected_of login first)) (signature_is_read login first)
+      ∙ ap (λ b. unless_so b (client.ScramError scram_fault.SignatureMismatch)) (same_bytes (expected_of login first)),
 )
 
 -- ---- MD5

@@ -16,9 +16,10 @@ use Rattle.pgw_session.specs.declared.stage.Next.{Next}
 use Rattle.pgw_session.specs.declared.stage.Next.TheVariants.{Goes, Closes}
 use Rattle.pgw_session.specs.declared.stage.Role.{Role}
 use Rattle.pgw_session.specs.declared.stage.Role.TheVariants.{Taken, Closing, Completing, Failing, Misplaced}
+use Rattle.pgw_scram.specs.declared.exchange.ClientLogin.{ClientLogin}
 use Rattle.pgw_session.specs.Input.{Input}
 use Rattle.pgw_session.specs.Events.{Event, Sent, Got, joined, sents}
-use Rattle.pgw_session.specs.Logins.{cleartext_message, md5_message, first_message, final_message, methods_refusal, first_refusal, final_refusal}
+use Rattle.pgw_session.specs.Logins.{cleartext_message, md5_message, scram_login, first_message, final_message, methods_refusal, first_refusal, final_refusal}
 use Rattle.pgw_session.specs.Requests.{sends_of, sync, behind_error, passes_over, role}
 use Rattle.pgw_session.specs.Segments.{IsRequestSegment, startup_message, is_news, is_ready, sends}
 use Rattle.pgw_session.specs.Transcript.{AreSegments, IsTranscript, IsLegalPrefix}
@@ -37,8 +38,8 @@ pub record MaySend (input : Input) (P : Frontend → Type 0) : Type 0 where
   pub startup : P (startup_message input)
   pub cleartext : P (cleartext_message input)
   pub md5 : (salt : List ℕ) → P (md5_message input salt)
-  pub first : P (first_message input)
-  pub final : (text : List ℕ) → P (final_message input text)
+  pub first : (login : ClientLogin) → P (first_message login)
+  pub final : (login : ClientLogin) (text : List ℕ) → P (final_message login text)
   pub sends : All (λ q. AreSent P (sends_of q)) input.requests
   pub round : P sync
 
@@ -75,14 +76,14 @@ welcome_sent P m = tt
 login_sent : (input : Input) (P : Frontend → Type 0) (m : Backend) → MaySend input P → ReplySent P (by_login input m)
 login_sent input P (backend.Authentication authentication.CleartextPassword) may = (may.cleartext, tt)
 login_sent input P (backend.Authentication (authentication.MD5Password salt)) may = (may.md5 salt, tt)
-login_sent input P (backend.Authentication (authentication.SASL methods)) may = unless_sent P (methods_refusal input methods) _ (may.first, tt)
+login_sent input P (backend.Authentication (authentication.SASL methods)) may = unless_sent P (methods_refusal input methods) _ (may.first (scram_login input), tt)
 login_sent input P (backend.Authentication authentication.Ok) may = tt
 login_sent input P m may = tt
 
-first_sent : (input : Input) (P : Frontend → Type 0) (m : Backend) → MaySend input P → ReplySent P (by_first input m)
-first_sent input P (backend.Authentication (authentication.SASLContinue first)) may = unless_sent P (first_refusal input first) _ (may.final first, tt)
-first_sent input P (backend.Authentication authentication.Ok) may = tt
-first_sent input P m may = tt
+first_sent : (input : Input) (P : Frontend → Type 0) (login : ClientLogin) (m : Backend) → MaySend input P → ReplySent P (by_first login m)
+first_sent input P login (backend.Authentication (authentication.SASLContinue first)) may = unless_sent P (first_refusal login first) _ (may.final login first, tt)
+first_sent input P login (backend.Authentication authentication.Ok) may = tt
+first_sent input P login m may = tt
 
 last_sent : (P : Frontend → Type 0) (expected : List ℕ) (m : Backend) → ReplySent P (by_final expected m)
 last_sent P expected (backend.Authentication (authentication.SASLFinal final)) = unless_sent P (final_refusal expected final) _ tt
@@ -123,7 +124,7 @@ ready_sent P false = tt
 
 reply_sent : (input : Input) (P : Frontend → Type 0) (s : Stage) (m : Backend) → MaySend input P → ReplySent P (after input s m)
 reply_sent input P Starting m may = news_sent P (is_news m) Starting _ (login_sent input P m may)
-reply_sent input P Challenged m may = first_sent input P m may
+reply_sent input P (Challenged login) m may = first_sent input P login m may
 reply_sent input P (Proving expected) m may = last_sent P expected m
 reply_sent input P Admitted m may = news_sent P (is_news m) Admitted _ (welcome_sent P m)
 reply_sent input P (Answering k rows) m may = role_sent P k (role k rows m) may.round

@@ -239,8 +239,8 @@ sendable input valid = record {
   startup = λ can. startup_encodes input valid;
   cleartext = λ can. message_encodes (cleartext_message input) can;
   md5 = λ salt can. md5_encodes input salt;
-  first = λ can. message_encodes (first_message input) can;
-  final = λ first can. message_encodes (final_message input first) can;
+  first = λ login can. message_encodes (first_message login) can;
+  final = λ login first can. message_encodes (final_message login first) can;
   sends = λ k d lt. valid_sendable _ (valid.requests k d lt);
   round = λ can. message_encodes sync tt;
 }

@@ -16,7 +16,7 @@ use Rattle.pgw_session.specs.Events.{Event, Sent, Got, joined}
 use Rattle.pgw_session.specs.Standings.{first_standing, standing_of}
 use Rattle.pgw_session.specs.Segments.{IsQuiet, IsSimple}
 use Rattle.pgw_session.specs.Answers.{first_error}
-use Rattle.pgw_session.specs.Logins.{methods_refusal, first_refusal, expected_of, final_refusal}
+use Rattle.pgw_session.specs.Logins.{scram_login, methods_refusal, first_refusal, expected_of, final_refusal}
 use Rattle.pgw_session.specs.Transcript.{IsTranscript, IsLegalPrefix, SpellsGot, EncodesSent, Completed, Completes, opening_at}
 use Rattle.pgw_session.specs.Input.{Input}
 
@@ -58,8 +58,8 @@ place_of es = fold place_at Before es
 abbrev pub refusal_at : Input → Place → Backend → Option ClientError
 refusal_at input p (backend.ErrorResponse e) = Some (client.RemoteError e)
 refusal_at input Before (backend.Authentication (authentication.SASL methods)) = methods_refusal input methods
-refusal_at input AtFirst (backend.Authentication (authentication.SASLContinue first)) = first_refusal input first
-refusal_at input (AtFinal first) (backend.Authentication (authentication.SASLFinal final)) = final_refusal (expected_of input first) final
+refusal_at input AtFirst (backend.Authentication (authentication.SASLContinue first)) = first_refusal (scram_login input) first
+refusal_at input (AtFinal first) (backend.Authentication (authentication.SASLFinal final)) = final_refusal (expected_of (scram_login input) first) final
 refusal_at input p m = None
 
 -- How far the bytes taken were read when m was refused, behind the events of some closed segments and of an open one:

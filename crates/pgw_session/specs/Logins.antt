@@ -13,6 +13,8 @@ use Rattle.pgw_backend.specs.declared.client_error.PgWireClientError.TheVariants
 use Rattle.pgw_backend.specs.declared.client_error.ScramFault.TheVariants as scram_fault
 use Rattle.pgw_hash.specs.Md5Password.{md5_password}
 use Rattle.pgw_hash.specs.Saslprep.{prepared}
+use Rattle.pgw_scram.specs.declared.binding.ClientBinding.TheVariants as binding
+use Rattle.pgw_scram.specs.declared.exchange.ClientLogin.{ClientLogin}
 use Rattle.pgw_scram.specs.Base64.{nonce_text}
 use Rattle.pgw_scram.specs.Refusals as scram
 use Rattle.pgw_scram.specs.Answers.{unless_so, first_of}
@@ -44,11 +46,15 @@ cleartext_message input = password_message (lossy (password_of input))
 abbrev pub md5_message : Input → List ℕ → Frontend
 md5_message input salt = password_message (md5_password (user_of input) (lossy (password_of input)) salt)
 
-abbrev pub first_message : Input → Frontend
-first_message input = frontend.PasswordMessageFamily (family.SASLInitialResponse (record { auth_method = codes "SCRAM-SHA-256"; payload = Some (client_first (scram_user input) (nonce_text input.nonce)) }))
+-- who logs in by SCRAM: nothing is bound
+abbrev pub scram_login : Input → ClientLogin
+scram_login input = record { binding = binding.None; user = scram_user input; password = password_of input; nonce = nonce_text input.nonce }
 
-abbrev pub final_message : Input → List ℕ → Frontend
-final_message input first = frontend.PasswordMessageFamily (family.SASLResponse (record { payload = client_final (scram_user input) (password_of input) (nonce_text input.nonce) first }))
+abbrev pub first_message : ClientLogin → Frontend
+first_message login = frontend.PasswordMessageFamily (family.SASLInitialResponse (record { auth_method = codes "SCRAM-SHA-256"; payload = Some (client_first login) }))
+
+abbrev pub final_message : ClientLogin → List ℕ → Frontend
+final_message login first = frontend.PasswordMessageFamily (family.SASLResponse (record { payload = client_final login first }))
 
 -- ---- what of the server's is refused
 
@@ -60,12 +66,12 @@ methods_refusal input methods =
     (user_refusal (prepared (user_of input))))
 
 -- server-first outside its grammar; or its nonce does not begin with the client's; or its salt is none
-abbrev pub first_refusal : Input → List ℕ → Option ClientError
-first_refusal input first = scram.first_refusal (nonce_text input.nonce) first
+abbrev pub first_refusal : ClientLogin → List ℕ → Option ClientError
+first_refusal login first = scram.first_refusal login.nonce first
 
 -- the signature that server-final should have behind server-first
-abbrev pub expected_of : Input → List ℕ → List ℕ
-expected_of input first = signature (scram_user input) (password_of input) (nonce_text input.nonce) first
+abbrev pub expected_of : ClientLogin → List ℕ → List ℕ
+expected_of login first = signature login first
 
 -- server-final outside its grammar; or it tells a failure; or its signature is another
 abbrev pub final_refusal : List ℕ → List ℕ → Option ClientError
@@ -84,11 +90,11 @@ login_events input Unasked = []
 login_events input Cleartext = Got (backend.Authentication authentication.CleartextPassword) ∷ Sent (cleartext_message input) ∷ []
 login_events input (Md5 salt) = Got (backend.Authentication (authentication.MD5Password salt)) ∷ Sent (md5_message input salt) ∷ []
 login_events input (Scram methods first final) =
-    Got (backend.Authentication (authentication.SASL methods)) ∷ Sent (first_message input)
-    ∷ Got (backend.Authentication (authentication.SASLContinue first)) ∷ Sent (final_message input first)
+    Got (backend.Authentication (authentication.SASL methods)) ∷ Sent (first_message (scram_login input))
+    ∷ Got (backend.Authentication (authentication.SASLContinue first)) ∷ Sent (final_message (scram_login input) first)
     ∷ Got (backend.Authentication (authentication.SASLFinal final)) ∷ []
 
 -- nothing of the server's is refused
 abbrev pub IsAccepted : Input → Login → Type 0
-IsAccepted input (Scram methods first final) = (methods_refusal input methods ≡ None) × (first_refusal input first ≡ None) × (final_refusal (expected_of input first) final ≡ None)
+IsAccepted input (Scram methods first final) = (methods_refusal input methods ≡ None) × (first_refusal (scram_login input) first ≡ None) × (final_refusal (expected_of (scram_login input) first) final ≡ None)
 IsAccepted input login = Unit {0}

@@ -6,6 +6,7 @@ use Rattle.pgw_backend.specs.declared.backend.PgWireBackendMessage.{PgWireBacken
 use Rattle.pgw_backend.specs.declared.backend.PgWireBackendMessage.TheVariants as backend
 use Rattle.pgw_backend.specs.declared.client_error.PgWireClientError.{PgWireClientError as ClientError}
 use Rattle.pgw_backend.specs.declared.client_error.PgWireClientError.TheVariants as client
+use Rattle.pgw_scram.specs.declared.exchange.ClientLogin.{ClientLogin}
 use Rattle.pgw_session.specs.declared.types.Request.{Request}
 use Rattle.pgw_session.specs.declared.stage.Kind.{Kind}
 use Rattle.pgw_session.specs.declared.stage.Stage.{Stage}
@@ -13,7 +14,7 @@ use Rattle.pgw_session.specs.declared.stage.Stage.TheVariants.{Starting, Challen
 use Rattle.pgw_session.specs.declared.stage.Next.{Next}
 use Rattle.pgw_session.specs.declared.stage.Next.TheVariants.{Goes, Closes, Wrong, Refuses, PassesOver}
 use Rattle.pgw_session.specs.Input.{Input}
-use Rattle.pgw_session.specs.Logins.{cleartext_message, md5_message, first_message, final_message, methods_refusal, first_refusal, expected_of, final_refusal}
+use Rattle.pgw_session.specs.Logins.{cleartext_message, md5_message, scram_login, first_message, final_message, methods_refusal, first_refusal, expected_of, final_refusal}
 use Rattle.pgw_session.specs.declared.stage.Role.{Role}
 use Rattle.pgw_session.specs.declared.stage.Role.TheVariants.{Taken, Closing, Completing, Failing, Misplaced}
 use Rattle.pgw_session.specs.Requests.{kind_of, sync, behind_error, passes_over, role}
@@ -38,14 +39,14 @@ unless (Some e) next = Refuses e
 abbrev pub by_login : Input → Backend → Next
 by_login input (backend.Authentication authentication.CleartextPassword) = Goes Admitted (Some (cleartext_message input))
 by_login input (backend.Authentication (authentication.MD5Password salt)) = Goes Admitted (Some (md5_message input salt))
-by_login input (backend.Authentication (authentication.SASL methods)) = unless (methods_refusal input methods) (Goes Challenged (Some (first_message input)))
+by_login input (backend.Authentication (authentication.SASL methods)) = unless (methods_refusal input methods) (Goes (Challenged (scram_login input)) (Some (first_message (scram_login input))))
 by_login input m = by_welcome m
 
 -- within a SCRAM login
-abbrev pub by_first : Input → Backend → Next
-by_first input (backend.Authentication (authentication.SASLContinue first)) = unless (first_refusal input first) (Goes (Proving (expected_of input first)) (Some (final_message input first)))
-by_first input (backend.ErrorResponse e) = Refuses (client.RemoteError e)
-by_first input m = Wrong
+abbrev pub by_first : ClientLogin → Backend → Next
+by_first login (backend.Authentication (authentication.SASLContinue first)) = unless (first_refusal login first) (Goes (Proving (expected_of login first)) (Some (final_message login first)))
+by_first login (backend.ErrorResponse e) = Refuses (client.RemoteError e)
+by_first login m = Wrong
 
 abbrev pub by_final : List ℕ → Backend → Next
 by_final expected (backend.Authentication (authentication.SASLFinal final)) = unless (final_refusal expected final) (Goes Admitted None)
@@ -71,7 +72,7 @@ by_ready false = Goes PassingOver None
 -- what a message does at a stage
 abbrev pub after : Input → Stage → Backend → Next
 after input Starting m = news_or (is_news m) Starting (by_login input m)
-after input Challenged m = by_first input m
+after input (Challenged login) m = by_first login m
 after input (Proving expected) m = by_final expected m
 after input Admitted m = news_or (is_news m) Admitted (by_welcome m)
 after input (Answering k rows) m = by_role k (role k rows m)

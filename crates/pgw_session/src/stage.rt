@@ -2,6 +2,7 @@
 
 use pgw_backend::client_error::PgWireClientError;
 use pgw_frontend::frontend::PgWireFrontendMessage;
+use pgw_scram::exchange::ClientLogin;
 use pgw_types::octets::Octets;
 use std::fmt;
 
@@ -37,8 +38,8 @@ pub enum Role {
 pub enum Stage {
     /// The startup segment, before a login block.
     Starting,
-    /// Within a SCRAM login: the server's first text is awaited,
-    Challenged,
+    /// Within a SCRAM login, of this user: the server's first text is awaited,
+    Challenged(ClientLogin),
     /// or its last, which should have this signature.
     Proving(Octets),
     /// The startup segment behind its login block.
@@ -49,12 +50,12 @@ pub enum Stage {
     PassingOver,
 }
 
-/// It does not show the signature that is awaited.
+/// It shows neither who logs in nor the signature that is awaited.
 impl fmt::Debug for Stage {
     fn fmt<W: fmt::Write>(&self, f: &mut fmt::Formatter<W>) -> fmt::Result {
         match self {
             Stage::Starting => f.write_str("Starting"),
-            Stage::Challenged => f.write_str("Challenged"),
+            Stage::Challenged(_login) => f.write_str("Challenged(_)"),
             Stage::Proving(_expected) => f.write_str("Proving(_)"),
             Stage::Admitted => f.write_str("Admitted"),
             Stage::Answering(kind, rows) => {

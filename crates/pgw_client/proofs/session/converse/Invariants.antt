@@ -1,14 +1,12 @@
 use Rattle.std.proofs.Common.{◌≡◌, ◌≤◌, ◌-◌, length}
 use Rattle.pgw_link.specs.Foresight.{Ends, Foreseen}
 use Rattle.pgw_client.specs.Input.{input_of}
-use Rattle.pgw_client.specs.Machine.{IsAble}
 use Rattle.pgw_client.specs.SessionSteps.{Reading}
 use Rattle.pgw_client.proofs.session.converse.Given as goal
 
 abbrev pub invariant-reads : goal.invariant-reads
 invariant-reads g l = record {
   read_in : l.read ≤ l.fn.limit;
-  able : IsAble (input_of l.fn.input) l.notes.stage;
   kept : g.L.Link.plan l.link ≡ g.L.Link.plan l.fn.link;
   later : g.L.Link.faults l.fn.link ≤ g.L.Link.faults l.link;
   clean : g.L.Link.faults l.link ≡ g.L.Link.faults l.fn.link;

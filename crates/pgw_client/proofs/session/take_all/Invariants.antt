@@ -1,13 +1,11 @@
 use Rattle.std.proofs.Common.{◌≡◌, ◌≤◌, [], length}
 use Rattle.std.specs.Io.KnownBytes.{Keeps}
 use Rattle.pgw_client.specs.Input.{input_of}
-use Rattle.pgw_client.specs.Machine.{IsAble}
 use Rattle.pgw_client.specs.SessionSteps.{Going, ReadsNothing}
 use Rattle.pgw_client.proofs.session.take_all.Given as goal
 
 abbrev pub invariant-messages : goal.invariant-messages
 invariant-messages g l = record {
-  able : IsAble (input_of l.fn.input) l.notes.stage;
   kept : g.L.Link.plan l.link ≡ g.L.Link.plan l.fn.link;
   later : g.L.Link.faults l.fn.link ≤ g.L.Link.faults l.link;
   clean : g.L.Link.faults l.link ≡ g.L.Link.faults l.fn.link;

@@ -8,9 +8,9 @@ pub returns : goal.returns
 returns c =
     let parts = c.args.parts.now in
     let first = c.args.server_first.now in
-    let begins : begins_with parts.nonce c.args.nonce.now ≡ true = search rules in
+    let begins : begins_with parts.nonce c.args.login.now.nonce ≡ true = search rules in
     let is_salt : salt_of parts.salt ≡ Some c.in-Some.salt.items = search rules in
-    replied_is c.args.user.now c.args.password.now c.args.nonce.now first c.in-Some.salt.items parts c.in_ok-reply.field-0
+    replied_is c.args.login.now first c.in-Some.salt.items parts c.in_ok-reply.field-0
     c.requires begins is_salt
-    (c.in_ok-reply.ensures.message ∙ rw (c.as_str-4.ensures.value, c.as_str-3.ensures.value, c.in_ok-bare.ensures, c.in_ok-salted.ensures, c.deref.ensures.value) refl)
-    (c.in_ok-reply.ensures.signature ∙ rw (c.as_str-4.ensures.value, c.as_str-3.ensures.value, c.in_ok-bare.ensures, c.in_ok-salted.ensures, c.deref.ensures.value) refl)
+    (c.in_ok-reply.ensures.message ∙ rw (c.as_str-5.ensures.value, c.in_ok-salted.ensures, c.as_str-4.ensures.value, c.deref.ensures.value) refl)
+    (c.in_ok-reply.ensures.signature ∙ rw (c.as_str-5.ensures.value, c.in_ok-salted.ensures, c.as_str-4.ensures.value, c.deref.ensures.value) refl)

@@ -4,4 +4,4 @@ use Rattle.pgw_scram.proofs.Base64Laws.{base64_utf8}
 use Rattle.pgw_scram.proofs.server.ScramServerAuthWaitingForClientFinal.accept.Goals as goal
 
 pub server_final-requires : goal.server_final-requires
-server_final-requires c = subst IsUtf8 (sym c.server_signature-signature.ensures) (base64_utf8 _)
+server_final-requires c = subst IsUtf8 (sym c.signature_by-signature.ensures) (base64_utf8 _)
