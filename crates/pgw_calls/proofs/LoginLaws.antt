@@ -277,7 +277,7 @@ ends_on P ends config h out bytes sent info rest (Err e) true is l =
     (subst (λ (r : Course Session Ending). Led P e r (out ++ sent)) (sym (begins input out bytes is)) (l (Sent (startup_message input) ∷ []) out (first_alike input (begun h) (first_client config) refl)))
 
 begins_at : (config : Config) (h : Handler) → IsAt (login config h.nonce) (begun h) (first_client config)
-begins_at config h = record { input_is = refl; login = tt; able = refl }
+begins_at config h = record { input_is = refl; login = tt }
 
 opened_to : (P : Reasons) (ends : (x : ClientError) → P.halts x → IsLinkEnd x) (config : Config) (h : Handler) (bytes sent : List ℕ) (last : End ServerInformation) (after : Standing Handler) → Begins (standing h (fresh (first_client config))) after (Ok Pending) →
     Talk (HeardAtStartup exchanges StartupMeans) P never after.handler after.sight.client bytes sent last → LoginCall config h.nonce bytes (after.sight.wrote ++ sent) P last

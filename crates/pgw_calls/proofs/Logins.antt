@@ -1,7 +1,6 @@
 -- What the default handler of a login does with a message, by the table.
 use Rattle.std.proofs.Common.{◌≡◌, ◌⊎◌, ℕ, Bool, true, false, not, List, [], Option, Some, None, Ok, Err, inl, inr, refl, sym, ◌∙◌, ap, subst}
 use Rattle.std.specs.FinMap as finite
-use Rattle.std.specs.Str.{is_utf8}
 use Rattle.pgw_types.specs.declared.context.ProtocolVersion.{ProtocolVersion}
 use Rattle.pgw_types.specs.declared.error.PgWireError.{PgWireError}
 use Rattle.pgw_startup.specs.Negotiate.{negotiated_version}
@@ -20,7 +19,7 @@ use Rattle.pgw_query.specs.declared.response.ErrorResponse.{ErrorResponse}
 use Rattle.pgw_query.specs.declared.response.ReadyForQuery.{ReadyForQuery}
 use Rattle.pgw_frontend.specs.declared.frontend.PgWireFrontendMessage.{PgWireFrontendMessage as Frontend}
 use Rattle.pgw_frontend.specs.Frontend.{encoding, encodings, both}
-use Rattle.pgw_scram.specs.Answers.{unless_so, first_of}
+use Rattle.pgw_scram.specs.declared.exchange.ClientLogin.{ClientLogin}
 use Rattle.pgw_session.specs.declared.tally.Tally.{Tally}
 use Rattle.pgw_session.specs.declared.standing.Standing.{Standing as Told}
 use Rattle.pgw_session.specs.declared.stage.Stage.{Stage}
@@ -29,7 +28,7 @@ use Rattle.pgw_session.specs.declared.stage.Next.{Next}
 use Rattle.pgw_session.specs.declared.stage.Next.TheVariants.{Goes, Closes, Wrong, PassesOver}
 use Rattle.pgw_session.specs.declared.stage.Next.TheVariants as next
 use Rattle.pgw_session.specs.Input.{Input}
-use Rattle.pgw_session.specs.Logins.{password_of, methods_refusal, first_refusal, final_refusal, expected_of, first_message, final_message}
+use Rattle.pgw_session.specs.Logins.{scram_login, methods_refusal, first_refusal, final_refusal, expected_of, first_message, final_message}
 use Rattle.pgw_session.specs.Segments.{is_news, is_known, sends}
 use Rattle.pgw_session.specs.Standings.{standing_by}
 use Rattle.pgw_session.specs.Answers.{tally_after, noted_unless}
@@ -42,7 +41,7 @@ use Rattle.pgw_handlers.specs.Sending.{NotSent, after_sending}
 use Rattle.pgw_handlers.specs.Handling.{Standing, standing, Answer, IsCaused}
 use Rattle.pgw_handlers.specs.Startup.{may_come, Hears, HearsIf, HeardAtStartup, SettlesBy}
 use Rattle.pgw_default_handlers.specs.declared.startup.DefaultStartupHandler.{DefaultStartupHandler}
-use Rattle.pgw_default_handlers.specs.Startup.{login_input, with_stage, with_key, is_exchange, exchanges, is_able, next_if, login_next, Follows, information, StartupMeans}
+use Rattle.pgw_default_handlers.specs.Startup.{login_input, with_stage, with_key, is_exchange, exchanges, Follows, information, StartupMeans}
 use Rattle.pgw_connection.specs.Talk.{fresh}
 use Rattle.pgw_calls.proofs.Openings.{one_encoding, never_rose}
 use Rattle.pgw_calls.specs.Turns.{knowing}
@@ -75,7 +74,7 @@ IsLogin s = Unit {0}
 news_taken : (input : Input) (s : Stage) (m : Backend) → IsLogin s → is_exchange s ≡ false → is_news m ≡ true → table input s m ≡ Goes s None
 news_taken input Starting m l out is = rw is refl
 news_taken input Admitted m l out is = rw is refl
-news_taken input Challenged m l out is = absurd (cc)
+news_taken input (Challenged login) m l out is = absurd (cc)
 news_taken input (Proving expected) m l out is = absurd (cc)
 news_taken input (Answering k rows) m l out is = absurd l
 news_taken input PassingOver m l out is = absurd l
@@ -83,7 +82,7 @@ news_taken input PassingOver m l out is = absurd l
 ready_closes : (input : Input) (s : Stage) (ready : ReadyForQuery) → IsLogin s → is_exchange s ≡ false → table input s (backend.ReadyForQuery ready) ≡ Closes
 ready_closes input Starting ready l out = refl
 ready_closes input Admitted ready l out = refl
-ready_closes input Challenged ready l out = absurd (cc)
+ready_closes input (Challenged login) ready l out = absurd (cc)
 ready_closes input (Proving expected) ready l out = absurd (cc)
 ready_closes input (Answering k rows) ready l out = absurd l
 ready_closes input PassingOver ready l out = absurd l
@@ -91,16 +90,16 @@ ready_closes input PassingOver ready l out = absurd l
 error_refused : (input : Input) (s : Stage) (e : ErrorResponse) → IsLogin s → table input s (backend.ErrorResponse e) ≡ next.Refuses (client.RemoteError e)
 error_refused input Starting e l = refl
 error_refused input Admitted e l = refl
-error_refused input Challenged e l = refl
+error_refused input (Challenged login) e l = refl
 error_refused input (Proving expected) e l = refl
 error_refused input (Answering k rows) e l = absurd l
 error_refused input PassingOver e l = absurd l
 
 -- within an exchange
-by_first_wrong : (input : Input) (m : Backend) → may_come true m ≡ false → by_first input m ≡ Wrong
-by_first_wrong input (backend.Authentication a) is = absurd (cc)
-by_first_wrong input (backend.ErrorResponse e) is = absurd (cc)
-by_first_wrong input m is = refl
+by_first_wrong : (login : ClientLogin) (m : Backend) → may_come true m ≡ false → by_first login m ≡ Wrong
+by_first_wrong login (backend.Authentication a) is = absurd (cc)
+by_first_wrong login (backend.ErrorResponse e) is = absurd (cc)
+by_first_wrong login m is = refl
 
 by_final_wrong : (expected : List ℕ) (m : Backend) → may_come true m ≡ false → by_final expected m ≡ Wrong
 by_final_wrong expected (backend.Authentication a) is = absurd (cc)
@@ -108,60 +107,52 @@ by_final_wrong expected (backend.ErrorResponse e) is = absurd (cc)
 by_final_wrong expected m is = refl
 
 exchange_wrong : (input : Input) (s : Stage) (m : Backend) → is_exchange s ≡ true → may_come true m ≡ false → table input s m ≡ Wrong
-exchange_wrong input Challenged m within is = by_first_wrong input m is
+exchange_wrong input (Challenged login) m within is = by_first_wrong login m is
 exchange_wrong input (Proving expected) m within is = by_final_wrong expected m is
 exchange_wrong input s m within is = absurd (cc)
 
 outside_wrong : (input : Input) (s : Stage) (m : Backend) → IsLogin s → is_exchange s ≡ false → is_news m ≡ false → by_login input m ≡ Wrong → by_welcome m ≡ Wrong → table input s m ≡ Wrong
 outside_wrong input Starting m l out news first welcome = rw news first
 outside_wrong input Admitted m l out news first welcome = rw news welcome
-outside_wrong input Challenged m l out news first welcome = absurd (cc)
+outside_wrong input (Challenged login) m l out news first welcome = absurd (cc)
 outside_wrong input (Proving expected) m l out news first welcome = absurd (cc)
 outside_wrong input (Answering k rows) m l out news first welcome = absurd l
 outside_wrong input PassingOver m l out news first welcome = absurd l
 
 -- where an authentication request leads: to a stage of a login, or it is refused
-abbrev Lands : Input → Next → Type 0
-Lands input (Goes stage reply) = IsLogin stage × (is_able input stage ≡ true)
-Lands input Closes = ⊥
-Lands input PassesOver = ⊥
-Lands input n = Unit {0}
+abbrev Lands : Next → Type 0
+Lands (Goes stage reply) = IsLogin stage
+Lands Closes = ⊥
+Lands PassesOver = ⊥
+Lands n = Unit {0}
 
-utf8_of : (first second : Bool) (x y : ClientError) (o : Option ClientError) → first_of (unless_so first x) (first_of (unless_so second y) o) ≡ None → second ≡ true
-utf8_of true true x y o none = refl
-utf8_of true false x y o none = absurd (cc)
-utf8_of false second x y o none = absurd (cc)
+unless_lands : (o : Option ClientError) (n : Next) → Lands n → Lands (unless o n)
+unless_lands None n l = l
+unless_lands (Some e) n l = tt
 
-unless_lands : (input : Input) (o : Option ClientError) (n : Next) → (o ≡ None → Lands input n) → Lands input (unless o n)
-unless_lands input None n f = f refl
-unless_lands input (Some e) n f = tt
-
-able_challenged : (input : Input) (methods : List (List ℕ)) → methods_refusal input methods ≡ None → is_utf8 (password_of input) ≡ true
-able_challenged input methods none = utf8_of _ (is_utf8 (password_of input)) _ _ _ none
-
-starting_lands : (input : Input) (a : Authentication) → Lands input (table input Starting (backend.Authentication a))
-starting_lands input authentication.Ok = (tt, refl)
-starting_lands input authentication.CleartextPassword = (tt, refl)
-starting_lands input (authentication.MD5Password salt) = (tt, refl)
-starting_lands input (authentication.SASL methods) = unless_lands input (methods_refusal input methods) (Goes Challenged (Some (first_message input))) (λ none. (tt, able_challenged input methods none))
+starting_lands : (input : Input) (a : Authentication) → Lands (table input Starting (backend.Authentication a))
+starting_lands input authentication.Ok = tt
+starting_lands input authentication.CleartextPassword = tt
+starting_lands input (authentication.MD5Password salt) = tt
+starting_lands input (authentication.SASL methods) = unless_lands (methods_refusal input methods) (Goes (Challenged (scram_login input)) (Some (first_message (scram_login input)))) tt
 starting_lands input a = tt
 
-first_lands : (input : Input) (a : Authentication) → Lands input (by_first input (backend.Authentication a))
-first_lands input (authentication.SASLContinue first) = unless_lands input (first_refusal input first) (Goes (Proving (expected_of input first)) (Some (final_message input first))) (λ none. (tt, refl))
-first_lands input a = tt
+first_lands : (login : ClientLogin) (a : Authentication) → Lands (by_first login (backend.Authentication a))
+first_lands login (authentication.SASLContinue first) = unless_lands (first_refusal login first) (Goes (Proving (expected_of login first)) (Some (final_message login first))) tt
+first_lands login a = tt
 
-final_lands : (input : Input) (expected : List ℕ) (a : Authentication) → Lands input (by_final expected (backend.Authentication a))
-final_lands input expected (authentication.SASLFinal final) = unless_lands input (final_refusal expected final) (Goes Admitted None) (λ none. (tt, refl))
-final_lands input expected a = tt
+final_lands : (expected : List ℕ) (a : Authentication) → Lands (by_final expected (backend.Authentication a))
+final_lands expected (authentication.SASLFinal final) = unless_lands (final_refusal expected final) (Goes Admitted None) tt
+final_lands expected a = tt
 
-admitted_lands : (input : Input) (a : Authentication) → Lands input (table input Admitted (backend.Authentication a))
-admitted_lands input authentication.Ok = (tt, refl)
+admitted_lands : (input : Input) (a : Authentication) → Lands (table input Admitted (backend.Authentication a))
+admitted_lands input authentication.Ok = tt
 admitted_lands input a = tt
 
-lands : (input : Input) (s : Stage) (a : Authentication) → IsLogin s → Lands input (table input s (backend.Authentication a))
+lands : (input : Input) (s : Stage) (a : Authentication) → IsLogin s → Lands (table input s (backend.Authentication a))
 lands input Starting a l = starting_lands input a
-lands input Challenged a l = first_lands input a
-lands input (Proving expected) a l = final_lands input expected a
+lands input (Challenged login) a l = first_lands login a
+lands input (Proving expected) a l = final_lands expected a
 lands input Admitted a l = admitted_lands input a
 lands input (Answering k rows) a l = absurd l
 lands input PassingOver a l = absurd l
@@ -172,7 +163,6 @@ lands input PassingOver a l = absurd l
 pub record IsAt (input : Input) (h : Handler) (c : Client) : Type 0 where
   pub input_is : login_input h c.config ≡ input
   pub login : IsLogin h.stage
-  pub able : is_able input h.stage ≡ true
 
 pub record Welcomed (input : Input) (h : Handler) (c : Client) (m : Backend) (after : Standing Handler) : Type 0 where
   pub reply : Option Frontend
@@ -224,13 +214,13 @@ module _ (input : Input) (h : Handler) (c : Client) (at : IsAt input h c) where
   welcomed_by : (m : Backend) (g : Handler) (s : Sight) (after : Standing Handler) → after.handler ≡ g → after.sight ≡ s → Welcomed input h c m (standing g s) → Welcomed input h c m after
   welcomed_by m g s after handler sight w = subst (λ (x : Handler). Welcomed input h c m (standing x after.sight)) (sym handler) (subst (λ (x : Sight). Welcomed input h c m (standing g x)) (sym sight) w)
 
-  goes_welcomed : (a : Authentication) (stage : Stage) (reply : Option Frontend) (after : Standing Handler) → table input h.stage (backend.Authentication a) ≡ Goes stage reply → Lands input (Goes stage reply) →
+  goes_welcomed : (a : Authentication) (stage : Stage) (reply : Option Frontend) (after : Standing Handler) → table input h.stage (backend.Authentication a) ≡ Goes stage reply → Lands (Goes stage reply) →
       Follows (Goes stage reply) (backend.Authentication a) (standing h (fresh c)) after (Ok Pending) → Welcomed input h c (backend.Authentication a) after
   goes_welcomed a stage None after is land follows = welcomed_by (backend.Authentication a) (with_stage stage h) (fresh c) after follows.0 follows.1 (record {
     reply = None;
     goes = is;
     encodes = refl;
-    at = record { input_is = at.input_is; login = land.0; able = land.1 };
+    at = record { input_is = at.input_is; login = land };
     stands = refl;
     plain = λ t. authentication_plain t t.remote a;
   })
@@ -240,15 +230,15 @@ module _ (input : Input) (h : Handler) (c : Client) (at : IsAt input h c) where
         reply = Some f;
         goes = is;
         encodes = one_encoding f s.bytes s.spells;
-        at = record { input_is = at.input_is; login = land.0; able = land.1 };
+        at = record { input_is = at.input_is; login = land };
         stands = refl;
         plain = λ t. authentication_plain t t.remote a;
       })
 
-  next_is : (m : Backend) → login_next (login_input h c.config) h.stage m ≡ table input h.stage m
-  next_is m = ap (λ (i : Input). login_next i h.stage m) at.input_is ∙ ap (λ (b : Bool). next_if b input h.stage m) at.able
+  next_is : (m : Backend) → table (login_input h c.config) h.stage m ≡ table input h.stage m
+  next_is m = ap (λ (i : Input). table i h.stage m) at.input_is
 
-  follows_welcomed : (a : Authentication) (n : Next) (after : Standing Handler) → table input h.stage (backend.Authentication a) ≡ n → Lands input n →
+  follows_welcomed : (a : Authentication) (n : Next) (after : Standing Handler) → table input h.stage (backend.Authentication a) ≡ n → Lands n →
       Follows n (backend.Authentication a) (standing h (fresh c)) after (Ok Pending) → Welcomed input h c (backend.Authentication a) after
   follows_welcomed a (Goes stage reply) after is land follows = goes_welcomed a stage reply after is land follows
   follows_welcomed a Closes after is land follows = absurd land
@@ -269,7 +259,7 @@ module _ (input : Input) (h : Handler) (c : Client) (at : IsAt input h c) where
         reply = None;
         goes = news_taken input h.stage m at.login out news ∙ ap (λ (x : Stage). Goes x None) (sym stage);
         encodes = ap Ok (sym wrote);
-        at = record { input_is = same ∙ at.input_is; login = subst IsLogin (sym stage) at.login; able = ap (is_able input) stage ∙ at.able };
+        at = record { input_is = same ∙ at.input_is; login = subst IsLogin (sym stage) at.login };
         stands = stands;
         plain = plain;
       })
@@ -375,7 +365,7 @@ module _ (input : Input) (h : Handler) (c : Client) (at : IsAt input h c) where
   not_sent a stage f after (client.PgWireError why) is n caused = inr (inr (inr (stage, Some f, why, is, ap (λ o. both o (Ok [])) n.1, refl)))
   not_sent a stage f after e is n caused = absurd n
 
-  follows_fails : (a : Authentication) (n : Next) (after : Standing Handler) (e : ClientError) → table input h.stage (backend.Authentication a) ≡ n → Lands input n → Follows n (backend.Authentication a) (standing h (fresh c)) after (Err e) → IsCaused e 0 0 after.sight.broken →
+  follows_fails : (a : Authentication) (n : Next) (after : Standing Handler) (e : ClientError) → table input h.stage (backend.Authentication a) ≡ n → Lands n → Follows n (backend.Authentication a) (standing h (fresh c)) after (Err e) → IsCaused e 0 0 after.sight.broken →
       FailsBy input h.stage (backend.Authentication a) e
   follows_fails a (Goes stage None) after e is land follows caused = absurd (follows.1)
   follows_fails a (Goes stage (Some f)) after e is land follows caused = not_sent a stage f after e is follows.1 caused
