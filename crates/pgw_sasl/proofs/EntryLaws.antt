@@ -17,7 +17,7 @@ use Rattle.pgw_startup.specs.declared.password.PasswordMessageFamily.{PasswordMe
 use Rattle.pgw_startup.specs.declared.password.PasswordMessageFamily.TheVariants as family
 use Rattle.pgw_startup.specs.declared.sasl.SASLInitialResponse.{SASLInitialResponse}
 use Rattle.pgw_startup.specs.declared.sasl.SASLResponse.{SASLResponse}
-use Rattle.pgw_scram.specs.Server.{offered, accepted}
+use Rattle.pgw_scram.specs.Server.{accepted}
 use Rattle.pgw_scram.specs.declared.password.Password.{Password as Kept}
 use Rattle.pgw_scram.specs.declared.server.ScramServerAuthWaitingForClientFinal.{ScramServerAuthWaitingForClientFinal as WaitingForClientFinal}
 use Rattle.pgw_backend.specs.declared.backend.PgWireBackendMessage.{PgWireBackendMessage as Backend}
@@ -47,10 +47,10 @@ use Rattle.pgw_server.proofs.PasswordEntry.{heard_password, heard_startup, quiet
 use Rattle.pgw_sasl.specs.Methods.{method_of}
 use Rattle.pgw_sasl.specs.Oauth.{token_of, judged, Judged, finished, ByToken, ByData}
 use Rattle.pgw_sasl.specs.Replies.{Reply}
-use Rattle.pgw_sasl.specs.Scram.{first_reply, FirstWith, FirstOn, FirstReplies, final_reply, and_some, ByScram}
+use Rattle.pgw_sasl.specs.Scram.{offered_under, first_reply, FirstWith, FirstOn, FirstReplies, final_reply, and_some, ByScram}
 use Rattle.pgw_sasl.specs.Sasl.{sasl_request, Offers, ByOauth, By, ByTurn, Replied, RespondsBy, SaslOn, SaslMeans}
 use Rattle.pgw_sasl.specs.Turns.{stage_of, named_by, named, further, turned, begun, entered}
-use Rattle.pgw_sasl.specs.Entry.{IsInitial, IsFurther, IsOffered, ProvesToken, ProvesByScram, ProvesByToken, ProvesSasl}
+use Rattle.pgw_sasl.specs.Entry.{IsInitial, HasName, IsFurther, IsOffered, ProvesToken, ProvesByScram, ProvesByToken, ProvesSasl}
 use Rattle.pgw_sasl.specs.declared.methods.Method.{Method}
 use Rattle.pgw_sasl.specs.declared.methods.Method.TheVariants.{Scram, OauthBearer}
 use Rattle.pgw_sasl.specs.declared.oauth.Oauth.{Oauth}
@@ -75,9 +75,10 @@ module _ {S X : Type 0} {D : X → Type 0} (A : S → Login → Result Kept PgWi
 
   data Meant (login : Login) (nonce : List ℕ) (sasl : SASLState) (message : Message) : Reply → Type 0 where
     refuses : (e : PgWireError) → Meant login nonce sasl message (Err e)
-    offers : (auth_of : ScramAuth S) → (first : List ℕ) → (kept : Kept) → (offer : List ℕ)
+    offers : (auth_of : ScramAuth S) → (name first : List ℕ) → (kept : Kept) → (offer : List ℕ)
         → (waiting : WaitingForClientFinal) → scram ≡ Some auth_of → IsInitial message Scram first
-        → A auth_of.auth_db login (Ok kept) → offered auth_of.authenticator first kept nonce ≡ Ok (offer, waiting)
+        → HasName message name → A auth_of.auth_db login (Ok kept)
+        → offered_under name auth_of.authenticator first kept nonce ≡ Ok (offer, waiting)
         → Meant login nonce sasl message (Ok (Some (auth.SASLContinue offer), state.ScramServerFirstSent waiting))
     accepts : (waiting : WaitingForClientFinal) → (final : List ℕ) → (verifier : List ℕ)
         → sasl ≡ state.ScramServerFirstSent waiting → IsFurther message final → accepted waiting final ≡ Ok verifier
@@ -96,45 +97,50 @@ module _ {S X : Type 0} {D : X → Type 0} (A : S → Login → Result Kept PgWi
 
     -- ---- SCRAM
 
-    first_offered : (sc : ScramAuth S) (first : List ℕ) (kept : Kept)
+    first_offered : (sc : ScramAuth S) (name first : List ℕ) (kept : Kept)
         (o : Result (List ℕ × WaitingForClientFinal) PgWireError) (reply : Reply) → scram ≡ Some sc
-        → IsInitial message Scram first → A sc.auth_db login (Ok kept) → offered sc.authenticator first kept nonce ≡ o
-        → reply ≡ and_some (first_reply o) → Means reply
-    first_offered sc first kept (Err e) reply set is a has h = refused e reply h
-    first_offered sc first kept (Ok (offer, waiting)) reply set is a has h = subst (Meant login nonce sasl message)
-        (sym h) (offers sc first kept offer waiting set is a has)
+        → IsInitial message Scram first → HasName message name → A sc.auth_db login (Ok kept)
+        → offered_under name sc.authenticator first kept nonce ≡ o → reply ≡ and_some (first_reply o) → Means reply
+    first_offered sc name first kept (Err e) reply set is under a has h = refused e reply h
+    first_offered sc name first kept (Ok (offer, waiting)) reply set is under a has h =
+        subst (Meant login nonce sasl message)
+        (sym h) (offers sc name first kept offer waiting set is under a has)
 
-    first_with : (sc : ScramAuth S) (first : List ℕ) (given : Result Kept PgWireError)
+    first_with : (sc : ScramAuth S) (name first : List ℕ) (given : Result Kept PgWireError)
         (replied : Result (Authentication × SASLState) PgWireError) (reply : Reply) → scram ≡ Some sc
-        → IsInitial message Scram first → A sc.auth_db login given
-        → FirstWith given sc.authenticator first nonce replied → reply ≡ and_some replied → Means reply
-    first_with sc first (Err e) replied reply set is a h same = refused e reply (same ∙ ap and_some h)
-    first_with sc first (Ok kept) replied reply set is a h same = first_offered sc first kept
-        (offered sc.authenticator first kept nonce) reply set is a refl (same ∙ ap and_some h)
+        → IsInitial message Scram first → HasName message name → A sc.auth_db login given
+        → FirstWith given sc.authenticator name first nonce replied → reply ≡ and_some replied → Means reply
+    first_with sc name first (Err e) replied reply set is under a h same = refused e reply (same ∙ ap and_some h)
+    first_with sc name first (Ok kept) replied reply set is under a h same = first_offered sc name first kept
+        (offered_under name sc.authenticator first kept nonce) reply set is under a refl (same ∙ ap and_some h)
 
-    first_on : (sc : ScramAuth S) (payload : Option (List ℕ))
+    first_on : (sc : ScramAuth S) (name : List ℕ) (payload : Option (List ℕ))
         (replied : Result (Authentication × SASLState) PgWireError) (reply : Reply) → scram ≡ Some sc
-        → ((first : List ℕ) → payload ≡ Some first → IsInitial message Scram first)
-        → FirstOn (A sc.auth_db) sc.authenticator login payload nonce replied → reply ≡ and_some replied → Means reply
-    first_on sc None replied reply set is h same = refused _ reply (same ∙ ap and_some h)
-    first_on sc (Some first) replied reply set is h same = first_with sc first h.0 replied reply set (is first refl)
-        h.1 h.2 same
+        → ((first : List ℕ) → payload ≡ Some first → IsInitial message Scram first) → HasName message name
+        → FirstOn (A sc.auth_db) sc.authenticator login name payload nonce replied → reply ≡ and_some replied
+        → Means reply
+    first_on sc name None replied reply set is under h same = refused _ reply (same ∙ ap and_some h)
+    first_on sc name (Some first) replied reply set is under h same = first_with sc name first h.0 replied reply set
+        (is first refl) under h.1 h.2 same
 
     first_replies : (sc : ScramAuth S) (read : SASLInitialResponse)
         (replied : Result (Authentication × SASLState) PgWireError) (reply : Reply) → scram ≡ Some sc
         → ((first : List ℕ) → read.payload ≡ Some first → IsInitial message Scram first)
+        → HasName message read.auth_method
         → FirstReplies (A sc.auth_db) sc.authenticator login (family.SASLInitialResponse read) nonce replied
         → reply ≡ and_some replied → Means reply
-    first_replies sc read replied reply set is (inl h) same = refused _ reply (same ∙ ap and_some h)
-    first_replies sc read replied reply set is (inr h) same = first_on sc read.payload replied reply set is h same
+    first_replies sc read replied reply set is under (inl h) same = refused _ reply (same ∙ ap and_some h)
+    first_replies sc read replied reply set is under (inr h) same = first_on sc read.auth_method read.payload replied
+        reply set is under h same
 
     scram_first : (is_set : Option (ScramAuth S)) (read : SASLInitialResponse) (reply : Reply) → scram ≡ is_set
         → ((first : List ℕ) → read.payload ≡ Some first → IsInitial message Scram first)
+        → HasName message read.auth_method
         → ByScram A is_set login (family.SASLInitialResponse read) nonce state.ScramClientFirstReceived reply
         → Means reply
-    scram_first None read reply set is (inl h) = refused _ reply h
-    scram_first None read reply set is (inr h) = refused _ reply h
-    scram_first (Some sc) read reply set is h = first_replies sc read h.0 reply set is h.1 h.2
+    scram_first None read reply set is under (inl h) = refused _ reply h
+    scram_first None read reply set is under (inr h) = refused _ reply h
+    scram_first (Some sc) read reply set is under h = first_replies sc read h.0 reply set is under h.1 h.2
 
     -- a further message is no first one
     scram_again : (is_set : Option (ScramAuth S)) (read : SASLResponse) (reply : Reply)
@@ -255,7 +261,7 @@ module _ {S X : Type 0} {D : X → Type 0} (A : S → Login → Result Kept PgWi
       reads,
       named,
       has,
-    )) h
+    )) (p, read, is, reads, refl) h
     by_first p read OauthBearer reply is reads named h = oauth_first oauth read reply refl (λ payload has. (
       p,
       read,
@@ -368,6 +374,7 @@ module _ {S X : Type 0} {D : X → Type 0} (A : S → Login → Result Kept PgWi
   offered_on None nonce ts more who waiting o = absurd o
   offered_on (Some sc) nonce ts more who waiting o = record {
     asked = o.asked;
+    name = o.name;
     client_first = o.client_first;
     kept =
         o.kept;
@@ -375,6 +382,7 @@ module _ {S X : Type 0} {D : X → Type 0} (A : S → Login → Result Kept PgWi
     came = Contains-append_left ts (more ∷ []) o.asked o.came;
     first =
         o.first;
+    under = o.under;
     answered = o.answered;
     offers = o.offers;
     told = o.told;
@@ -439,24 +447,26 @@ module _ {S X : Type 0} {D : X → Type 0} (A : S → Login → Result Kept PgWi
       })
 
   offers_now : (is_set : Option (ScramAuth S)) (sc : ScramAuth S) (nonce : List ℕ) (ts : List Taken) (t : Taken)
-      (login : Login) (first : List ℕ) (kept : Kept) (offer : List ℕ) (waiting : WaitingForClientFinal)
-      → is_set ≡ Some sc → IsInitial t.message Scram first → A sc.auth_db login (Ok kept)
-      → offered sc.authenticator first kept nonce ≡ Ok (offer, waiting)
+      (login : Login) (name first : List ℕ) (kept : Kept) (offer : List ℕ) (waiting : WaitingForClientFinal)
+      → is_set ≡ Some sc → IsInitial t.message Scram first → HasName t.message name → A sc.auth_db login (Ok kept)
+      → offered_under name sc.authenticator first kept nonce ≡ Ok (offer, waiting)
       → t.said ≡ backend.Authentication (auth.SASLContinue offer) ∷ []
       → IsOfferedBy is_set nonce (ts ++ t ∷ []) login waiting
   unfolding IsOfferedBy
-  offers_now None sc nonce ts t login first kept offer waiting set is a has said = absurd cc
-  offers_now (Some other) sc nonce ts t login first kept offer waiting set is a has said =
+  offers_now None sc nonce ts t login name first kept offer waiting set is under a has said = absurd cc
+  offers_now (Some other) sc nonce ts t login name first kept offer waiting set is under a has said =
       let same : sc ≡ other = cc in
       subst (λ (x : ScramAuth S). IsOffered (A x.auth_db) x.authenticator nonce (ts ++ t ∷ []) login waiting) same
       (record {
         asked = t;
+        name = name;
         client_first = first;
         kept = kept;
         server_first = offer;
         came = Contains-push ts t;
         first =
             is;
+        under = under;
         answered = a;
         offers = has;
         told = said;
@@ -574,7 +584,7 @@ module _ {S X : Type 0} {D : X → Type 0} (A : S → Login → Result Kept PgWi
         → RespondsBy P R reply before after sent answer → GoesOn ts t after sent answer
     responds ts t before after sent answer reply k on said (refuses e) h = record
         { says = λ says. quiet_says sent (nothing_said sent h.1) says; keeps = λ ok. absurd (not_both answer e h.2 ok) }
-    responds ts t before after sent answer reply k on said (offers sc first kept offer waiting set is a has) h =
+    responds ts t before after sent answer reply k on said (offers sc name first kept offer waiting set is under a has) h =
         goes_on ts t before after (backend.Authentication (auth.SASLContinue offer) ∷ []) sent
         (state.ScramServerFirstSent waiting) answer k on refl h
         (λ all own at who. record {
@@ -585,11 +595,12 @@ module _ {S X : Type 0} {D : X → Type 0} (A : S → Login → Result Kept PgWi
           offered = λ other is_other. let one : state.ScramServerFirstSent waiting ≡ state.ScramServerFirstSent other =
               sym at ∙ is_other in
               let same : waiting ≡ other = cc in
-              let by_own : offered sc.authenticator first kept begin.login.nonce ≡ Ok (offer, waiting) = subst
-              (λ (n : List ℕ). offered sc.authenticator first kept n ≡ Ok (offer, waiting)) k.keeps.own has in
+              let by_own : offered_under name sc.authenticator first kept begin.login.nonce ≡ Ok (offer, waiting) = subst
+              (λ (n : List ℕ). offered_under name sc.authenticator first kept n ≡ Ok (offer, waiting)) k.keeps.own has
+              in
               let mine : IsOfferedBy scram begin.login.nonce (ts ++ t ∷ []) (login_seen before.client) waiting =
-              offers_now scram sc begin.login.nonce ts t (login_seen before.client) first kept offer waiting set is
-              a by_own (said ∙ all) in
+              offers_now scram sc begin.login.nonce ts t (login_seen before.client) name first kept offer waiting set
+              is under a by_own (said ∙ all) in
               subst (IsOfferedBy scram begin.login.nonce (ts ++ t ∷ []) (login_seen after.client)) same
               (subst (λ (l : Login). IsOfferedBy scram begin.login.nonce (ts ++ t ∷ []) l waiting) (sym who) mine);
         })

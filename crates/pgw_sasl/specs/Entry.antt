@@ -8,7 +8,7 @@ use Rattle.pgw_startup.specs.declared.authentication.Authentication.TheVariants 
 use Rattle.pgw_startup.specs.declared.password.PasswordMessageFamily.{PasswordMessageFamily}
 use Rattle.pgw_startup.specs.declared.sasl.SASLInitialResponse.{SASLInitialResponse}
 use Rattle.pgw_startup.specs.declared.sasl.SASLResponse.{SASLResponse}
-use Rattle.pgw_scram.specs.Server.{offered, accepted}
+use Rattle.pgw_scram.specs.Server.{accepted}
 use Rattle.pgw_scram.specs.declared.password.Password.{Password as Kept}
 use Rattle.pgw_scram.specs.declared.server.ScramServerAuth.{ScramServerAuth}
 use Rattle.pgw_scram.specs.declared.server.ScramServerAuthWaitingForClientFinal.{ScramServerAuthWaitingForClientFinal as WaitingForClientFinal}
@@ -21,6 +21,7 @@ use Rattle.pgw_server.specs.Taken.{Taken}
 use Rattle.pgw_server.specs.Entry.{IsNamed, Proving, Source}
 use Rattle.pgw_sasl.specs.Methods.{method_of}
 use Rattle.pgw_sasl.specs.Oauth.{token_of}
+use Rattle.pgw_sasl.specs.Scram.{offered_under}
 use Rattle.pgw_sasl.specs.declared.methods.Method.{Method}
 use Rattle.pgw_sasl.specs.declared.methods.Method.TheVariants.{Scram, OauthBearer}
 use Rattle.pgw_sasl.specs.declared.oauth.Oauth.{Oauth}
@@ -38,20 +39,28 @@ IsFurther message payload = (m : PasswordMessageFamily) × (read : SASLResponse)
     × (message ≡ frontend.PasswordMessageFamily m) × (as_response m ≡ Ok read)
     × (read.payload ≡ payload)
 
+-- the message names a method by this name
+abbrev pub HasName : Message → List ℕ → Type 0
+HasName message name = (m : PasswordMessageFamily) × (read : SASLInitialResponse)
+    × (message ≡ frontend.PasswordMessageFamily m) × (as_initial_response m ≡ Ok read)
+    × (read.auth_method ≡ name)
+
 -- ---- SCRAM
 
--- Client-first came, the source answered for this login, and by both, with this nonce, server-first
--- was offered. The server that offered it waits for client-final.
+-- Client-first came under a method's name, the source answered for this login, and by these, with this
+-- nonce, server-first was offered. The server that offered it waits for client-final.
 pub record IsOffered (A : Source) (server : ScramServerAuth) (nonce : List ℕ) (earlier : List Taken)
     (login : Login) (waiting : WaitingForClientFinal) : Type 0 where
   pub asked : Taken
+  pub name : List ℕ
   pub client_first : List ℕ
   pub kept : Kept
   pub server_first : List ℕ
   pub came : Contains earlier asked
   pub first : IsInitial asked.message Scram client_first
+  pub under : HasName asked.message name
   pub answered : A login (Ok kept)
-  pub offers : offered server client_first kept nonce ≡ Ok (server_first, waiting)
+  pub offers : offered_under name server client_first kept nonce ≡ Ok (server_first, waiting)
   pub told : asked.said ≡ backend.Authentication (auth.SASLContinue server_first) ∷ []
 
 -- it is client-final, which the server that waits accepts, of an exchange with the login's own

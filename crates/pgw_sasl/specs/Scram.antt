@@ -1,15 +1,20 @@
 -- A login by SCRAM, message by message (RFC 5802, section 5; SASL Authentication, "SCRAM-SHA-256").
-use Rattle.std.specs.Prelude.{◌≡◌, ◌⊎◌, ℕ, List, codes, Option, Some, None, Result, Ok, Err}
+use Rattle.std.specs.Prelude.{◌≡◌, ◌⊎◌, ℕ, Bool, not, List, codes, Option, Some, None, Result, Ok, Err, if◌then◌else◌}
 use Rattle.pgw_types.specs.declared.error.PgWireError.{PgWireError}
 use Rattle.pgw_types.specs.declared.error.PgWireError.TheVariants.{InvalidSASLState, InvalidScramMessage, OutOfMemory}
-use Rattle.pgw_types.specs.declared.error.ScramMessageFault.TheVariants.{Empty}
+use Rattle.pgw_types.specs.declared.error.ScramMessageFault.{ScramMessageFault}
+use Rattle.pgw_types.specs.declared.error.ScramMessageFault.TheVariants.{Empty, ChannelBinding}
 use Rattle.pgw_startup.specs.Password.{as_initial_response, as_response}
 use Rattle.pgw_startup.specs.declared.authentication.Authentication.{Authentication}
 use Rattle.pgw_startup.specs.declared.authentication.Authentication.TheVariants as auth
 use Rattle.pgw_startup.specs.declared.password.PasswordMessageFamily.{PasswordMessageFamily}
 use Rattle.pgw_startup.specs.declared.sasl.SASLInitialResponse.{SASLInitialResponse}
 use Rattle.pgw_startup.specs.declared.sasl.SASLResponse.{SASLResponse}
-use Rattle.pgw_scram.specs.Server.{offered, accepted}
+use Rattle.std.specs.Str.{bytes_eq}
+use Rattle.pgw_scram.specs.Offers.{is_bound}
+use Rattle.pgw_scram.specs.Readers.{read_client_first}
+use Rattle.pgw_scram.specs.Server.{offered_to, accepted}
+use Rattle.pgw_scram.specs.declared.messages.ClientFirst.{ClientFirst}
 use Rattle.pgw_scram.specs.declared.password.Password.{Password as Kept}
 use Rattle.pgw_scram.specs.declared.server.ScramServerAuth.{ScramServerAuth}
 use Rattle.pgw_scram.specs.declared.server.ScramServerAuthWaitingForClientFinal.{ScramServerAuthWaitingForClientFinal as WaitingForClientFinal}
@@ -19,6 +24,24 @@ use Rattle.pgw_sasl.specs.declared.scram.ScramAuth.{ScramAuth}
 use Rattle.pgw_sasl.specs.Replies.{Reply, RefusesMethod}
 use Rattle.pgw_login.specs.declared.state.SASLState.TheVariants.{Initial, ScramClientFirstReceived, ScramServerFirstSent, OauthStateInit, OauthStateError, Finished, Failed}
 
+-- ---- the method's name
+
+-- a method of this name binds the login
+abbrev pub binds : List ℕ → Bool
+binds name = bytes_eq name (codes "SCRAM-SHA-256-PLUS")
+
+-- one of the method's name and the header names a binding, and the other none
+abbrev pub is_misnamed : List ℕ → List ℕ → Bool
+is_misnamed name header = if binds name then not (is_bound header) else is_bound header
+
+abbrev pub offered_by : List ℕ → ScramServerAuth → Result ClientFirst ScramMessageFault → Kept → List ℕ → Result (List ℕ × WaitingForClientFinal) PgWireError
+offered_by name server (Err why) kept nonce = Err (InvalidScramMessage why)
+offered_by name server (Ok parts) kept nonce = if is_misnamed name parts.header then Err (InvalidScramMessage ChannelBinding) else offered_to server parts kept nonce
+
+-- the step of a method of this name: client-first's grammar, its header, and the server's step
+abbrev pub offered_under : List ℕ → ScramServerAuth → List ℕ → Kept → List ℕ → Result (List ℕ × WaitingForClientFinal) PgWireError
+offered_under name server payload kept nonce = offered_by name server (read_client_first payload) kept nonce
+
 -- ---- the server's first message
 
 abbrev pub first_reply : Result (List ℕ × WaitingForClientFinal) PgWireError → Result (Authentication × SASLState) PgWireError
@@ -26,18 +49,18 @@ first_reply (Err e) = Err e
 first_reply (Ok (text, server)) = Ok (auth.SASLContinue text, ScramServerFirstSent server)
 
 -- a refusal of the source is passed on
-abbrev pub FirstWith : Result Kept PgWireError → ScramServerAuth → List ℕ → List ℕ → Result (Authentication × SASLState) PgWireError → Type 0
-FirstWith (Err e) server payload nonce answer = answer ≡ Err e
-FirstWith (Ok kept) server payload nonce answer = answer ≡ first_reply (offered server payload kept nonce)
+abbrev pub FirstWith : Result Kept PgWireError → ScramServerAuth → List ℕ → List ℕ → List ℕ → Result (Authentication × SASLState) PgWireError → Type 0
+FirstWith (Err e) server name payload nonce answer = answer ≡ Err e
+FirstWith (Ok kept) server name payload nonce answer = answer ≡ first_reply (offered_under name server payload kept nonce)
 
 -- the source is asked for the login
-abbrev pub FirstOn : (Login → Result Kept PgWireError → Type 0) → ScramServerAuth → Login → Option (List ℕ) → List ℕ → Result (Authentication × SASLState) PgWireError → Type 0
-FirstOn A server login None nonce answer = answer ≡ Err (InvalidScramMessage Empty)
-FirstOn A server login (Some payload) nonce answer = (given : Result Kept PgWireError) × A login given × FirstWith given server payload nonce answer
+abbrev pub FirstOn : (Login → Result Kept PgWireError → Type 0) → ScramServerAuth → Login → List ℕ → Option (List ℕ) → List ℕ → Result (Authentication × SASLState) PgWireError → Type 0
+FirstOn A server login name None nonce answer = answer ≡ Err (InvalidScramMessage Empty)
+FirstOn A server login name (Some payload) nonce answer = (given : Result Kept PgWireError) × A login given × FirstWith given server name payload nonce answer
 
 abbrev pub FirstBy : (Login → Result Kept PgWireError → Type 0) → ScramServerAuth → Login → Result SASLInitialResponse PgWireError → List ℕ → Result (Authentication × SASLState) PgWireError → Type 0
 FirstBy A server login (Err e) nonce answer = answer ≡ Err e
-FirstBy A server login (Ok m) nonce answer = FirstOn A server login m.payload nonce answer
+FirstBy A server login (Ok m) nonce answer = FirstOn A server login m.auth_method m.payload nonce answer
 
 -- the message is read as the first one; or memory runs out
 abbrev pub FirstReplies : (Login → Result Kept PgWireError → Type 0) → ScramServerAuth → Login → PasswordMessageFamily → List ℕ → Result (Authentication × SASLState) PgWireError → Type 0

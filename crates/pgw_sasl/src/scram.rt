@@ -2,11 +2,14 @@
 ghost use Rattle.std.specs.Prelude.{◌≡◌, ◌⊎◌, ◌≤◌, Some, None, Err, OnOk, OnErr, is_some};
 ghost use Rattle.pgw_types.specs.declared.error.PgWireError.TheVariants.{OutOfMemory as NoMemory};
 ghost use Rattle.pgw_login.specs.Logins.{login_of};
-ghost use Rattle.pgw_scram.specs.Server.{offered};
-ghost use Rattle.pgw_sasl.specs.Scram.{first_reply, FirstReplies, FinalReplies, ScramReplies};
+ghost use Rattle.pgw_scram.specs.Answers.{Answers};
+ghost use Rattle.pgw_sasl.specs.Scram.{binds, is_misnamed, offered_under, first_reply, FirstReplies, FinalReplies, ScramReplies};
 
+use crate::methods::SCRAM_SHA_256_PLUS_METHOD;
 use pgw_login::source::{AuthSource, LoginInfo};
 use pgw_login::state::SASLState;
+use pgw_scram::messages::ClientFirst;
+use pgw_scram::offer::is_bound;
 use pgw_scram::password::Password;
 use pgw_scram::server::{ScramServerAuth, ScramServerAuthWaitingForClientFinal};
 use pgw_startup::authentication::Authentication;
@@ -16,6 +19,7 @@ use pgw_types::boxed::Boxed;
 use pgw_types::error::{PgWireError, PgWireResult, ScramMessageFault};
 use pgw_types::memory::OutOfMemory;
 use pgw_types::octets::Octets;
+use pgw_types::text::Text;
 use std::alloc::Global;
 
 /// Where salted passwords come from, and the server's end of SCRAM.
@@ -66,17 +70,54 @@ impl<A> ScramAuth<A> {
     }
 }
 
+// Whether a method of this name binds a login.
+fn binds(name: &str) -> bool
+    ensures { result ≡ binds name.now }
+{
+    name == SCRAM_SHA_256_PLUS_METHOD
+}
+
+// Whether one of the method's name and the client's header names a channel binding, and the other none.
+fn is_misnamed(name: &str, header: &str) -> bool
+    ensures { result ≡ is_misnamed name.now header.now }
+{
+    if binds(name) {
+        !is_bound(header)
+    } else {
+        is_bound(header)
+    }
+}
+
+// The server's first message, and the server that has sent it.
+fn offered_under(
+    alloc: Global,
+    server: &ScramServerAuth,
+    kept: &Password,
+    name: &str,
+    message: &[u8],
+    nonce: &[u8; 18],
+) -> PgWireResult<(Text, ScramServerAuthWaitingForClientFinal)>
+    ensures { Answers result (offered_under name.now server.now message.now kept.now nonce.now) }
+{
+    let parts = ClientFirst::read(alloc, message)?;
+    if is_misnamed(name, parts.header.as_str()) {
+        return Err(PgWireError::InvalidScramMessage(ScramMessageFault::ChannelBinding));
+    }
+    server.offer(alloc, parts, kept, nonce)
+}
+
 // The server's first message.
 fn first_reply(
     alloc: Global,
     server: &ScramServerAuth,
     kept: &Password,
+    name: &str,
     message: &[u8],
     nonce: &[u8; 18],
 ) -> PgWireResult<(Authentication, SASLState)>
-    ensures { (result ≡ Err NoMemory) ⊎ (result ≡ first_reply (offered server.now message.now kept.now nonce.now)) }
+    ensures { (result ≡ Err NoMemory) ⊎ (result ≡ first_reply (offered_under name.now server.now message.now kept.now nonce.now)) }
 {
-    let (text, waiting) = server.on_client_first_message(alloc, message, kept, nonce)?;
+    let (text, waiting) = offered_under(alloc, server, kept, name, message, nonce)?;
     let payload = Octets::from_slice(alloc, text.as_str().as_bytes())?;
     let waiting = Boxed::new(alloc, waiting)?;
     Ok((
@@ -111,19 +152,26 @@ impl<A: AuthSource> ScramAuth<A> {
         ensures { FirstReplies (A.answers self.now.auth_db) self.now.authenticator (login_of login.now) message nonce.now result }
     {
         let SASLInitialResponse {
-            auth_method: _,
+            auth_method,
             payload,
         } = message.into_sasl_initial_response(alloc)?;
         let Some(payload) = payload else {
             return Err(PgWireError::InvalidScramMessage(ScramMessageFault::Empty));
         };
         let kept = self.auth_db.get_password(alloc, login)?;
-        first_reply(alloc, &self.authenticator, &kept, payload.as_slice(), nonce)
+        first_reply(
+            alloc,
+            &self.authenticator,
+            &kept,
+            auth_method.as_str(),
+            payload.as_slice(),
+            nonce,
+        )
     }
 
     /// What is answered to a client's message, and how far the exchange is then. In the state
     /// `ScramClientFirstReceived` the message is a client-first: its data, then the source is asked,
-    /// then the step. In the state `ScramServerFirstSent` it is a client-final. In any other state it is
+    /// then the step, which refuses a header that does not suit the method's name. In the state `ScramServerFirstSent` it is a client-final. In any other state it is
     /// refused with `InvalidSASLState`.
     pub fn process_scram_message(
         &self,

@@ -16,6 +16,8 @@ const FIRST: &[u8] = b"n,,n=bob,r=AAAAAAAAAAAAAAAAAAAAAAAA";
 
 const BOUND_FIRST: &[u8] = b"p=tls-server-end-point,,n=bob,r=AAAAAAAAAAAAAAAAAAAAAAAA";
 
+const UNOFFERED_FIRST: &[u8] = b"y,,n=bob,r=AAAAAAAAAAAAAAAAAAAAAAAA";
+
 const LAST: &[u8] =
     b"c=biws,r=AAAAAAAAAAAAAAAAAAAAAAAAAQEBAQEBAQEBAQEBAQEBAQEB,p=rENGY+XF2NrcuDnCzeudKtjcyghjLunPidEO0/tNTKc=";
 
@@ -98,6 +100,24 @@ const CASES: &[Case] = &[
         -1,
     ),
     (
+        &[OPENED, Step::First(METHOD, Some(BOUND_FIRST))],
+        "ok ChannelBinding",
+        &[OFFER],
+        -1,
+    ),
+    (
+        &[OPENED, Step::First(PLUS, Some(BOUND_FIRST))],
+        "ok ChannelBinding",
+        &[OFFER],
+        -1,
+    ),
+    (
+        &[Step::Startup("tom"), Step::First(PLUS, Some(FIRST))],
+        "ok ChannelBinding",
+        &[OFFER],
+        -1,
+    ),
+    (
         &[OPENED, BEGUN, BEGUN],
         "ok ok FailedToCoercePasswordMessage",
         &[OFFER, SERVER_FIRST],
@@ -117,17 +137,44 @@ const CASES: &[Case] = &[
     ),
 ];
 
-// With a certificate's hash the method with a channel binding is offered too, and its binding is taken.
-const BOUND: &[Case] = &[(
-    &[
-        OPENED,
-        Step::First(PLUS, Some(BOUND_FIRST)),
-        Step::Further(BOUND_LAST),
-    ],
-    "ok ok ok",
-    &[BOUND_OFFER, SERVER_FIRST, BOUND_FINAL, END],
-    100000,
-)];
+// With a certificate's hash the method with a channel binding is offered too, and its binding is taken; so is a client that
+// knows no binding. A client that says that none was offered is refused, and so is another header than the method's.
+const BOUND: &[Case] = &[
+    (
+        &[
+            OPENED,
+            Step::First(PLUS, Some(BOUND_FIRST)),
+            Step::Further(BOUND_LAST),
+        ],
+        "ok ok ok",
+        &[BOUND_OFFER, SERVER_FIRST, BOUND_FINAL, END],
+        100000,
+    ),
+    (
+        &[OPENED, BEGUN, ENDED],
+        "ok ok ok",
+        &[BOUND_OFFER, SERVER_FIRST, SERVER_FINAL, END],
+        100000,
+    ),
+    (
+        &[OPENED, Step::First(METHOD, Some(UNOFFERED_FIRST))],
+        "ok ChannelBinding",
+        &[BOUND_OFFER],
+        -1,
+    ),
+    (
+        &[OPENED, Step::First(METHOD, Some(BOUND_FIRST))],
+        "ok ChannelBinding",
+        &[BOUND_OFFER],
+        -1,
+    ),
+    (
+        &[OPENED, Step::First(PLUS, Some(FIRST))],
+        "ok ChannelBinding",
+        &[BOUND_OFFER],
+        -1,
+    ),
+];
 
 // What comes of messages to a handler for SCRAM alone.
 fn by_scram<R: Abort>(
