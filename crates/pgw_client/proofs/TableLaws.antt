@@ -30,7 +30,7 @@ use Rattle.pgw_session.specs.declared.stage.Next.TheVariants.{Goes}
 use Rattle.pgw_session.specs.Input.{Input}
 use Rattle.pgw_session.specs.Requests.{passes_over, role}
 use Rattle.pgw_session.specs.Segments.{is_news, is_ready}
-use Rattle.pgw_session.specs.Logins.{user_of, password_of, scram_login, methods_refusal, first_refusal, final_refusal, expected_of, first_message, final_message}
+use Rattle.pgw_session.specs.Logins.{user_of, password_of, scram_login, takes_method, methods_refusal, first_refusal, final_refusal, expected_of, first_message, final_message}
 use Rattle.pgw_session.specs.Table.{news_or, by_welcome, unless, by_login, by_first, by_final, misplaced, by_role, by_ready, after}
 use Rattle.pgw_client.specs.Wire.{IsOwn}
 use Rattle.pgw_client.specs.Machine.{IsGood}
@@ -63,7 +63,7 @@ unless_good None n own good = good
 unless_good (Some e) n own good = own
 
 methods_own : (input : Input) (methods : List (List ℕ)) → AreOwn (methods_refusal input methods)
-methods_own input methods = go (list_any (bytes_eq (codes "SCRAM-SHA-256")) methods)
+methods_own input methods = go (takes_method input methods)
   where
     go : (a : Bool) → AreOwn (first_of (unless_so a (client.UnsupportedSASLAuthMethods methods)) (first_of (unless_so (is_utf8 (password_of input)) (client.ScramError scram_fault.PasswordNotUtf8)) (user_refusal (prepared (user_of input)))))
     go true = two_own (is_utf8 (password_of input)) (is_some (prepared (user_of input))) (client.ScramError scram_fault.PasswordNotUtf8) (client.InvalidConfig (codes "user")) tt refl
@@ -82,7 +82,7 @@ login_good : (input : Input) (m : Backend) → IsGood (by_login input m)
 login_good input (backend.Authentication authentication.CleartextPassword) = tt
 login_good input (backend.Authentication (authentication.MD5Password salt)) = tt
 login_good input (backend.Authentication (authentication.SASL methods)) =
-    unless_good (methods_refusal input methods) (Goes (Challenged (scram_login input)) (Some (first_message (scram_login input)))) (methods_own input methods) tt
+    unless_good (methods_refusal input methods) (Goes (Challenged (scram_login input methods)) (Some (first_message (scram_login input methods)))) (methods_own input methods) tt
 login_good input (backend.Authentication authentication.Ok) = tt
 login_good input m = welcome_good m
 

@@ -4,11 +4,12 @@ ghost use Rattle.std.specs.List.{list_any};
 ghost use Rattle.std.specs.Str.{bytes_eq, is_utf8};
 ghost use Rattle.pgw_hash.specs.Saslprep.{prepared};
 ghost use Rattle.pgw_wire.specs.Reading.{lossy};
-ghost use Rattle.pgw_session.specs.Logins.{cleartext_message, final_refusal, first_message, md5_message, password_message, password_of, scram_login, user_of};
+ghost use Rattle.pgw_session.specs.Logins.{binding_of, cleartext_message, final_refusal, first_message, md5_message, method_of, offers, password_message, password_of, scram_login, takes_method, user_of};
 ghost use Rattle.pgw_client.specs.Input.{input_of};
 
 use crate::input::Input;
 use pgw_backend::client_error::{PgWireClientError, ScramFault};
+use pgw_config::config::ChannelBinding;
 use pgw_frontend::frontend::PgWireFrontendMessage;
 use pgw_hash::md5_password::hash_md5_password;
 use pgw_scram::binding::ClientBinding;
@@ -18,7 +19,7 @@ use pgw_scram::nonce::random_nonce;
 use pgw_startup::password::{Password, PasswordMessageFamily};
 use pgw_startup::sasl::{SASLInitialResponse, SASLResponse};
 use pgw_types::error::PgWireError;
-use pgw_types::listed::Listed;
+use pgw_types::listed::{Duplicate, Listed};
 use pgw_types::memory::OutOfMemory;
 use pgw_types::octets::Octets;
 use pgw_types::text::Text;
@@ -95,11 +96,58 @@ fn is_scram(method: &Text) -> bool
     "SCRAM-SHA-256" == method.as_str()
 }
 
-/// Whether `SCRAM-SHA-256` is among the methods.
-pub fn offers_scram(methods: &Listed<Text>) -> bool
-    ensures { result ≡ list_any (bytes_eq (codes "SCRAM-SHA-256")) methods.now }
+fn is_bound_scram(method: &Text) -> bool
+    ensures { result ≡ bytes_eq (codes "SCRAM-SHA-256-PLUS") method.now }
+{
+    "SCRAM-SHA-256-PLUS" == method.as_str()
+}
+
+// Whether `SCRAM-SHA-256` is among the methods.
+fn offers_scram(methods: &Listed<Text>) -> bool
+    ensures { result ≡ offers (codes "SCRAM-SHA-256") methods.now }
 {
     methods.as_slice().iter().any(|method| is_scram(method))
+}
+
+// Whether `SCRAM-SHA-256-PLUS` is.
+fn offers_binding(methods: &Listed<Text>) -> bool
+    ensures { result ≡ offers (codes "SCRAM-SHA-256-PLUS") methods.now }
+{
+    methods.as_slice().iter().any(|method| is_bound_scram(method))
+}
+
+/// Whether one of the methods is taken.
+pub fn takes_method(input: &Input<'_>, methods: &Listed<Text>) -> bool
+    ensures { result ≡ takes_method (input_of input.now) methods.now }
+{
+    let binds = input.config.certificate_hash.is_some() && offers_binding(methods);
+    match input.config.channel_binding {
+        ChannelBinding::Disable => offers_scram(methods),
+        ChannelBinding::Prefer => binds || offers_scram(methods),
+        ChannelBinding::Require => binds,
+    }
+}
+
+// What a login by one of the methods is bound to.
+fn binding_of(
+    input: &Input<'_>,
+    methods: &Listed<Text>,
+) -> Result<ClientBinding, OutOfMemory>
+    ensures { IfOk result (λ binding. binding ≡ binding_of (input_of input.now) methods.now) }
+{
+    let Some(hash) = &input.config.certificate_hash else {
+        return Ok(ClientBinding::None);
+    };
+    match input.config.channel_binding {
+        ChannelBinding::Disable => Ok(ClientBinding::None),
+        ChannelBinding::Prefer | ChannelBinding::Require => {
+            if offers_binding(methods) {
+                Ok(ClientBinding::EndPoint(hash.duplicate()?))
+            } else {
+                Ok(ClientBinding::NotOffered)
+            }
+        }
+    }
 }
 
 /// The password, where it is UTF-8.
@@ -117,19 +165,30 @@ pub fn text_password<'a>(input: &Input<'a>) -> Option<&'a str>
 pub fn scram_login(
     alloc: Global,
     input: &Input<'_>,
+    methods: &Listed<Text>,
     user: Text,
     password: &str,
 ) -> Result<ClientLogin, OutOfMemory>
     requires user { prepared (user_of (input_of input.now)) ≡ Some user }
     requires password { password.now ≡ password_of (input_of input.now) }
-    ensures { IfOk result (λ login. login ≡ scram_login (input_of input.now)) }
+    ensures { IfOk result (λ login. login ≡ scram_login (input_of input.now) methods.now) }
 {
     Ok(ClientLogin {
-        binding: ClientBinding::None,
+        binding: binding_of(input, methods)?,
         user,
         password: Text::from_str(alloc, password)?,
         nonce: random_nonce(alloc, input.nonce)?,
     })
+}
+
+// The method that a login is by.
+fn method_of(binding: &ClientBinding) -> &str
+    ensures { result.now ≡ method_of binding.now }
+{
+    match binding {
+        ClientBinding::EndPoint(_) => "SCRAM-SHA-256-PLUS",
+        _ => "SCRAM-SHA-256",
+    }
 }
 
 /// The first message of the login (SASLInitialResponse).
@@ -141,7 +200,7 @@ pub fn first_message(
 {
     let text = client_first(alloc, login)?;
     let payload = Octets::from_slice(alloc, text.as_str().as_bytes())?;
-    let auth_method = Text::from_str(alloc, "SCRAM-SHA-256")?;
+    let auth_method = Text::from_str(alloc, method_of(&login.binding))?;
     Ok(PgWireFrontendMessage::PasswordMessageFamily(PasswordMessageFamily::SASLInitialResponse(
         SASLInitialResponse {
             auth_method,

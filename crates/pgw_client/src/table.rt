@@ -11,8 +11,8 @@ ghost use Rattle.pgw_client.specs.Input.{input_of};
 
 use crate::input::Input;
 use crate::logins::{
-    cleartext_message, final_refusal, first_message, md5_message, offers_scram, response_message,
-    scram_login, text_password, user_of,
+    cleartext_message, final_refusal, first_message, md5_message, response_message, scram_login,
+    takes_method, text_password, user_of,
 };
 use crate::requests::sync;
 use pgw_backend::backend::PgWireBackendMessage;
@@ -181,7 +181,7 @@ fn by_welcome(message: &PgWireBackendMessage) -> Result<Next, OutOfMemory>
 fn by_methods(alloc: Global, input: &Input<'_>, methods: &Listed<Text>) -> Result<Next, OutOfMemory>
     ensures { IfOk result (λ n. n ≡ by_login (input_of input.now) (PgWireBackendMessage.Authentication (Authentication.SASL methods.now))) }
 {
-    if !offers_scram(methods) {
+    if !takes_method(input, methods) {
         let methods = methods.duplicate()?;
         return Ok(Next::Refuses(PgWireClientError::UnsupportedSASLAuthMethods(methods)));
     }
@@ -189,7 +189,7 @@ fn by_methods(alloc: Global, input: &Input<'_>, methods: &Listed<Text>) -> Resul
         return Ok(Next::Refuses(PgWireClientError::ScramError(ScramFault::PasswordNotUtf8)));
     };
     match saslprep(alloc, user_of(input))? {
-        Some(user) => begin_scram(alloc, input, user, password),
+        Some(user) => begin_scram(alloc, input, methods, user, password),
         None => {
             let key = Text::from_str(alloc, "user")?;
             Ok(Next::Refuses(PgWireClientError::InvalidConfig(key)))
@@ -201,14 +201,15 @@ fn by_methods(alloc: Global, input: &Input<'_>, methods: &Listed<Text>) -> Resul
 fn begin_scram(
     alloc: Global,
     input: &Input<'_>,
+    methods: &Listed<Text>,
     user: Text,
     password: &str,
 ) -> Result<Next, OutOfMemory>
     requires user { prepared (user_of (input_of input.now)) ≡ Some user }
     requires password { password.now ≡ password_of (input_of input.now) }
-    ensures { IfOk result (λ n. n ≡ Next.Goes (Stage.Challenged (scram_login (input_of input.now))) (Some (first_message (scram_login (input_of input.now))))) }
+    ensures { IfOk result (λ n. n ≡ Next.Goes (Stage.Challenged (scram_login (input_of input.now) methods.now)) (Some (first_message (scram_login (input_of input.now) methods.now)))) }
 {
-    let login = scram_login(alloc, input, user, password)?;
+    let login = scram_login(alloc, input, methods, user, password)?;
     match first_message(alloc, &login) {
         Ok(sent) => Ok(Next::Goes(Stage::Challenged(login), Some(sent))),
         Err(e) => {

@@ -2,8 +2,8 @@
 
 use crate::session::{link_of, session};
 use pgw_client::{
-    Config, MemoryLink, OutOfMemory, PgWireClientError, PgWireClientResult, ScramFault,
-    SessionReport,
+    ChannelBinding, Config, MemoryLink, OutOfMemory, PgWireClientError, PgWireClientResult,
+    ScramFault, SessionReport,
 };
 use std::alloc::Global;
 use std::test::Fail;
@@ -71,6 +71,90 @@ const LOGINS: &[(&[u8], &[u8], &str)] = &[
 fn scram_logins(rt: HostRuntime) -> Result<(), Fail> {
     for (server, password, want) in LOGINS {
         assert_eq!(rt; ended(rt.alloc(), server, password)?, *want);
+    }
+    Ok(())
+}
+
+// Whether the hash 000102 of the server's certificate is given, whether it may be bound, what the server says, and what it
+// is told. Computed with Python's hashlib.
+const BOUND: &[(bool, ChannelBinding, &[u8], &[u8])] = &[
+    (
+        true,
+        ChannelBinding::Prefer,
+        b"R\0\0\0*\0\0\0\x0aSCRAM-SHA-256\0SCRAM-SHA-256-PLUS\0\0R\0\0\0J\0\0\0\x0br=AAAAAAAAAAAAAAAAAAAAAAAAserver,s=W22ZaJ0SNY7soEsUEjb6gQ==,i=4096R\0\0\06\0\0\0\x0cv=AgnmmpwEqh4yJJu61zXE3CzWo9YrCXYpGY5tt0H8Wmk=R\0\0\0\x08\0\0\0\0Z\0\0\0\x05I",
+        b"\0\0\0\x12\0\x03\0\0user\0bob\0\0p\0\0\0SSCRAM-SHA-256-PLUS\0\0\0\08p=tls-server-end-point,,n=bob,r=AAAAAAAAAAAAAAAAAAAAAAAAp\0\0\0zc=cD10bHMtc2VydmVyLWVuZC1wb2ludCwsAAEC,r=AAAAAAAAAAAAAAAAAAAAAAAAserver,p=wJWbwlmx4xT1JKIrbb5dE2+iDVQM7u/0fSttRFhWKkU=",
+    ),
+    (
+        true,
+        ChannelBinding::Prefer,
+        b"R\0\0\0\x1c\0\0\0\x0aSCRAM-SHA-256-PLUS\0\0R\0\0\0J\0\0\0\x0br=AAAAAAAAAAAAAAAAAAAAAAAAserver,s=W22ZaJ0SNY7soEsUEjb6gQ==,i=4096R\0\0\06\0\0\0\x0cv=AgnmmpwEqh4yJJu61zXE3CzWo9YrCXYpGY5tt0H8Wmk=R\0\0\0\x08\0\0\0\0Z\0\0\0\x05I",
+        b"\0\0\0\x12\0\x03\0\0user\0bob\0\0p\0\0\0SSCRAM-SHA-256-PLUS\0\0\0\08p=tls-server-end-point,,n=bob,r=AAAAAAAAAAAAAAAAAAAAAAAAp\0\0\0zc=cD10bHMtc2VydmVyLWVuZC1wb2ludCwsAAEC,r=AAAAAAAAAAAAAAAAAAAAAAAAserver,p=wJWbwlmx4xT1JKIrbb5dE2+iDVQM7u/0fSttRFhWKkU=",
+    ),
+    (
+        true,
+        ChannelBinding::Prefer,
+        b"R\0\0\0\x17\0\0\0\x0aSCRAM-SHA-256\0\0R\0\0\0J\0\0\0\x0br=AAAAAAAAAAAAAAAAAAAAAAAAserver,s=W22ZaJ0SNY7soEsUEjb6gQ==,i=4096R\0\0\06\0\0\0\x0cv=/5psY7NaFSv5jWJrsQGMrzENrYmC3gcJTNxQEapA9Ow=R\0\0\0\x08\0\0\0\0Z\0\0\0\x05I",
+        b"\0\0\0\x12\0\x03\0\0user\0bob\0\0p\0\0\09SCRAM-SHA-256\0\0\0\0#y,,n=bob,r=AAAAAAAAAAAAAAAAAAAAAAAAp\0\0\0Zc=eSws,r=AAAAAAAAAAAAAAAAAAAAAAAAserver,p=O3dCPZzY1nSfzahHWIqtc5Cj/BQVFmwsAvwLmdIbgno=",
+    ),
+    (
+        false,
+        ChannelBinding::Prefer,
+        b"R\0\0\0*\0\0\0\x0aSCRAM-SHA-256\0SCRAM-SHA-256-PLUS\0\0R\0\0\0J\0\0\0\x0br=AAAAAAAAAAAAAAAAAAAAAAAAserver,s=W22ZaJ0SNY7soEsUEjb6gQ==,i=4096R\0\0\06\0\0\0\x0cv=uHmpiQRcOxaoAlpl+3NqPqejwiGX+xLqz6G7nzX1oDE=R\0\0\0\x08\0\0\0\0Z\0\0\0\x05I",
+        b"\0\0\0\x12\0\x03\0\0user\0bob\0\0p\0\0\09SCRAM-SHA-256\0\0\0\0#n,,n=bob,r=AAAAAAAAAAAAAAAAAAAAAAAAp\0\0\0Zc=biws,r=AAAAAAAAAAAAAAAAAAAAAAAAserver,p=J0NXZihltZeaxM/aR3msf91g2I9t/18qmtWUTFIvbaQ=",
+    ),
+    (
+        true,
+        ChannelBinding::Disable,
+        b"R\0\0\0*\0\0\0\x0aSCRAM-SHA-256\0SCRAM-SHA-256-PLUS\0\0R\0\0\0J\0\0\0\x0br=AAAAAAAAAAAAAAAAAAAAAAAAserver,s=W22ZaJ0SNY7soEsUEjb6gQ==,i=4096R\0\0\06\0\0\0\x0cv=uHmpiQRcOxaoAlpl+3NqPqejwiGX+xLqz6G7nzX1oDE=R\0\0\0\x08\0\0\0\0Z\0\0\0\x05I",
+        b"\0\0\0\x12\0\x03\0\0user\0bob\0\0p\0\0\09SCRAM-SHA-256\0\0\0\0#n,,n=bob,r=AAAAAAAAAAAAAAAAAAAAAAAAp\0\0\0Zc=biws,r=AAAAAAAAAAAAAAAAAAAAAAAAserver,p=J0NXZihltZeaxM/aR3msf91g2I9t/18qmtWUTFIvbaQ=",
+    ),
+];
+
+fn bound_config(
+    alloc: Global,
+    has_hash: bool,
+    mode: ChannelBinding,
+) -> Result<Config, OutOfMemory> {
+    let mut config = config_of(alloc, b"pencil")?;
+    config.channel_binding = mode;
+    if has_hash {
+        config.certificate_hash(alloc, &[0, 1, 2])?;
+    }
+    Ok(config)
+}
+
+fn bound_end(
+    alloc: Global,
+    link: &mut MemoryLink,
+    has_hash: bool,
+    mode: ChannelBinding,
+) -> Result<&'static str, OutOfMemory> {
+    let config = bound_config(alloc, has_hash, mode)?;
+    let ended = ending_of(alloc, link, &config);
+    drop(config);
+    Ok(ended)
+}
+
+// Whether a login is as it is to be, and how it ended.
+fn bound(
+    alloc: Global,
+    has_hash: bool,
+    mode: ChannelBinding,
+    server: &[u8],
+    want: &[u8],
+) -> Result<(&'static str, bool), OutOfMemory> {
+    let mut link = link_of(alloc, server, 50)?;
+    let ended = bound_end(alloc, &mut link, has_hash, mode);
+    let is_wanted = link.written() == want;
+    drop(link);
+    Ok((ended?, is_wanted))
+}
+
+#[test]
+fn bound_logins(rt: HostRuntime) -> Result<(), Fail> {
+    for (has_hash, mode, server, want) in BOUND {
+        let found = bound(rt.alloc(), *has_hash, *mode, server, want)?;
+        assert_eq!(rt; found, ("logged in", true));
     }
     Ok(())
 }

@@ -440,6 +440,13 @@ protocol_version_keyed c new (key.List list.Host) value e = ap (λ d. d.protocol
 protocol_version_keyed c new (key.Number number.ConnectTimeout) value e = ap (λ d. d.protocol_version) (only (key.Number number.ConnectTimeout) c new value e)
 protocol_version_keyed c new k value e = ap (λ d. d.protocol_version) (only k c new value e)
 
+certificate_hash_keyed : (c new : Config) (k : Key) (value : List ℕ) → value_set c k value ≡ Some new → new.certificate_hash ≡ c.certificate_hash
+certificate_hash_keyed c new (key.Text text.User) value e = ap (λ d. d.certificate_hash) (only (key.Text text.User) c new value e)
+certificate_hash_keyed c new (key.Choice choice.SslMode) value e = ap (λ d. d.certificate_hash) (only (key.Choice choice.SslMode) c new value e)
+certificate_hash_keyed c new (key.List list.Host) value e = ap (λ d. d.certificate_hash) (only (key.List list.Host) c new value e)
+certificate_hash_keyed c new (key.Number number.ConnectTimeout) value e = ap (λ d. d.certificate_hash) (only (key.Number number.ConnectTimeout) c new value e)
+certificate_hash_keyed c new k value e = ap (λ d. d.certificate_hash) (only k c new value e)
+
 stays : {A : Type 0} (x : A) (parts : List Part) → all_by (λ p y. y) parts x ≡ x
 stays x [] = refl
 stays x (p ∷ parts) = stays x parts
@@ -484,5 +491,6 @@ module _ (parts : List Part) (config : Config) (h : all_applied no_config parts 
     target_session_attrs = last_value (λ c. c.target_session_attrs) target_of (value_for (codes "target_session_attrs")) (steps_by (λ c. c.target_session_attrs) (replaces (λ p. option_and_then target_of (value_for (codes "target_session_attrs") p))) target_session_attrs_keyed (λ c name new h. host_keeps (λ d. d.target_session_attrs) c name new refl h) (λ c p new h. password_keeps (λ d. d.target_session_attrs) c p new refl h));
     channel_binding = last_value (λ c. c.channel_binding) channel_binding_of (value_for (codes "channel_binding")) (steps_by (λ c. c.channel_binding) (replaces (λ p. option_and_then channel_binding_of (value_for (codes "channel_binding") p))) channel_binding_keyed (λ c name new h. host_keeps (λ d. d.channel_binding) c name new refl h) (λ c p new h. password_keeps (λ d. d.channel_binding) c p new refl h));
     load_balance_hosts = last_value (λ c. c.load_balance_hosts) load_balance_of (value_for (codes "load_balance_hosts")) (steps_by (λ c. c.load_balance_hosts) (replaces (λ p. option_and_then load_balance_of (value_for (codes "load_balance_hosts") p))) load_balance_hosts_keyed (λ c name new h. host_keeps (λ d. d.load_balance_hosts) c name new refl h) (λ c p new h. password_keeps (λ d. d.load_balance_hosts) c p new refl h));
+    certificate_hash = folds (λ c. c.certificate_hash) (λ p x. x) (steps_by (λ c. c.certificate_hash) (λ p x. x) certificate_hash_keyed (λ c name new h. host_keeps (λ d. d.certificate_hash) c name new refl h) (λ c p new h. password_keeps (λ d. d.certificate_hash) c p new refl h)) parts no_config config h ∙ stays None parts;
     protocol_version = folds (λ c. c.protocol_version) (λ p x. x) (steps_by (λ c. c.protocol_version) (λ p x. x) protocol_version_keyed (λ c name new h. host_keeps (λ d. d.protocol_version) c name new refl h) (λ c p new h. password_keeps (λ d. d.protocol_version) c p new refl h)) parts no_config config h ∙ stays PROTOCOL3_0 parts;
   }

@@ -30,6 +30,7 @@ no_config = record {
   keepalives_retries = None;
   target_session_attrs = target.Any;
   channel_binding = channel_binding.Prefer;
+  certificate_hash = None;
   load_balance_hosts = load_balance.Disable;
   protocol_version = PROTOCOL3_0;
 }

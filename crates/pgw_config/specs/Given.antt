@@ -108,5 +108,6 @@ pub record Gives (parts : List Part) (config : Config) : Type 0 where
   pub keepalives_retries : config.keepalives_retries ≡ last_in (number_in 32) (codes "keepalives_retries") parts
   pub target_session_attrs : config.target_session_attrs ≡ unwrap_or (last_in target_of (codes "target_session_attrs") parts) target.Any
   pub channel_binding : config.channel_binding ≡ unwrap_or (last_in channel_binding_of (codes "channel_binding") parts) channel_binding.Prefer
+  pub certificate_hash : config.certificate_hash ≡ None
   pub load_balance_hosts : config.load_balance_hosts ≡ unwrap_or (last_in load_balance_of (codes "load_balance_hosts") parts) load_balance.Disable
   pub protocol_version : config.protocol_version ≡ PROTOCOL3_0

@@ -75,6 +75,8 @@ pub struct Config {
     pub keepalives_retries: Option<u32>,
     pub target_session_attrs: TargetSessionAttrs,
     pub channel_binding: ChannelBinding,
+    /// The hash of the server's certificate (`tls-server-end-point`); no text sets it.
+    pub certificate_hash: Option<Octets>,
     pub load_balance_hosts: LoadBalanceHosts,
     pub protocol_version: ProtocolVersion,
 }
@@ -103,6 +105,7 @@ impl Config {
             keepalives_retries: None,
             target_session_attrs: TargetSessionAttrs::Any,
             channel_binding: ChannelBinding::Prefer,
+            certificate_hash: None,
             load_balance_hosts: LoadBalanceHosts::Disable,
             protocol_version: ProtocolVersion::PROTOCOL3_0,
         }
@@ -118,6 +121,12 @@ impl Config {
         ensures { option_copied result ≡ self.now.password }
     {
         self.password.as_ref().map(|password| password.as_slice())
+    }
+
+    pub fn get_certificate_hash(&self) -> Option<&[u8]>
+        ensures { option_copied result ≡ self.now.certificate_hash }
+    {
+        self.certificate_hash.as_ref().map(|hash| hash.as_slice())
     }
 
     pub fn get_dbname(&self) -> Option<&str>
@@ -235,11 +244,14 @@ impl Config {
 
 // The texts and the lists of a configuration, each copied.
 impl Config {
-    fn duplicate_login(&self) -> Result<(Option<Text>, Option<Octets>), OutOfMemory>
-        ensures { IfOk result (λ r. r ≡ (self.now.user, self.now.password)) }
+    fn duplicate_login(
+        &self,
+    ) -> Result<(Option<Text>, Option<Octets>, Option<Octets>), OutOfMemory>
+        ensures { IfOk result (λ r. r ≡ (self.now.user, self.now.password, self.now.certificate_hash)) }
     {
         let user = self.user.duplicate()?;
-        Ok((user, self.password.duplicate()?))
+        let password = self.password.duplicate()?;
+        Ok((user, password, self.certificate_hash.duplicate()?))
     }
 
     fn duplicate_texts(&self) -> Result<(Option<Text>, Option<Text>, Option<Text>), OutOfMemory>
@@ -261,7 +273,7 @@ impl Config {
 
 impl Duplicate for Config {
     fn duplicate(&self) -> Result<Config, OutOfMemory> {
-        let (user, password) = self.duplicate_login()?;
+        let (user, password, certificate_hash) = self.duplicate_login()?;
         let (dbname, options, application_name) = self.duplicate_texts()?;
         let (host, hostaddr, port) = self.duplicate_lists()?;
         Ok(Config {
@@ -283,6 +295,7 @@ impl Duplicate for Config {
             keepalives_retries: self.keepalives_retries,
             target_session_attrs: self.target_session_attrs,
             channel_binding: self.channel_binding,
+            certificate_hash,
             load_balance_hosts: self.load_balance_hosts,
             protocol_version: self.protocol_version,
         })
@@ -325,6 +338,7 @@ impl fmt::Debug for Config {
             .field("keepalives_retries", &self.keepalives_retries)
             .field("target_session_attrs", &self.target_session_attrs)
             .field("channel_binding", &self.channel_binding)
+            .field("certificate_hash", &self.certificate_hash)
             .field("load_balance_hosts", &self.load_balance_hosts)
             .field("protocol_version", &self.protocol_version)
             .finish()

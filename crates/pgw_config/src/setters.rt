@@ -160,6 +160,20 @@ impl Config {
         Ok(self)
     }
 
+    /// Sets the hash of the server's certificate, as the channel binding `tls-server-end-point` has it
+    /// (RFC 5929, section 4), and hands the configuration on.
+    pub fn certificate_hash(
+        &mut self,
+        alloc: Global,
+        hash: &[u8],
+    ) -> Result<&mut Config, OutOfMemory>
+        ensures same { IfOk result (λ r. r.ghost_name ≡ self.entry.ghost_name) }
+        ensures set { IfOk result (λ r. r.now ≡ record self.old { certificate_hash = Some hash.now }) }
+    {
+        self.certificate_hash = Some(Octets::from_slice(alloc, hash)?);
+        Ok(self)
+    }
+
     /// `add_host`, which hands the configuration on.
     pub fn host(&mut self, alloc: Global, host: &str) -> Result<&mut Config, OutOfMemory>
         ensures same { IfOk result (λ r. r.ghost_name ≡ self.entry.ghost_name) }

@@ -14,6 +14,7 @@ fn set_texts(alloc: Global, config: &mut Config) -> Result<(), OutOfMemory> {
     config.user(alloc, "bob")?.password(alloc, b"secret")?;
     config.dbname(alloc, "shop")?.options(alloc, "-c x=1")?;
     config.application_name(alloc, "till")?;
+    config.certificate_hash(alloc, &[0, 1, 2])?;
     Ok(())
 }
 
@@ -23,6 +24,7 @@ fn keeps_texts(config: &Config) -> bool {
         && config.get_dbname() == Some("shop")
         && config.get_options() == Some("-c x=1")
         && config.get_application_name() == Some("till")
+        && config.get_certificate_hash() == Some([0, 1, 2].as_slice())
 }
 
 fn set_places(alloc: Global, config: &mut Config) -> Result<(), OutOfMemory> {

@@ -24,7 +24,7 @@ use Rattle.pgw_session.specs.declared.stage.Next.{Next}
 use Rattle.pgw_session.specs.declared.stage.Next.TheVariants.{Goes}
 use Rattle.pgw_session.specs.Input.{Input}
 use Rattle.pgw_session.specs.Requests.{passes_over}
-use Rattle.pgw_session.specs.Logins.{user_of, password_of, scram_login, first_message, final_message, expected_of, methods_refusal, first_refusal, final_refusal}
+use Rattle.pgw_session.specs.Logins.{user_of, password_of, scram_login, takes_method, first_message, final_message, expected_of, methods_refusal, first_refusal, final_refusal}
 use Rattle.pgw_session.specs.Table.{unless, misplaced, after as table}
 use Rattle.pgw_default_handlers.specs.Causes.{IsAlwaysCaused, RefusesCaused}
 
@@ -44,7 +44,7 @@ both_caused (Some e) b x y = x
 
 methods_caused : (input : Input) (methods : List (List ℕ)) → AreCaused (methods_refusal input methods)
 methods_caused input methods =
-    both_caused (unless_so (list_any (bytes_eq (codes "SCRAM-SHA-256")) methods) (client.UnsupportedSASLAuthMethods methods)) _ (so_caused (list_any (bytes_eq (codes "SCRAM-SHA-256")) methods) (client.UnsupportedSASLAuthMethods methods) (λ before now broken. tt))
+    both_caused (unless_so (takes_method input methods) (client.UnsupportedSASLAuthMethods methods)) _ (so_caused (takes_method input methods) (client.UnsupportedSASLAuthMethods methods) (λ before now broken. tt))
     (both_caused (unless_so (is_utf8 (password_of input)) (client.ScramError scram_fault.PasswordNotUtf8)) _ (so_caused (is_utf8 (password_of input)) (client.ScramError scram_fault.PasswordNotUtf8) (λ before now broken. tt))
     (so_caused (is_some (prepared (user_of input))) (client.InvalidConfig (codes "user")) (λ before now broken. tt)))
 
@@ -68,7 +68,7 @@ misplaced_caused true = tt
 misplaced_caused false = tt
 
 table_caused : (input : Input) (stage : Stage) (request : Authentication) → RefusesCaused (table input stage (backend.Authentication request))
-table_caused input Starting (authentication.SASL methods) = unless_caused (methods_refusal input methods) (Challenged (scram_login input)) (Some (first_message (scram_login input))) (methods_caused input methods)
+table_caused input Starting (authentication.SASL methods) = unless_caused (methods_refusal input methods) (Challenged (scram_login input methods)) (Some (first_message (scram_login input methods))) (methods_caused input methods)
 table_caused input Starting authentication.Ok = tt
 table_caused input Starting authentication.CleartextPassword = tt
 table_caused input Starting (authentication.MD5Password salt) = tt

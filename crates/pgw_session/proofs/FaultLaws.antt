@@ -34,7 +34,7 @@ use Rattle.pgw_session.specs.declared.types.Request.TheVariants as request
 use Rattle.pgw_session.specs.declared.types.Target.TheVariants as target
 use Rattle.pgw_session.specs.Input.{Input}
 use Rattle.pgw_session.specs.Requests.{sends_of}
-use Rattle.pgw_session.specs.Logins.{user_of, password_of, scram_login, methods_refusal, expected_of}
+use Rattle.pgw_session.specs.Logins.{user_of, password_of, scram_login, takes_method, methods_refusal, expected_of}
 use Rattle.pgw_scram.specs.Answers.{unless_so, first_of}
 use Rattle.pgw_scram.specs.Refusals.{begins_with, parts_refusal, verifier_refusal}
 use Rattle.pgw_session.specs.Failures.{Place, Before, AtFirst, AtFinal, Behind, refusal_at, Unreadable, Unsendable, FailsAtStartup}
@@ -158,7 +158,7 @@ first_startup false e rest is more = is
 methods_startup : (input : Input) (methods : List (List ℕ)) → StartupIf (methods_refusal input methods)
 methods_startup input methods =
     let form = unless_so (is_some (prepared (user_of input))) (client.InvalidConfig (codes "user")) in
-    first_startup (list_any (bytes_eq (codes "SCRAM-SHA-256")) methods) (client.UnsupportedSASLAuthMethods methods)
+    first_startup (takes_method input methods) (client.UnsupportedSASLAuthMethods methods)
     (first_of (unless_so (is_utf8 (password_of input)) (client.ScramError scram_fault.PasswordNotUtf8)) form) tt
     (first_startup (is_utf8 (password_of input)) (client.ScramError scram_fault.PasswordNotUtf8) form tt (unless_startup (is_some (prepared (user_of input))) (client.InvalidConfig (codes "user")) refl))
 
@@ -176,11 +176,11 @@ proof_startup expected (Ok (Signature text)) = unless_startup (bytes_eq text exp
 refusal_startup : (input : Input) (p : Place) (m : Backend) → StartupIf (refusal_at input p m)
 refusal_startup input p (backend.ErrorResponse e) = tt
 refusal_startup input Before (backend.Authentication (authentication.SASL methods)) = methods_startup input methods
-refusal_startup input AtFirst (backend.Authentication (authentication.SASLContinue first)) = parts_startup (nonce_text input.nonce) (read_server_first first)
-refusal_startup input (AtFinal first) (backend.Authentication (authentication.SASLFinal final)) = proof_startup (expected_of (scram_login input) first) (read_server_final final)
+refusal_startup input (AtFirst methods) (backend.Authentication (authentication.SASLContinue first)) = parts_startup (nonce_text input.nonce) (read_server_first first)
+refusal_startup input (AtFinal methods first) (backend.Authentication (authentication.SASLFinal final)) = proof_startup (expected_of (scram_login input methods) first) (read_server_final final)
 refusal_startup input Before (backend.Authentication a) = tt
-refusal_startup input AtFirst (backend.Authentication a) = tt
-refusal_startup input (AtFinal first) (backend.Authentication a) = tt
+refusal_startup input (AtFirst methods) (backend.Authentication a) = tt
+refusal_startup input (AtFinal methods first) (backend.Authentication a) = tt
 refusal_startup input Behind (backend.Authentication a) = tt
 refusal_startup input p m = tt
 

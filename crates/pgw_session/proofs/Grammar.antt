@@ -114,7 +114,7 @@ greeting_by input m es g = go g.news g.login g.are g.all g.accepted
         subst (λ x. RestBy input (after input Starting x) es) (sym same) (g.rest, rest, g.ends)
     go [] (Scram methods first final) are all accepted =
         let same : m ≡ backend.Authentication (authentication.SASL methods) = cc in
-        let rest : es ≡ Sent _ ∷ Got (backend.Authentication (authentication.SASLContinue first)) ∷ Sent (final_message (scram_login input) first) ∷ Got (backend.Authentication (authentication.SASLFinal final)) ∷ g.rest = cc in
+        let rest : es ≡ Sent _ ∷ Got (backend.Authentication (authentication.SASLContinue first)) ∷ Sent (final_message (scram_login input methods) first) ∷ Got (backend.Authentication (authentication.SASLFinal final)) ∷ g.rest = cc in
         subst (λ x. RestBy input (after input Starting x) es) (sym same)
         (unless_by input (methods_refusal input methods) _ es accepted.0 (_, rest, (first, _, refl, accepted.1, (final, g.rest, refl, accepted.2, g.ends))))
 
@@ -183,7 +183,7 @@ asked_by input (backend.Authentication (authentication.MD5Password salt)) es r =
 asked_by input (backend.Authentication (authentication.SASL methods)) es r =
     by_unless input Starting (backend.Authentication (authentication.SASL methods)) es (methods_refusal input methods) _ goes r
   where
-    goes : methods_refusal input methods ≡ None → RestBy input (Goes (Challenged (scram_login input)) (Some (first_message (scram_login input)))) es → IsGreeting input (Got (backend.Authentication (authentication.SASL methods)) ∷ es)
+    goes : methods_refusal input methods ≡ None → RestBy input (Goes (Challenged (scram_login input methods)) (Some (first_message (scram_login input methods)))) es → IsGreeting input (Got (backend.Authentication (authentication.SASL methods)) ∷ es)
     goes accepted r =
         let f = r.2 in
         let g = f.4 in
@@ -191,7 +191,7 @@ asked_by input (backend.Authentication (authentication.SASL methods)) es r =
           news = [];
           login = Scram methods f.0 g.0;
           rest = g.1;
-          are = ap (λ (l : List Event). Got (backend.Authentication (authentication.SASL methods)) ∷ l) (r.1 ∙ ap (λ (l : List Event). Sent _ ∷ l) (f.2 ∙ ap (λ (l : List Event). Got (backend.Authentication (authentication.SASLContinue f.0)) ∷ Sent (final_message (scram_login input) f.0) ∷ l) g.2));
+          are = ap (λ (l : List Event). Got (backend.Authentication (authentication.SASL methods)) ∷ l) (r.1 ∙ ap (λ (l : List Event). Sent _ ∷ l) (f.2 ∙ ap (λ (l : List Event). Got (backend.Authentication (authentication.SASLContinue f.0)) ∷ Sent (final_message (scram_login input methods) f.0) ∷ l) g.2));
           all = tt;
           accepted = (accepted, f.3, g.3);
           ends = g.4;
@@ -360,15 +360,15 @@ Logs closed es p = (closed ≡ []) × (place_of es ≡ p) × (IsSimple es → �
 -- what is known of the closed segments and the open one's events at a stage
 abbrev pub StandsAt : Input → List (List Event) → List Event → Stage → Type 0
 StandsAt input closed es Starting = Logs closed es Before
-StandsAt input closed es (Challenged login) = (login ≡ scram_login input) × Logs closed es AtFirst
-StandsAt input closed es (Proving expected) = (first : List ℕ) × (expected ≡ expected_of (scram_login input) first) × Logs closed es (AtFinal first)
+StandsAt input closed es (Challenged login) = (methods : List (List ℕ)) × (login ≡ scram_login input methods) × Logs closed es (AtFirst methods)
+StandsAt input closed es (Proving expected) = (methods : List (List ℕ)) × (first : List ℕ) × (expected ≡ expected_of (scram_login input methods) first) × Logs closed es (AtFinal methods first)
 StandsAt input closed es Admitted = Logs closed es Behind
 StandsAt input closed es (Answering k rows) = (closed ≡ [] → ⊥) × (IsSimple es → passes_over k ≡ true) × (passes_over k ≡ true → IsSimple es)
 StandsAt input closed es PassingOver = closed ≡ [] → ⊥
 
 pub stands_expects : (input : Input) (closed : List (List Event)) (es : List Event) (s : Stage) → StandsAt input closed es s → Expects input s
-stands_expects input closed es (Challenged login) stands = ap (λ (l : ClientLogin). l.nonce) stands.0
-stands_expects input closed es (Proving expected) stands = (scram_login input, stands.0, stands.1)
+stands_expects input closed es (Challenged login) stands = ap (λ (l : ClientLogin). l.nonce) stands.1
+stands_expects input closed es (Proving expected) stands = (scram_login input stands.0, stands.1, stands.2)
 stands_expects input closed es s stands = tt
 
 -- and behind a message
@@ -407,25 +407,25 @@ login_stands : (input : Input) (closed : List (List Event)) (es : List Event) (m
 login_stands input closed es (backend.Authentication authentication.CleartextPassword) l = logs_on closed es Before Behind _ (cleartext_message input ∷ []) l refl
 login_stands input closed es (backend.Authentication (authentication.MD5Password salt)) l = logs_on closed es Before Behind _ (md5_message input salt ∷ []) l refl
 login_stands input closed es (backend.Authentication (authentication.SASL methods)) l =
-    logs_unless input closed es Before (backend.Authentication (authentication.SASL methods)) (methods_refusal input methods) _ l refl (refl, logs_on closed es Before AtFirst _ (first_message (scram_login input) ∷ []) l refl)
+    logs_unless input closed es Before (backend.Authentication (authentication.SASL methods)) (methods_refusal input methods) _ l refl (methods, refl, logs_on closed es Before (AtFirst methods) _ (first_message (scram_login input methods) ∷ []) l refl)
 login_stands input closed es (backend.ReadyForQuery ready) l = tt
 login_stands input closed es (backend.ErrorResponse e) l = logs_refused input closed es Before (backend.ErrorResponse e) _ l refl
 login_stands input closed es (backend.Authentication authentication.Ok) l = logs_wrong input closed es Before (backend.Authentication authentication.Ok) l refl
 login_stands input closed es m l = logs_wrong input closed es Before m l refl
 
-first_stands : (input : Input) (closed : List (List Event)) (es : List Event) (m : Backend) → Logs closed es AtFirst → StandsBy input closed es m (by_first (scram_login input) m)
-first_stands input closed es (backend.Authentication (authentication.SASLContinue first)) l =
-    logs_unless input closed es AtFirst (backend.Authentication (authentication.SASLContinue first)) (first_refusal (scram_login input) first) _ l refl (first, refl, logs_on closed es AtFirst (AtFinal first) _ (final_message (scram_login input) first ∷ []) l refl)
-first_stands input closed es (backend.ErrorResponse e) l = logs_refused input closed es AtFirst (backend.ErrorResponse e) _ l refl
-first_stands input closed es (backend.Authentication authentication.Ok) l = logs_wrong input closed es AtFirst (backend.Authentication authentication.Ok) l refl
-first_stands input closed es m l = logs_wrong input closed es AtFirst m l refl
+first_stands : (input : Input) (closed : List (List Event)) (es : List Event) (methods : List (List ℕ)) (m : Backend) → Logs closed es (AtFirst methods) → StandsBy input closed es m (by_first (scram_login input methods) m)
+first_stands input closed es methods (backend.Authentication (authentication.SASLContinue first)) l =
+    logs_unless input closed es (AtFirst methods) (backend.Authentication (authentication.SASLContinue first)) (first_refusal (scram_login input methods) first) _ l refl (methods, first, refl, logs_on closed es (AtFirst methods) (AtFinal methods first) _ (final_message (scram_login input methods) first ∷ []) l refl)
+first_stands input closed es methods (backend.ErrorResponse e) l = logs_refused input closed es (AtFirst methods) (backend.ErrorResponse e) _ l refl
+first_stands input closed es methods (backend.Authentication authentication.Ok) l = logs_wrong input closed es (AtFirst methods) (backend.Authentication authentication.Ok) l refl
+first_stands input closed es methods m l = logs_wrong input closed es (AtFirst methods) m l refl
 
-final_stands : (input : Input) (closed : List (List Event)) (es : List Event) (first : List ℕ) (m : Backend) → Logs closed es (AtFinal first) → StandsBy input closed es m (by_final (expected_of (scram_login input) first) m)
-final_stands input closed es first (backend.Authentication (authentication.SASLFinal final)) l =
-    logs_unless input closed es (AtFinal first) (backend.Authentication (authentication.SASLFinal final)) (final_refusal (expected_of (scram_login input) first) final) _ l refl (logs_on closed es (AtFinal first) Behind _ [] l refl)
-final_stands input closed es first (backend.ErrorResponse e) l = logs_refused input closed es (AtFinal first) (backend.ErrorResponse e) _ l refl
-final_stands input closed es first (backend.Authentication authentication.Ok) l = logs_wrong input closed es (AtFinal first) (backend.Authentication authentication.Ok) l refl
-final_stands input closed es first m l = logs_wrong input closed es (AtFinal first) m l refl
+final_stands : (input : Input) (closed : List (List Event)) (es : List Event) (methods : List (List ℕ)) (first : List ℕ) (m : Backend) → Logs closed es (AtFinal methods first) → StandsBy input closed es m (by_final (expected_of (scram_login input methods) first) m)
+final_stands input closed es methods first (backend.Authentication (authentication.SASLFinal final)) l =
+    logs_unless input closed es (AtFinal methods first) (backend.Authentication (authentication.SASLFinal final)) (final_refusal (expected_of (scram_login input methods) first) final) _ l refl (logs_on closed es (AtFinal methods first) Behind _ [] l refl)
+final_stands input closed es methods first (backend.ErrorResponse e) l = logs_refused input closed es (AtFinal methods first) (backend.ErrorResponse e) _ l refl
+final_stands input closed es methods first (backend.Authentication authentication.Ok) l = logs_wrong input closed es (AtFinal methods first) (backend.Authentication authentication.Ok) l refl
+final_stands input closed es methods first m l = logs_wrong input closed es (AtFinal methods first) m l refl
 
 role_stands : (input : Input) (closed : List (List Event)) (es : List Event) (k : Kind) (rows : Bool) (m : Backend) (x : Role) → StandsAt input closed es (Answering k rows) → StandsBy input closed es m (by_role k x)
 role_stands input closed es k rows m (Taken next) s = (s.0, λ simple. s.1 (simple_before es m [] simple), λ passes. simple_behind es m [] (s.2 passes))
@@ -444,8 +444,8 @@ stands_by input closed es Starting m l = go (is_news m) refl
     go : (b : Bool) → is_news m ≡ b → StandsBy input closed es m (news_or b Starting (by_login input m))
     go true is = logs_on closed es Before Before m [] l (known_place Before m is)
     go false is = login_stands input closed es m l
-stands_by input closed es (Challenged login) m l = subst (λ (x : ClientLogin). StandsBy input closed es m (by_first x m)) (sym l.0) (first_stands input closed es m l.1)
-stands_by input closed es (Proving expected) m l = subst (λ e. StandsBy input closed es m (by_final e m)) (sym l.1) (final_stands input closed es l.0 m l.2)
+stands_by input closed es (Challenged login) m l = subst (λ (x : ClientLogin). StandsBy input closed es m (by_first x m)) (sym l.1) (first_stands input closed es l.0 m l.2)
+stands_by input closed es (Proving expected) m l = subst (λ e. StandsBy input closed es m (by_final e m)) (sym l.2) (final_stands input closed es l.0 l.1 m l.3)
 stands_by input closed es Admitted m l = go (is_news m) refl
   where
     go : (b : Bool) → is_news m ≡ b → StandsBy input closed es m (news_or b Admitted (by_welcome m))

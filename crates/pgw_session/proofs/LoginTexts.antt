@@ -1,5 +1,5 @@
 -- What the texts of a login keep: a SCRAM login can end, and an MD5 password can be sent.
-use Rattle.std.proofs.Common.{◌≡◌, ◌≤◌, ◌<◌, ℕ, zero, suc, Bool, true, false, List, [], ◌∷◌, ◌++◌, length, codes, Option, None, is_some, arith, refl, sym, ap, ◌∙◌, length-append}
+use Rattle.std.proofs.Common.{◌≡◌, ◌≢◌, ◌≤◌, ◌<◌, ℕ, zero, suc, Bool, true, false, List, [], ◌∷◌, ◌++◌, length, codes, Option, Some, None, Ok, is_some, arith, refl, sym, ap, ◌∙◌, length-append}
 use Rattle.std.specs.Prelude.{◌==◌, ◌||◌, ◌/◌, ◌%◌, get_or}
 use Rattle.std.specs.Int.{w32, to_le_bytes}
 use Rattle.std.specs.Str.{bytes_eq}
@@ -13,15 +13,24 @@ use Rattle.md5.specs.Md5.{md5, digest_bytes}
 use Rattle.md5.proofs.StandardFacts.{length-md5}
 use Rattle.pgw_wire.specs.Writing.{has_zero}
 use Rattle.pgw_hash.specs.Md5Password.{md5_hex, md5_password}
-use Rattle.pgw_scram.specs.Base64.{nonce_text, salt_of}
+use Rattle.pgw_scram.specs.Base64.{base64, nonce_text, salt_of}
 use Rattle.pgw_scram.proofs.Base64Laws.{salt_of-nil}
 use Rattle.pgw_scram.proofs.ExchangeLaws.{least_server_first, nonce_is_read, signature_is_read}
 use Rattle.pgw_scram.specs.declared.exchange.ClientLogin.{ClientLogin}
+use Rattle.pgw_scram.specs.declared.binding.ClientBinding.{ClientBinding}
+use Rattle.pgw_scram.specs.declared.binding.ClientBinding.TheVariants as binding
+use Rattle.pgw_scram.specs.declared.messages.ServerFirst.{ServerFirst}
+use Rattle.pgw_scram.specs.Binding.{binding_text}
+use Rattle.pgw_scram.specs.Exchange.{exchanged, client_final, without_proof}
+use Rattle.pgw_scram.specs.Formulas.{client_proof}
+use Rattle.pgw_hash.specs.Pbkdf2.{salted_password}
+use Rattle.pgw_config.specs.declared.config.ChannelBinding.{ChannelBinding}
+use Rattle.pgw_config.specs.declared.config.ChannelBinding.TheVariants as channel_binding
 use Rattle.pgw_scram.specs.Readers.{read_server_first}
 use Rattle.pgw_session.specs.Input.{Input}
 use Rattle.pgw_backend.specs.declared.client_error.PgWireClientError.TheVariants as client
 use Rattle.pgw_backend.specs.declared.client_error.ScramFault.TheVariants as scram_fault
-use Rattle.pgw_session.specs.Logins.{first_refusal, expected_of, final_refusal}
+use Rattle.pgw_session.specs.Logins.{offers, binding_by, binding_of, scram_login, first_refusal, expected_of, final_refusal, BindsTo}
 use Rattle.pgw_scram.specs.Answers.{unless_so, first_of}
 use Rattle.pgw_scram.specs.Refusals.{parts_refusal, verifier_refusal, begins_with}
 
@@ -50,6 +59,28 @@ some_final login first = (
   ap (verifier_refusal (expected_of login first)) (signature_is_read login first)
       ∙ ap (λ b. unless_so b (client.ScramError scram_fault.SignatureMismatch)) (same_bytes (expected_of login first)),
 )
+
+-- ---- what is bound
+
+end_point : (mode : ChannelBinding) (hash : List ℕ) → mode ≢ channel_binding.Disable → binding_by mode (Some hash) true ≡ binding.EndPoint hash
+end_point channel_binding.Disable hash allowed = absurd (allowed refl)
+end_point channel_binding.Prefer hash allowed = refl
+end_point channel_binding.Require hash allowed = refl
+
+bound_by : (login : ClientLogin) (hash first salt : List ℕ) (parts : ServerFirst) → login.binding ≡ binding.EndPoint hash → read_server_first first ≡ Ok parts → salt_of parts.salt ≡ Some salt → BindsTo hash parts.nonce (client_final login first)
+unfolding client_final without_proof
+bound_by login hash first salt parts is read is_salt = (
+  base64 (client_proof (salted_password login.password salt parts.count) (exchanged login first parts)),
+  rw (read, is_salt) (ap (λ (b : ClientBinding). codes "c=" ++ binding_text b ++ codes ",r=" ++ parts.nonce ++ codes ",p=" ++ base64 (client_proof (salted_password login.password salt parts.count) (exchanged login first parts))) is),
+)
+
+pub bound_final : (input : Input) (methods : List (List ℕ)) (hash first salt : List ℕ) (parts : ServerFirst) → (input.config).certificate_hash ≡ Some hash → (input.config).channel_binding ≢ channel_binding.Disable → offers (codes "SCRAM-SHA-256-PLUS") methods ≡ true
+    → read_server_first first ≡ Ok parts → salt_of parts.salt ≡ Some salt → BindsTo hash parts.nonce (client_final (scram_login input methods) first)
+bound_final input methods hash first salt parts own allowed offered read is_salt =
+    let mode = (input.config).channel_binding in
+    let is : binding_of input methods ≡ binding.EndPoint hash =
+    ap (λ (o : Option (List ℕ)). binding_by mode o (offers (codes "SCRAM-SHA-256-PLUS") methods)) own ∙ ap (binding_by mode (Some hash)) offered ∙ end_point mode hash allowed in
+    bound_by (scram_login input methods) hash first salt parts is read is_salt
 
 -- ---- MD5
 

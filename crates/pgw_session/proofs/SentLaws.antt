@@ -76,7 +76,7 @@ welcome_sent P m = tt
 login_sent : (input : Input) (P : Frontend → Type 0) (m : Backend) → MaySend input P → ReplySent P (by_login input m)
 login_sent input P (backend.Authentication authentication.CleartextPassword) may = (may.cleartext, tt)
 login_sent input P (backend.Authentication (authentication.MD5Password salt)) may = (may.md5 salt, tt)
-login_sent input P (backend.Authentication (authentication.SASL methods)) may = unless_sent P (methods_refusal input methods) _ (may.first (scram_login input), tt)
+login_sent input P (backend.Authentication (authentication.SASL methods)) may = unless_sent P (methods_refusal input methods) _ (may.first (scram_login input methods), tt)
 login_sent input P (backend.Authentication authentication.Ok) may = tt
 login_sent input P m may = tt
 

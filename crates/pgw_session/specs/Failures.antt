@@ -35,18 +35,19 @@ abbrev pub ArePassedOver : Input → List (List Event) → List Event → List B
 ArePassedOver input closed part [] = Unit {0}
 ArePassedOver input closed part (m ∷ ms) = (IsLegalPrefix input ((joined closed ++ part) ++ Got m ∷ []) → ⊥) × IsQuiet ms × IsSimple part
 
--- where a startup segment's login block is: not begun, at server-first or at server-final, or done
+-- where a startup segment's login block is: not begun, at server-first or at server-final of a login by one of these
+-- methods, or done
 pub data Place : Type 0 where
   Before : Place
-  AtFirst : Place
-  AtFinal : (first : List ℕ) → Place
+  AtFirst : (methods : List (List ℕ)) → Place
+  AtFinal : (methods : List (List ℕ)) → (first : List ℕ) → Place
   Behind : Place
 
 abbrev pub place_at : Place → Event → Place
 place_at p (Got (backend.Authentication authentication.CleartextPassword)) = Behind
 place_at p (Got (backend.Authentication (authentication.MD5Password salt))) = Behind
-place_at p (Got (backend.Authentication (authentication.SASL methods))) = AtFirst
-place_at p (Got (backend.Authentication (authentication.SASLContinue first))) = AtFinal first
+place_at p (Got (backend.Authentication (authentication.SASL methods))) = AtFirst methods
+place_at (AtFirst methods) (Got (backend.Authentication (authentication.SASLContinue first))) = AtFinal methods first
 place_at p (Got (backend.Authentication (authentication.SASLFinal final))) = Behind
 place_at p e = p
 
@@ -58,8 +59,8 @@ place_of es = fold place_at Before es
 abbrev pub refusal_at : Input → Place → Backend → Option ClientError
 refusal_at input p (backend.ErrorResponse e) = Some (client.RemoteError e)
 refusal_at input Before (backend.Authentication (authentication.SASL methods)) = methods_refusal input methods
-refusal_at input AtFirst (backend.Authentication (authentication.SASLContinue first)) = first_refusal (scram_login input) first
-refusal_at input (AtFinal first) (backend.Authentication (authentication.SASLFinal final)) = final_refusal (expected_of (scram_login input) first) final
+refusal_at input (AtFirst methods) (backend.Authentication (authentication.SASLContinue first)) = first_refusal (scram_login input methods) first
+refusal_at input (AtFinal methods first) (backend.Authentication (authentication.SASLFinal final)) = final_refusal (expected_of (scram_login input methods) first) final
 refusal_at input p m = None
 
 -- How far the bytes taken were read when m was refused, behind the events of some closed segments and of an open one:

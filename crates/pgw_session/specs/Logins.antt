@@ -1,5 +1,5 @@
 -- How a client logs in.
-use Rattle.std.specs.Prelude.{◌≡◌, ℕ, List, [], ◌∷◌, codes, Option, Some, None, unwrap_or}
+use Rattle.std.specs.Prelude.{◌≡◌, ℕ, Bool, true, false, ◌||◌, ◌&&◌, List, [], ◌∷◌, ◌++◌, codes, Option, Some, None, is_some, unwrap_or}
 use Rattle.std.specs.List.{list_any}
 use Rattle.std.specs.Str.{bytes_eq, is_utf8}
 use Rattle.pgw_wire.specs.Reading.{lossy}
@@ -13,9 +13,12 @@ use Rattle.pgw_backend.specs.declared.client_error.PgWireClientError.TheVariants
 use Rattle.pgw_backend.specs.declared.client_error.ScramFault.TheVariants as scram_fault
 use Rattle.pgw_hash.specs.Md5Password.{md5_password}
 use Rattle.pgw_hash.specs.Saslprep.{prepared}
+use Rattle.pgw_config.specs.declared.config.ChannelBinding.{ChannelBinding}
+use Rattle.pgw_config.specs.declared.config.ChannelBinding.TheVariants as channel_binding
+use Rattle.pgw_scram.specs.declared.binding.ClientBinding.{ClientBinding}
 use Rattle.pgw_scram.specs.declared.binding.ClientBinding.TheVariants as binding
 use Rattle.pgw_scram.specs.declared.exchange.ClientLogin.{ClientLogin}
-use Rattle.pgw_scram.specs.Base64.{nonce_text}
+use Rattle.pgw_scram.specs.Base64.{base64, nonce_text}
 use Rattle.pgw_scram.specs.Refusals as scram
 use Rattle.pgw_scram.specs.Answers.{unless_so, first_of}
 use Rattle.pgw_scram.specs.Refusals.{user_refusal}
@@ -46,22 +49,56 @@ cleartext_message input = password_message (lossy (password_of input))
 abbrev pub md5_message : Input → List ℕ → Frontend
 md5_message input salt = password_message (md5_password (user_of input) (lossy (password_of input)) salt)
 
--- who logs in by SCRAM: nothing is bound
-abbrev pub scram_login : Input → ClientLogin
-scram_login input = record { binding = binding.None; user = scram_user input; password = password_of input; nonce = nonce_text input.nonce }
+-- the server offers a method of this name
+abbrev pub offers : List ℕ → List (List ℕ) → Bool
+offers name methods = list_any (bytes_eq name) methods
+
+-- What a SCRAM login is bound to: to nothing where that is forbidden, or no hash of the server's certificate is given; to
+-- the hash where the server offers to bind; else to nothing, and the client says that this was not offered.
+abbrev pub binding_by : ChannelBinding → Option (List ℕ) → Bool → ClientBinding
+binding_by channel_binding.Disable hash binds = binding.None
+binding_by mode None binds = binding.None
+binding_by mode (Some hash) true = binding.EndPoint hash
+binding_by mode (Some hash) false = binding.NotOffered
+
+abbrev pub binding_of : Input → List (List ℕ) → ClientBinding
+binding_of input methods = binding_by (input.config).channel_binding (input.config).certificate_hash (offers (codes "SCRAM-SHA-256-PLUS") methods)
+
+-- A method is taken: the one that binds, where a hash is given and to bind is not forbidden; or the plain one, where to
+-- bind is not required.
+abbrev pub takes_by : ChannelBinding → Bool → Bool → Bool → Bool
+takes_by channel_binding.Disable has_hash binds plain = plain
+takes_by channel_binding.Prefer has_hash binds plain = (has_hash && binds) || plain
+takes_by channel_binding.Require has_hash binds plain = has_hash && binds
+
+abbrev pub takes_method : Input → List (List ℕ) → Bool
+takes_method input methods = takes_by (input.config).channel_binding (is_some (input.config).certificate_hash) (offers (codes "SCRAM-SHA-256-PLUS") methods) (offers (codes "SCRAM-SHA-256") methods)
+
+-- who logs in by SCRAM, where the server offers these methods
+abbrev pub scram_login : Input → List (List ℕ) → ClientLogin
+scram_login input methods = record { binding = binding_of input methods; user = scram_user input; password = password_of input; nonce = nonce_text input.nonce }
+
+-- the method that binds, where the login is bound
+abbrev pub method_of : ClientBinding → List ℕ
+method_of (binding.EndPoint hash) = codes "SCRAM-SHA-256-PLUS"
+method_of b = codes "SCRAM-SHA-256"
 
 abbrev pub first_message : ClientLogin → Frontend
-first_message login = frontend.PasswordMessageFamily (family.SASLInitialResponse (record { auth_method = codes "SCRAM-SHA-256"; payload = Some (client_first login) }))
+first_message login = frontend.PasswordMessageFamily (family.SASLInitialResponse (record { auth_method = method_of login.binding; payload = Some (client_first login) }))
 
 abbrev pub final_message : ClientLogin → List ℕ → Frontend
 final_message login first = frontend.PasswordMessageFamily (family.SASLResponse (record { payload = client_final login first }))
 
+-- client-final has the binding text of this hash, and this nonce (RFC 5802, section 7; RFC 5929, section 4)
+abbrev pub BindsTo : List ℕ → List ℕ → List ℕ → Type 0
+BindsTo hash nonce text = (proof : List ℕ) × (text ≡ codes "c=" ++ base64 (codes "p=tls-server-end-point,," ++ hash) ++ codes ",r=" ++ nonce ++ codes ",p=" ++ proof)
+
 -- ---- what of the server's is refused
 
--- a list of methods without SCRAM-SHA-256; or the password is not UTF-8; or the user name has no prepared form
+-- a list of methods of which none is taken; or the password is not UTF-8; or the user name has no prepared form
 abbrev pub methods_refusal : Input → List (List ℕ) → Option ClientError
 methods_refusal input methods =
-    first_of (unless_so (list_any (bytes_eq (codes "SCRAM-SHA-256")) methods) (client.UnsupportedSASLAuthMethods methods))
+    first_of (unless_so (takes_method input methods) (client.UnsupportedSASLAuthMethods methods))
     (first_of (unless_so (is_utf8 (password_of input)) (client.ScramError scram_fault.PasswordNotUtf8))
     (user_refusal (prepared (user_of input))))
 
@@ -90,11 +127,11 @@ login_events input Unasked = []
 login_events input Cleartext = Got (backend.Authentication authentication.CleartextPassword) ∷ Sent (cleartext_message input) ∷ []
 login_events input (Md5 salt) = Got (backend.Authentication (authentication.MD5Password salt)) ∷ Sent (md5_message input salt) ∷ []
 login_events input (Scram methods first final) =
-    Got (backend.Authentication (authentication.SASL methods)) ∷ Sent (first_message (scram_login input))
-    ∷ Got (backend.Authentication (authentication.SASLContinue first)) ∷ Sent (final_message (scram_login input) first)
+    Got (backend.Authentication (authentication.SASL methods)) ∷ Sent (first_message (scram_login input methods))
+    ∷ Got (backend.Authentication (authentication.SASLContinue first)) ∷ Sent (final_message (scram_login input methods) first)
     ∷ Got (backend.Authentication (authentication.SASLFinal final)) ∷ []
 
 -- nothing of the server's is refused
 abbrev pub IsAccepted : Input → Login → Type 0
-IsAccepted input (Scram methods first final) = (methods_refusal input methods ≡ None) × (first_refusal (scram_login input) first ≡ None) × (final_refusal (expected_of (scram_login input) first) final ≡ None)
+IsAccepted input (Scram methods first final) = (methods_refusal input methods ≡ None) × (first_refusal (scram_login input methods) first ≡ None) × (final_refusal (expected_of (scram_login input methods) first) final ≡ None)
 IsAccepted input login = Unit {0}

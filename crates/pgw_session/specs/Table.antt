@@ -39,7 +39,7 @@ unless (Some e) next = Refuses e
 abbrev pub by_login : Input → Backend → Next
 by_login input (backend.Authentication authentication.CleartextPassword) = Goes Admitted (Some (cleartext_message input))
 by_login input (backend.Authentication (authentication.MD5Password salt)) = Goes Admitted (Some (md5_message input salt))
-by_login input (backend.Authentication (authentication.SASL methods)) = unless (methods_refusal input methods) (Goes (Challenged (scram_login input)) (Some (first_message (scram_login input))))
+by_login input (backend.Authentication (authentication.SASL methods)) = unless (methods_refusal input methods) (Goes (Challenged (scram_login input methods)) (Some (first_message (scram_login input methods))))
 by_login input m = by_welcome m
 
 -- within a SCRAM login

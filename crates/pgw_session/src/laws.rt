@@ -1,5 +1,5 @@
 //! What holds of sessions.
-ghost use Rattle.std.specs.Prelude.{◌≡◌, ◌≤◌, ℕ, List, [], ◌∷◌, ◌++◌, length, Option, Some, None, Err};
+ghost use Rattle.std.specs.Prelude.{◌≡◌, ◌≢◌, ◌≤◌, ℕ, true, List, [], ◌∷◌, ◌++◌, length, codes, Option, Some, None, Ok, Err};
 ghost use Rattle.std.specs.FinMap as map;
 ghost use Rattle.pgw_types.specs.declared.context.ProtocolVersion.{ProtocolVersion as TheVersion};
 ghost use Rattle.pgw_types.specs.declared.error.PgWireError.{PgWireError as TheRefusal};
@@ -25,7 +25,12 @@ ghost use Rattle.pgw_session.specs.Answers.{tally_of, first_error};
 ghost use Rattle.pgw_session.specs.Transcript.{AreSegments, IsTranscript, IsLegalPrefix, SpellsGot, EncodesSent, Completed, Completes, report_of};
 ghost use Rattle.pgw_session.specs.Failures.{HasNoPlace, Unreadable, FailsAtStartup, Unsendable, WaitsAt, IsHopeless, IsUnfinished, EndsAs, Told};
 ghost use Rattle.pgw_session.specs.Faults.{IsByteFault, IsDueFault, IsStartupError};
-ghost use Rattle.pgw_session.specs.Logins.{md5_message};
+ghost use Rattle.pgw_config.specs.declared.config.ChannelBinding.TheVariants as channel_binding;
+ghost use Rattle.pgw_scram.specs.declared.messages.ServerFirst.{ServerFirst as TheFirst};
+ghost use Rattle.pgw_scram.specs.Base64.{salt_of};
+ghost use Rattle.pgw_scram.specs.Exchange.{client_final};
+ghost use Rattle.pgw_scram.specs.Readers.{read_server_first};
+ghost use Rattle.pgw_session.specs.Logins.{md5_message, offers, scram_login, BindsTo};
 ghost use Rattle.pgw_session.specs.Demands.{refused_config};
 ghost use Rattle.pgw_session.specs.Valid.{IsValidInput, IsLoginValid, CanLogIn};
 ghost use Rattle.pgw_course.specs.Course.{Waits, Over, onto, seen, sent_of};
@@ -140,4 +145,13 @@ pub fn the_first_error_is_kept()
 /// What a client notes of the bytes is a view of their conversation.
 pub fn notes_tell_the_conversation()
     ensures { (input : TheInput) (bytes : List ℕ) → noted_of input bytes ≡ seen (view input) (ended (view input)) (conversation input bytes) }
+{}
+
+/// Where a hash of the server's certificate is given, to bind is not forbidden and the server offers it, the client's last
+/// message of a SCRAM login has the binding text of that hash.
+pub fn a_bound_login_is_bound_to_the_clients_own_hash()
+    ensures { (input : TheInput) (methods : List (List ℕ)) (hash first salt : List ℕ) (parts : TheFirst) →
+        (input.config).certificate_hash ≡ Some hash → (input.config).channel_binding ≢ channel_binding.Disable →
+        offers (codes "SCRAM-SHA-256-PLUS") methods ≡ true → read_server_first first ≡ Ok parts → salt_of parts.salt ≡ Some salt →
+        BindsTo hash parts.nonce (client_final (scram_login input methods) first) }
 {}

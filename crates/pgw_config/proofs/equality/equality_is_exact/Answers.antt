@@ -63,6 +63,6 @@ returns-clause-load_balance_hosts c x y = (λ e. absurd cc, λ e. absurd cc)
 
 pub returns-clause-config : goal.returns-clause-config
 returns-clause-config c = made_exact {Y = Config}
-    (λ x. (x.user, (x.password, (x.dbname, (x.options, (x.application_name, (x.ssl_mode, (x.ssl_negotiation, (x.host, (x.hostaddr, (x.port, (x.connect_timeout, (x.tcp_user_timeout, (x.keepalives, (x.keepalives_idle, (x.keepalives_interval, (x.keepalives_retries, (x.target_session_attrs, (x.channel_binding, (x.load_balance_hosts, x.protocol_version))))))))))))))))))))
-    (λ p. record { user = p.0; password = p.1.0; dbname = p.1.1.0; options = p.1.1.1.0; application_name = p.1.1.1.1.0; ssl_mode = p.1.1.1.1.1.0; ssl_negotiation = p.1.1.1.1.1.1.0; host = p.1.1.1.1.1.1.1.0; hostaddr = p.1.1.1.1.1.1.1.1.0; port = p.1.1.1.1.1.1.1.1.1.0; connect_timeout = p.1.1.1.1.1.1.1.1.1.1.0; tcp_user_timeout = p.1.1.1.1.1.1.1.1.1.1.1.0; keepalives = p.1.1.1.1.1.1.1.1.1.1.1.1.0; keepalives_idle = p.1.1.1.1.1.1.1.1.1.1.1.1.1.0; keepalives_interval = p.1.1.1.1.1.1.1.1.1.1.1.1.1.1.0; keepalives_retries = p.1.1.1.1.1.1.1.1.1.1.1.1.1.1.1.0; target_session_attrs = p.1.1.1.1.1.1.1.1.1.1.1.1.1.1.1.1.0; channel_binding = p.1.1.1.1.1.1.1.1.1.1.1.1.1.1.1.1.1.0; load_balance_hosts = p.1.1.1.1.1.1.1.1.1.1.1.1.1.1.1.1.1.1.0; protocol_version = p.1.1.1.1.1.1.1.1.1.1.1.1.1.1.1.1.1.1.1 }) (λ x. refl) _
-    (both_exact _ _ (option_exact _ bytes_decides) (both_exact _ _ (option_exact _ bytes_decides) (both_exact _ _ (option_exact _ bytes_decides) (both_exact _ _ (option_exact _ bytes_decides) (both_exact _ _ (option_exact _ bytes_decides) (both_exact _ _ (returns-clause-ssl_mode c) (both_exact _ _ (returns-clause-ssl_negotiation c) (both_exact _ _ (pointwise_decides (returns-clause-host c)) (both_exact _ _ (pointwise_decides (returns-clause-host_addr c)) (both_exact _ _ bytes_decides (both_exact _ _ (option_exact _ Decides-eqb) (both_exact _ _ (option_exact _ Decides-eqb) (both_exact _ _ bool_exact (both_exact _ _ Decides-eqb (both_exact _ _ (option_exact _ Decides-eqb) (both_exact _ _ (option_exact _ Decides-eqb) (both_exact _ _ (returns-clause-target_session_attrs c) (both_exact _ _ (returns-clause-channel_binding c) (both_exact _ _ (returns-clause-load_balance_hosts c) c.equality_is_exact.ensures.protocol_version)))))))))))))))))))
+    (λ x. (x.user, (x.password, (x.dbname, (x.options, (x.application_name, (x.ssl_mode, (x.ssl_negotiation, (x.host, (x.hostaddr, (x.port, (x.connect_timeout, (x.tcp_user_timeout, (x.keepalives, (x.keepalives_idle, (x.keepalives_interval, (x.keepalives_retries, (x.target_session_attrs, (x.channel_binding, (x.certificate_hash, (x.load_balance_hosts, x.protocol_version)))))))))))))))))))))
+    (λ p. record { user = p.0; password = p.1.0; dbname = p.1.1.0; options = p.1.1.1.0; application_name = p.1.1.1.1.0; ssl_mode = p.1.1.1.1.1.0; ssl_negotiation = p.1.1.1.1.1.1.0; host = p.1.1.1.1.1.1.1.0; hostaddr = p.1.1.1.1.1.1.1.1.0; port = p.1.1.1.1.1.1.1.1.1.0; connect_timeout = p.1.1.1.1.1.1.1.1.1.1.0; tcp_user_timeout = p.1.1.1.1.1.1.1.1.1.1.1.0; keepalives = p.1.1.1.1.1.1.1.1.1.1.1.1.0; keepalives_idle = p.1.1.1.1.1.1.1.1.1.1.1.1.1.0; keepalives_interval = p.1.1.1.1.1.1.1.1.1.1.1.1.1.1.0; keepalives_retries = p.1.1.1.1.1.1.1.1.1.1.1.1.1.1.1.0; target_session_attrs = p.1.1.1.1.1.1.1.1.1.1.1.1.1.1.1.1.0; channel_binding = p.1.1.1.1.1.1.1.1.1.1.1.1.1.1.1.1.1.0; certificate_hash = p.1.1.1.1.1.1.1.1.1.1.1.1.1.1.1.1.1.1.0; load_balance_hosts = p.1.1.1.1.1.1.1.1.1.1.1.1.1.1.1.1.1.1.1.0; protocol_version = p.1.1.1.1.1.1.1.1.1.1.1.1.1.1.1.1.1.1.1.1 }) (λ x. refl) _
+    (both_exact _ _ (option_exact _ bytes_decides) (both_exact _ _ (option_exact _ bytes_decides) (both_exact _ _ (option_exact _ bytes_decides) (both_exact _ _ (option_exact _ bytes_decides) (both_exact _ _ (option_exact _ bytes_decides) (both_exact _ _ (returns-clause-ssl_mode c) (both_exact _ _ (returns-clause-ssl_negotiation c) (both_exact _ _ (pointwise_decides (returns-clause-host c)) (both_exact _ _ (pointwise_decides (returns-clause-host_addr c)) (both_exact _ _ bytes_decides (both_exact _ _ (option_exact _ Decides-eqb) (both_exact _ _ (option_exact _ Decides-eqb) (both_exact _ _ bool_exact (both_exact _ _ Decides-eqb (both_exact _ _ (option_exact _ Decides-eqb) (both_exact _ _ (option_exact _ Decides-eqb) (both_exact _ _ (returns-clause-target_session_attrs c) (both_exact _ _ (returns-clause-channel_binding c) (both_exact _ _ (option_exact _ bytes_decides) (both_exact _ _ (returns-clause-load_balance_hosts c) c.equality_is_exact.ensures.protocol_version))))))))))))))))))))
