@@ -134,7 +134,7 @@ starting_lands : (input : Input) (a : Authentication) → Lands (table input Sta
 starting_lands input authentication.Ok = tt
 starting_lands input authentication.CleartextPassword = tt
 starting_lands input (authentication.MD5Password salt) = tt
-starting_lands input (authentication.SASL methods) = unless_lands (methods_refusal input methods) (Goes (Challenged (scram_login input)) (Some (first_message (scram_login input)))) tt
+starting_lands input (authentication.SASL methods) = unless_lands (methods_refusal input methods) (Goes (Challenged (scram_login input methods)) (Some (first_message (scram_login input methods)))) tt
 starting_lands input a = tt
 
 first_lands : (login : ClientLogin) (a : Authentication) → Lands (by_first login (backend.Authentication a))
