@@ -149,7 +149,7 @@ other_kind kind.Close rows p q r e = absurd cc
 
 other_stage : (s : Stage) → ((k : Kind) (rows : Bool) → s ≡ Answering k rows → ⊥) → (s ≡ PassingOver → ⊥) → Stays any_input any_row s → ⊥
 other_stage Starting p q e = absurd cc
-other_stage Challenged p q e = absurd cc
+other_stage (Challenged login) p q e = absurd cc
 other_stage (Proving x) p q e = absurd cc
 other_stage Admitted p q e = absurd cc
 other_stage (Answering k rows) p q e = p k rows refl

@@ -351,45 +351,45 @@ fn client_refusals(rt: HostRuntime) -> Result<(), Fail> {
 }
 
 /// What a client binds, its first message, and its last to an offer. The proofs were computed with Python's hashlib.
-const BINDINGS: &[(Bound, &str, &str)] = &[
+const BINDINGS: &[(Kind, &str, &str)] = &[
     (
-        Bound::None,
+        Kind::None,
         "n,,n=bob,r=AAAAAAAAAAAAAAAAAAAAAAAA",
         "c=biws,r=AAAAAAAAAAAAAAAAAAAAAAAA,p=LV1AtPPgg62lH/kNXEPi8jPYzFxxz12IlnvNtrL7KgY=",
     ),
     (
-        Bound::NotOffered,
+        Kind::NotOffered,
         "y,,n=bob,r=AAAAAAAAAAAAAAAAAAAAAAAA",
         "c=eSws,r=AAAAAAAAAAAAAAAAAAAAAAAA,p=0pCI1f2gy8p88o7iU6Xu+0y/ePdBpimN3Nrde9s5P4Y=",
     ),
     (
-        Bound::EndPoint,
+        Kind::EndPoint,
         "p=tls-server-end-point,,n=bob,r=AAAAAAAAAAAAAAAAAAAAAAAA",
         "c=cD10bHMtc2VydmVyLWVuZC1wb2ludCwsAAEC,r=AAAAAAAAAAAAAAAAAAAAAAAA,p=F1CGZoTYF96EWYquCEViaXHFeTQ7zsrsuVQWsqsuOy0=",
     ),
 ];
 
 #[derive(Clone, Copy, Drop)]
-enum Bound {
+enum Kind {
     None,
     NotOffered,
     EndPoint,
 }
 
-fn binding(alloc: Global, bound: Bound) -> Result<ClientBinding, OutOfMemory> {
-    match bound {
-        Bound::None => Ok(ClientBinding::None),
-        Bound::NotOffered => Ok(ClientBinding::NotOffered),
-        Bound::EndPoint => Ok(ClientBinding::EndPoint(Octets::from_slice(alloc, &[0, 1, 2])?)),
+fn binding(alloc: Global, kind: Kind) -> Result<ClientBinding, OutOfMemory> {
+    match kind {
+        Kind::None => Ok(ClientBinding::None),
+        Kind::NotOffered => Ok(ClientBinding::NotOffered),
+        Kind::EndPoint => Ok(ClientBinding::EndPoint(Octets::from_slice(alloc, &[0, 1, 2])?)),
     }
 }
 
 // A client that has begun, with its first message.
 fn begun_with(
     alloc: Global,
-    bound: Bound,
+    kind: Kind,
 ) -> PgWireClientResult<(Text, ScramClientAuthWaitingForServerFirst)> {
-    let binding = binding(alloc, bound)?;
+    let binding = binding(alloc, kind)?;
     let copy = binding.duplicate();
     drop(binding);
     let user = Text::from_str(alloc, "bob")?;
@@ -402,9 +402,9 @@ fn begun_with(
 
 fn ended_with(
     alloc: Global,
-    bound: Bound,
+    kind: Kind,
 ) -> PgWireClientResult<(Text, ScramClientAuthWaitingForServerFinal)> {
-    let begun = begun_with(alloc, bound)?;
+    let begun = begun_with(alloc, kind)?;
     let offer = b"r=AAAAAAAAAAAAAAAAAAAAAAAA,s=YmFy,i=1";
     let ended = begun.1.build_client_final(alloc, offer);
     drop(begun);
@@ -413,9 +413,9 @@ fn ended_with(
 
 #[test]
 fn client_bindings(rt: HostRuntime) -> Result<(), Fail> {
-    for (bound, first, last) in BINDINGS {
-        same(sent(rt.alloc(), begun_with(rt.alloc(), *bound)), first)?;
-        same(sent(rt.alloc(), ended_with(rt.alloc(), *bound)), last)?;
+    for (kind, first, last) in BINDINGS {
+        same(sent(rt.alloc(), begun_with(rt.alloc(), *kind)), first)?;
+        same(sent(rt.alloc(), ended_with(rt.alloc(), *kind)), last)?;
     }
     Ok(())
 }
