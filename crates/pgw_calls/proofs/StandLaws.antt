@@ -6,6 +6,7 @@ use Rattle.pgw_backend.specs.declared.backend.PgWireBackendMessage.{PgWireBacken
 use Rattle.pgw_backend.specs.declared.backend.PgWireBackendMessage.TheVariants as backend
 use Rattle.pgw_backend.specs.declared.client_error.PgWireClientError.{PgWireClientError as ClientError}
 use Rattle.pgw_backend.specs.declared.client_error.PgWireClientError.TheVariants as client
+use Rattle.pgw_backend.specs.Front.{Front, More, Bad}
 use Rattle.pgw_frontend.specs.Frontend.{encodings, both}
 use Rattle.pgw_query.specs.declared.response.ReadyForQuery.{ReadyForQuery}
 use Rattle.pgw_config.specs.declared.config.Config.{Config}
@@ -16,6 +17,7 @@ use Rattle.pgw_session.specs.declared.standing.Standing.{Standing}
 use Rattle.pgw_session.specs.Input.{Input}
 use Rattle.pgw_session.specs.Events.{Event, Sent, Got, sents, joined}
 use Rattle.pgw_session.specs.Standings.{first_standing, standing_at, standing_by, standing_of}
+use Rattle.pgw_session.specs.Requests.{kind_of, passes_over}
 use Rattle.pgw_session.specs.Logins.{login_events}
 use Rattle.pgw_session.specs.Segments.{IsStartupSegment, startup_message}
 use Rattle.pgw_session.specs.Transcript.{AreSegments, SpellsGot, EncodesSent}
@@ -23,13 +25,13 @@ use Rattle.pgw_session.proofs.Grammar.{startup_same}
 use Rattle.pgw_session.proofs.Hears.{sents_append}
 use Rattle.pgw_session.proofs.Events.{encodings_append}
 use Rattle.pgw_handlers.specs.Client.{Client}
-use Rattle.pgw_calls.specs.Turns.{knowing, standing_of_client, Exchanged, Does, IsAnswered}
+use Rattle.pgw_calls.specs.Turns.{knowing, standing_of_client, Exchanged, Does, IsAnswered, IsFrontOf, IsOpenFor, Opened}
 use Rattle.pgw_handlers.specs.declared.client_info.ServerInformation.{ServerInformation}
 use Rattle.pgw_calls.specs.Startup.{LoggedIn}
 use Rattle.pgw_connection.specs.Desk.{with_information}
 use Rattle.pgw_connection.specs.Line.{Reasons}
-use Rattle.pgw_calls.specs.Calls.{Comes}
-use Rattle.pgw_calls.specs.Stands.{login, Made, made, IsMade, AreMade, events_of, Stands, OneMore, StandsBehind, requests_of, segments_of, AreAnswered, IsSession}
+use Rattle.pgw_calls.specs.Calls.{Breaks, Comes, Misplaces, Stops}
+use Rattle.pgw_calls.specs.Stands.{login, Made, made, IsMade, AreMade, events_of, Stands, OneMore, StandsCut, MisplacedBehind, BrokenBehind, StandsBehind, requests_of, segments_of, AreAnswered, IsSession}
 
 -- ---- exchanges, one behind the other
 
@@ -105,21 +107,40 @@ are_more : (ts : List Made) (t : Made) → AreMade ts → IsMade t → AreMade (
 are_more [] t are is = (is, tt)
 are_more (x ∷ ts) t are is = (are.0, are_more ts t are.1 is)
 
-one_more : (config : Config) (nonce : List ℕ) (ts : List Made) (q : Request) (read wrote more out : List ℕ) (c info : Client) (buffer rest : List ℕ) (es : List Event) → Stands config nonce ts read wrote c buffer → IsMade (made q es) →
-    Exchanged c.config (standing_of_client c) (buffer ++ more) out es info rest → Stands config nonce (ts ++ made q es ∷ []) (read ++ more) (wrote ++ out) info rest
-one_more config nonce ts q read wrote more out c info buffer rest es s is x =
+-- what is exchanged behind requests is exchanged from the login on
+exchanged_behind : (config : Config) (nonce : List ℕ) (ts : List Made) (read wrote more out : List ℕ) (c info : Client) (buffer rest : List ℕ) (es : List Event) (s : Stands config nonce ts read wrote c buffer) →
+    Exchanged c.config (standing_of_client c) (buffer ++ more) out es info rest → Exchanged config (first_standing config) (read ++ more) (wrote ++ out) (s.startup ++ (events_of ts ++ es)) info rest
+exchanged_behind config nonce ts read wrote more out c info buffer rest es s x =
     let said = s.startup ++ events_of ts in
     let told = fold standing_at (first_standing config) said in
     let knows : c ≡ knowing config told = s.exchanged.knows in
     let stands : standing_of_client c ≡ told = standing_is config told c knows (settled_startup (login config nonce) (first_standing config) s.startup (events_of ts) s.begins) in
     let y : Exchanged config told (buffer ++ more) out es info rest = subst (λ (r : Standing). Exchanged config r (buffer ++ more) out es info rest) stands (subst (λ (k : Config). Exchanged k (standing_of_client c) (buffer ++ more) out es info rest) (config_is config told c knows) x) in
+    subst (λ (l : List Event). Exchanged config (first_standing config) (read ++ more) (wrote ++ out) l info rest) (append_assoc s.startup (events_of ts) es)
+    (exchanged_append config (first_standing config) read wrote more out said es c info buffer rest s.exchanged y)
+
+one_more : (config : Config) (nonce : List ℕ) (ts : List Made) (q : Request) (read wrote more out : List ℕ) (c info : Client) (buffer rest : List ℕ) (es : List Event) → Stands config nonce ts read wrote c buffer → IsMade (made q es) →
+    Exchanged c.config (standing_of_client c) (buffer ++ more) out es info rest → Stands config nonce (ts ++ made q es ∷ []) (read ++ more) (wrote ++ out) info rest
+one_more config nonce ts q read wrote more out c info buffer rest es s is x =
     record {
       startup = s.startup;
       begins = s.begins;
       are = are_more ts (made q es) s.are is;
-      exchanged = subst (λ (l : List Event). Exchanged config (first_standing config) (read ++ more) (wrote ++ out) l info rest) (append_assoc s.startup (events_of ts) es ∙ ap (λ (l : List Event). s.startup ++ l) (sym (events_more ts (made q es))))
-          (exchanged_append config (first_standing config) read wrote more out said es c info buffer rest s.exchanged y);
+      exchanged = subst (λ (l : List Event). Exchanged config (first_standing config) (read ++ more) (wrote ++ out) l info rest) (ap (λ (l : List Event). s.startup ++ l) (sym (events_more ts (made q es))))
+          (exchanged_behind config nonce ts read wrote more out c info buffer rest es s x);
     }
+
+-- a front of one request more
+one_cut : (config : Config) (nonce : List ℕ) (ts : List Made) (read wrote more out : List ℕ) (c info : Client) (buffer rest : List ℕ) (property : List Event → Type 0) → Stands config nonce ts read wrote c buffer →
+    Does property c (buffer ++ more) out info rest → StandsCut config nonce ts property (read ++ more) (wrote ++ out) info rest
+one_cut config nonce ts read wrote more out c info buffer rest property s x = record {
+  startup = s.startup;
+  begins = s.begins;
+  are = s.are;
+  events = x.0;
+  front = x.1;
+  exchanged = exchanged_behind config nonce ts read wrote more out c info buffer rest x.0 s x.2;
+}
 
 -- more bytes alone
 pub stands_more : (config : Config) (nonce : List ℕ) (ts : List Made) (read wrote more : List ℕ) (c : Client) (buffer : List ℕ) → Stands config nonce ts read wrote c buffer → Stands config nonce ts (read ++ more) wrote c (buffer ++ more)
@@ -134,8 +155,38 @@ module _ {A : Type 0} (give : A → Answer) (P : Reasons) (config : Config) (non
   answered_behind : (a : Answer) → Does (IsAnswered q a) c (buffer ++ more) out info rest → OneMore config nonce ts q (IsAnswered q a) (read ++ more) (wrote ++ out) info rest
   answered_behind a x = (x.0, x.1, one_more config nonce ts q read wrote more out c info buffer rest x.0 s (inl (x.1).0) x.2)
 
+  cut_here : (property : List Event → Type 0) → Does property c (buffer ++ more) out info rest → StandsCut config nonce ts property (read ++ more) (wrote ++ out) info rest
+  cut_here property x = one_cut config nonce ts read wrote more out c info buffer rest property s x
+
+  stopped : (e : ClientError) (next : Front) → Stops q c (buffer ++ more) out e info rest next → StandsCut config nonce ts (IsFrontOf q e) (read ++ more) (wrote ++ out) info rest
+  stopped e next x = cut_here (IsFrontOf q e) x.0
+
+  unwritten : (lost : List ℕ) (e : ClientError) → Does (IsFrontOf q e) c (buffer ++ more) (out ++ lost) info rest → StandsCut config nonce ts (IsFrontOf q e) (read ++ more) ((wrote ++ out) ++ lost) info rest
+  unwritten lost e x =
+      subst (λ (w : List ℕ). StandsCut config nonce ts (IsFrontOf q e) (read ++ more) w info rest) (sym (append_assoc wrote out lost))
+      (one_cut config nonce ts read wrote more (out ++ lost) c info buffer rest (IsFrontOf q e) s x)
+
+  none_lost : (e : ClientError) → StandsCut config nonce ts (IsFrontOf q e) (read ++ more) (wrote ++ out) info rest → StandsCut config nonce ts (IsFrontOf q e) (read ++ more) ((wrote ++ out) ++ []) info rest
+  none_lost e x = subst (λ (w : List ℕ). StandsCut config nonce ts (IsFrontOf q e) (read ++ more) w info rest) (sym (append-nil (wrote ++ out))) x
+
+  misplaced_behind : (m : Backend) (b : Bool) → Misplaces b P q c (buffer ++ more) out m info rest → MisplacedBehind b config nonce ts q (read ++ more) (wrote ++ out) info rest m
+  misplaced_behind m true (why, x) = stopped (client.UnexpectedMessage m) More x
+  misplaced_behind m false (left, x, next) = (left, one_cut config nonce ts read wrote more out c info buffer left (Opened q (IsOpenFor (kind_of q) false m)) s x, next)
+
+  broken_behind : (e : ClientError) → Breaks {A = A} P q c (buffer ++ more) out info rest (Err e) → BrokenBehind config nonce ts q (read ++ more) (wrote ++ out) info rest e
+  broken_behind client.OutOfMemory x = tt
+  broken_behind client.IoError (inl (why, e, x)) = ([], e, none_lost e (stopped e More x))
+  broken_behind client.IoError (inr (lost, why, e, x)) = (lost, e, unwritten lost e x)
+  broken_behind client.ReadLimit (why, e, x) = (e, stopped e More x)
+  broken_behind (client.PgWireError why) (e, x) = (e, stopped e (Bad why) x)
+  broken_behind client.UnexpectedEOF (why, x) = stopped client.UnexpectedEOF More x
+  broken_behind (client.RemoteError e) (why, x) = stopped (client.RemoteError e) More x
+  broken_behind (client.UnexpectedMessage m) x = misplaced_behind m (passes_over (kind_of q)) x
+  broken_behind e x = absurd x
+
   pub stands_behind : (result : Result A ClientError) (broken : Bool) → Comes give P q c (buffer ++ more) out info rest result broken → StandsBehind give config nonce ts q (read ++ more) (wrote ++ out) info rest result broken
-  stands_behind result true x = tt
+  stands_behind (Ok v) true x = absurd x
+  stands_behind (Err e) true x = broken_behind e x
   stands_behind (Ok v) false x = answered_behind (give v) x
   stands_behind (Err (client.RemoteError e)) false x = answered_behind (answer.Remote e) x
   stands_behind (Err (client.UnexpectedMessage m)) false x = (x.0, x.1, one_more config nonce ts q read wrote more out c info buffer rest x.0 s (inr (m, x.1)) x.2)

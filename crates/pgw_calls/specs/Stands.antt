@@ -10,10 +10,12 @@ use Rattle.pgw_session.specs.declared.types.Answer.TheVariants as answer
 use Rattle.pgw_session.specs.Input.{Input}
 use Rattle.pgw_session.specs.Events.{Event, joined}
 use Rattle.pgw_session.specs.Standings.{first_standing, standing_of}
+use Rattle.pgw_session.specs.Requests.{kind_of, passes_over}
 use Rattle.pgw_session.specs.Segments.{IsStartupSegment, IsRequestSegment}
 use Rattle.pgw_session.specs.Transcript.{IsTranscript, SpellsGot, EncodesSent}
 use Rattle.pgw_handlers.specs.Client.{Client}
-use Rattle.pgw_calls.specs.Turns.{knowing, Exchanged, IsAnswered, IsPassedSegment}
+use Rattle.pgw_connection.specs.Talk.{Next}
+use Rattle.pgw_calls.specs.Turns.{knowing, Exchanged, IsAnswered, IsPassedSegment, IsFrontOf, IsOpenFor, Opened}
 
 -- what a client logs in with
 abbrev pub login : Config → List ℕ → Input
@@ -51,10 +53,39 @@ pub record Stands (config : Config) (nonce : List ℕ) (ts : List Made) (read wr
 abbrev pub OneMore : Config → List ℕ → List Made → Request → (List Event → Type 0) → List ℕ → List ℕ → Client → List ℕ → Type 0
 OneMore config nonce ts q property read wrote c buffer = (es : List Event) × property es × Stands config nonce (ts ++ made q es ∷ []) read wrote c buffer
 
+-- A login and these requests were made, and behind them these events of one request more.
+pub record StandsCut (config : Config) (nonce : List ℕ) (ts : List Made) (property : List Event → Type 0) (read wrote : List ℕ) (c : Client) (buffer : List ℕ) : Type 0 where
+  pub startup : List Event
+  pub begins : IsStartupSegment (login config nonce) startup
+  pub are : AreMade ts
+  pub events : List Event
+  pub front : property events
+  pub exchanged : Exchanged config (first_standing config) read wrote (startup ++ (events_of ts ++ events)) c buffer
+
+-- a message has no place: where others are passed over behind it, it was taken; else it is next
+abbrev pub MisplacedBehind : Bool → Config → List ℕ → List Made → Request → List ℕ → List ℕ → Client → List ℕ → Backend → Type 0
+MisplacedBehind true config nonce ts q read wrote c buffer m = StandsCut config nonce ts (IsFrontOf q (client.UnexpectedMessage m)) read wrote c buffer
+MisplacedBehind false config nonce ts q read wrote c buffer m =
+    (left : List ℕ) × StandsCut config nonce ts (Opened q (IsOpenFor (kind_of q) false m)) read wrote c left × Next c left m buffer
+
+-- What a client stands for that a call's error left unusable: the requests made before, and a front of this one's segment.
+-- After IoError some of what is due in it may not be written. Of want of memory nothing is told.
+abbrev pub BrokenBehind : Config → List ℕ → List Made → Request → List ℕ → List ℕ → Client → List ℕ → ClientError → Type 0
+BrokenBehind config nonce ts q read wrote c buffer client.OutOfMemory = Unit {0}
+BrokenBehind config nonce ts q read wrote c buffer client.IoError =
+    (lost : List ℕ) × (e : ClientError) × StandsCut config nonce ts (IsFrontOf q e) read (wrote ++ lost) c buffer
+BrokenBehind config nonce ts q read wrote c buffer client.ReadLimit = (e : ClientError) × StandsCut config nonce ts (IsFrontOf q e) read wrote c buffer
+BrokenBehind config nonce ts q read wrote c buffer (client.PgWireError why) = (e : ClientError) × StandsCut config nonce ts (IsFrontOf q e) read wrote c buffer
+BrokenBehind config nonce ts q read wrote c buffer client.UnexpectedEOF = StandsCut config nonce ts (IsFrontOf q client.UnexpectedEOF) read wrote c buffer
+BrokenBehind config nonce ts q read wrote c buffer (client.RemoteError e) = StandsCut config nonce ts (IsFrontOf q (client.RemoteError e)) read wrote c buffer
+BrokenBehind config nonce ts q read wrote c buffer (client.UnexpectedMessage m) = MisplacedBehind (passes_over (kind_of q)) config nonce ts q read wrote c buffer m
+BrokenBehind config nonce ts q read wrote c buffer e = ⊥
+
 -- What a client stands for behind a call: one request more, answered by its own segment, or none where it has no
--- encoding; and nothing where it cannot be used any more.
+-- encoding; or a front of one more, where it cannot be used any more.
 abbrev pub StandsBehind : {A : Type 0} → (A → Answer) → Config → List ℕ → List Made → Request → List ℕ → List ℕ → Client → List ℕ → Result A ClientError → Bool → Type 0
-StandsBehind give config nonce ts q read wrote c buffer result true = Unit {0}
+StandsBehind give config nonce ts q read wrote c buffer (Ok x) true = ⊥
+StandsBehind give config nonce ts q read wrote c buffer (Err e) true = BrokenBehind config nonce ts q read wrote c buffer e
 StandsBehind give config nonce ts q read wrote c buffer (Ok x) false = OneMore config nonce ts q (IsAnswered q (give x)) read wrote c buffer
 StandsBehind give config nonce ts q read wrote c buffer (Err (client.RemoteError e)) false = OneMore config nonce ts q (IsAnswered q (answer.Remote e)) read wrote c buffer
 StandsBehind give config nonce ts q read wrote c buffer (Err (client.UnexpectedMessage m)) false = OneMore config nonce ts q (IsPassedSegment q m) read wrote c buffer
