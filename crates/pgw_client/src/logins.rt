@@ -113,7 +113,10 @@ fn offers_scram(methods: &Listed<Text>) -> bool
 fn offers_binding(methods: &Listed<Text>) -> bool
     ensures { result ≡ offers (codes "SCRAM-SHA-256-PLUS") methods.now }
 {
-    methods.as_slice().iter().any(|method| is_bound_scram(method))
+    methods
+        .as_slice()
+        .iter()
+        .any(|method| is_bound_scram(method))
 }
 
 /// Whether one of the methods is taken.
@@ -129,10 +132,7 @@ pub fn takes_method(input: &Input<'_>, methods: &Listed<Text>) -> bool
 }
 
 // What a login by one of the methods is bound to.
-fn binding_of(
-    input: &Input<'_>,
-    methods: &Listed<Text>,
-) -> Result<ClientBinding, OutOfMemory>
+fn binding_of(input: &Input<'_>, methods: &Listed<Text>) -> Result<ClientBinding, OutOfMemory>
     ensures { IfOk result (λ binding. binding ≡ binding_of (input_of input.now) methods.now) }
 {
     let Some(hash) = &input.config.certificate_hash else {

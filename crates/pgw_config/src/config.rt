@@ -244,9 +244,7 @@ impl Config {
 
 // The texts and the lists of a configuration, each copied.
 impl Config {
-    fn duplicate_login(
-        &self,
-    ) -> Result<(Option<Text>, Option<Octets>, Option<Octets>), OutOfMemory>
+    fn duplicate_login(&self) -> Result<(Option<Text>, Option<Octets>, Option<Octets>), OutOfMemory>
         ensures { IfOk result (λ r. r ≡ (self.now.user, self.now.password, self.now.certificate_hash)) }
     {
         let user = self.user.duplicate()?;
