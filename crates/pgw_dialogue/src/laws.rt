@@ -36,18 +36,14 @@ pub fn cuts_do_not_matter()
 /// and all of them where it met the link's end: where no call of the link failed and memory sufficed they write the same,
 /// and answer the same. So it is of the bytes that the session took from a socket, and of all that a link in memory has.
 pub fn dialogues_are_sessions()
-    ensures sent {
-        (input : TheInput) (limit : ℕ) (old new : TheTape) (result : Result TheReport ClientError) →
+    ensures sent { (input : TheInput) (limit : ℕ) (old new : TheTape) (result : Result TheReport ClientError) →
         (d : TheDialogue) (given put : List ℕ) (left : Option (List ℕ)) → Session input limit old new result →
         Foreseen (Some given) left old new → Ends left old new →
         (IsErrOf result client.IoError → ⊥) → (IsErrOf result client.OutOfMemory → ⊥) →
-        Stands input limit d given put → (IsStarved d → ⊥) → new.wrote ≡ old.wrote ++ put
-    }
-    ensures answered {
-        (input : TheInput) (limit : ℕ) (old new : TheTape) (result : Result TheReport ClientError) →
+        Stands input limit d given put → (IsStarved d → ⊥) → new.wrote ≡ old.wrote ++ put }
+    ensures answered { (input : TheInput) (limit : ℕ) (old new : TheTape) (result : Result TheReport ClientError) →
         (d : TheDialogue) (given put : List ℕ) (left : Option (List ℕ)) → Session input limit old new result →
         Foreseen (Some given) left old new → Ends left old new →
         (IsErrOf result client.IoError → ⊥) → (IsErrOf result client.OutOfMemory → ⊥) →
-        Stands input limit d given put → (IsStarved d → ⊥) → Agrees input limit d given result
-    }
+        Stands input limit d given put → (IsStarved d → ⊥) → Agrees input limit d given result }
 {}

@@ -20,10 +20,8 @@ pub fn ask<L: Link>(
     // IoError comes only where a call of the link failed.
     ensures cause { IoHasCause (L.faults link.old) (L.faults link.new) result }
     // The report is that of a completed session with this query, under the configuration that the text gives.
-    ensures asked {
-        IfOk result (λ report. MovedBy (L.tape link.old) (L.tape link.new)
-            (λ taken sent. Asked text.now sql.now nonce.now taken sent report))
-    }
+    ensures asked { IfOk result (λ report. MovedBy (L.tape link.old) (L.tape link.new)
+        (λ taken sent. Asked text.now sql.now nonce.now taken sent report)) }
 {
     let config = Config::parse(alloc, text)?;
     let requests = [Request::simple(alloc, sql)?];
