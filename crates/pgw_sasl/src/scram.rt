@@ -1,9 +1,9 @@
 //! The server's end of a login by SCRAM, message by message.
-ghost use Rattle.std.specs.Prelude.{◌≡◌, ◌⊎◌, ◌≤◌, Some, None, Err, OnOk, OnErr, is_some};
+ghost use Rattle.std.specs.Prelude.{◌≡◌, ◌⊎◌, ◌≤◌, Some, None, Ok, Err, OnOk, OnErr, is_some};
 ghost use Rattle.pgw_types.specs.declared.error.PgWireError.TheVariants.{OutOfMemory as NoMemory};
 ghost use Rattle.pgw_login.specs.Logins.{login_of};
 ghost use Rattle.pgw_scram.specs.Answers.{Answers};
-ghost use Rattle.pgw_sasl.specs.Scram.{binds, is_misnamed, offered_under, first_reply, FirstReplies, FinalReplies, ScramReplies};
+ghost use Rattle.pgw_sasl.specs.Scram.{binds, is_misnamed, offered_by, offered_under, first_reply, FirstReplies, FinalReplies, ScramReplies};
 
 use crate::methods::SCRAM_SHA_256_PLUS_METHOD;
 use pgw_login::source::{AuthSource, LoginInfo};
@@ -88,7 +88,24 @@ fn is_misnamed(name: &str, header: &str) -> bool
     }
 }
 
-// The server's first message, and the server that has sent it.
+// The server's first message, and the server that has sent it, of the parts of the client's.
+fn offered_by(
+    alloc: Global,
+    server: &ScramServerAuth,
+    kept: &Password,
+    name: &str,
+    parts: ClientFirst,
+    nonce: &[u8; 18],
+) -> PgWireResult<(Text, ScramServerAuthWaitingForClientFinal)>
+    ensures { Answers result (offered_by name.now server.now (Ok parts) kept.now nonce.now) }
+{
+    if is_misnamed(name, parts.header.as_str()) {
+        return Err(PgWireError::InvalidScramMessage(ScramMessageFault::ChannelBinding));
+    }
+    server.offer(alloc, parts, kept, nonce)
+}
+
+// The same, of the client's first message.
 fn offered_under(
     alloc: Global,
     server: &ScramServerAuth,
@@ -100,10 +117,7 @@ fn offered_under(
     ensures { Answers result (offered_under name.now server.now message.now kept.now nonce.now) }
 {
     let parts = ClientFirst::read(alloc, message)?;
-    if is_misnamed(name, parts.header.as_str()) {
-        return Err(PgWireError::InvalidScramMessage(ScramMessageFault::ChannelBinding));
-    }
-    server.offer(alloc, parts, kept, nonce)
+    offered_by(alloc, server, kept, name, parts, nonce)
 }
 
 // The server's first message.
