@@ -4,8 +4,7 @@ ghost use Rattle.pgw_link.specs.Tape.{Rose};
 
 use pgw_client::{Address, DialError, Dialer, Link, LinkFault, MemoryDialer, MemoryLink};
 
-/// A link in memory, whose flush with a number, counted from 1, fails; none does where it is 0. It tells nothing of its
-/// bytes to a proof.
+/// A link in memory, whose flush with a number, counted from 1, fails; none does where it is 0.
 #[derive(Drop)]
 pub struct CaseLink {
     link: MemoryLink,
@@ -16,7 +15,8 @@ pub struct CaseLink {
 
 impl CaseLink {
     fn new(link: MemoryLink, fail_flush: u64) -> CaseLink
-        ensures { result.faults ≡ 0 }
+        ensures faults { result.faults ≡ 0 }
+        ensures link { result.link ≡ link }
     {
         CaseLink {
             link,
@@ -33,6 +33,7 @@ impl CaseLink {
     fn fail(&mut self) -> LinkFault
         ensures later { self.old.faults ≤ self.new.faults }
         ensures rose { Rose self.old.faults self.new.faults }
+        ensures link { self.new.link ≡ self.old.link }
     {
         self.faults = self.faults.saturating_add(1);
         LinkFault
@@ -40,11 +41,14 @@ impl CaseLink {
 }
 
 impl Link for CaseLink {
-    ghost use Rattle.std.specs.Prelude.{[], None};
+    ghost use Rattle.std.specs.Prelude.{Some, refl};
+    ghost use Rattle.pgw_link.specs.Memory.{memory_tape, memory_left};
 
-    ghost tells = { ⊥ };
+    ghost tape = { λ s. memory_tape s.link };
 
-    ghost tape = { λ s. record { left = []; wrote = []; flushed = 0; ended = None; reads = 0; writes = 0 } };
+    ghost left = { λ s. Some (memory_left s.link) };
+
+    ghost foretells = { Unit {0} };
 
     ghost faults = { λ s. s.faults };
 
@@ -52,7 +56,9 @@ impl Link for CaseLink {
 
     ghost plan = { λ s. tt };
 
-    ghost flushed_in = { λ t s. absurd t };
+    ghost knows = { λ t s. refl };
+
+    ghost flushed_in = { λ s. s.link.flushed_in };
 
     fn read(&mut self, buf: &mut [u8]) -> Result<usize, LinkFault> {
         match self.link.read(buf) {
@@ -104,17 +110,20 @@ impl CaseDialer {
 }
 
 impl Dialer for CaseDialer {
-    ghost use Rattle.std.specs.Prelude.{[], None};
+    ghost use Rattle.std.specs.Prelude.{Some};
+    ghost use Rattle.pgw_link.specs.MemoryDials.{dial_tape, links_of, offer_of};
 
     type Link = CaseLink;
 
-    ghost tells = { ⊥ };
+    ghost tape = { λ s. dial_tape s.dialer };
 
-    ghost tape = { λ s. record { dials = 0; address = None; offer = []; shut = None } };
+    ghost offer = { λ s. Some (offer_of (links_of s.dialer)) };
+
+    ghost foretells = { Unit {0} };
 
     ghost faults = { λ s. s.faults };
 
-    ghost links_tell = { λ t. t };
+    ghost links_foretell = { λ t. t };
 
     fn dial(&mut self, address: &Address) -> Result<CaseLink, DialError> {
         match self.dialer.dial(address) {

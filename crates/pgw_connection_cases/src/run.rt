@@ -111,6 +111,18 @@ fn closed(alloc: Global, dialer: &CaseDialer) -> Result<String> {
     }
 }
 
+// What one call comes to, and how it leaves the client.
+fn answer(
+    alloc: Global,
+    client: &mut Client,
+    dialer: &mut CaseDialer,
+    text: &str,
+) -> Result<String> {
+    let came = call_by(alloc, client, dialer, text)?;
+    let state = state(alloc, client)?;
+    Ok(format!(in alloc; "; {text} -> {came}, {state}")?)
+}
+
 /// What a case's calls come to, one behind the other.
 pub fn answers(alloc: Global, case: &Case, calls: &str) -> Result<String> {
     let mut dialer = case.dialer(alloc)?;
@@ -123,9 +135,8 @@ pub fn answers(alloc: Global, case: &Case, calls: &str) -> Result<String> {
     };
     let mut answers = format!(in alloc; "connected {}", status_shown(&client))?;
     for text in calls.split(" ; ") {
-        let came = call_by(alloc, &mut client, &mut dialer, text)?;
-        let state = state(alloc, &client)?;
-        answers.push_str(format!(in alloc; "; {text} -> {came}, {state}")?.as_str())?;
+        let came = answer(alloc, &mut client, &mut dialer, text)?;
+        answers.push_str(came.as_str())?;
     }
     Ok(answers)
 }
