@@ -1,7 +1,11 @@
-//! A test of the program over a socket, and of the large input from a number. The cases of `hothummei_cases` test all
+//! Tests of the program over a socket, of the large input from a number and of its session. The cases of `hothummei_cases` test all
 //! else.
 #![tactic(auto)]
 
+#[cfg(test)]
+mod nonces;
+#[cfg(test)]
+mod sessions;
 #[cfg(test)]
 mod socket;
 #[cfg(test)]
