@@ -6,7 +6,7 @@ use crate::link::{CaseDialer, CaseLink};
 use crate::own::{fill, poll, send};
 use crate::shown::{error_name, said, status_shown, told};
 use anyhow::Result;
-use pgw_client::{Config, PgWireClientResult};
+use pgw_client::{Config, PgWireClientError, PgWireClientResult};
 use pgw_connection::PgWireClient;
 use pgw_default_handlers::{DefaultSimpleQueryHandler, DefaultStartupHandler};
 use pgw_row_counter::RowCounter;
@@ -123,20 +123,37 @@ fn answer(
     Ok(format!(in alloc; "; {text} -> {came}, {state}")?)
 }
 
-/// What a case's calls come to, one behind the other.
-pub fn answers(alloc: Global, case: &Case, calls: &str) -> Result<String> {
-    let mut dialer = case.dialer(alloc)?;
-    let mut client = match connect(alloc, case, &mut dialer)? {
-        Ok(client) => client,
-        Err(e) => {
-            let closed = closed(alloc, &dialer)?;
-            return Ok(format!(in alloc; "{}, closed {closed}", error_name(&e))?);
-        }
-    };
-    let mut answers = format!(in alloc; "connected {}", status_shown(&client))?;
+// What a refused connect comes to.
+fn refused(alloc: Global, error: &PgWireClientError, dialer: &CaseDialer) -> Result<String> {
+    let closed = closed(alloc, dialer)?;
+    Ok(format!(in alloc; "{}, closed {closed}", error_name(error))?)
+}
+
+// What the calls on a client come to.
+fn all(alloc: Global, client: &mut Client, dialer: &mut CaseDialer, calls: &str) -> Result<String> {
+    let mut answers = format!(in alloc; "connected {}", status_shown(client))?;
     for text in calls.split(" ; ") {
-        let came = answer(alloc, &mut client, &mut dialer, text)?;
+        let came = answer(alloc, client, dialer, text)?;
         answers.push_str(came.as_str())?;
     }
     Ok(answers)
+}
+
+/// What a case's calls come to, one behind the other.
+pub fn answers(alloc: Global, case: &Case, calls: &str) -> Result<String> {
+    let mut dialer = case.dialer(alloc)?;
+    match connect(alloc, case, &mut dialer)? {
+        Ok(mut client) => {
+            let said = all(alloc, &mut client, &mut dialer, calls);
+            drop(client);
+            drop(dialer);
+            said
+        }
+        Err(error) => {
+            let said = refused(alloc, &error, &dialer);
+            drop(error);
+            drop(dialer);
+            said
+        }
+    }
 }
