@@ -1,5 +1,5 @@
 -- Nothing but want of memory stops the end of a login.
-use Rattle.std.proofs.Common.{lit<, lit≤, ◌≡◌, ◌⊎◌, inl, inr, ℕ, ◌+◌, ◌≤◌, Bool, true, false, cond, List, [], ◌∷◌, ◌++◌, length, map, fold, Option, Some, None, Result, Ok, Err, refl, sym, ap, subst, ◌∙◌, arith, length-append}
+use Rattle.std.proofs.Common.{lit<, lit≤, ◌≡◌, ◌⊎◌, inl, inr, ℕ, ◌+◌, ◌≤◌, Bool, true, false, cond, List, [], ◌∷◌, ◌++◌, length, map, fold, Option, Some, None, Ok, refl, sym, ap, subst, ◌∙◌, arith, length-append}
 use Rattle.std.proofs.lemmas.Int.{ints}
 use Rattle.std.specs.declared.cmp.Ordering.{Ordering}
 use Rattle.std.specs.declared.cmp.Ordering.TheVariants.{Less, Equal, Greater}
@@ -45,11 +45,10 @@ use Rattle.pgw_startup.specs.Sound.{IsPair}
 use Rattle.pgw_startup.specs.declared.authentication.Authentication.TheVariants as auth
 use Rattle.pgw_startup.specs.declared.backend_key_data.BackendKeyData.{BackendKeyData}
 use Rattle.pgw_frontend.specs.FrontendTexts.{IsSoundFrontend}
-use Rattle.pgw_scram.specs.Answers.{unless}
 use Rattle.pgw_scram.specs.Base64.{base64}
-use Rattle.pgw_scram.specs.Formulas.{server_signature}
-use Rattle.pgw_scram.specs.Readers.{read_client_final}
-use Rattle.pgw_scram.specs.Server.{accepted, accepted_as, proof_refusal, exchanged, server_final}
+use Rattle.pgw_scram.specs.Formulas.{signature_by}
+use Rattle.pgw_scram.specs.Offers.{exchanged, server_final}
+use Rattle.pgw_scram.specs.Server.{accepted}
 use Rattle.pgw_scram.specs.declared.server.ScramServerAuthWaitingForClientFinal.{ScramServerAuthWaitingForClientFinal as WaitingForClientFinal}
 use Rattle.pgw_session.specs.Segments.{startup_message}
 use Rattle.pgw_session.specs.Standings.{standing_by}
@@ -60,6 +59,7 @@ use Rattle.pgw_pair.proofs.Finals.{CanDraw, Drawn, known_by, proved_at}
 use Rattle.pgw_pair.proofs.ServerRungs.{IsAble, before_final}
 use Rattle.pgw_pair.proofs.Ladder.{Opens, GreetsAll, sent_one}
 use Rattle.pgw_pair.proofs.Sizes.{base64_short, signature_short}
+use Rattle.pgw_pair.proofs.Texts.{was_accepted}
 use Rattle.pgw_login.specs.Finish.{status_of, key_data, introduction, ready}
 use Rattle.pgw_pair.proofs.Finals.{CanSend, final_with}
 use Rattle.pgw_pair.proofs.Honest.{fits}
@@ -306,25 +306,11 @@ final_encodes final small =
     four_bytes : length (writing.u32 12) ≡ 4
     four_bytes = (code_written 12 (lit< tt)).0
 
-not_unless : {A E : Type 0} (o : Option E) (x y : A) → unless o x ≡ Ok y → x ≡ y
-not_unless None x y is = cc
-not_unless (Some e) x y is = absurd cc
-
-known : {A E : Type 0} (r : Result A E) → ((x : A) × (r ≡ Ok x)) ⊎ ((e : E) × (r ≡ Err e))
-known (Ok x) = inl (x, refl)
-known (Err e) = inr (e, refl)
-
-no_err : {A E : Type 0} {x : A} {e : E} → ◌≡◌ {A = Result A E} (Ok x) (Err e) → ⊥
-no_err h = cc
-
 accepted_small : (waiting : WaitingForClientFinal) (text final : List ℕ) → accepted waiting text ≡ Ok final → length final ≤ 100
-accepted_small waiting text final is = elim (known (read_client_final text)) [
-  | inl k ↦
-      let same : server_final (server_signature waiting.salted (exchanged waiting k.0)) ≡ final = not_unless (proof_refusal waiting k.0) (server_final (server_signature waiting.salted (exchanged waiting k.0))) final (sym (ap (accepted_as waiting) k.1) ∙ is) in
-      let s = final_small (server_signature waiting.salted (exchanged waiting k.0)) (signature_short waiting.salted (exchanged waiting k.0)) in
-      omega (arith, s, ap length same)
-  | inr k ↦ absurd (no_err (sym is ∙ ap (accepted_as waiting) k.1))
-]
+accepted_small waiting text final is =
+    let a = was_accepted waiting text final is in
+    let s = final_small (signature_by waiting.server_key (exchanged waiting.offer a.0)) (signature_short waiting.server_key (exchanged waiting.offer a.0)) in
+    omega (arith, s, ap length a.3)
 
 -- ---- all of it
 

@@ -26,6 +26,7 @@ use Rattle.pgw_session.specs.Talk.{heard_of}
 use Rattle.pgw_pair.proofs.Readings.{reads_backend}
 use Rattle.pgw_session.specs.Events.{Event as Said, Sent, Got}
 use Rattle.pgw_session.specs.Input.{Input}
+use Rattle.pgw_scram.specs.declared.exchange.ClientLogin.{ClientLogin}
 use Rattle.pgw_session.specs.Logins.{methods_refusal, first_refusal, final_refusal, expected_of, first_message, final_message}
 use Rattle.pgw_session.specs.Machine.{Outcome, Unencoded, Refused, sending, moves_by}
 use Rattle.pgw_session.specs.Table.{unless}
@@ -36,7 +37,7 @@ use Rattle.pgw_session.proofs.ReadingLaws.{steady_by}
 use Rattle.pgw_sasl.specs.Sasl.{sasl_request}
 use Rattle.pgw_pair.specs.declared.parties.PairInput.{PairInput}
 use Rattle.pgw_pair.specs.Server.{methods}
-use Rattle.pgw_pair.specs.World.{client_input}
+use Rattle.pgw_pair.specs.World.{client_input, client_login}
 use Rattle.pgw_pair.proofs.Firsts.{continue_with}
 use Rattle.pgw_pair.proofs.Finals.{final_with}
 
@@ -62,6 +63,9 @@ methods_sound = (ascii_utf8 (codes "SCRAM-SHA-256") refl, tt)
 module _ (input : PairInput) where
   abbrev pub given : Input
   given = client_input input
+
+  abbrev login : ClientLogin
+  login = client_login input
 
   abbrev pub rules : Rules Talk Ending Backend PgWireError
   rules = talk_rules given
@@ -113,50 +117,50 @@ module _ (input : PairInput) where
   asked = sasl_request methods
 
   abbrev pub first_sent : Frontend
-  first_sent = first_message given
+  first_sent = first_message login
 
   -- client-first was sent
   abbrev pub challenged : Talk
-  challenged = talking (Sent (startup_message given) ∷ Got asked ∷ Sent first_sent ∷ []) Challenged
+  challenged = talking (Sent (startup_message given) ∷ Got asked ∷ Sent first_sent ∷ []) (Challenged login)
 
   -- client-first has no encoding
   abbrev pub unsent_first : Talk
-  unsent_first = talking (Sent (startup_message given) ∷ Got asked ∷ []) Challenged
+  unsent_first = talking (Sent (startup_message given) ∷ Got asked ∷ []) (Challenged login)
 
   asked_step : rules.step started asked ≡ replying started unsent_first challenged (methods_refusal given methods) first_sent
   unfolding replying
   asked_step = go (methods_refusal given methods)
     where
-      go : (e : Option ClientError) → moves_by (talk_book given) given started asked (unless e (Goes Challenged (Some first_sent))) ≡ replying started unsent_first challenged e first_sent
+      go : (e : Option ClientError) → moves_by (talk_book given) given started asked (unless e (Goes (Challenged login) (Some first_sent))) ≡ replying started unsent_first challenged e first_sent
       go None = refl
       go (Some e) = refl
 
   -- client-final was sent
   abbrev pub proving : List ℕ → Talk
-  proving first = talking (Sent (startup_message given) ∷ Got asked ∷ Sent first_sent ∷ Got (continue_with first) ∷ Sent (final_message given first) ∷ []) (Proving (expected_of given first))
+  proving first = talking (Sent (startup_message given) ∷ Got asked ∷ Sent first_sent ∷ Got (continue_with first) ∷ Sent (final_message login first) ∷ []) (Proving (expected_of login first))
 
   abbrev pub unsent_final : List ℕ → Talk
-  unsent_final first = talking (Sent (startup_message given) ∷ Got asked ∷ Sent first_sent ∷ Got (continue_with first) ∷ []) (Proving (expected_of given first))
+  unsent_final first = talking (Sent (startup_message given) ∷ Got asked ∷ Sent first_sent ∷ Got (continue_with first) ∷ []) (Proving (expected_of login first))
 
-  continue_step : (first : List ℕ) → rules.step challenged (continue_with first) ≡ replying challenged (unsent_final first) (proving first) (first_refusal given first) (final_message given first)
+  continue_step : (first : List ℕ) → rules.step challenged (continue_with first) ≡ replying challenged (unsent_final first) (proving first) (first_refusal login first) (final_message login first)
   unfolding replying
-  continue_step first = go (first_refusal given first)
+  continue_step first = go (first_refusal login first)
     where
-      go : (e : Option ClientError) → moves_by (talk_book given) given challenged (continue_with first) (unless e (Goes (Proving (expected_of given first)) (Some (final_message given first)))) ≡ replying challenged (unsent_final first) (proving first) e (final_message given first)
+      go : (e : Option ClientError) → moves_by (talk_book given) given challenged (continue_with first) (unless e (Goes (Proving (expected_of login first)) (Some (final_message login first)))) ≡ replying challenged (unsent_final first) (proving first) e (final_message login first)
       go None = refl
       go (Some e) = refl
 
   -- the login is done; this much was got behind it
   abbrev pub welcomed : (first final : List ℕ) → List Backend → Talk
-  welcomed first final ms = talking ((Sent (startup_message given) ∷ Got asked ∷ Sent first_sent ∷ Got (continue_with first) ∷ Sent (final_message given first) ∷ Got (final_with final) ∷ []) ++ map Got ms) Admitted
+  welcomed first final ms = talking ((Sent (startup_message given) ∷ Got asked ∷ Sent first_sent ∷ Got (continue_with first) ∷ Sent (final_message login first) ∷ Got (final_with final) ∷ []) ++ map Got ms) Admitted
 
   proved_move : (first final : List ℕ) → Option ClientError → Move Talk Ending
   proved_move first final (Some e) = Ends (over_by (proving first) (Refused e)) []
   proved_move first final None = On (welcomed first final []) []
 
-  final_step : (first final : List ℕ) → rules.step (proving first) (final_with final) ≡ proved_move first final (final_refusal (expected_of given first) final)
+  final_step : (first final : List ℕ) → rules.step (proving first) (final_with final) ≡ proved_move first final (final_refusal (expected_of login first) final)
   unfolding proved_move
-  final_step first final = go (final_refusal (expected_of given first) final)
+  final_step first final = go (final_refusal (expected_of login first) final)
     where
       go : (e : Option ClientError) → moves_by (talk_book given) given (proving first) (final_with final) (unless e (Goes Admitted None)) ≡ proved_move first final e
       go None = refl
@@ -226,28 +230,28 @@ module _ (input : PairInput) where
       (does started asked g count rest bytes c (replying started unsent_first challenged (methods_refusal given methods) first_sent) asked_step (reads_at started asked g version_started methods_sound tt (refl, refl) enc) are leads)
 
   pub takes_continue : (first g : List ℕ) (count : ℕ) (rest bytes : List ℕ) (c : Course Talk Ending) → backend_encoding (continue_with first) ≡ Ok g → bytes ≡ take count (g ++ rest) → LeadsClient challenged bytes c
-      → Replies challenged (unsent_final first) (proving first) (first_refusal given first) (final_message given first) g count rest c
+      → Replies challenged (unsent_final first) (proving first) (first_refusal login first) (final_message login first) g count rest c
   takes_continue first g count rest bytes c enc are leads =
-      replies_from challenged (unsent_final first) (proving first) (first_refusal given first) (final_message given first) g count rest c (first_refusal given first) (encodings (final_message given first ∷ [])) refl refl
-      (does challenged (continue_with first) g count rest bytes c (replying challenged (unsent_final first) (proving first) (first_refusal given first) (final_message given first)) (continue_step first) (reads_at challenged (continue_with first) g version_challenged tt tt (refl, refl) enc) are leads)
+      replies_from challenged (unsent_final first) (proving first) (first_refusal login first) (final_message login first) g count rest c (first_refusal login first) (encodings (final_message login first ∷ [])) refl refl
+      (does challenged (continue_with first) g count rest bytes c (replying challenged (unsent_final first) (proving first) (first_refusal login first) (final_message login first)) (continue_step first) (reads_at challenged (continue_with first) g version_challenged tt tt (refl, refl) enc) are leads)
 
   -- ---- server-final
 
   pub data Verifies (first final : List ℕ) (g : List ℕ) (count : ℕ) (rest : List ℕ) (c : Course Talk Ending) : Type 0 where
     waits_final : Still (proving first) g count c → Verifies first final g count rest c
-    declines_final : (e : ClientError) → final_refusal (expected_of given first) final ≡ Some e → length g ≤ count → c ≡ Over (over_by (proving first) (Refused e)) [] → Verifies first final g count rest c
-    admits : final_refusal (expected_of given first) final ≡ None → Led (welcomed first final []) [] g count rest c → Verifies first final g count rest c
+    declines_final : (e : ClientError) → final_refusal (expected_of login first) final ≡ Some e → length g ≤ count → c ≡ Over (over_by (proving first) (Refused e)) [] → Verifies first final g count rest c
+    admits : final_refusal (expected_of login first) final ≡ None → Led (welcomed first final []) [] g count rest c → Verifies first final g count rest c
 
-  verifies_from : (first final : List ℕ) (g : List ℕ) (count : ℕ) (rest : List ℕ) (c : Course Talk Ending) (e : Option ClientError) → final_refusal (expected_of given first) final ≡ e → Does (proving first) g count rest (proved_move first final (final_refusal (expected_of given first) final)) c → Verifies first final g count rest c
+  verifies_from : (first final : List ℕ) (g : List ℕ) (count : ℕ) (rest : List ℕ) (c : Course Talk Ending) (e : Option ClientError) → final_refusal (expected_of login first) final ≡ e → Does (proving first) g count rest (proved_move first final (final_refusal (expected_of login first) final)) c → Verifies first final g count rest c
   unfolding proved_move
   verifies_from first final g count rest c (Some e) is d =
-      let move : proved_move first final (final_refusal (expected_of given first) final) ≡ Ends (over_by (proving first) (Refused e)) [] = ap (proved_move first final) is in
-      elim (does_end (proving first) g count rest (proved_move first final (final_refusal (expected_of given first) final)) c (over_by (proving first) (Refused e)) [] move d) [ inl s ↦ waits_final s | inr o ↦ declines_final e is o.0 o.1 ]
+      let move : proved_move first final (final_refusal (expected_of login first) final) ≡ Ends (over_by (proving first) (Refused e)) [] = ap (proved_move first final) is in
+      elim (does_end (proving first) g count rest (proved_move first final (final_refusal (expected_of login first) final)) c (over_by (proving first) (Refused e)) [] move d) [ inl s ↦ waits_final s | inr o ↦ declines_final e is o.0 o.1 ]
   verifies_from first final g count rest c None is d =
-      let move : proved_move first final (final_refusal (expected_of given first) final) ≡ On (welcomed first final []) [] = ap (proved_move first final) is in
-      elim (does_on (proving first) g count rest (proved_move first final (final_refusal (expected_of given first) final)) c (welcomed first final []) [] move d) [ inl s ↦ waits_final s | inr o ↦ admits is o ]
+      let move : proved_move first final (final_refusal (expected_of login first) final) ≡ On (welcomed first final []) [] = ap (proved_move first final) is in
+      elim (does_on (proving first) g count rest (proved_move first final (final_refusal (expected_of login first) final)) c (welcomed first final []) [] move d) [ inl s ↦ waits_final s | inr o ↦ admits is o ]
 
   pub takes_verifier : (first final g : List ℕ) (count : ℕ) (rest bytes : List ℕ) (c : Course Talk Ending) → backend_encoding (final_with final) ≡ Ok g → bytes ≡ take count (g ++ rest) → LeadsClient (proving first) bytes c → Verifies first final g count rest c
   takes_verifier first final g count rest bytes c enc are leads =
-      verifies_from first final g count rest c (final_refusal (expected_of given first) final) refl
-      (does (proving first) (final_with final) g count rest bytes c (proved_move first final (final_refusal (expected_of given first) final)) (final_step first final) (reads_at (proving first) (final_with final) g (version_proving first) tt tt (refl, refl) enc) are leads)
+      verifies_from first final g count rest c (final_refusal (expected_of login first) final) refl
+      (does (proving first) (final_with final) g count rest bytes c (proved_move first final (final_refusal (expected_of login first) final)) (final_step first final) (reads_at (proving first) (final_with final) g (version_proving first) tt tt (refl, refl) enc) are leads)

@@ -1,5 +1,5 @@
 -- What a server answers to client-first.
-use Rattle.std.proofs.Common.{◌≡◌, ◌⊎◌, inl, inr, ℕ, true, List, [], ◌∷◌, ◌++◌, codes, Some, None, Result, Ok, Err, refl, sym, ap, subst, ◌∙◌}
+use Rattle.std.proofs.Common.{◌≡◌, ◌⊎◌, inl, inr, ℕ, Bool, true, false, List, [], ◌∷◌, ◌++◌, codes, Some, None, Result, Ok, Err, refl, sym, ap, subst, ◌∙◌}
 use Rattle.pgw_types.specs.declared.error.PgWireError.{PgWireError}
 use Rattle.pgw_types.specs.declared.error.PgWireError.TheVariants.{OutOfMemory}
 use Rattle.pgw_startup.specs.Password.{initial_response_of}
@@ -14,14 +14,18 @@ use Rattle.pgw_frontend.specs.declared.frontend.PgWireFrontendMessage.TheVariant
 use Rattle.pgw_scram.specs.declared.password.Password.{Password as Kept}
 use Rattle.pgw_scram.specs.declared.server.ScramServerAuth.{ScramServerAuth}
 use Rattle.pgw_scram.specs.declared.server.ScramServerAuthWaitingForClientFinal.{ScramServerAuthWaitingForClientFinal as WaitingForClientFinal}
-use Rattle.pgw_scram.specs.Server.{offered}
+use Rattle.pgw_scram.specs.Offers.{is_bound}
+use Rattle.pgw_scram.specs.Readers.{read_client_first}
+use Rattle.pgw_scram.specs.Server.{offered, offered_as}
+use Rattle.pgw_scram.specs.declared.messages.ClientFirst.{ClientFirst}
+use Rattle.pgw_types.specs.declared.error.ScramMessageFault.{ScramMessageFault}
 use Rattle.pgw_login.specs.Login.{Login, login_seen}
 use Rattle.pgw_login.specs.Acts.{Standing, Then, Marks, Passes, Sends, with_sasl}
 use Rattle.pgw_login.specs.declared.state.LoginState.{LoginState}
 use Rattle.pgw_login.specs.declared.state.SASLState.{SASLState}
 use Rattle.pgw_login.specs.declared.state.SASLState.TheVariants.{Initial, ScramClientFirstReceived, ScramServerFirstSent}
 use Rattle.pgw_sasl.specs.Replies.{Reply}
-use Rattle.pgw_sasl.specs.Scram.{FirstOn, FirstWith, first_reply, and_some}
+use Rattle.pgw_sasl.specs.Scram.{FirstOn, FirstWith, first_reply, and_some, offered_by, offered_under}
 use Rattle.std.proofs.lemmas.List.{append-nil}
 use Rattle.pgw_sasl.specs.Turns.{stage_of, turned, entered}
 use Rattle.pgw_sasl.specs.declared.methods.Method.TheVariants.{Scram}
@@ -40,16 +44,28 @@ first_body text = record { auth_method = codes "SCRAM-SHA-256"; payload = Some t
 abbrev pub continue_with : List ℕ → Backend
 continue_with first = backend.Authentication (auth.SASLContinue first)
 
+-- the plain method's step: without a certificate a header that names a binding is refused, under whatever name
+plain_by_header : (stored : Kept) (count : ℕ) (nonce : List ℕ) (parts : ClientFirst) (b : Bool) → is_bound parts.header ≡ b → offered_by (codes "SCRAM-SHA-256") (end_of count) (Ok parts) stored nonce ≡ offered_as (end_of count) (Ok parts) stored nonce
+plain_by_header stored count nonce parts true is = rw is refl
+plain_by_header stored count nonce parts false is = rw is refl
+
+plain_by : (stored : Kept) (count : ℕ) (nonce : List ℕ) (r : Result ClientFirst ScramMessageFault) → offered_by (codes "SCRAM-SHA-256") (end_of count) r stored nonce ≡ offered_as (end_of count) r stored nonce
+plain_by stored count nonce (Err why) = refl
+plain_by stored count nonce (Ok parts) = plain_by_header stored count nonce parts (is_bound parts.header) refl
+
+plain : (stored : Kept) (count : ℕ) (nonce text : List ℕ) → offered_under (codes "SCRAM-SHA-256") (end_of count) text stored nonce ≡ offered (end_of count) text stored nonce
+plain stored count nonce text = plain_by stored count nonce (read_client_first text)
+
 -- the login awaits it
 pub record AwaitsFirst (login : LoginState) : Type 0 where
   pub started : login.started ≡ true
   pub sasl : login.sasl ≡ Initial
 
 module _ (stored : Kept) (count : ℕ) (login : LoginState) (text : List ℕ) where
-  answers_first : (who : Login) (replied : Result (Authentication × SASLState) PgWireError) → FirstOn (Answered stored) (end_of count) who (Some text) login.nonce replied
+  answers_first : (who : Login) (replied : Result (Authentication × SASLState) PgWireError) → FirstOn (Answered stored) (end_of count) who (codes "SCRAM-SHA-256") (Some text) login.nonce replied
       → (replied ≡ Err OutOfMemory) ⊎ (replied ≡ first_reply (offered (end_of count) text stored login.nonce))
-  answers_first who replied (given, inl is, with) = inr (subst (λ g. FirstWith g (end_of count) text login.nonce replied) is with)
-  answers_first who replied (given, inr is, with) = inl (subst (λ g. FirstWith g (end_of count) text login.nonce replied) is with)
+  answers_first who replied (given, inl is, with) = inr (subst (λ g. FirstWith g (end_of count) (codes "SCRAM-SHA-256") text login.nonce replied) is with ∙ ap first_reply (plain stored count login.nonce text))
+  answers_first who replied (given, inr is, with) = inl (subst (λ g. FirstWith g (end_of count) (codes "SCRAM-SHA-256") text login.nonce replied) is with)
 
   scram_first : (who : Login) (reply : Reply) → ScramAnswers stored count who (family.SASLInitialResponse (first_body text)) login.nonce (ScramClientFirstReceived) reply
       → (reply ≡ Err OutOfMemory) ⊎ (reply ≡ and_some (first_reply (offered (end_of count) text stored login.nonce)))

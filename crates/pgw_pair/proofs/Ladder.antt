@@ -16,26 +16,28 @@ use Rattle.pgw_frontend.specs.declared.frontend.PgWireFrontendMessage.{PgWireFro
 use Rattle.pgw_frontend.specs.declared.frontend.PgWireFrontendMessage.TheVariants as frontend
 use Rattle.pgw_course.specs.Course.{Course, Waits, Over, sent_of}
 use Rattle.pgw_course.specs.Play.{Leads, waits, stops, breaks, ends, goes, behind}
-use Rattle.pgw_scram.specs.Base64.{nonce_text}
+use Rattle.pgw_scram.specs.declared.exchange.ClientLogin.{ClientLogin}
 use Rattle.pgw_scram.specs.Exchange.{client_first, client_final}
 use Rattle.pgw_scram.specs.Server.{offered, accepted}
 use Rattle.pgw_scram.specs.declared.server.ScramServerAuthWaitingForClientFinal.{ScramServerAuthWaitingForClientFinal as WaitingForClientFinal}
 use Rattle.std.proofs.Common.{ltb, cond}
 use Rattle.pgw_types.specs.declared.error.PgWireError.TheVariants.{InvalidScramMessage, MessageTooLarge}
 use Rattle.pgw_types.specs.declared.error.ScramMessageFault.{ScramMessageFault}
+use Rattle.pgw_types.specs.declared.error.ScramMessageFault.TheVariants as fault
 use Rattle.pgw_wire.specs.Framing as framing
 use Rattle.pgw_wire.specs.declared.framing.Framing.TheVariants.{Typed}
 use Rattle.pgw_startup.specs.Login.{authentication}
 use Rattle.pgw_startup.specs.declared.authentication.Authentication.TheVariants as auth
 use Rattle.pgw_scram.specs.Readers.{read_client_first}
-use Rattle.pgw_scram.specs.Server.{offered_to, offered_with}
+use Rattle.pgw_scram.specs.Offers.{is_bound}
+use Rattle.pgw_scram.specs.Server.{offered_to, offered_as, offered_with}
 use Rattle.pgw_scram.specs.declared.messages.ClientFirst.{ClientFirst}
 use Rattle.pgw_scram.specs.declared.password.Password.{Password as Kept}
 use Rattle.pgw_scram.specs.declared.server.ScramServerAuth.{ScramServerAuth}
 use Rattle.pgw_server.specs.Server.{Stage, Ending as ServerEnding, encodings, serving}
 use Rattle.pgw_session.specs.Events.{Event as Said, Sent, Got, sents}
 use Rattle.pgw_session.specs.Input.{Input}
-use Rattle.pgw_session.specs.Logins.{scram_user, password_of, methods_refusal, first_refusal, final_refusal, expected_of, final_message}
+use Rattle.pgw_session.specs.Logins.{methods_refusal, first_refusal, final_refusal, expected_of, final_message}
 use Rattle.pgw_session.specs.Machine.{Outcome, Complete, Refused as OutcomeRefused, Unencoded, error_of}
 use Rattle.pgw_session.specs.Segments.{startup_message}
 use Rattle.pgw_session.specs.Talk.{Talk, Ending, conversation, talk_book}
@@ -45,7 +47,7 @@ use Rattle.pgw_pair.specs.declared.parties.PairInput.{PairInput}
 use Rattle.pgw_pair.specs.declared.parties.ServerEnd.{ServerEnd}
 use Rattle.pgw_pair.specs.declared.parties.ServerEnd.TheVariants as of_server
 use Rattle.pgw_pair.specs.Server.{Means, methods}
-use Rattle.pgw_pair.specs.World.{client_input, first_stage}
+use Rattle.pgw_pair.specs.World.{client_input, client_login, first_stage}
 use Rattle.pgw_pair.specs.Parties.{IsFrontOf, events_in, gots, server_end, raw, Exchanged, proof_due}
 use Rattle.pgw_pair.proofs.Meets.{behind_grows}
 use Rattle.pgw_pair.proofs.Firsts.{end_of, first_body, continue_with}
@@ -56,7 +58,7 @@ use Rattle.pgw_pair.proofs.Texts.{was_offered, was_accepted, was_refused, owed}
 use Rattle.pgw_pair.proofs.Readings.{initial_reads}
 use Rattle.pgw_scram.proofs.Base64Laws.{ascii_utf8}
 use Rattle.pgw_scram.specs.Base64.{base64}
-use Rattle.pgw_scram.specs.Formulas.{client_proof, auth_message}
+use Rattle.pgw_scram.specs.Formulas.{client_proof, proof_by, auth_message}
 use Rattle.pgw_scram.specs.Readers.{read_client_final}
 use Rattle.pgw_scram.specs.declared.messages.ClientFinal.{ClientFinal}
 use Rattle.pgw_pair.proofs.Welcome.{puts_one, puts_join, AreGreetings, IsAtFirst, first_on, admitted, Greeted, waits_news, greeted, greets, Ready, waits_ready, is_ready, takes_ready, first_put, parts_put}
@@ -93,12 +95,21 @@ never_salted : (server : ScramServerAuth) (opening : ClientFirst) (salt : Option
 never_salted server opening None stored nonce user is = cc
 never_salted server opening (Some salt) stored nonce user is = cc
 
-never_offered : (server : ScramServerAuth) (text : List ℕ) (stored : Kept) (nonce user : List ℕ) → offered server text stored nonce ≡ Err (InvalidPassword user) → ⊥
-never_offered server text stored nonce user is = go (read_client_first text) refl
+never_bound : (count : ℕ) (opening : ClientFirst) (stored : Kept) (nonce user : List ℕ) (b : Bool) → is_bound opening.header ≡ b → offered_to (end_of count) opening stored nonce ≡ Err (InvalidPassword user) → ⊥
+never_bound count opening stored nonce user true e is =
+    let h : offered_to (end_of count) opening stored nonce ≡ Err (InvalidScramMessage fault.ChannelBinding) = rw e refl in
+    let both = sym h ∙ is in
+    cc
+never_bound count opening stored nonce user false e is =
+    let h : offered_to (end_of count) opening stored nonce ≡ offered_with (end_of count) opening stored.salt stored.password nonce = rw e refl in
+    never_salted (end_of count) opening stored.salt stored.password nonce user (sym h ∙ is)
+
+never_offered : (count : ℕ) (text : List ℕ) (stored : Kept) (nonce user : List ℕ) → offered (end_of count) text stored nonce ≡ Err (InvalidPassword user) → ⊥
+never_offered count text stored nonce user is = go (read_client_first text) refl
   where
     go : (r : Result ClientFirst ScramMessageFault) → read_client_first text ≡ r → ⊥
-    go (Err why) e = let h : offered server text stored nonce ≡ Err (InvalidScramMessage why) = ap (λ (r : Result ClientFirst ScramMessageFault). offered_to server r stored nonce) e in let both = sym h ∙ is in cc
-    go (Ok opening) e = never_salted server opening stored.salt stored.password nonce user (sym (ap (λ (r : Result ClientFirst ScramMessageFault). offered_to server r stored nonce) e) ∙ is)
+    go (Err why) e = let h : offered (end_of count) text stored nonce ≡ Err (InvalidScramMessage why) = ap (λ (r : Result ClientFirst ScramMessageFault). offered_as (end_of count) r stored nonce) e in let both = sym h ∙ is in cc
+    go (Ok opening) e = never_bound count opening stored nonce user (is_bound opening.header) refl (sym (ap (λ (r : Result ClientFirst ScramMessageFault). offered_as (end_of count) r stored nonce) e) ∙ is)
 
 never_encoded : (first user : List ℕ) → backend_encoding (continue_with first) ≡ Err (InvalidPassword user) → ⊥
 unfolding backend_encoding framing.encoded
@@ -114,12 +125,15 @@ module _ (generator : TableId) (input : PairInput) where
   abbrev given : Input
   given = client_input input
 
+  abbrev login : ClientLogin
+  login = client_login input
+
   -- client-first, and client-final behind an offer
   abbrev pub text : List ℕ
-  text = client_first (scram_user given) (nonce_text given.nonce)
+  text = client_first login
 
   abbrev pub last : List ℕ → List ℕ
-  last first = client_final (scram_user given) (password_of given) (nonce_text given.nonce) first
+  last first = client_final login first
 
   abbrev pub IsOffer : List ℕ → WaitingForClientFinal → Type 0
   IsOffer first waiting = offered (end_of input.count) text input.stored input.server_nonce ≡ Ok (first, waiting)
@@ -129,14 +143,14 @@ module _ (generator : TableId) (input : PairInput) where
     no_startup : (e : PgWireError) → client_encodings (startup_message given ∷ []) ≡ Err e → ClientCause (client_error.PgWireError e)
     no_method : (e : ClientError) → methods_refusal given methods ≡ Some e → ClientCause e
     no_first : (e : PgWireError) → client_encodings (first_sent input ∷ []) ≡ Err e → ClientCause (client_error.PgWireError e)
-    bad_first : (e : ClientError) → (first : List ℕ) → (waiting : WaitingForClientFinal) → IsOffer first waiting → first_refusal given first ≡ Some e → ClientCause e
-    no_final : (e : PgWireError) → (first : List ℕ) → (waiting : WaitingForClientFinal) → IsOffer first waiting → first_refusal given first ≡ None → client_encodings (final_message given first ∷ []) ≡ Err e → ClientCause (client_error.PgWireError e)
-    bad_final : (e : ClientError) → (first : List ℕ) → (waiting : WaitingForClientFinal) → (final : List ℕ) → IsOffer first waiting → first_refusal given first ≡ None → accepted waiting (last first) ≡ Ok final → final_refusal (expected_of given first) final ≡ Some e → ClientCause e
+    bad_first : (e : ClientError) → (first : List ℕ) → (waiting : WaitingForClientFinal) → IsOffer first waiting → first_refusal login first ≡ Some e → ClientCause e
+    no_final : (e : PgWireError) → (first : List ℕ) → (waiting : WaitingForClientFinal) → IsOffer first waiting → first_refusal login first ≡ None → client_encodings (final_message login first ∷ []) ≡ Err e → ClientCause (client_error.PgWireError e)
+    bad_final : (e : ClientError) → (first : List ℕ) → (waiting : WaitingForClientFinal) → (final : List ℕ) → IsOffer first waiting → first_refusal login first ≡ None → accepted waiting (last first) ≡ Ok final → final_refusal (expected_of login first) final ≡ Some e → ClientCause e
 
   -- why the server is
   pub data ServerCause : PgWireError → Type 0 where
     declined : (why : PgWireError) → Declines generator input text why → ServerCause why
-    unproved : (why : PgWireError) → (first : List ℕ) → (waiting : WaitingForClientFinal) → IsOffer first waiting → first_refusal given first ≡ None → accepted waiting (last first) ≡ Err why → ServerCause why
+    unproved : (why : PgWireError) → (first : List ℕ) → (waiting : WaitingForClientFinal) → IsOffer first waiting → first_refusal login first ≡ None → accepted waiting (last first) ≡ Err why → ServerCause why
 
   -- one of them has not taken all bytes, or the server is lost
   abbrev pub IsShort : (to_server to_client : List ℕ) (by_server by_client : ℕ) → Type 0
@@ -235,6 +249,7 @@ module _ (generator : TableId) (input : PairInput) where
 
   exchanged_at : (first : List ℕ) (offer : WaitingForClientFinal) (C : List ℕ) (later : List Backend) (closing : ClientFinal) → IsOffer first offer → client_encodings (first_sent input ∷ []) ≡ Ok C → read_client_final (last first) ≡ Ok closing
       → (x : Exchanged input (startup ∷ first_in ∷ raw (last first) ∷ []) (ask ∷ continue_with first ∷ later)) × (x.closing ≡ closing) × (proof_due x ≡ owed offer closing)
+  unfolding client_proof
   exchanged_at first offer C later closing off enc closes =
       let o = was_offered (end_of input.count) text input.stored input.server_nonce first offer off in (
         record {
@@ -253,7 +268,7 @@ module _ (generator : TableId) (input : PairInput) where
           closes = closes;
         },
         refl,
-        λ i. base64 (client_proof (sym o.salted i) (auth_message (sym o.bare i) (sym o.offer i) closing.without_proof)),
+        λ i. base64 (proof_by (sym o.key i) (auth_message (sym o.bare i) (sym o.offer i) closing.without_proof)),
       )
 
   proved_by : (first : List ℕ) (offer : WaitingForClientFinal) (C : List ℕ) (later : List Backend) (final : List ℕ) → IsOffer first offer → client_encodings (first_sent input ∷ []) ≡ Ok C → accepted offer (last first) ≡ Ok final
@@ -286,14 +301,14 @@ module _ (generator : TableId) (input : PairInput) where
 
   -- behind client-final, and behind server-final
   abbrev proving_events : List ℕ → List Said
-  proving_events first = Sent (startup_message given) ∷ Got ask ∷ Sent (first_sent input) ∷ Got (continue_with first) ∷ Sent (final_message given first) ∷ []
+  proving_events first = Sent (startup_message given) ∷ Got ask ∷ Sent (first_sent input) ∷ Got (continue_with first) ∷ Sent (final_message login first) ∷ []
 
   abbrev admitted_events : (first final : List ℕ) → List Said
-  admitted_events first final = Sent (startup_message given) ∷ Got ask ∷ Sent (first_sent input) ∷ Got (continue_with first) ∷ Sent (final_message given first) ∷ Got (final_with final) ∷ []
+  admitted_events first final = Sent (startup_message given) ∷ Got ask ∷ Sent (first_sent input) ∷ Got (continue_with first) ∷ Sent (final_message login first) ∷ Got (final_with final) ∷ []
 
   at_finished : (S A B F C D : List ℕ) (k K : ℕ) (course cc dd ee : Course Talk Ending) (first final : List ℕ) (offer : WaitingForClientFinal) (d : Drawn (proved_at (before_final generator input offer))) (next : Stage) (j : ℕ) (c : Course Stage ServerEnding)
       → course ≡ behind S cc → cc ≡ behind C dd → dd ≡ behind D ee → sent_of ee ≡ [] → backend_encoding ask ≡ Ok A → backend_encoding (continue_with first) ≡ Ok B → encodings (due generator input offer d final) ≡ Ok F
-      → client_encodings (startup_message given ∷ []) ≡ Ok S → client_encodings (first_sent input ∷ []) ≡ Ok C → client_encodings (final_message given first ∷ []) ≡ Ok D
+      → client_encodings (startup_message given ∷ []) ≡ Ok S → client_encodings (first_sent input ∷ []) ≡ Ok C → client_encodings (final_message login first ∷ []) ≡ Ok D
       → IsOffer first offer → accepted offer (last first) ≡ Ok final → next ≡ stage_finished generator input offer d → IsCalm c → (on : Leads (serving (Means input.stored input.count)) next (take j (sent_of ee)) c)
       → (events : List Said) → events_in ee ≡ events → sents events ≡ sents (proving_events first) → IsFrontOf (gots events) (ask ∷ continue_with first ∷ due generator input offer d final)
       → ((to_client : List ℕ) (server : ServerEnd) → to_client ≡ A ++ (B ++ F) → server ≡ of_server.Finished → ClientAt (sent_of course) to_client k K course server events (ask ∷ continue_with first ∷ due generator input offer d final))
@@ -306,7 +321,7 @@ module _ (generator : TableId) (input : PairInput) where
       let to_server : sent_of course ≡ S ++ (C ++ D) = ap sent_of is ∙ behind_grows S cc ∙ ap (λ (l : List ℕ). S ++ l) (ap sent_of also ∙ behind_grows C dd ∙ ap (λ (l : List ℕ). C ++ l) (ap sent_of too ∙ behind_grows D ee ∙ ap (λ (l : List ℕ). D ++ l) none ∙ append-nil D)) in
       let server : server_end server_c ≡ of_server.Finished = end_behind A (behind B (behind F c)) ∙ end_behind B (behind F c) ∙ end_behind F c ∙ ap server_end n.0 ∙ ap (λ (s : Stage). server_end (Waits s [] [])) here in
       let proof = proved_by first offer C dues final off encC acc in
-      let puts : client_encodings (sents (proving_events first)) ≡ Ok (S ++ (C ++ D)) = sent_join (startup_message given ∷ []) (first_sent input ∷ final_message given first ∷ []) S (C ++ D) encS (sent_join (first_sent input ∷ []) (final_message given first ∷ []) C D encC encD) in
+      let puts : client_encodings (sents (proving_events first)) ≡ Ok (S ++ (C ++ D)) = sent_join (startup_message given ∷ []) (first_sent input ∷ final_message login first ∷ []) S (C ++ D) encS (sent_join (first_sent input ∷ []) (final_message login first ∷ []) C D encC encD) in
       subst (λ (h : List Frontend). Rung (sent_of course) (sent_of server_c) k K course (server_end server_c) (startup ∷ first_in ∷ raw (last first) ∷ h) (ask ∷ continue_with first ∷ (dues ++ said_on generator input next (take j (sent_of ee)) c on))) (sym n.1)
       (subst (λ (s : List Backend). Rung (sent_of course) (sent_of server_c) k K course (server_end server_c) (startup ∷ first_in ∷ raw (last first) ∷ []) (ask ∷ continue_with first ∷ s)) (sym (ap (λ (l : List Backend). dues ++ l) n.2 ∙ append-nil dues))
       (record {
@@ -335,8 +350,8 @@ module _ (generator : TableId) (input : PairInput) where
 
   module _ (S A B F C D : List ℕ) (k K : ℕ) (course cc dd : Course Talk Ending) (first final : List ℕ) (offer : WaitingForClientFinal) (d : Drawn (proved_at (before_final generator input offer))) (next : Stage) (j : ℕ) (c : Course Stage ServerEnding)
       (is : course ≡ behind S cc) (also : cc ≡ behind C dd) (encA : backend_encoding ask ≡ Ok A) (encB : backend_encoding (continue_with first) ≡ Ok B) (encF : encodings (due generator input offer d final) ≡ Ok F)
-      (encS : client_encodings (startup_message given ∷ []) ≡ Ok S) (encC : client_encodings (first_sent input ∷ []) ≡ Ok C) (encD : client_encodings (final_message given first ∷ []) ≡ Ok D)
-      (off : IsOffer first offer) (fine : first_refusal given first ≡ None) (acc : accepted offer (last first) ≡ Ok final) (here : next ≡ stage_finished generator input offer d) (calm : IsCalm c) (longA : length A ≤ K) (longB : length B ≤ K - length A) where
+      (encS : client_encodings (startup_message given ∷ []) ≡ Ok S) (encC : client_encodings (first_sent input ∷ []) ≡ Ok C) (encD : client_encodings (final_message login first ∷ []) ≡ Ok D)
+      (off : IsOffer first offer) (fine : first_refusal login first ≡ None) (acc : accepted offer (last first) ≡ Ok final) (here : next ≡ stage_finished generator input offer d) (calm : IsCalm c) (longA : length A ≤ K) (longB : length B ≤ K - length A) where
     abbrev dues : List Backend
     dues = due generator input offer d final
 
@@ -429,8 +444,8 @@ module _ (generator : TableId) (input : PairInput) where
 
   rung_final : (able : IsAble generator input) (all : GreetsAll) (S A B C D : List ℕ) (k K : ℕ) (course cc dd ee : Course Talk Ending) (first : List ℕ) (offer : WaitingForClientFinal) (next : Stage) (c : Course Stage ServerEnding) (heard : List Frontend) (said : List Backend)
       → course ≡ behind S cc → cc ≡ behind C dd → dd ≡ behind D ee → backend_encoding ask ≡ Ok A → backend_encoding (continue_with first) ≡ Ok B
-      → client_encodings (startup_message given ∷ []) ≡ Ok S → client_encodings (first_sent input ∷ []) ≡ Ok C → client_encodings (final_message given first ∷ []) ≡ Ok D
-      → IsOffer first offer → first_refusal given first ≡ None → next ≡ stage_offered generator input offer → IsCalm c → length S ≤ k → length C ≤ k - length S → length A ≤ K → length B ≤ K - length A
+      → client_encodings (startup_message given ∷ []) ≡ Ok S → client_encodings (first_sent input ∷ []) ≡ Ok C → client_encodings (final_message login first ∷ []) ≡ Ok D
+      → IsOffer first offer → first_refusal login first ≡ None → next ≡ stage_offered generator input offer → IsCalm c → length S ≤ k → length C ≤ k - length S → length A ≤ K → length B ≤ K - length A
       → LeadsClient input (proving input first) (take (K - length A - length B) (sent_of c)) ee → TakesFinal generator input offer (last first) next D (k - length S - length C) (sent_of ee) c heard said
       → Rung (sent_of course) (sent_of (behind A (behind B c))) k K course (server_end (behind A (behind B c))) (startup ∷ first_in ∷ heard) (ask ∷ continue_with first ∷ said)
   unfolding Goal
@@ -440,7 +455,7 @@ module _ (generator : TableId) (input : PairInput) where
       record {
         events = proving_events first;
         events_are = ap events_in is ∙ events_behind S cc ∙ ap events_in also ∙ events_behind C dd ∙ ap events_in too ∙ events_behind D ee ∙ ap events_in at;
-        sent = sent_join (startup_message given ∷ []) (first_sent input ∷ final_message given first ∷ []) S (C ++ D) encS (sent_join (first_sent input ∷ []) (final_message given first ∷ []) C D encC encD) ∙ ap Ok (sym to_server);
+        sent = sent_join (startup_message given ∷ []) (first_sent input ∷ final_message login first ∷ []) S (C ++ D) encS (sent_join (first_sent input ∷ []) (final_message login first ∷ []) C D encC encD) ∙ ap Ok (sym to_server);
         spoke = puts_join (ask ∷ []) (continue_with first ∷ []) A B (puts_one ask A encA) (puts_one (continue_with first) B encB) ∙ ap (λ (l : List ℕ). Ok (A ++ l)) (sym (append-nil B));
         got_by_server = (raw (last first) ∷ [], refl);
         got_by_client = ([], refl);
@@ -453,7 +468,7 @@ module _ (generator : TableId) (input : PairInput) where
       record {
         events = proving_events first;
         events_are = ap events_in is ∙ events_behind S cc ∙ ap events_in also ∙ events_behind C dd ∙ ap events_in too ∙ events_behind D ee ∙ ap events_in at;
-        sent = sent_join (startup_message given ∷ []) (first_sent input ∷ final_message given first ∷ []) S (C ++ D) encS (sent_join (first_sent input ∷ []) (final_message given first ∷ []) C D encC encD) ∙ ap Ok (sym to_server);
+        sent = sent_join (startup_message given ∷ []) (first_sent input ∷ final_message login first ∷ []) S (C ++ D) encS (sent_join (first_sent input ∷ []) (final_message login first ∷ []) C D encC encD) ∙ ap Ok (sym to_server);
         spoke = puts_join (ask ∷ []) (continue_with first ∷ []) A B (puts_one ask A encA) (puts_one (continue_with first) B encB) ∙ ap (λ (l : List ℕ). Ok (A ++ l)) (sym (append-nil B));
         got_by_server = ([], refl);
         got_by_client = ([], refl);
@@ -475,7 +490,7 @@ module _ (generator : TableId) (input : PairInput) where
       → course ≡ behind S cc → cc ≡ behind C dd → backend_encoding ask ≡ Ok A → backend_encoding (continue_with first) ≡ Ok B → client_encodings (startup_message given ∷ []) ≡ Ok S → client_encodings (first_sent input ∷ []) ≡ Ok C
       → IsOffer first offer → next ≡ stage_offered generator input offer → IsCalm c → length S ≤ k → length C ≤ k - length S → length A ≤ K
       → (on : Leads (serving (Means input.stored input.count)) next (take (k - length S - length C) (sent_of dd)) c)
-      → Replies input (challenged input) (unsent_final input first) (proving input first) (first_refusal given first) (final_message given first) B (K - length A) (sent_of c) dd
+      → Replies input (challenged input) (unsent_final input first) (proving input first) (first_refusal login first) (final_message login first) B (K - length A) (sent_of c) dd
       → Rung (sent_of course) (sent_of (behind A (behind B c))) k K course (server_end (behind A (behind B c))) (startup ∷ first_in ∷ heard_on generator input next (take (k - length S - length C) (sent_of dd)) c on) (ask ∷ continue_with first ∷ said_on generator input next (take (k - length S - length C) (sent_of dd)) c on)
   rung_continue able all S A B C k K course cc dd first offer next c is also encA encB encS encC off here calm longS longC longA on (waits_for (short, at)) =
       at_offered S A B C k K course cc dd first offer next (k - length S - length C) c is also (ap sent_of at) encA encB here calm on challenged_events (ap events_in at) (two_put S C encS encC) ([], refl) (continue_with first ∷ [], refl)
@@ -490,7 +505,7 @@ module _ (generator : TableId) (input : PairInput) where
       let bytes : take (k - length S - length C) (sent_of dd) ≡ take (k - length S - length C) (D ++ sent_of ee) = ap (take (k - length S - length C)) (ap sent_of too ∙ behind_grows D ee) in
       rung_final able all S A B C D k K course cc dd ee first offer next c (heard_on generator input next (take (k - length S - length C) (sent_of dd)) c on) (said_on generator input next (take (k - length S - length C) (sent_of dd)) c on)
       is also too encA encB encS encC encD off fine here calm longS longC longA longB leads
-      (takes_final generator input able offer (last first) next D (k - length S - length C) (sent_of ee) (take (k - length S - length C) (sent_of dd)) c here (sent_one (final_message given first) D encD) bytes calm on)
+      (takes_final generator input able offer (last first) next D (k - length S - length C) (sent_of ee) (take (k - length S - length C) (sent_of dd)) c here (sent_one (final_message login first) D encD) bytes calm on)
 
   -- ---- client-first
 
@@ -499,7 +514,7 @@ module _ (generator : TableId) (input : PairInput) where
 
   -- it is not refused for a password
   never_declines : (user : List ℕ) → Declines generator input text (InvalidPassword user) → ⊥
-  never_declines user (inl off) = never_offered (end_of input.count) text input.stored input.server_nonce user off
+  never_declines user (inl off) = never_offered input.count text input.stored input.server_nonce user off
   never_declines user (inr (first, offer, off, enc)) = never_encoded first user enc
 
   two_sent : (S C : List ℕ) (course cc dd : Course Talk Ending) → course ≡ behind S cc → cc ≡ behind C dd → sent_of dd ≡ [] → sent_of course ≡ S ++ C

@@ -16,12 +16,11 @@ use Rattle.pgw_backend.specs.Backend.{backend_encoding}
 use Rattle.pgw_backend.specs.declared.backend.PgWireBackendMessage.TheVariants as backend
 use Rattle.pgw_frontend.specs.Frontend.{encoding, encodings as client_encodings}
 use Rattle.pgw_server.specs.Server.{encodings}
-use Rattle.pgw_session.specs.Logins.{first_message, scram_user}
+use Rattle.pgw_session.specs.Logins.{first_message}
 use Rattle.pgw_session.specs.Segments.{startup_message, startup_parameters}
-use Rattle.pgw_scram.specs.Base64.{nonce_text}
 use Rattle.pgw_scram.specs.Exchange.{client_first}
 use Rattle.pgw_pair.specs.declared.parties.PairInput.{PairInput}
-use Rattle.pgw_pair.specs.World.{client_input}
+use Rattle.pgw_pair.specs.World.{client_input, client_login}
 use Rattle.pgw_pair.proofs.Able.{no_fault, text_length, user_entries, pairs_length}
 use Rattle.pgw_pair.proofs.Honest.{fits}
 use Rattle.pgw_pair.proofs.ServerRungs.{startup_of}
@@ -50,10 +49,10 @@ startup_fits input plain small =
     (f.0 ++ [], rw (ap (λ (o : Option PgWireError). framing.encoded Untyped 10000 o (startup (startup_of input))) fault ∙ f.1) refl)
 
 -- a client-first of at most so many bytes
-pub first_fits : (input : PairInput) → length (client_first (scram_user (client_input input)) (nonce_text input.client_nonce)) ≤ 9978 → (g : List ℕ) × (client_encodings (first_message (client_input input) ∷ []) ≡ Ok g)
+pub first_fits : (input : PairInput) → length (client_first (client_login input)) ≤ 9978 → (g : List ℕ) × (client_encodings (first_message (client_login input) ∷ []) ≡ Ok g)
 unfolding encoding data_written refused_if
 first_fits input small =
-    let first = client_first (scram_user (client_input input)) (nonce_text input.client_nonce) in
+    let first = client_first (client_login input) in
     let method : List ℕ = text (codes "SCRAM-SHA-256") in
     let count : List ℕ = writing.u32 (length first) in
     let a = length-append method (count ++ first) in

@@ -11,7 +11,7 @@ use Rattle.sha2.proofs.Facts256.{length-sha256}
 use Rattle.pgw_hash.specs.Hmac.{hmac_sha256}
 use Rattle.pgw_hash.specs.Xor.{xor}
 use Rattle.pgw_scram.specs.Base64.{base64}
-use Rattle.pgw_scram.specs.Formulas.{client_proof, server_signature, client_key, client_signature, server_key}
+use Rattle.pgw_scram.specs.Formulas.{client_proof, client_key, stored_key, client_signature, signature_by}
 
 xor_short : (xs ys : List ℕ) → length (xor xs ys) ≤ length xs
 unfolding xor
@@ -25,11 +25,10 @@ hmac_length key text = length-sha256 _
 
 pub proof_short : (salted message : List ℕ) → length (client_proof salted message) ≤ 32
 unfolding client_proof
-proof_short salted message = let h = xor_short (client_key salted) (client_signature salted message) in omega (arith, h, hmac_length salted (codes "Client Key"))
+proof_short salted message = let h = xor_short (client_key salted) (client_signature (stored_key (client_key salted)) message) in omega (arith, h, hmac_length salted (codes "Client Key"))
 
-pub signature_short : (salted message : List ℕ) → length (server_signature salted message) ≤ 32
-unfolding server_signature
-signature_short salted message = let h = hmac_length (server_key salted) message in omega (arith, h)
+pub signature_short : (key message : List ℕ) → length (signature_by key message) ≤ 32
+signature_short key message = let h = hmac_length key message in omega (arith, h)
 
 pub base64_short : (bytes : List ℕ) → length bytes ≤ 32 → length (base64 bytes) ≤ 48
 unfolding base64

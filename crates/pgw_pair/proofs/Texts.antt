@@ -8,9 +8,10 @@ use Rattle.pgw_types.specs.declared.error.ScramMessageFault.{ScramMessageFault}
 use Rattle.pgw_types.specs.declared.error.ScramMessageFault.TheVariants as fault
 use Rattle.pgw_scram.specs.Answers.{unless, unless_so, first_of}
 use Rattle.pgw_scram.specs.Base64.{base64}
-use Rattle.pgw_scram.specs.Formulas.{auth_message, client_proof, server_signature}
+use Rattle.pgw_scram.specs.Formulas.{client_key, proof_by, signature_by}
+use Rattle.pgw_scram.specs.Offers.{channel_refusal, exchanged, answer_refusal, answered_as, server_final}
 use Rattle.pgw_scram.specs.Readers.{read_client_first, read_client_final}
-use Rattle.pgw_scram.specs.Server.{offered, offered_to, offered_with, accepted, accepted_as, exchanged, server_final}
+use Rattle.pgw_scram.specs.Server.{offered, offered_as, offered_with, unless_misbound, accepted, accepted_as}
 use Rattle.pgw_scram.specs.declared.messages.ClientFirst.{ClientFirst}
 use Rattle.pgw_scram.specs.declared.messages.ClientFinal.{ClientFinal}
 use Rattle.pgw_scram.specs.declared.password.Password.{Password as Kept}
@@ -18,12 +19,12 @@ use Rattle.pgw_scram.specs.declared.server.ScramServerAuth.{ScramServerAuth}
 use Rattle.pgw_scram.specs.declared.server.ScramServerAuthWaitingForClientFinal.{ScramServerAuthWaitingForClientFinal as WaitingForClientFinal}
 
 -- an offer: client-first was read, and it is kept with what was offered
-pub record Offer (server : ScramServerAuth) (text : List ℕ) (stored : Kept) (first : List ℕ) (waiting : WaitingForClientFinal) : Type 0 where
+pub record IsKept (text : List ℕ) (stored : Kept) (first : List ℕ) (waiting : WaitingForClientFinal) : Type 0 where
   pub opening : ClientFirst
   pub reads : read_client_first text ≡ Ok opening
-  pub bare : waiting.bare ≡ opening.bare
-  pub offer : waiting.server_first ≡ first
-  pub salted : waiting.salted ≡ stored.password
+  pub bare : (waiting.offer).bare ≡ opening.bare
+  pub offer : (waiting.offer).server_first ≡ first
+  pub key : waiting.client_key ≡ client_key stored.password
 
 known : {A E : Type 0} (r : Result A E) → ((x : A) × (r ≡ Ok x)) ⊎ ((e : E) × (r ≡ Err e))
 known (Ok x) = inl (x, refl)
@@ -36,74 +37,90 @@ pair_is {A = A} {B = B} {a = a} {c = c} {b = b} {d = d} e =
     let p : x ≡ y = cc in
     (λ i. (p i).0, λ i. (p i).1)
 
-with_salt : (server : ScramServerAuth) (text : List ℕ) (stored : Kept) (nonce first : List ℕ) (waiting : WaitingForClientFinal) (opening : ClientFirst) → read_client_first text ≡ Ok opening → (salt : Option (List ℕ)) → offered_with server opening salt stored.password nonce ≡ Ok (first, waiting) → Offer server text stored first waiting
+with_salt : (server : ScramServerAuth) (text : List ℕ) (stored : Kept) (nonce first : List ℕ) (waiting : WaitingForClientFinal) (opening : ClientFirst) → read_client_first text ≡ Ok opening → (salt : Option (List ℕ)) → offered_with server opening salt stored.password nonce ≡ Ok (first, waiting) → IsKept text stored first waiting
 with_salt server text stored nonce first waiting opening reads None is = absurd cc
 with_salt server text stored nonce first waiting opening reads (Some salt) is =
     let p = pair_is is in
     record {
       opening = opening;
       reads = reads;
-      bare = ap (λ (x : WaitingForClientFinal). x.bare) (sym p.1);
-      offer = ap (λ (x : WaitingForClientFinal). x.server_first) (sym p.1) ∙ p.0;
-      salted = ap (λ (x : WaitingForClientFinal). x.salted) (sym p.1);
+      bare = ap (λ (x : WaitingForClientFinal). (x.offer).bare) (sym p.1);
+      offer = ap (λ (x : WaitingForClientFinal). (x.offer).server_first) (sym p.1) ∙ p.0;
+      key = ap (λ (x : WaitingForClientFinal). x.client_key) (sym p.1);
     }
 
-pub was_offered : (server : ScramServerAuth) (text : List ℕ) (stored : Kept) (nonce first : List ℕ) (waiting : WaitingForClientFinal) → offered server text stored nonce ≡ Ok (first, waiting) → Offer server text stored first waiting
+no_err : {A E : Type 0} {x : A} {e : E} → ◌≡◌ {A = Result A E} (Ok x) (Err e) → ⊥
+no_err h = cc
+
+-- it is not refused for what it is bound to
+with_binding : (server : ScramServerAuth) (text : List ℕ) (stored : Kept) (nonce first : List ℕ) (waiting : WaitingForClientFinal) (opening : ClientFirst) → read_client_first text ≡ Ok opening → (e : Option PgWireError) → unless_misbound e (offered_with server opening stored.salt stored.password nonce) ≡ Ok (first, waiting) → IsKept text stored first waiting
+with_binding server text stored nonce first waiting opening reads None is = with_salt server text stored nonce first waiting opening reads stored.salt is
+with_binding server text stored nonce first waiting opening reads (Some e) is = absurd (no_err (sym is))
+
+pub was_offered : (server : ScramServerAuth) (text : List ℕ) (stored : Kept) (nonce first : List ℕ) (waiting : WaitingForClientFinal) → offered server text stored nonce ≡ Ok (first, waiting) → IsKept text stored first waiting
 was_offered server text stored nonce first waiting is = elim (known (read_client_first text)) [
-  | inl k ↦ with_salt server text stored nonce first waiting k.0 k.1 stored.salt (sym (ap (λ (r : Result ClientFirst ScramMessageFault). offered_to server r stored nonce) k.1) ∙ is)
-  | inr k ↦ let h = sym (ap (λ (r : Result ClientFirst ScramMessageFault). offered_to server r stored nonce) k.1) ∙ is in absurd cc
+  | inl k ↦ with_binding server text stored nonce first waiting k.0 k.1 (channel_refusal server.certificate_hash k.0) (sym (ap (λ (r : Result ClientFirst ScramMessageFault). offered_as server r stored nonce) k.1) ∙ is)
+  | inr k ↦ absurd (no_err (sym is ∙ ap (λ (r : Result ClientFirst ScramMessageFault). offered_as server r stored nonce) k.1))
 ]
 
 -- ---- the proof
 
 -- what it is to be
 abbrev pub owed : WaitingForClientFinal → ClientFinal → List ℕ
-owed waiting closing = base64 (client_proof waiting.salted (auth_message waiting.bare waiting.server_first closing.without_proof))
+owed waiting closing = base64 (proof_by waiting.client_key (exchanged waiting.offer closing))
 
-known_bool : (b : Bool) → (b ≡ true) ⊎ (b ≡ false)
-known_bool true = inl refl
-known_bool false = inr refl
+-- client-final was read, and it answers the offer; or it is refused as no answer, and not for its proof
+pub data Hears (waiting : WaitingForClientFinal) (body : List ℕ) : Type 0 where
+  unread : (e : PgWireError) → ((user : List ℕ) → e ≡ InvalidPassword user → ⊥) → accepted waiting body ≡ Err e → Hears waiting body
+  heard : (closing : ClientFinal) → read_client_final body ≡ Ok closing → accepted waiting body ≡ accepted_as waiting (Ok closing) → Hears waiting body
 
-no_err : {A E : Type 0} {x : A} {e : E} → ◌≡◌ {A = Result A E} (Ok x) (Err e) → ⊥
-no_err h = cc
+refused_so : (a b : Bool) (user : List ℕ) (e : PgWireError) → first_of (unless_so a (InvalidScramMessage fault.ChannelBinding)) (unless_so b (InvalidScramMessage fault.Nonce)) ≡ Some e → e ≡ InvalidPassword user → ⊥
+refused_so true true user e is named = cc
+refused_so true false user e is named = cc
+refused_so false b user e is named = cc
 
--- the refusal by three tests
-refusal_by : (waiting : WaitingForClientFinal) (a b c : Bool) → Option PgWireError
-refusal_by waiting a b c = first_of (unless_so a (InvalidScramMessage fault.ChannelBinding)) (first_of (unless_so b (InvalidScramMessage fault.Nonce)) (unless_so c (InvalidPassword waiting.user)))
+pub hears : (waiting : WaitingForClientFinal) (body : List ℕ) → Hears waiting body
+hears waiting body = elim (known (read_client_final body)) [
+  | inl k ↦ answers k.0 k.1 (answer_refusal waiting.offer k.0) refl
+  | inr k ↦ unread (InvalidScramMessage k.0) (λ user named. cc) (ap (λ (r : Result ClientFinal ScramMessageFault). accepted_as waiting (answered_as waiting.offer r)) k.1)
+]
+  where
+    answers : (closing : ClientFinal) → read_client_final body ≡ Ok closing → (o : Option PgWireError) → answer_refusal waiting.offer closing ≡ o → Hears waiting body
+    answers closing reads None is = heard closing reads (ap (λ (r : Result ClientFinal ScramMessageFault). accepted_as waiting (answered_as waiting.offer r)) reads ∙ ap (λ (o : Option PgWireError). accepted_as waiting (unless o closing)) is)
+    answers closing reads (Some e) is =
+        unread e (λ user named. refused_so (bytes_eq closing.binding (waiting.offer).binding) (bytes_eq closing.nonce (waiting.offer).nonce) user e is named)
+        (ap (λ (r : Result ClientFinal ScramMessageFault). accepted_as waiting (answered_as waiting.offer r)) reads ∙ ap (λ (o : Option PgWireError). accepted_as waiting (unless o closing)) is)
 
-passed_all : (waiting : WaitingForClientFinal) (a b c : Bool) (final out : List ℕ) → unless (refusal_by waiting a b c) out ≡ Ok final → c ≡ true
-unfolding refusal_by
-passed_all waiting true true true final out is = refl
-passed_all waiting true true false final out is = absurd cc
-passed_all waiting true false c final out is = absurd cc
-passed_all waiting false b c final out is = absurd cc
+passed : (c : Bool) (user final out : List ℕ) → unless (unless_so c (InvalidPassword user)) out ≡ Ok final → (c ≡ true) × (out ≡ final)
+passed true user final out is = (refl, cc)
+passed false user final out is = absurd cc
 
-other_proof : (waiting : WaitingForClientFinal) (a b c : Bool) (user out : List ℕ) → unless (refusal_by waiting a b c) out ≡ Err (InvalidPassword user) → c ≡ false
-unfolding refusal_by
-other_proof waiting true true true user out is = absurd cc
-other_proof waiting true true false user out is = refl
-other_proof waiting true false c user out is = absurd cc
-other_proof waiting false b c user out is = absurd cc
+other_proof : (c : Bool) (who user out : List ℕ) → unless (unless_so c (InvalidPassword who)) out ≡ Err (InvalidPassword user) → c ≡ false
+other_proof true who user out is = absurd cc
+other_proof false who user out is = refl
 
-pub was_accepted : (waiting : WaitingForClientFinal) (body final : List ℕ) → accepted waiting body ≡ Ok final → (closing : ClientFinal) × (read_client_final body ≡ Ok closing) × (closing.proof ≡ owed waiting closing)
-unfolding refusal_by
-was_accepted waiting body final is = elim (known (read_client_final body)) [
-  | inl k ↦
-      let h : accepted_as waiting (Ok k.0) ≡ Ok final = sym (ap (accepted_as waiting) k.1) ∙ is in
-      let c = passed_all waiting (bytes_eq (k.0).binding waiting.binding) (bytes_eq (k.0).nonce waiting.nonce) (bytes_eq (k.0).proof (owed waiting k.0)) final (server_final (server_signature waiting.salted (exchanged waiting k.0))) h in
-      (k.0, k.1, (bytes_eq-Decides (k.0).proof (owed waiting k.0)).0 c)
-  | inr k ↦ absurd (no_err (sym is ∙ ap (accepted_as waiting) k.1))
+-- the text of server-final behind client-final
+abbrev pub signed : WaitingForClientFinal → ClientFinal → List ℕ
+signed waiting closing = server_final (signature_by waiting.server_key (exchanged waiting.offer closing))
+
+pub was_accepted : (waiting : WaitingForClientFinal) (body final : List ℕ) → accepted waiting body ≡ Ok final → (closing : ClientFinal) × (read_client_final body ≡ Ok closing) × (closing.proof ≡ owed waiting closing) × (signed waiting closing ≡ final)
+was_accepted waiting body final is = elim (hears waiting body) [
+  | unread e other refusal ↦ absurd (no_err (sym is ∙ refusal))
+  | heard closing reads so ↦
+      let p = passed (bytes_eq closing.proof (owed waiting closing)) (waiting.offer).user final (signed waiting closing) (sym so ∙ is) in
+      (closing, reads, (bytes_eq-Decides closing.proof (owed waiting closing)).0 p.0, p.1)
 ]
 
 is_false : (b : Bool) → b ≡ false → b ≡ true → ⊥
 is_false b x y = let h = sym x ∙ y in absurd cc
 
+err_same : {A E : Type 0} {r : Result A E} {x y : E} → r ≡ Err x → r ≡ Err y → x ≡ y
+err_same {A = A} {E = E} {x = x} {y = y} a b = let h : ◌≡◌ {A = Result A E} (Err x) (Err y) = sym a ∙ b in cc
+
 pub was_refused : (waiting : WaitingForClientFinal) (body user : List ℕ) → accepted waiting body ≡ Err (InvalidPassword user) → (closing : ClientFinal) × (read_client_final body ≡ Ok closing) × (closing.proof ≢ owed waiting closing)
-unfolding refusal_by
-was_refused waiting body user is = elim (known (read_client_final body)) [
-  | inl k ↦
-      let h : accepted_as waiting (Ok k.0) ≡ Err (InvalidPassword user) = sym (ap (accepted_as waiting) k.1) ∙ is in
-      let c = other_proof waiting (bytes_eq (k.0).binding waiting.binding) (bytes_eq (k.0).nonce waiting.nonce) (bytes_eq (k.0).proof (owed waiting k.0)) user (server_final (server_signature waiting.salted (exchanged waiting k.0))) h in
-      (k.0, k.1, λ same. is_false (bytes_eq (k.0).proof (owed waiting k.0)) c ((bytes_eq-Decides (k.0).proof (owed waiting k.0)).1 same))
-  | inr k ↦ let h = sym (ap (accepted_as waiting) k.1) ∙ is in absurd cc
+was_refused waiting body user is = elim (hears waiting body) [
+  | unread e other refusal ↦ absurd (other user (err_same refusal is))
+  | heard closing reads so ↦
+      let c = other_proof (bytes_eq closing.proof (owed waiting closing)) (waiting.offer).user user (signed waiting closing) (sym so ∙ is) in
+      (closing, reads, λ same. is_false (bytes_eq closing.proof (owed waiting closing)) c ((bytes_eq-Decides closing.proof (owed waiting closing)).1 same))
 ]

@@ -18,10 +18,10 @@ use Rattle.pgw_frontend.specs.declared.frontend.PgWireFrontendMessage.TheVariant
 use Rattle.pgw_hash.specs.Saslprep.{prepared}
 use Rattle.pgw_hash.specs.Pbkdf2.{salted_password}
 use Rattle.pgw_scram.specs.Attributes.{IsValue}
-use Rattle.pgw_scram.specs.Base64.{base64, nonce_text}
+use Rattle.pgw_scram.specs.Base64.{base64}
 use Rattle.pgw_scram.specs.Formulas.{auth_message, client_proof}
 use Rattle.pgw_scram.specs.Readers.{read_client_first, read_client_final}
-use Rattle.pgw_scram.specs.Server.{server_first}
+use Rattle.pgw_scram.specs.Offers.{server_first, whole_nonce}
 use Rattle.pgw_scram.specs.declared.messages.ClientFirst.{ClientFirst}
 use Rattle.pgw_scram.specs.declared.messages.ClientFinal.{ClientFinal}
 use Rattle.pgw_course.specs.Course.{Course, Waits, Over, Move, sent_of}
@@ -49,7 +49,7 @@ use Rattle.pgw_pair.specs.declared.parties.ClientEnd.TheVariants as of_client
 use Rattle.pgw_pair.specs.declared.parties.ServerEnd.{ServerEnd}
 use Rattle.pgw_pair.specs.declared.parties.ServerEnd.TheVariants as of_server
 use Rattle.pgw_pair.specs.Server.{Means}
-use Rattle.pgw_pair.specs.World.{World, first_world, first_stage, Runs, Serves, client_config, client_input, most, talk}
+use Rattle.pgw_pair.specs.World.{World, first_world, first_stage, Runs, Serves, client_config, client_input, client_login, most, talk}
 
 abbrev pub IsFrontOf : {A : Type 0} → List A → List A → Type 0
 IsFrontOf {A = A} front all = (rest : List A) × (all ≡ front ++ rest)
@@ -165,8 +165,8 @@ pub record AreHonest (input : PairInput) : Type 0 where
   pub has_salt : (input.stored).salt ≡ Some salt
   pub is_salted : (input.stored).password ≡ salted_password input.password salt input.count
   pub startup : (g : List ℕ) × (client_encodings (startup_message (client_input input) ∷ []) ≡ Ok g)
-  pub client_first : (g : List ℕ) × (client_encodings (first_message (client_input input) ∷ []) ≡ Ok g)
-  pub server_first : (g : List ℕ) × (encodings (backend.Authentication (auth.SASLContinue (server_first (nonce_text input.client_nonce ++ nonce_text input.server_nonce) salt input.count)) ∷ []) ≡ Ok g)
+  pub client_first : (g : List ℕ) × (client_encodings (first_message (client_login input) ∷ []) ≡ Ok g)
+  pub server_first : (g : List ℕ) × (encodings (backend.Authentication (auth.SASLContinue (server_first (whole_nonce (client_login input).nonce input.server_nonce) salt input.count)) ∷ []) ≡ Ok g)
 
 -- ---- the clauses
 

@@ -16,13 +16,15 @@ use Rattle.pgw_login.specs.declared.client_info.PgWireConnectionState.TheVariant
 use Rattle.pgw_login.specs.declared.state.LoginState.{LoginState}
 use Rattle.pgw_login.specs.declared.state.SASLState.TheVariants.{Initial}
 use Rattle.pgw_server.specs.Server.{Stage, Ending as ServerEnding, begins, serving}
+use Rattle.pgw_scram.specs.declared.exchange.ClientLogin.{ClientLogin}
 use Rattle.pgw_session.specs.Input.{Input}
+use Rattle.pgw_session.specs.Logins.{scram_login}
 use Rattle.pgw_session.specs.Talk.{Talk, Ending, conversation}
 use Rattle.pgw_dialogue.specs.Answers.{taken_of, answer_to}
 use Rattle.pgw_course.specs.declared.event.Event.{Event}
 use Rattle.pgw_course.specs.declared.event.Event.TheVariants.{ToServer, ToClient}
 use Rattle.pgw_pair.specs.declared.parties.PairInput.{PairInput}
-use Rattle.pgw_pair.specs.Server.{Means}
+use Rattle.pgw_pair.specs.Server.{Means, methods}
 
 -- ---- the client
 
@@ -32,6 +34,10 @@ client_config input = record no_config { user = Some input.user; password = Some
 -- it asks nothing
 abbrev pub client_input : PairInput → Input
 client_input input = record { config = client_config input; requests = []; nonce = input.client_nonce }
+
+-- who logs in, by the server's methods
+abbrev pub client_login : PairInput → ClientLogin
+client_login input = scram_login (client_input input) methods
 
 -- so many bytes it takes
 abbrev pub most : ℕ

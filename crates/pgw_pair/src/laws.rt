@@ -4,10 +4,9 @@ ghost use Rattle.atomic_table.specs.Seated.{TableId};
 ghost use Rattle.pgw_course.specs.declared.event.Event.{Event as TheEvent};
 ghost use Rattle.pgw_backend.specs.declared.backend.PgWireBackendMessage.TheVariants as backend;
 ghost use Rattle.pgw_frontend.specs.Frontend.{encodings as client_encodings};
-ghost use Rattle.pgw_scram.specs.Base64.{nonce_text};
 ghost use Rattle.pgw_scram.specs.Exchange.{client_first};
 ghost use Rattle.pgw_server.specs.Server.{encodings};
-ghost use Rattle.pgw_session.specs.Logins.{first_message, scram_user};
+ghost use Rattle.pgw_session.specs.Logins.{first_message};
 ghost use Rattle.pgw_session.specs.Segments.{startup_message};
 ghost use Rattle.pgw_startup.specs.declared.authentication.Authentication.TheVariants as auth;
 ghost use Rattle.pgw_wire.specs.Writing.{has_zero};
@@ -15,7 +14,7 @@ ghost use Rattle.pgw_pair.specs.declared.parties.PairInput.{PairInput as TheInpu
 ghost use Rattle.pgw_pair.specs.declared.parties.PairOutcome.{PairOutcome as TheOutcome};
 ghost use Rattle.pgw_pair.specs.Parties.{Pairs, TwoParty};
 ghost use Rattle.pgw_pair.specs.Sound.{IsSoundInput};
-ghost use Rattle.pgw_pair.specs.World.{World, client_input, first_world, Runs, Meets, most};
+ghost use Rattle.pgw_pair.specs.World.{World, client_input, client_login, first_world, Runs, Meets, most};
 
 /// In each world to which events lead, each end is where the bytes lead that it took.
 pub fn events_keep_the_world()
@@ -35,8 +34,8 @@ pub fn sizes_suffice()
     ensures startup { (input : TheInput) → has_zero input.user ≡ false → length input.user ≤ 9985 →
         (g : List ℕ) × (client_encodings (startup_message (client_input input) ∷ []) ≡ Ok g) }
     ensures client_first { (input : TheInput) →
-        length (client_first (scram_user (client_input input)) (nonce_text input.client_nonce)) ≤ 9978 →
-        (g : List ℕ) × (client_encodings (first_message (client_input input) ∷ []) ≡ Ok g) }
+        length (client_first (client_login input)) ≤ 9978 →
+        (g : List ℕ) × (client_encodings (first_message (client_login input) ∷ []) ≡ Ok g) }
     ensures server_first { (offer : List ℕ) → length offer ≤ 29992 →
         (g : List ℕ) × (encodings (backend.Authentication (auth.SASLContinue offer) ∷ []) ≡ Ok g) }
 {}
