@@ -310,7 +310,7 @@ accepted_small : (waiting : WaitingForClientFinal) (text final : List ℕ) → a
 accepted_small waiting text final is =
     let a = was_accepted waiting text final is in
     let s = final_small (signature_by waiting.server_key (exchanged waiting.offer a.0)) (signature_short waiting.server_key (exchanged waiting.offer a.0)) in
-    omega (arith, s, ap length a.3)
+    omega (arith, s, ap length a.4)
 
 -- ---- all of it
 

@@ -54,7 +54,7 @@ use Rattle.pgw_pair.proofs.Firsts.{end_of, first_body, continue_with}
 use Rattle.pgw_pair.proofs.ServerRungs.{one_put, IsCalm, still_calm, startup_of, Declines, first_raw, stage_opened, stage_offered, heard_on, said_on, takes_none, before_final, due, stage_finished, IsAble, TakesFinal, awaits_final, refused_final, went_final, takes_final, TakesFirst, waits_first, refused_first, went_first, takes_first, TakesStartup, waits_still, went, takes_startup}
 use Rattle.pgw_pair.specs.Parties.{server_over}
 use Rattle.pgw_pair.proofs.Finals.{final_with, Drawn, known_by, proved_at}
-use Rattle.pgw_pair.proofs.Texts.{was_offered, was_accepted, was_refused, owed}
+use Rattle.pgw_pair.proofs.Texts.{unbound_header, was_offered, was_accepted, was_refused, owed}
 use Rattle.pgw_pair.proofs.Readings.{initial_reads}
 use Rattle.pgw_scram.proofs.Base64Laws.{ascii_utf8}
 use Rattle.pgw_scram.specs.Base64.{base64}
@@ -247,10 +247,10 @@ module _ (generator : TableId) (input : PairInput) where
   abbrev first_in : Frontend
   first_in = raw (first_raw generator input text)
 
-  exchanged_at : (first : List ℕ) (offer : WaitingForClientFinal) (C : List ℕ) (later : List Backend) (closing : ClientFinal) → IsOffer first offer → client_encodings (first_sent input ∷ []) ≡ Ok C → read_client_final (last first) ≡ Ok closing
+  exchanged_at : (first : List ℕ) (offer : WaitingForClientFinal) (C : List ℕ) (later : List Backend) (closing : ClientFinal) → IsOffer first offer → client_encodings (first_sent input ∷ []) ≡ Ok C → read_client_final (last first) ≡ Ok closing → closing.binding ≡ (offer.offer).binding
       → (x : Exchanged input (startup ∷ first_in ∷ raw (last first) ∷ []) (ask ∷ continue_with first ∷ later)) × (x.closing ≡ closing) × (proof_due x ≡ owed offer closing)
   unfolding client_proof
-  exchanged_at first offer C later closing off enc closes =
+  exchanged_at first offer C later closing off enc closes binds =
       let o = was_offered (end_of input.count) text input.stored input.server_nonce first offer off in (
         record {
           startup = startup_of input;
@@ -266,6 +266,8 @@ module _ (generator : TableId) (input : PairInput) where
           initial = initial_reads (first_body text) C (ascii_utf8 (codes "SCRAM-SHA-256") refl) (sent_one (first_sent input) C enc);
           opens = o.reads;
           closes = closes;
+          unbound = unbound_header login o.opening refl o.reads;
+          binds_nothing = binds ∙ o.binding ∙ ap base64 (unbound_header login o.opening refl o.reads);
         },
         refl,
         λ i. base64 (proof_by (sym o.key i) (auth_message (sym o.bare i) (sym o.offer i) closing.without_proof)),
@@ -275,15 +277,15 @@ module _ (generator : TableId) (input : PairInput) where
       → (x : Exchanged input (startup ∷ first_in ∷ raw (last first) ∷ []) (ask ∷ continue_with first ∷ later)) × ((x.closing).proof ≡ proof_due x)
   proved_by first offer C later final off enc acc =
       let a = was_accepted offer (last first) final acc in
-      let x = exchanged_at first offer C later a.0 off enc a.1 in
-      (x.0, ap (λ (c : ClientFinal). c.proof) x.1 ∙ a.2 ∙ sym x.2)
+      let x = exchanged_at first offer C later a.0 off enc a.1 a.2 in
+      (x.0, ap (λ (c : ClientFinal). c.proof) x.1 ∙ a.3 ∙ sym x.2)
 
   disproved_by : (first : List ℕ) (offer : WaitingForClientFinal) (C : List ℕ) (later : List Backend) (user : List ℕ) → IsOffer first offer → client_encodings (first_sent input ∷ []) ≡ Ok C → accepted offer (last first) ≡ Err (InvalidPassword user)
       → (x : Exchanged input (startup ∷ first_in ∷ raw (last first) ∷ []) (ask ∷ continue_with first ∷ later)) × ((x.closing).proof ≢ proof_due x)
   disproved_by first offer C later user off enc acc =
       let a = was_refused offer (last first) user acc in
-      let x = exchanged_at first offer C later a.0 off enc a.1 in
-      (x.0, λ same. a.2 (sym (ap (λ (c : ClientFinal). c.proof) x.1) ∙ same ∙ x.2))
+      let x = exchanged_at first offer C later a.0 off enc a.1 a.2 in
+      (x.0, λ same. a.3 (sym (ap (λ (c : ClientFinal). c.proof) x.1) ∙ same ∙ x.2))
 
   -- ---- the server has finished
 

@@ -19,6 +19,8 @@ use Rattle.pgw_hash.specs.Saslprep.{prepared}
 use Rattle.pgw_hash.specs.Pbkdf2.{salted_password}
 use Rattle.pgw_scram.specs.Attributes.{IsValue}
 use Rattle.pgw_scram.specs.Base64.{base64}
+use Rattle.pgw_scram.specs.Binding.{header, binding_text}
+use Rattle.pgw_scram.specs.declared.binding.ClientBinding.TheVariants as binding
 use Rattle.pgw_scram.specs.Formulas.{auth_message, client_proof}
 use Rattle.pgw_scram.specs.Readers.{read_client_first, read_client_final}
 use Rattle.pgw_scram.specs.Offers.{server_first, whole_nonce}
@@ -147,6 +149,9 @@ pub record Exchanged (input : PairInput) (heard : List Frontend) (said : List Ba
   pub initial : initial_response_of first_body ≡ Ok (record { auth_method = codes "SCRAM-SHA-256"; payload = Some first })
   pub opens : read_client_first first ≡ Ok opening
   pub closes : read_client_final final ≡ Ok closing
+  -- nothing is bound
+  pub unbound : opening.header ≡ header binding.None
+  pub binds_nothing : closing.binding ≡ binding_text binding.None
 
 -- what its proof is to be, by the stored password
 abbrev pub proof_due : {input : PairInput} {heard : List Frontend} {said : List Backend} → Exchanged input heard said → List ℕ

@@ -35,7 +35,7 @@ client_config input = record no_config { user = Some input.user; password = Some
 abbrev pub client_input : PairInput → Input
 client_input input = record { config = client_config input; requests = []; nonce = input.client_nonce }
 
--- who logs in, by the server's methods
+-- who logs in, by the server's methods: bound to nothing, since no hash of a certificate is given
 abbrev pub client_login : PairInput → ClientLogin
 client_login input = scram_login (client_input input) methods
 
