@@ -1,6 +1,6 @@
 //! A run of the program.
 ghost use Rattle.std.specs.Prelude.{◌<◌, All, IfOk};
-ghost use Rattle.pgw_link.specs.MemoryDials.{IsUnused};
+ghost use Rattle.pgw_link.specs.MemoryLinks.{IsUnused};
 
 use crate::case::{Call, Case};
 use anyhow::Result;
