@@ -68,6 +68,9 @@ impl<L: Link> Seen for PgWireClient<L> {
 }
 
 impl<L: Link> ClientInfo for PgWireClient<L> {
+    ghost use Rattle.std.specs.Prelude.{OnOk, OnErr};
+    ghost use Rattle.pgw_handlers.specs.Client.{with_parameter, with_version, with_status};
+
     fn config(&self) -> &Config {
         &self.desk.config
     }
@@ -76,7 +79,20 @@ impl<L: Link> ClientInfo for PgWireClient<L> {
         &self.desk.parameters
     }
 
-    fn set_server_parameter(&mut self, name: Text, value: Text) -> Result<(), OutOfMemory> {
+    fn set_server_parameter(&mut self, name: Text, value: Text) -> Result<(), OutOfMemory>
+        ensures set { OnOk result (
+            link_sight (client_of self.new.desk) (L.tape self.new.link) self.new.desk.broken
+            ≡ with_parameter name value
+            (link_sight (client_of self.old.desk) (L.tape self.old.link) self.old.desk.broken)) }
+        ensures kept { OnErr result (
+            link_sight (client_of self.new.desk) (L.tape self.new.link) self.new.desk.broken
+            ≡ link_sight (client_of self.old.desk) (L.tape self.old.link) self.old.desk.broken) }
+        ensures own { kept self.new.desk.config self.new.inbox self.new.read self.new.limit
+            ≡ kept self.old.desk.config self.old.inbox self.old.read self.old.limit }
+        ensures rest { kept_rest (L.tape self.new.link) ≡ kept_rest (L.tape self.old.link) }
+        ensures calm { L.faults self.new.link ≡ L.faults self.old.link }
+        ensures link { self.new.link ≡ self.old.link }
+    {
         self.desk.parameters.insert(name, value)
     }
 
@@ -92,7 +108,15 @@ impl<L: Link> ClientInfo for PgWireClient<L> {
         self.desk.protocol_version
     }
 
-    fn set_protocol_version(&mut self, version: ProtocolVersion) {
+    fn set_protocol_version(&mut self, version: ProtocolVersion)
+        ensures set { link_sight (client_of self.new.desk) (L.tape self.new.link) self.new.desk.broken
+            ≡ with_version version (link_sight (client_of self.old.desk) (L.tape self.old.link) self.old.desk.broken) }
+        ensures own { kept self.new.desk.config self.new.inbox self.new.read self.new.limit
+            ≡ kept self.old.desk.config self.old.inbox self.old.read self.old.limit }
+        ensures rest { kept_rest (L.tape self.new.link) ≡ kept_rest (L.tape self.old.link) }
+        ensures calm { L.faults self.new.link ≡ L.faults self.old.link }
+        ensures link { self.new.link ≡ self.old.link }
+    {
         self.desk.protocol_version = version;
     }
 
@@ -100,7 +124,15 @@ impl<L: Link> ClientInfo for PgWireClient<L> {
         self.desk.transaction_status
     }
 
-    fn set_transaction_status(&mut self, status: TransactionStatus) {
+    fn set_transaction_status(&mut self, status: TransactionStatus)
+        ensures set { link_sight (client_of self.new.desk) (L.tape self.new.link) self.new.desk.broken
+            ≡ with_status status (link_sight (client_of self.old.desk) (L.tape self.old.link) self.old.desk.broken) }
+        ensures own { kept self.new.desk.config self.new.inbox self.new.read self.new.limit
+            ≡ kept self.old.desk.config self.old.inbox self.old.read self.old.limit }
+        ensures rest { kept_rest (L.tape self.new.link) ≡ kept_rest (L.tape self.old.link) }
+        ensures calm { L.faults self.new.link ≡ L.faults self.old.link }
+        ensures link { self.new.link ≡ self.old.link }
+    {
         self.desk.transaction_status = status;
     }
 }

@@ -190,7 +190,30 @@ impl<L: Link> PgWireClient<L> {
 }
 
 impl<L: Link> Outgoing for PgWireClient<L> {
-    fn send(&mut self, message: PgWireFrontendMessage) -> PgWireClientResult<()> {
+    ghost use Rattle.pgw_frontend.specs.Frontend.{encoding};
+    ghost use Rattle.pgw_handlers.specs.Sending.{Sent, NotSent, IsSpelled, IsUsable as StaysUsable};
+    ghost use Rattle.pgw_connection.specs.Calls.{kept, kept_rest, link_sight};
+
+    #[tactic(auto, using(crate::proofs::ForetoldLaws::foretold_still))]
+    fn send(&mut self, message: PgWireFrontendMessage) -> PgWireClientResult<()>
+        ensures sent { OnOk result (Sent (encoding message)
+            (link_sight (client_of self.old.desk) (L.tape self.old.link) self.old.desk.broken)
+            (link_sight (client_of self.new.desk) (L.tape self.new.link) self.new.desk.broken)) }
+        ensures failed { IfErr result (λ e. NotSent (encoding message)
+            (link_sight (client_of self.old.desk) (L.tape self.old.link) self.old.desk.broken)
+            (link_sight (client_of self.new.desk) (L.tape self.new.link) self.new.desk.broken) e) }
+        ensures spelled { IsSpelled (encoding message) result }
+        ensures client { client_of self.new.desk ≡ client_of self.old.desk }
+        ensures usable { StaysUsable result self.old.desk.broken self.new.desk.broken }
+        ensures own { kept self.new.desk.config self.new.inbox self.new.read self.new.limit
+            ≡ kept self.old.desk.config self.old.inbox self.old.read self.old.limit }
+        ensures rest { kept_rest (L.tape self.new.link) ≡ kept_rest (L.tape self.old.link) }
+        ensures cause { HasCause (L.faults self.old.link) (L.faults self.new.link)
+            self.new.desk.broken result }
+        // Nothing is read, so of a link that knows what is to come that stays.
+        ensures foretold { L.foretells → Foretold (L.left self.old.link) (L.left self.new.link)
+            (L.tape self.old.link) (L.tape self.new.link) }
+    {
         self.desk.clear();
         match self.desk.send(message) {
             Ok(()) => self.write_out(),
