@@ -1,5 +1,5 @@
 //! The pieces of printed text.
-ghost use Rattle.std.specs.Prelude.{◌≡◌, ◌++◌, ◌∷◌, [], OnOk, codes, decimal};
+ghost use Rattle.std.specs.Prelude.{◌≡◌, ◌+◌, ◌*◌, ◌++◌, ◌∷◌, [], IfSome, OnOk, codes, decimal};
 ghost use Rattle.std.specs.Fmt.{signed_decimal};
 ghost use Rattle.std.specs.List.{flat_map};
 ghost use Rattle.hex.specs.Hex.{encode_lower};
@@ -26,12 +26,26 @@ pub fn put_hex(out: &mut Vec<u8>, bytes: &[u8]) -> Result<(), OutOfMemory>
     }
 }
 
-// Two digits for each byte.
+// Two digits for each byte, written where they are to stand.
 fn put_digits(out: &mut Vec<u8>, bytes: &[u8]) -> Result<(), OutOfMemory>
     ensures { OnOk result (out.new.items ≡ out.old.items ++ encode_lower bytes.now) }
 {
-    let digits = hex::encode(*out.allocator(), bytes)?;
-    put(out, digits.as_bytes())
+    let start = out.len();
+    let Some(end) = end_of(start, bytes.len()) else {
+        return Err(OutOfMemory);
+    };
+    out.resize(end, 0)?;
+    let written = hex::encode_to_slice(bytes, &mut out[start..]);
+    let fits = written.is_ok();
+    prove!(fits);
+    Ok(())
+}
+
+// Where two digits for each byte end. No list is so long that there is no such place.
+fn end_of(start: usize, len: usize) -> Option<usize>
+    ensures { IfSome result (λ end. end ≡ start + 2 * len) }
+{
+    start.checked_add(len.checked_mul(2)?)
 }
 
 pub fn put_decimal(out: &mut Vec<u8>, number: u64) -> Result<(), OutOfMemory>
