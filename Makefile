@@ -5,9 +5,10 @@
 SHELL = /bin/bash
 PROGRAM = crates/hothummei/out/hothummei
 VISIT = crates/hothummei_visit/out/hothummei_visit
+RELAY = crates/example_relay/out/example_relay
 LOG = build.log
 
-.PHONY: try run install test program visit live fmt plant needs-rt
+.PHONY: try run install test program visit relay live fmt plant needs-rt
 
 needs-rt:
 	@command -v rt > /dev/null || { echo "rt is not in the PATH: install the Rattle kit that README.md names, and put its folder bin into the PATH" >&2; exit 1; }
@@ -36,8 +37,11 @@ program: needs-rt
 visit: needs-rt
 	@(cd crates/hothummei_visit && rt run >> ../../$(LOG) 2>&1) || { echo "make visit: the build failed, see $(LOG)" >&2; exit 1; }
 
-live: program visit
-	@live/run $(PROGRAM) $(VISIT)
+relay: needs-rt
+	@(cd crates/example_relay && rt run >> ../../$(LOG) 2>&1) || { echo "make relay: the build failed, see $(LOG)" >&2; exit 1; }
+
+live: program visit relay
+	@live/run $(PROGRAM) $(VISIT) $(RELAY)
 
 fmt:
 	@for crate in crates/*/; do (cd $$crate && rt fmt) || exit 1; done

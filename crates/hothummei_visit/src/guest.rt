@@ -5,7 +5,7 @@ use pgw_client::{
     Config, Dialer, ErrorResponse, ExecuteResult, FromSql, FromSqlText, Link, Listed, Octets,
     PgWireClientError, PgWireClientResult, Response, Text,
 };
-use pgw_connection::{Outgoing, PgWireClient, PgWireFrontendMessage, Terminate};
+use pgw_connection::PgWireClient;
 use pgw_default_handlers::{
     DefaultExtendedQueryHandler, DefaultSimpleQueryHandler, DefaultStartupHandler,
 };
@@ -33,7 +33,7 @@ fn first_value<T: FromSql + FromSqlText>(
     for response in responses.into_vec() {
         let mut rows = response.into_data_rows_reader(alloc);
         if let Some(mut row) = rows.next_row() {
-            return row.next_value::<T>(alloc);
+            return Ok(row.next_value::<T>(alloc)?);
         }
     }
     Ok(None)
@@ -77,9 +77,9 @@ fn in_parts<L: Link>(
     let mut parts = Listed::new(alloc);
     for _ in 0..u64::MAX {
         match statements.execute(alloc, None, most)? {
-            ExecuteResult::Suspended(rows) => parts.push(rows.as_slice().len() as u64)?,
+            ExecuteResult::Suspended(rows) => parts.push(rows.len() as u64)?,
             ExecuteResult::Complete(rows) => {
-                parts.push(rows.as_slice().len() as u64)?;
+                parts.push(rows.len() as u64)?;
                 break;
             }
         }
@@ -112,7 +112,7 @@ fn ask_all<L: Link>(
     Ok(())
 }
 
-// Visits over a client, and ends the session.
+// Visits over a client.
 fn visit_by<L: Link>(alloc: Global, client: &mut PgWireClient<L>) -> PgWireClientResult<Visit> {
     let mut visit = Visit {
         number: None,
@@ -122,11 +122,10 @@ fn visit_by<L: Link>(alloc: Global, client: &mut PgWireClient<L>) -> PgWireClien
         again: None,
     };
     ask_all(alloc, client, &mut visit)?;
-    client.send(PgWireFrontendMessage::Terminate(Terminate::new()))?;
     Ok(visit)
 }
 
-/// Connects, asks, and ends the session.
+/// Connects, asks, and ends the session, whatever came of it.
 pub fn visit_server<D: Dialer>(
     alloc: Global,
     dialer: &mut D,
@@ -136,5 +135,7 @@ pub fn visit_server<D: Dialer>(
 ) -> PgWireClientResult<Visit> {
     let handler = DefaultStartupHandler::new(*nonce);
     let mut client = PgWireClient::connect(alloc, config, handler, dialer, limit)?;
-    visit_by(alloc, &mut client)
+    let visit = visit_by(alloc, &mut client);
+    client.close(dialer)?;
+    visit
 }

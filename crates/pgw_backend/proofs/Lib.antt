@@ -1,5 +1,4 @@
 pub mod BackendStable
 pub mod FrontLaws
-pub mod TagLaws
 pub mod BackendLaws
 pub mod BackendWritten

@@ -72,11 +72,14 @@ impl PgWireBackendMessage {
         ctx: &DecodeContext,
     ) -> PgWireResult<Option<PgWireBackendMessage>>
         // A message that is read is spelled by the bytes that were taken.
-        ensures found { IfOk result (λ o. IfSome o (λ m. (g : List ℕ) × (buf.old.items ≡ g ++ buf.new.items) × SpellsIn ctx.now m g)) }
+        ensures found { IfOk result (λ o. IfSome o
+            (λ m. (g : List ℕ) × (buf.old.items ≡ g ++ buf.new.items) × SpellsIn ctx.now m g)) }
         // What is spelled at the front is read, unless memory runs out.
-        ensures only { (m : TheMessage) (g rest : List ℕ) → SpellsIn ctx.now m g → buf.old.items ≡ g ++ rest → Decodes result buf.old.items buf.new.items (Ok (Some (m, rest))) }
+        ensures only { (m : TheMessage) (g rest : List ℕ) → SpellsIn ctx.now m g → buf.old.items ≡ g
+            ++ rest → Decodes result buf.old.items buf.new.items (Ok (Some (m, rest))) }
         // Which message it is or which refusal, and when nothing is whole yet.
-        ensures exact { Decodes result buf.old.items buf.new.items (backend_front ctx.now buf.old.items) }
+        ensures exact { Decodes result buf.old.items buf.new.items
+            (backend_front ctx.now buf.old.items) }
     {
         Self::decode_exact(alloc, buf, ctx)
     }
@@ -88,11 +91,14 @@ impl PgWireBackendMessage {
         ctx: &DecodeContext,
     ) -> PgWireResult<Option<PgWireBackendMessage>>
         // A message that is read is spelled by the bytes that were taken.
-        ensures found { IfOk result (λ o. IfSome o (λ m. (g : List ℕ) × (B.held buf.old ≡ g ++ B.held buf.new) × SpellsIn ctx.now m g)) }
+        ensures found { IfOk result (λ o. IfSome o
+            (λ m. (g : List ℕ) × (B.held buf.old ≡ g ++ B.held buf.new) × SpellsIn ctx.now m g)) }
         // What is spelled at the front is read, unless memory runs out.
-        ensures only { (m : TheMessage) (g rest : List ℕ) → SpellsIn ctx.now m g → B.held buf.old ≡ g ++ rest → Decodes result (B.held buf.old) (B.held buf.new) (Ok (Some (m, rest))) }
+        ensures only { (m : TheMessage) (g rest : List ℕ) → SpellsIn ctx.now m g → B.held buf.old
+            ≡ g ++ rest → Decodes result (B.held buf.old) (B.held buf.new) (Ok (Some (m, rest))) }
         // Which message it is or which refusal, and when nothing is whole yet.
-        ensures exact { Decodes result (B.held buf.old) (B.held buf.new) (backend_front ctx.now (B.held buf.old)) }
+        ensures exact { Decodes result (B.held buf.old) (B.held buf.new)
+            (backend_front ctx.now (B.held buf.old)) }
     {
         Self::decode_exact(alloc, buf, ctx)
     }
@@ -104,7 +110,8 @@ impl PgWireBackendMessage {
         buf: &mut B,
         ctx: &DecodeContext,
     ) -> PgWireResult<Option<PgWireBackendMessage>>
-        ensures { Decodes result (B.held buf.old) (B.held buf.new) (backend_front ctx.now (B.held buf.old)) }
+        ensures { Decodes result (B.held buf.old) (B.held buf.new)
+            (backend_front ctx.now (B.held buf.old)) }
     {
         if ctx.awaiting_backend_ssl_response {
             return decode_as(alloc, buf, ctx, Self::SslResponse);
@@ -121,7 +128,8 @@ impl PgWireBackendMessage {
         buf: &mut B,
         ctx: &DecodeContext,
     ) -> PgWireResult<Option<PgWireBackendMessage>>
-        ensures { Decodes result (B.held buf.old) (B.held buf.new) (typed_front ctx.now (B.held buf.old)) }
+        ensures { Decodes result (B.held buf.old) (B.held buf.new)
+            (typed_front ctx.now (B.held buf.old)) }
     {
         let bytes = buf.bytes();
         if bytes.len() < 2 {
@@ -138,7 +146,8 @@ impl PgWireBackendMessage {
         buf: &mut B,
         ctx: &DecodeContext,
     ) -> PgWireResult<Option<PgWireBackendMessage>>
-        ensures { Decodes result (B.held buf.old) (B.held buf.new) (backend_by byte ctx.now (B.held buf.old)) }
+        ensures { Decodes result (B.held buf.old) (B.held buf.new)
+            (backend_by byte ctx.now (B.held buf.old)) }
     {
         match byte {
             b'R' => decode_as(alloc, buf, ctx, Self::Authentication),
@@ -156,7 +165,8 @@ impl PgWireBackendMessage {
         buf: &mut B,
         ctx: &DecodeContext,
     ) -> PgWireResult<Option<PgWireBackendMessage>>
-        ensures { Decodes result (B.held buf.old) (B.held buf.new) (query_by byte ctx.now (B.held buf.old)) }
+        ensures { Decodes result (B.held buf.old) (B.held buf.new)
+            (query_by byte ctx.now (B.held buf.old)) }
     {
         match byte {
             b'C' => decode_as(alloc, buf, ctx, Self::CommandComplete),
@@ -178,7 +188,8 @@ impl PgWireBackendMessage {
         buf: &mut B,
         ctx: &DecodeContext,
     ) -> PgWireResult<Option<PgWireBackendMessage>>
-        ensures { Decodes result (B.held buf.old) (B.held buf.new) (extended_by byte ctx.now (B.held buf.old)) }
+        ensures { Decodes result (B.held buf.old) (B.held buf.new)
+            (extended_by byte ctx.now (B.held buf.old)) }
     {
         match byte {
             b'1' => decode_as(alloc, buf, ctx, Self::ParseComplete),
@@ -198,7 +209,8 @@ impl PgWireBackendMessage {
         buf: &mut B,
         ctx: &DecodeContext,
     ) -> PgWireResult<Option<PgWireBackendMessage>>
-        ensures { Decodes result (B.held buf.old) (B.held buf.new) (copy_by byte ctx.now (B.held buf.old)) }
+        ensures { Decodes result (B.held buf.old) (B.held buf.new)
+            (copy_by byte ctx.now (B.held buf.old)) }
     {
         match byte {
             b'd' => decode_as(alloc, buf, ctx, Self::CopyData),
@@ -216,9 +228,14 @@ impl PgWireBackendMessage {
     /// Appends the whole message, or nothing.
     pub fn encode(&self, buf: &mut BytesMut) -> PgWireResult<()>
         // What is written spells the message, in each context that awaits it and whose version its key suits.
-        ensures spelled { OnOk result ((ctx : TheContext) → Suits ctx.protocol_version self.now → Awaits ctx self.now → (g : List ℕ) × (buf.new.items ≡ buf.old.items ++ g) × SpellsIn ctx self.now g) }
+        ensures spelled { OnOk result ((ctx : TheContext) → Suits ctx.protocol_version self.now →
+            Awaits ctx self.now → (g : List ℕ) × (buf.new.items ≡ buf.old.items ++ g)
+            × SpellsIn ctx self.now g) }
         // What is written is read again as the message in these contexts, whatever follows it, and that is left.
-        ensures read_again { OnOk result ((ctx : TheContext) (rest : List ℕ) → Suits ctx.protocol_version self.now → Awaits ctx self.now → (g : List ℕ) × (buf.new.items ≡ buf.old.items ++ g) × (backend_front ctx (g ++ rest) ≡ Ok (Some (self.now, rest)))) }
+        ensures read_again { OnOk result ((ctx : TheContext) (rest : List ℕ) →
+            Suits ctx.protocol_version self.now → Awaits ctx self.now → (g : List ℕ)
+            × (buf.new.items ≡ buf.old.items ++ g)
+            × (backend_front ctx (g ++ rest) ≡ Ok (Some (self.now, rest)))) }
         // Which bytes are written, or which refusal it is.
         ensures exact { Appends result buf.old.items buf.new.items (backend_encoding self.now) }
     {

@@ -3,45 +3,29 @@ ghost use Rattle.std.specs.Prelude.{◌≡◌, IfOk, IfErr};
 ghost use Rattle.pgw_backend.specs.ClientError.{IsUnexpected};
 
 use crate::backend::PgWireBackendMessage;
-use crate::pg_type::PgType;
-use crate::told::{Names, key_fault, message_name};
+use crate::told::{Names, message_name};
 use pgw_query::response::ErrorResponse;
+use pgw_query::row_error::{RowError, SqlFault};
 use pgw_types::boxed::Boxed;
+use pgw_types::config_error::{ConfigError, RefusedKey};
 use pgw_types::error::PgWireError;
 use pgw_types::listed::Listed;
 use pgw_types::memory::OutOfMemory;
 use pgw_types::octets::Octets;
+use pgw_types::scram_error::{ScramClientError, ScramFault};
 use pgw_types::text::Text;
 use std::alloc::{AllocError, AllocFailed, Global};
 use std::io;
 use thiserror::Error;
 
-/// Why a value cannot be read as a type.
-#[derive(Clone, Copy, Debug, PartialEq, Eq)]
-pub enum SqlFault {
-    WrongType(PgType),
-    WrongLength(usize),
-    BadText,
-}
-
-/// Why a SCRAM login failed (RFC 5802, section 5).
-#[derive(Debug, Drop, PartialEq, Eq)]
-pub enum ScramFault {
-    PasswordNotUtf8,
-    NonceMismatch,
-    SaltNotBase64,
-    ServerError(Text),
-    SignatureMismatch,
-}
-
 /// Why a client gives up.
 #[derive(Debug, Drop, Error)]
 pub enum PgWireClientError {
-    #[error("`{}`: {}", .0.as_str(), key_fault(.0.as_str()))]
+    #[error("{}", RefusedKey(.0.as_str()))]
     InvalidConfig(Text),
     #[error("unknown configuration key `{}`", .0.as_str())]
     UnknownConfig(Text),
-    #[error("a value of the configuration is not UTF-8: {:?}", .0.as_slice())]
+    #[error("a value of the configuration is not UTF-8; its length in bytes is {}", .0.len())]
     InvalidUtf8ConfigValue(Octets),
     #[error("the server closed the connection")]
     UnexpectedEOF,
@@ -123,6 +107,54 @@ impl From<OutOfMemory> for PgWireClientError {
 
     fn from(_e: OutOfMemory) -> PgWireClientError {
         PgWireClientError::OutOfMemory
+    }
+}
+
+/// A refusal of a configuration, as itself.
+impl From<ConfigError> for PgWireClientError {
+    ghost use Rattle.pgw_backend.specs.ClientError.{of_config};
+
+    ghost from_gives = { λ e r. r ≡ of_config e };
+
+    fn from(e: ConfigError) -> PgWireClientError {
+        match e {
+            ConfigError::InvalidConfig(key) => PgWireClientError::InvalidConfig(key),
+            ConfigError::UnknownConfig(key) => PgWireClientError::UnknownConfig(key),
+            ConfigError::InvalidUtf8ConfigValue(bytes) => {
+                PgWireClientError::InvalidUtf8ConfigValue(bytes)
+            }
+            ConfigError::OutOfMemory => PgWireClientError::OutOfMemory,
+        }
+    }
+}
+
+/// Why a SCRAM login was given up, as itself.
+impl From<ScramClientError> for PgWireClientError {
+    ghost use Rattle.pgw_backend.specs.ClientError.{of_scram};
+
+    ghost from_gives = { λ e r. r ≡ of_scram e };
+
+    fn from(e: ScramClientError) -> PgWireClientError {
+        match e {
+            ScramClientError::InvalidConfig(key) => PgWireClientError::InvalidConfig(key),
+            ScramClientError::PgWireError(why) => PgWireClientError::PgWireError(why),
+            ScramClientError::ScramError(why) => PgWireClientError::ScramError(why),
+            ScramClientError::OutOfMemory => PgWireClientError::OutOfMemory,
+        }
+    }
+}
+
+impl From<RowError> for PgWireClientError {
+    ghost use Rattle.pgw_backend.specs.ClientError.{of_row};
+
+    ghost from_gives = { λ e r. r ≡ of_row e };
+
+    fn from(e: RowError) -> PgWireClientError {
+        match e {
+            RowError::FromSqlError(fault) => PgWireClientError::FromSqlError(fault),
+            RowError::DataRowIndexOutOfBounds => PgWireClientError::DataRowIndexOutOfBounds,
+            RowError::OutOfMemory => PgWireClientError::OutOfMemory,
+        }
     }
 }
 

@@ -1,4 +1,4 @@
-//! All messages of a server, and what they tell: tags, types, columns, and why a client gives up.
+//! All messages of a server, and why a client gives up.
 //!
 //! To whoever reads what a server sends it promises what stands at the front of a buffer, a message with its length, a
 //! refusal, or nothing whole yet, whatever follows it; and the bytes that each message is written as.
@@ -7,9 +7,6 @@
 pub mod backend;
 pub mod client_error;
 pub mod equality;
-pub mod field_info;
 pub mod laws;
-pub mod pg_type;
 mod sound;
-pub mod tag;
 mod told;

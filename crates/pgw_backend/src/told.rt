@@ -1,7 +1,6 @@
 //! What a client's errors are called for people.
 
 use crate::backend::PgWireBackendMessage;
-use crate::client_error::{ScramFault, SqlFault};
 use pgw_types::text::Text;
 use std::fmt;
 
@@ -34,48 +33,6 @@ pub fn message_name(message: &PgWireBackendMessage) -> &'static str {
         PgWireBackendMessage::CopyInResponse(_) => "CopyInResponse",
         PgWireBackendMessage::CopyOutResponse(_) => "CopyOutResponse",
         PgWireBackendMessage::CopyBothResponse(_) => "CopyBothResponse",
-    }
-}
-
-/// What is wrong where a configuration is refused by this key.
-pub fn key_fault(key: &str) -> &'static str {
-    match key {
-        "syntax" => "the connection text has a part that is no key with a value",
-        "sslmode" => {
-            "the value of sslmode is unknown or not supported: no connection is ever encrypted"
-        }
-        "channel_binding" => {
-            "the value of channel_binding is unknown or not supported: no login is bound to a connection"
-        }
-        "user" => "the user name has no form for a SCRAM login",
-        "host" => "no host and no address is given, or one is not well-formed",
-        _ => "a value of the configuration is not one that its key takes",
-    }
-}
-
-impl fmt::Display for ScramFault {
-    fn fmt<W: fmt::Write>(&self, f: &mut fmt::Formatter<W>) -> fmt::Result {
-        match self {
-            ScramFault::PasswordNotUtf8 => f.write_str("the password is not UTF-8"),
-            ScramFault::NonceMismatch => {
-                f.write_str("the server's nonce does not begin with the client's")
-            }
-            ScramFault::SaltNotBase64 => f.write_str("the server's salt is not base64"),
-            ScramFault::ServerError(text) => write!(f, "the server refused it: {text}"),
-            ScramFault::SignatureMismatch => {
-                f.write_str("the server did not prove that it knows the password")
-            }
-        }
-    }
-}
-
-impl fmt::Display for SqlFault {
-    fn fmt<W: fmt::Write>(&self, f: &mut fmt::Formatter<W>) -> fmt::Result {
-        match self {
-            SqlFault::WrongType(found) => write!(f, "it is of type {}", found.oid()),
-            SqlFault::WrongLength(len) => write!(f, "it has {len} bytes"),
-            SqlFault::BadText => f.write_str("its text is none of the type's"),
-        }
     }
 }
 

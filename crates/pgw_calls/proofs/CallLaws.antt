@@ -1,5 +1,5 @@
 -- A client's calls over a line.
-use Rattle.std.proofs.Common.{◌≡◌, ℕ, false, List, [], ◌++◌, length, Ok, refl, sym, ◌∙◌, ap, subst}
+use Rattle.std.proofs.Common.{◌≡◌, ℕ, false, List, [], ◌++◌, Ok, refl, sym, subst}
 use Rattle.pgw_config.specs.declared.config.Config.{Config}
 use Rattle.pgw_session.specs.declared.types.Request.{Request}
 use Rattle.pgw_session.specs.declared.types.Request.TheVariants as request
@@ -33,15 +33,15 @@ use Rattle.pgw_calls.proofs.StandLaws.{stands_first, stands_more, stands_behind}
 
 pub login_stands : (config : Config) (h : DefaultStartupHandler) (old now : Line) (told : Client) (information : ServerInformation) → old.buffer ≡ [] →
     Call (λ before after answer. StartupMeans before startup after answer) (HeardAtStartup exchanges StartupMeans) (λ e. false) h (first_client config) old now (end (Ok information) told false now.buffer) →
-    (read wrote : List ℕ) × Moved old now read wrote × (IsFlushed old → IsFlushed now) × Stands config h.nonce [] read wrote (with_information information told) now.buffer
+    (read wrote : List ℕ) × Moved old now read wrote × IsFlushed now × Stands config h.nonce [] read wrote (with_information information told) now.buffer
 login_stands config h old now told information none call =
     let l = login_call old now config h (old.buffer ++ call.taken) call.sent (end (Ok information) told false now.buffer) call.asked in
     let m : LoggedIn config h.nonce call.taken call.sent information told now.buffer = subst (λ (b : List ℕ). LoggedIn config h.nonce (b ++ call.taken) call.sent information told now.buffer) none l in
-    (call.taken, call.sent, call.moved, λ flushed. call.flushed flushed refl, stands_first config h.nonce call.taken call.sent information told now.buffer m)
+    (call.taken, call.sent, call.moved, call.flushed refl, stands_first config h.nonce call.taken call.sent information told now.buffer m)
 
 pub query_stands : (config : Config) (nonce : List ℕ) (ts : List Made) (read wrote : List ℕ) (q : List ℕ) (h : DefaultSimpleQueryHandler) (c : Client) (old now : Line) (last : End (List Response)) → Stands config nonce ts read wrote c old.buffer →
     Call (λ before after answer. QueryMeans before (simple_query q) after answer) (HeardInQuery QueryMeans) passes h c old now last →
-    (more sent : List ℕ) × Moved old now more sent × (IsFlushed old → last.broken ≡ false → IsFlushed now) × StandsBehind answer.Responses config nonce ts (request.Simple q) (read ++ more) (wrote ++ sent) last.info last.rest last.answer last.broken
+    (more sent : List ℕ) × Moved old now more sent × (last.broken ≡ false → IsFlushed now) × StandsBehind answer.Responses config nonce ts (request.Simple q) (read ++ more) (wrote ++ sent) last.info last.rest last.answer last.broken
 query_stands config nonce ts read wrote q h c old now last stands call = (
   call.taken,
   call.sent,
@@ -53,7 +53,7 @@ query_stands config nonce ts read wrote q h c old now last stands call = (
 
 pub extended_stands : (config : Config) (nonce : List ℕ) (ts : List Made) (read wrote : List ℕ) (q : Request) (h : DefaultExtendedQueryHandler) (c : Client) (old now : Line) (last : Finish DefaultExtendedQueryHandler DataRow) → IsExtended q → Stands config nonce ts read wrote c old.buffer →
     Called ExtendedMeans q h c old now last →
-    (more sent : List ℕ) × Moved old now more sent × (IsFlushed old → last.broken ≡ false → IsFlushed now) × StandsBehind (given q) config nonce ts q (read ++ more) (wrote ++ sent) last.info last.rest last.answer last.broken
+    (more sent : List ℕ) × Moved old now more sent × (last.broken ≡ false → IsFlushed now) × StandsBehind (given q) config nonce ts q (read ++ more) (wrote ++ sent) last.info last.rest last.answer last.broken
 extended_stands config nonce ts read wrote q h c old now last e stands call = (
   call.taken,
   call.sent,
@@ -64,14 +64,12 @@ extended_stands config nonce ts read wrote q h c old now last e stands call = (
 )
 
 pub filled_stands : (config : Config) (nonce : List ℕ) (ts : List Made) (read wrote : List ℕ) (c : Client) (old now : Line) → Stands config nonce ts read wrote c old.buffer → Grew old now →
-    (more : List ℕ) × Drew old now more × (IsFlushed old → IsFlushed now) × Stands config nonce ts (read ++ more) wrote c now.buffer
+    (more : List ℕ) × Drew old now more × Stands config nonce ts (read ++ more) wrote c now.buffer
 filled_stands config nonce ts read wrote c old now stands grew =
-    let d = grew.drew in
     let s = stands_more config nonce ts read wrote grew.piece c old.buffer stands in
-    (grew.piece, d, λ flushed. d.flushed ∙ flushed ∙ ap length (sym d.wrote), subst (Stands config nonce ts (read ++ grew.piece) wrote c) (sym grew.buffer) s)
+    (grew.piece, grew.drew, subst (Stands config nonce ts (read ++ grew.piece) wrote c) (sym grew.buffer) s)
 
 pub ended_stands : (config : Config) (nonce : List ℕ) (ts : List Made) (read wrote : List ℕ) (c : Client) (old now : Line) → Stands config nonce ts read wrote c old.buffer → Ended old now →
-    Drew old now [] × (IsFlushed old → IsFlushed now) × Stands config nonce ts read wrote c now.buffer
+    Drew old now [] × Stands config nonce ts read wrote c now.buffer
 ended_stands config nonce ts read wrote c old now stands ended =
-    let d = ended.drew in
-    (d, λ flushed. d.flushed ∙ flushed ∙ ap length (sym d.wrote), subst (Stands config nonce ts read wrote c) (sym ended.buffer) stands)
+    (ended.drew, subst (Stands config nonce ts read wrote c) (sym ended.buffer) stands)

@@ -38,7 +38,7 @@ use Rattle.pgw_default_handlers.specs.Extended.{ExtendedMeans}
 use Rattle.pgw_connection.specs.Talk.{fresh, Next, told, is_refusal, IsCut}
 use Rattle.pgw_connection.specs.Line.{Line, Reasons, Pause}
 use Rattle.pgw_connection.specs.declared.gathered.Gathered.{Gathered}
-use Rattle.pgw_connection.specs.Extended.{none_gathered, with_gift, Heeds, RefusesBy, call_for, Finish, finish, is_suspended, Syncs, outcome_behind, EndsAnswer, Exchange, calls_for, Opens, Requested}
+use Rattle.pgw_connection.specs.Extended.{none_gathered, with_gift, Heeds, RefusesBy, call_for, Finish, finish, is_suspended, place, Syncs, outcome_behind, EndsAnswer, Exchange, calls_for, Opens, Requested}
 use Rattle.pgw_calls.specs.Turns.{standing_of_client, Exchanged, Does, IsPassing, error_behind}
 use Rattle.pgw_calls.specs.Extended.{IsExtended, given, ExtendedCall}
 use Rattle.pgw_calls.proofs.Openings.{IsLinkEnd, one_encoding, never_rose, paused_ends}
@@ -46,7 +46,7 @@ use Rattle.pgw_calls.proofs.Exchanges.{exchanged_none, exchanged_sent, got_one, 
 use Rattle.pgw_calls.proofs.Came.{in_place_of_none, Shape, Meets, Came, within, taken_onto, came_onto, lacking, lacked, Lacking, IsOpenEnd, PassingTo, passing_to, kept, kept_stays}
 use Rattle.pgw_calls.proofs.Called.{tally_opened, called, cut_opening}
 use Rattle.pgw_calls.proofs.Tallies.{fold_remote, error_remote, fold_executed, fold_kept, fold_ready, kept_first}
-use Rattle.pgw_calls.proofs.Gathers.{asked, Gathers, gathers_none, gathers, taken_false, closing_answer, fits, Fits, IsCompleter}
+use Rattle.pgw_calls.proofs.Gathers.{asked, Gathers, gathers_none, gathers, by_table, stray, taken_false, closing_answer, fits, Fits, IsCompleter}
 
 abbrev Handler : Type 0
 Handler = DefaultExtendedQueryHandler
@@ -70,7 +70,7 @@ extended_breaks (request.Query query types parameters) e = refl
 
 -- ---- a message that ends the answer
 
-pub record Ending (q : Request) (c : Client) (t : Tally) (m : Backend) (due : Option Frontend) (e : ClientError) (more : Gathered DataRow) : Type 0 where
+pub record Ending (q : Request) (c : Client) (t : Tally) (m : Backend) (due : Option Frontend) (e : ClientError) (more : Gathered (List DataRow)) : Type 0 where
   pub tells : told m c ≡ c
   pub ends : (rest : List Event) → IsPassedOver rest → IsEnd (kind_of q) (role (kind_of q) false m) (map Sent (sends due) ++ rest)
   pub passing : (ms : List Backend) → IsQuiet ms → IsPassing (kind_of q) (role (kind_of q) false m) (map Sent (sends due) ++ map Got ms)
@@ -84,7 +84,7 @@ some_is : {x y : Frontend} → Some x ≡ Some y → x ≡ y
 some_is {x} {y} is = cc
 
 -- the execution of a portal is the one answer that is completed
-executed_answer : (q : Request) (g : Gathered DataRow) (t u : Tally) → IsExtended q → kind_of q ≡ kind.Execute → Gathers (kind_of q) g t → u.executed ≡ Some (execute.Complete t.rows) → u.remote ≡ None → answer_by q u ≡ given q (g, false)
+executed_answer : (q : Request) (g : Gathered (List DataRow)) (t u : Tally) → IsExtended q → kind_of q ≡ kind.Execute → Gathers (kind_of q) g t → u.executed ≡ Some (execute.Complete t.rows) → u.remote ≡ None → answer_by q u ≡ given q (g, false)
 executed_answer (request.Simple query) g t u e is s ended none = absurd e
 executed_answer (request.Execute portal max_rows) g t u e is s ended none =
     let rows : g.responses ≡ t.rows = s.rows ∙ ap (λ (o : Option (ExecuteResult (List DataRow))). rows_until o ++ t.rows) (s.unended refl) in
@@ -96,11 +96,11 @@ executed_answer (request.Describe (target.Portal name)) g t u e is s ended none 
 executed_answer (request.Close target) g t u e is s ended none = absurd (cc)
 executed_answer (request.Query query types parameters) g t u e is s ended none = absurd (cc)
 
-unended_of : (k : Kind) (g : Gathered DataRow) (t : Tally) → k ≡ kind.Execute → Gathers k g t → t.executed ≡ None
+unended_of : (k : Kind) (g : Gathered (List DataRow)) (t : Tally) → k ≡ kind.Execute → Gathers k g t → t.executed ≡ None
 unended_of k g t is s = s.unended (rw is refl)
 
-module _ (q : Request) (e : IsExtended q) (h : Handler) (c : Client) (g : Gathered DataRow) (t : Tally) (s : Gathers (kind_of q) g t) where
-  completing : (m : Backend) (more : Gathered DataRow) → role (kind_of q) false m ≡ Completing → IsCompleter m → kind_of q ≡ kind.Execute → more ≡ g → told m c ≡ c → (tally_after t m).remote ≡ None → (tally_after t m).executed ≡ Some (execute.Complete t.rows) →
+module _ (q : Request) (e : IsExtended q) (h : Handler) (c : Client) (g : Gathered (List DataRow)) (t : Tally) (s : Gathers (kind_of q) g t) where
+  completing : (m : Backend) (more : Gathered (List DataRow)) → role (kind_of q) false m ≡ Completing → IsCompleter m → kind_of q ≡ kind.Execute → more ≡ g → told m c ≡ c → (tally_after t m).remote ≡ None → (tally_after t m).executed ≡ Some (execute.Complete t.rows) →
       ((ms : List Backend) → error_behind Completing m (Sent sync ∷ map Got ms) ≡ end_with None (first_error (map Got ms))) → Ending q c t m (Some sync) client.UnexpectedEOF more
   completing m more is completer execution are tells none ended first = record {
     tells = tells;
@@ -108,12 +108,12 @@ module _ (q : Request) (e : IsExtended q) (h : Handler) (c : Client) (g : Gather
     passing = λ ms quiet. subst (λ (r : Role). IsPassing (kind_of q) r (Sent sync ∷ map Got ms)) (sym is) (ms, refl, quiet);
     error = λ ms. sym (ap (λ (r : Role). error_behind r m (Sent sync ∷ map Got ms)) is ∙ first ms ∙ kept_first ms);
     so_far = ap (end_with None) (sym none);
-    answers = λ es none_behind. executed_answer q g t (fold tally_at (tally_after t m) es) e execution s (fold_executed (tally_after t m) (execute.Complete t.rows) es ended) none_behind ∙ ap (λ (x : Gathered DataRow). given q (x, false)) (sym are);
+    answers = λ es none_behind. executed_answer q g t (fold tally_at (tally_after t m) es) e execution s (fold_executed (tally_after t m) (execute.Complete t.rows) es ended) none_behind ∙ ap (λ (x : Gathered (List DataRow)). given q (x, false)) (sym are);
     syncs = λ f due. sym (some_is due);
     behind = sym (ap behind_error execution);
   }
 
-  completed : (m : Backend) (after : Handler) (more : Gathered DataRow) → role (kind_of q) false m ≡ Completing → Heeds ExtendedMeans h c g m after more → Fits (kind_of q) Completing m → Ending q c t m (Some sync) client.UnexpectedEOF more
+  completed : (m : Backend) (after : Handler) (more : Gathered (List DataRow)) → role (kind_of q) false m ≡ Completing → Heeds ExtendedMeans h c g m after more → Fits (kind_of q) Completing m → Ending q c t m (Some sync) client.UnexpectedEOF more
   completed (backend.CommandComplete m) after more is heeds f =
       let unended = unended_of (kind_of q) g t f.1 s in
       completing (backend.CommandComplete m) more is tt f.1 (heeds.2 ∙ ap (with_gift g) (heeds.1).1) refl (rw (s.remote, unended) refl) (rw (s.remote, unended) refl) (λ ms. refl)
@@ -142,8 +142,10 @@ module _ (q : Request) (e : IsExtended q) (h : Handler) (c : Client) (g : Gather
         behind = refl;
       }
 
-  pub ending : (m : Backend) (due : Option Frontend) (before : Standing Handler) (x : ClientError) (more : Gathered DataRow) → EndsAnswer ExtendedMeans (kind_of q) h c g m due before x more → Ending q c t m due x more × (before.sight ≡ fresh c)
-  ending _ _ _ _ _ (EndsAnswer.completing m after more is heeds) = (completed m after more is heeds (subst (λ (r : Role). Fits (kind_of q) r m) is (fits (kind_of q) m)), refl)
+  pub ending : (m : Backend) (due : Option Frontend) (before : Standing Handler) (x : ClientError) (more : Gathered (List DataRow)) → EndsAnswer ExtendedMeans (kind_of q) h c g m due before x more → Ending q c t m due x more × (before.sight ≡ fresh c)
+  ending _ _ _ _ _ (EndsAnswer.completing m after more is heeds) =
+      let placed = by_table (kind_of q) h after c g more m Completing is heeds in
+      (completed m after more placed heeds (subst (λ (r : Role). Fits (kind_of q) r m) placed (fits (kind_of q) m)), refl)
   ending _ _ _ _ _ (EndsAnswer.failing m) = (failing m, refl)
 
 -- ---- behind it
@@ -173,7 +175,7 @@ synced None c before s is same syncs = record {
 }
 synced (Some f) c before s is same syncs = synced_by f c before s is same syncs.0
 
-outcome_broken : (more : Gathered DataRow) (x : ClientError) → outcome_behind more x true ≡ Err x
+outcome_broken : (more : Gathered (List DataRow)) (x : ClientError) → outcome_behind more x true ≡ Err x
 outcome_broken more client.UnexpectedEOF = refl
 outcome_broken more x = refl
 
@@ -181,7 +183,7 @@ open_end : (S : Shape) (r : Option ErrorResponse) → IsOpenEnd S (end_with None
 open_end S None = tt
 open_end S (Some e) = tt
 
-module _ (q : Request) (P : Reasons) (ends : (x : ClientError) → P.halts x → IsLinkEnd x) (c : Client) (t : Tally) (bytes : List ℕ) (m : Backend) (rest : List ℕ) (next : Next c bytes m rest) (due : Option Frontend) (e : ClientError) (more : Gathered DataRow) (n : Ending q c t m due e more) where
+module _ (q : Request) (P : Reasons) (ends : (x : ClientError) → P.halts x → IsLinkEnd x) (c : Client) (t : Tally) (bytes : List ℕ) (m : Backend) (rest : List ℕ) (next : Next c bytes m rest) (due : Option Frontend) (e : ClientError) (more : Gathered (List DataRow)) (n : Ending q c t m due e more) where
   -- the events behind m, with what was sent between
   behind : (s : Standing Handler) (es : List Event) (last : Client) (left : List ℕ) → Synced due c s → Exchanged (s.sight.client).config (standing_of_client s.sight.client) rest [] es last left →
       Exchanged c.config (standing_of_client c) bytes s.sight.wrote (Got m ∷ (map Sent (sends due) ++ es)) last left
@@ -220,15 +222,15 @@ module _ (q : Request) (P : Reasons) (ends : (x : ClientError) → P.halts x →
       sym (ap (λ (l : List Event). (fold tally_at (tally_after t m) l).remote) passed.are ∙ ap (λ (u : Tally). u.remote) (fold_ready (tally_after t m) passed.ms passed.ready)) in
       answers_on s y last left x d.0 (fold tally_at (tally_after t m) (d.0).0).remote refl (d.1 ∙ told_by ∙ ap (end_with None) all)
   ends_on s y x last left true (inl starved) =
-      subst (λ (r : Result (Gathered DataRow × Bool) ClientError). To q P t c bytes s.sight.wrote (finish r s.handler last true left)) (sym (outcome_broken more x))
+      subst (λ (r : Result (Gathered (List DataRow) × Bool) ClientError). To q P t c bytes s.sight.wrote (finish r s.handler last true left)) (sym (outcome_broken more x))
       (subst (λ (z : ClientError). To q P t c bytes s.sight.wrote (finish (Err z) s.handler last true left)) (sym starved) (inr (ap (λ (d : Option Frontend). encodings (sends d)) (sym n.behind) ∙ y.encodes)))
   ends_on s y x last left true (inr d) =
       let quiet = (d.0).1 in
       let open_at : IsOpenEnd (from q t) (kept e quiet.0) =
       subst (IsOpenEnd (from q t)) (sym (ap (λ (z : ClientError). kept z quiet.0) n.so_far ∙ fold_kept (tally_after t m) quiet.0)) (open_end (from q t) (fold tally_at (tally_after t m) (map Got quiet.0)).remote) in
-      subst (λ (r : Result (Gathered DataRow × Bool) ClientError). To q P t c bytes s.sight.wrote (finish r s.handler last true left)) (sym (outcome_broken more x))
+      subst (λ (r : Result (Gathered (List DataRow) × Bool) ClientError). To q P t c bytes s.sight.wrote (finish r s.handler last true left)) (sym (outcome_broken more x))
       (subst (λ (z : ClientError). To q P t c bytes s.sight.wrote (finish (Err z) s.handler last true left)) (sym d.2)
-      (lacked (Gathered DataRow × Bool) (from q t) P ends c bytes s.sight.wrote last left (kept e quiet.0) d.1 open_at d.3
+      (lacked (Gathered (List DataRow) × Bool) (from q t) P ends c bytes s.sight.wrote last left (kept e quiet.0) d.1 open_at d.3
       (Got m ∷ (map Sent (sends due) ++ (d.0).0), stops quiet.0 (d.0).0 quiet.1 quiet.2, behind s (d.0).0 last left y (d.0).2)))
 
   pub unwritten_on : (s : Standing Handler) (y : Synced due c s) (part : List ℕ) → IsCut P s.sight.wrote part → To q P t c bytes part (finish (Err client.IoError) s.handler s.sight.client true rest)
@@ -250,18 +252,15 @@ module _ (q : Request) (P : Reasons) (ends : (x : ClientError) → P.halts x →
 not_synced : (q : Request) (P : Reasons) (t : Tally) (c : Client) (bytes : List ℕ) (before after : Standing Handler) (x : ClientError) (rest : List ℕ) → before.sight ≡ fresh c → ExtendedMeans before call.sync after (Err x) → IsCaused x 0 0 after.sight.broken →
     To q P t c bytes [] (finish (Err x) after.handler after.sight.client true rest)
 not_synced q P t c bytes before after client.OutOfMemory rest same n caused = inl refl
-not_synced q P t c bytes before after client.Broken rest same n caused = absurd (let broken = n.0 in let whole : before.sight.broken ≡ false = ap (λ (s : Sight). s.broken) same in cc)
+not_synced q P t c bytes before after client.Broken rest same n caused = absurd (let broken = (n.0).0 in let whole : before.sight.broken ≡ false = ap (λ (s : Sight). s.broken) same in cc)
 not_synced q P t c bytes before after client.IoError rest same n caused = absurd (never_rose caused)
-not_synced q P t c bytes before after (client.PgWireError why) rest same n caused = absurd (let bad = n.1 in let good = sync_bytes.1 in cc)
-not_synced q P t c bytes before after x rest same n caused = absurd n
+not_synced q P t c bytes before after (client.PgWireError why) rest same n caused = absurd (let bad = (n.0).1 in let good = sync_bytes.1 in cc)
+not_synced q P t c bytes before after x rest same n caused = absurd n.0
 
-refuses_memory : (m : Backend) (h after : Handler) (c : Client) (e : ClientError) → RefusesBy ExtendedMeans (call_for m) h c after e → e ≡ client.OutOfMemory
-refuses_memory (backend.ParameterDescription m) h after c e r = r.1
-refuses_memory (backend.RowDescription m) h after c e r = r.1
-refuses_memory (backend.DataRow m) h after c e r = absurd (let is = r.1 in cc)
-refuses_memory (backend.CommandComplete m) h after c e r = r.1
-refuses_memory (backend.PortalSuspended m) h after c e r = absurd (let is = r.1 in cc)
-refuses_memory m h after c e r = absurd r
+-- what has no place for any handler has none by the table
+lost : (k : Kind) (m : Backend) → place k m ≡ Misplaced → role k false m ≡ Misplaced
+lost k (backend.NotificationResponse m) is = absurd cc
+lost k m is = is
 
 misplaced_on : (q : Request) (e : IsExtended q) (P : Reasons) (t : Tally) (h : Handler) (c : Client) (bytes : List ℕ) (m : Backend) (rest : List ℕ) (x : ClientError) → Next c bytes m rest → role (kind_of q) false m ≡ Misplaced → IsUnexpected m x →
     To q P t c bytes [] (finish (Err x) h c true rest)
@@ -272,12 +271,27 @@ misplaced_on q e P t h c bytes m rest (client.UnexpectedMessage y) next is u =
     (bytes, ([], record { ms = []; behind = false; are = refl; taken = refl; misplaced = is }, exchanged_none c.config (standing_of_client c) bytes), next))
 misplaced_on q e P t h c bytes m rest x next is u = absurd u
 
+-- the handler refuses a message: memory was wanting, or it is a notification, which has no place
+module _ (q : Request) (e : IsExtended q) (P : Reasons) (t : Tally) (h after : Handler) (c : Client) (bytes rest : List ℕ) where
+  starved_on : (x : ClientError) → x ≡ client.OutOfMemory → To q P t c bytes [] (finish (Err x) after c true rest)
+  starved_on x is = subst (λ (z : ClientError). To q P t c bytes [] (finish (Err z) after c true rest)) (sym is) (inl refl)
+
+  refused_on : (m : Backend) (x : ClientError) → Next c bytes m rest → RefusesBy ExtendedMeans (call_for m) h c after x → To q P t c bytes [] (finish (Err x) after c true rest)
+  refused_on (backend.ParameterDescription m) x next r = starved_on x r.1
+  refused_on (backend.RowDescription m) x next r = starved_on x r.1
+  refused_on (backend.DataRow m) x next r = absurd (let is = r.1 in cc)
+  refused_on (backend.CommandComplete m) x next r = starved_on x r.1
+  refused_on (backend.PortalSuspended m) x next r = absurd (let is = r.1 in cc)
+  refused_on (backend.NoticeResponse m) x next r = absurd (let is = r.1 in cc)
+  refused_on (backend.NotificationResponse m) x next r = misplaced_on q e P t after c bytes (backend.NotificationResponse m) rest x next (stray (kind_of q) m) r.1
+  refused_on m x next r = absurd r
+
 takes_on : (q : Request) (P : Reasons) (t : Tally) (c : Client) (bytes : List ℕ) (m : Backend) (rest sent : List ℕ) (last : Finish Handler DataRow) → Next c bytes m rest → role (kind_of q) false m ≡ Taken false → To q P (tally_after t m) (told m c) rest sent last →
     To q P t c bytes sent last
 takes_on q P t c bytes m rest sent last next is x =
     came_onto (from q (tally_after t m)) (from q t) (told m c) c rest bytes [] sent last.info last.rest (taken_onto q false false t c (told m c) m bytes rest is next refl) (given q) P last.answer last.broken x
 
-closes_on : (q : Request) (P : Reasons) (t : Tally) (h : Handler) (c : Client) (bytes : List ℕ) (m : Backend) (rest : List ℕ) (more : Gathered DataRow) → Next c bytes m rest → role (kind_of q) false m ≡ Closing → answer_by q (tally_after t m) ≡ given q (more, is_suspended m) →
+closes_on : (q : Request) (P : Reasons) (t : Tally) (h : Handler) (c : Client) (bytes : List ℕ) (m : Backend) (rest : List ℕ) (more : Gathered (List DataRow)) → Next c bytes m rest → role (kind_of q) false m ≡ Closing → answer_by q (tally_after t m) ≡ given q (more, is_suspended m) →
     To q P t c bytes [] (finish (Ok (more, is_suspended m)) h (told m c) false rest)
 closes_on q P t h c bytes m rest more next is given_is =
     (Got m ∷ [], (record { ms = []; behind = false; last = m; rest = []; are = refl; taken = refl; ends = subst (λ (r : Role). IsEnd (kind_of q) r []) (sym is) refl }, given_is), got_last c m bytes rest next)
@@ -287,16 +301,19 @@ lacks_on : (q : Request) (P : Reasons) (ends : (x : ClientError) → P.halts x �
 lacks_on q P ends t h c bytes rest e (inl starved) = subst (λ (z : ClientError). To q P t c bytes [] (finish (Err z) h c true rest)) (sym starved) (inl refl)
 lacks_on q P ends t h c bytes rest e (inr l) =
     subst (λ (z : ClientError). To q P t c bytes [] (finish (Err z) h c true rest)) (in_place_of_none e)
-    (lacked (Gathered DataRow × Bool) (from q t) P ends c bytes [] c rest client.UnexpectedEOF e tt l.0
+    (lacked (Gathered (List DataRow) × Bool) (from q t) P ends c bytes [] c rest client.UnexpectedEOF e tt l.0
     ([], record { ms = []; behind = false; rest = []; are = refl; taken = refl; ends = inl (refl, refl) }, subst (λ (b : List ℕ). Exchanged c.config (standing_of_client c) b [] [] c rest) l.1 (exchanged_none c.config (standing_of_client c) rest)))
 
-pub exchange_to : (q : Request) (e : IsExtended q) (P : Reasons) (ends : (x : ClientError) → P.halts x → IsLinkEnd x) (h : Handler) (c : Client) (g : Gathered DataRow) (bytes sent : List ℕ) (last : Finish Handler DataRow) → Exchange ExtendedMeans P (kind_of q) h c g bytes sent last →
+pub exchange_to : (q : Request) (e : IsExtended q) (P : Reasons) (ends : (x : ClientError) → P.halts x → IsLinkEnd x) (h : Handler) (c : Client) (g : Gathered (List DataRow)) (bytes sent : List ℕ) (last : Finish Handler DataRow) → Exchange ExtendedMeans P (kind_of q) h c g bytes sent last →
     (t : Tally) → Gathers (kind_of q) g t → To q P t c bytes sent last
 exchange_to q e P ends _ _ _ _ _ _ (Exchange.lacks h c g bytes rest x l) t s = lacks_on q P ends t h c bytes rest x (lacking P c bytes rest x l)
 exchange_to q e P ends _ _ _ _ _ _ (Exchange.takes h c g bytes m rest rows after more sent last next is heeds exchange) t s =
-    let taken : role (kind_of q) false m ≡ Taken false = is ∙ ap Taken (taken_false (kind_of q) m rows (asked q e) is) in
-    takes_on q P t c bytes m rest sent last next taken (exchange_to q e P ends after (told m c) more rest sent last exchange (tally_after t m) (gathers (kind_of q) h after c g more t (asked q e) s m rows is heeds))
-exchange_to q e P ends _ _ _ _ _ _ (Exchange.closes h c g bytes m rest after more next is heeds) t s = closes_on q P t after c bytes m rest more next is (closing_answer q e h after c g more t s m is heeds)
+    let placed = by_table (kind_of q) h after c g more m (Taken rows) is heeds in
+    let taken : role (kind_of q) false m ≡ Taken false = placed ∙ ap Taken (taken_false (kind_of q) m rows (asked q e) placed) in
+    takes_on q P t c bytes m rest sent last next taken (exchange_to q e P ends after (told m c) more rest sent last exchange (tally_after t m) (gathers (kind_of q) h after c g more t (asked q e) s m rows placed heeds))
+exchange_to q e P ends _ _ _ _ _ _ (Exchange.closes h c g bytes m rest after more next is heeds) t s =
+    let placed = by_table (kind_of q) h after c g more m Closing is heeds in
+    closes_on q P t after c bytes m rest more next placed (closing_answer q e h after c g more t s m placed heeds)
 exchange_to q e P ends _ _ _ _ _ _ (Exchange.ends h c g bytes m rest due before s1 x more y last left broken next answer syncs passing) t s =
     let n = ending q e h c g t s m due before x more answer in
     ends_on q P ends c t bytes m rest next due x more n.0 s1 (synced due c before s1 (n.0).syncs n.1 syncs) y last left broken (passing_to P x s1.sight.client rest y last left broken passing)
@@ -306,8 +323,8 @@ exchange_to q e P ends _ _ _ _ _ _ (Exchange.unwritten h c g bytes m rest due be
     let n = ending q e h c g t s m (Some due) before x more answer in
     unwritten_on q P ends c t bytes m rest next (Some due) x more n.0 after (synced_by due c before after (n.0).syncs n.1 means) part cut
 exchange_to q e P ends _ _ _ _ _ _ (Exchange.refuses h c g bytes m rest after x next placed refuses caused) t s =
-    subst (λ (z : ClientError). To q P t c bytes [] (finish (Err z) after c true rest)) (sym (refuses_memory m h after c x refuses)) (inl refl)
-exchange_to q e P ends _ _ _ _ _ _ (Exchange.misplaced h c g bytes m rest x next is u) t s = misplaced_on q e P t h c bytes m rest x next is u
+    refused_on q e P t h after c bytes rest m x next refuses
+exchange_to q e P ends _ _ _ _ _ _ (Exchange.misplaced h c g bytes m rest x next is u) t s = misplaced_on q e P t h c bytes m rest x next (lost (kind_of q) m is) u
 exchange_to q e P ends _ _ _ _ _ _ (Exchange.starves h after c last g bytes rest) t s = inl refl
 
 -- ---- the opening
@@ -404,13 +421,13 @@ sends_one f x fs s last result is not (inr y) = inr (y.0, y.1, not y.0 y.2)
 puts : (fs : List Frontend) (s last : Standing Handler) (result : Result (Unit {0}) ClientError) → AreCalls fs → s.sight.broken ≡ false → OpensTo (calls_for fs) s last result → PutBy fs s.sight last.sight result
 puts [] s last (Ok done) a whole o = record { out = []; encodes = refl; wrote = ap (λ (x : Standing Handler). x.sight.wrote) o ∙ sym (append-nil s.sight.wrote); client = ap (λ (x : Standing Handler). x.sight.client) o }
 puts [] s last (Err e) a whole o = absurd o
-puts (frontend.Parse m ∷ fs) s last result a whole o = one_put (frontend.Parse m) fs s last result whole (λ next w x. puts fs next last result a w x) (sends_one (frontend.Parse m) (call.parse m) fs s last result (λ next x. x.0) (λ e x. x) o)
-puts (frontend.Bind m ∷ fs) s last result a whole o = one_put (frontend.Bind m) fs s last result whole (λ next w x. puts fs next last result a w x) (sends_one (frontend.Bind m) (call.bind m) fs s last result (λ next x. x.0) (λ e x. x) o)
-puts (frontend.Execute m ∷ fs) s last result a whole o = one_put (frontend.Execute m) fs s last result whole (λ next w x. puts fs next last result a w x) (sends_one (frontend.Execute m) (call.execute m) fs s last result (λ next x. x.0) (λ e x. x) o)
-puts (frontend.Describe m ∷ fs) s last result a whole o = one_put (frontend.Describe m) fs s last result whole (λ next w x. puts fs next last result a w x) (sends_one (frontend.Describe m) (call.describe m) fs s last result (λ next x. x.0) (λ e x. x) o)
-puts (frontend.Close m ∷ fs) s last result a whole o = one_put (frontend.Close m) fs s last result whole (λ next w x. puts fs next last result a w x) (sends_one (frontend.Close m) (call.close m) fs s last result (λ next x. x.0) (λ e x. x) o)
-puts (frontend.Sync m ∷ fs) s last result a whole o = one_put (frontend.Sync m) fs s last result whole (λ next w x. puts fs next last result a w x) (sends_one (frontend.Sync m) call.sync fs s last result (λ next x. x.0) (λ e x. x) o)
-puts (frontend.Flush m ∷ fs) s last result a whole o = one_put (frontend.Flush m) fs s last result whole (λ next w x. puts fs next last result a w x) (sends_one (frontend.Flush m) call.flush fs s last result (λ next x. x.0) (λ e x. x) o)
+puts (frontend.Parse m ∷ fs) s last result a whole o = one_put (frontend.Parse m) fs s last result whole (λ next w x. puts fs next last result a w x) (sends_one (frontend.Parse m) (call.parse m) fs s last result (λ next x. x.0) (λ e x. x.0) o)
+puts (frontend.Bind m ∷ fs) s last result a whole o = one_put (frontend.Bind m) fs s last result whole (λ next w x. puts fs next last result a w x) (sends_one (frontend.Bind m) (call.bind m) fs s last result (λ next x. x.0) (λ e x. x.0) o)
+puts (frontend.Execute m ∷ fs) s last result a whole o = one_put (frontend.Execute m) fs s last result whole (λ next w x. puts fs next last result a w x) (sends_one (frontend.Execute m) (call.execute m) fs s last result (λ next x. x.0) (λ e x. x.0) o)
+puts (frontend.Describe m ∷ fs) s last result a whole o = one_put (frontend.Describe m) fs s last result whole (λ next w x. puts fs next last result a w x) (sends_one (frontend.Describe m) (call.describe m) fs s last result (λ next x. x.0) (λ e x. x.0) o)
+puts (frontend.Close m ∷ fs) s last result a whole o = one_put (frontend.Close m) fs s last result whole (λ next w x. puts fs next last result a w x) (sends_one (frontend.Close m) (call.close m) fs s last result (λ next x. x.0) (λ e x. x.0) o)
+puts (frontend.Sync m ∷ fs) s last result a whole o = one_put (frontend.Sync m) fs s last result whole (λ next w x. puts fs next last result a w x) (sends_one (frontend.Sync m) call.sync fs s last result (λ next x. x.0) (λ e x. x.0) o)
+puts (frontend.Flush m ∷ fs) s last result a whole o = one_put (frontend.Flush m) fs s last result whole (λ next w x. puts fs next last result a w x) (sends_one (frontend.Flush m) call.flush fs s last result (λ next x. x.0) (λ e x. x.0) o)
 puts (f ∷ fs) s last result a whole o = absurd a
 
 -- ---- a call

@@ -3,7 +3,7 @@ use Rattle.std.proofs.Common.{◌≡◌, Bool, true, false, List, [], ◌∷◌,
 use Rattle.std.proofs.lemmas.List.{append-nil}
 use Rattle.pgw_backend.specs.declared.backend.PgWireBackendMessage.{PgWireBackendMessage as Backend}
 use Rattle.pgw_backend.specs.declared.backend.PgWireBackendMessage.TheVariants as backend
-use Rattle.pgw_backend.specs.Fields.{field_info_of, type_of}
+use Rattle.pgw_query.specs.Fields.{field_info_of, type_of}
 use Rattle.pgw_query.specs.declared.data.DataRow.{DataRow}
 use Rattle.pgw_query.specs.declared.data.RowDescription.{RowDescription}
 use Rattle.pgw_query.specs.declared.description.ParameterDescription.{ParameterDescription}
@@ -14,6 +14,7 @@ use Rattle.pgw_ext.specs.declared.bind.BindComplete.{BindComplete}
 use Rattle.pgw_query.specs.declared.description.NoData.{NoData}
 use Rattle.pgw_ext.specs.declared.execute.PortalSuspended.{PortalSuspended}
 use Rattle.pgw_query.specs.declared.response.ReadyForQuery.{ReadyForQuery}
+use Rattle.pgw_query.specs.declared.notification.NotificationResponse.{NotificationResponse}
 use Rattle.pgw_session.specs.declared.types.ExecuteResult.{ExecuteResult}
 use Rattle.pgw_session.specs.declared.types.ExecuteResult.TheVariants as execute
 use Rattle.pgw_session.specs.declared.types.Response.TheVariants as response_kind
@@ -26,14 +27,14 @@ use Rattle.pgw_session.specs.declared.tally.Opened.{Opened}
 use Rattle.pgw_session.specs.declared.stage.Kind.{Kind}
 use Rattle.pgw_session.specs.declared.stage.Kind.TheVariants as kind
 use Rattle.pgw_session.specs.declared.stage.Role.{Role}
-use Rattle.pgw_session.specs.declared.stage.Role.TheVariants.{Taken, Closing, Completing}
+use Rattle.pgw_session.specs.declared.stage.Role.TheVariants.{Taken, Closing, Completing, Misplaced}
 use Rattle.pgw_session.specs.Requests.{kind_of, role}
 use Rattle.pgw_session.specs.Answers.{tally_after, with_end, response_of, answer_with, noted_unless, answer_by, result_of, columns_of, rows_until, no_tally}
 use Rattle.pgw_handlers.specs.Client.{Client}
 use Rattle.pgw_default_handlers.specs.declared.extended.DefaultExtendedQueryHandler.{DefaultExtendedQueryHandler}
 use Rattle.pgw_default_handlers.specs.Extended.{ExtendedMeans}
 use Rattle.pgw_connection.specs.declared.gathered.Gathered.{Gathered}
-use Rattle.pgw_connection.specs.Extended.{none_gathered, with_gift, Heeds, is_suspended}
+use Rattle.pgw_connection.specs.Extended.{none_gathered, with_gift, Heeds, is_suspended, place}
 use Rattle.pgw_handlers.specs.Extended.{Gift, Given, response, nothing}
 use Rattle.pgw_calls.specs.Extended.{IsExtended, given}
 
@@ -63,7 +64,7 @@ ends_often kind.Query = true
 ends_often k = false
 
 -- what was gathered is what the tally says
-pub record Gathers (k : Kind) (g : Gathered DataRow) (t : Tally) : Type 0 where
+pub record Gathers (k : Kind) (g : Gathered (List DataRow)) (t : Tally) : Type 0 where
   pub types : g.types ≡ t.param_types
   pub columns : g.columns ≡ columns_of t.opened
   pub rows : g.responses ≡ rows_until t.executed ++ t.rows
@@ -103,16 +104,31 @@ suspended_kind k m r is = cc
 abbrev ok : Gift DataRow → Given DataRow
 ok gift = Ok gift
 
+-- a notification is refused, so the place of a message that is heeded is that of the table
+pub by_table : (k : Kind) (h after : DefaultExtendedQueryHandler) (c : Client) (g more : Gathered (List DataRow)) (m : Backend) (r : Role) → place k m ≡ r → Heeds ExtendedMeans h c g m after more → role k false m ≡ r
+by_table k h after c g more (backend.NotificationResponse m) r is heeds = absurd (heeds.1)
+by_table k h after c g more m r is heeds = is
+
+pub stray : (k : Kind) (m : NotificationResponse) → role k false (backend.NotificationResponse m) ≡ Misplaced
+stray kind.Simple m = refl
+stray kind.Prepare m = refl
+stray kind.Bind m = refl
+stray kind.Execute m = refl
+stray kind.DescribeStatement m = refl
+stray kind.DescribePortal m = refl
+stray kind.Close m = refl
+stray kind.Query m = refl
+
 -- ---- one message more
 
-module _ (k : Kind) (h after : DefaultExtendedQueryHandler) (c : Client) (g more : Gathered DataRow) (t : Tally) (a : IsAsked k) (s : Gathers k g t) where
+module _ (k : Kind) (h after : DefaultExtendedQueryHandler) (c : Client) (g more : Gathered (List DataRow)) (t : Tally) (a : IsAsked k) (s : Gathers k g t) where
   same : (m : Backend) → tally_after t m ≡ t → more ≡ g → Gathers k more (tally_after t m)
-  same m is are = subst (Gathers k more) (sym is) (subst (λ (x : Gathered DataRow). Gathers k x t) (sym are) s)
+  same m is are = subst (Gathers k more) (sym is) (subst (λ (x : Gathered (List DataRow)). Gathers k x t) (sym are) s)
 
   pub row_gathers : (row : DataRow) → has_rows k ≡ true → more ≡ record g { responses = g.responses ++ row ∷ [] } → Gathers k more (tally_after t (backend.DataRow row))
   row_gathers row has is =
       let tally : tally_after t (backend.DataRow row) ≡ record t { rows = t.rows ++ row ∷ [] } = rw (s.remote, s.unopened has) refl in
-      subst (Gathers k more) (sym tally) (subst (λ (x : Gathered DataRow). Gathers k x (record t { rows = t.rows ++ row ∷ [] })) (sym is) (record {
+      subst (Gathers k more) (sym tally) (subst (λ (x : Gathered (List DataRow)). Gathers k x (record t { rows = t.rows ++ row ∷ [] })) (sym is) (record {
         types = s.types;
         columns = s.columns;
         rows = ap (λ (l : List DataRow). l ++ row ∷ []) s.rows ∙ append_assoc (rows_until t.executed) t.rows (row ∷ []);
@@ -125,7 +141,7 @@ module _ (k : Kind) (h after : DefaultExtendedQueryHandler) (c : Client) (g more
   description_gathers m has is =
       let opened : Opened = record { fields = map field_info_of m.fields; rows = [] } in
       let tally : tally_after t (backend.RowDescription m) ≡ record t { opened = Some opened } = rw s.remote refl in
-      subst (Gathers k more) (sym tally) (subst (λ (x : Gathered DataRow). Gathers k x (record t { opened = Some opened })) (sym is) (record {
+      subst (Gathers k more) (sym tally) (subst (λ (x : Gathered (List DataRow)). Gathers k x (record t { opened = Some opened })) (sym is) (record {
         types = s.types;
         columns = refl;
         rows = s.rows;
@@ -137,7 +153,7 @@ module _ (k : Kind) (h after : DefaultExtendedQueryHandler) (c : Client) (g more
   pub parameters_gather : (m : ParameterDescription) → more ≡ record g { types = map type_of m.types } → Gathers k more (tally_after t (backend.ParameterDescription m))
   parameters_gather m is =
       let tally : tally_after t (backend.ParameterDescription m) ≡ record t { param_types = map type_of m.types } = rw s.remote refl in
-      subst (Gathers k more) (sym tally) (subst (λ (x : Gathered DataRow). Gathers k x (record t { param_types = map type_of m.types })) (sym is) (record {
+      subst (Gathers k more) (sym tally) (subst (λ (x : Gathered (List DataRow)). Gathers k x (record t { param_types = map type_of m.types })) (sym is) (record {
         types = refl;
         columns = s.columns;
         rows = s.rows;
@@ -170,16 +186,19 @@ module _ (k : Kind) (h after : DefaultExtendedQueryHandler) (c : Client) (g more
   complete_gathers m query is =
       let u : Tally = record t { responses = t.responses ++ response_of t.opened m.tag ∷ []; opened = None } in
       subst (Gathers k more) (sym (ap (λ (o : Option ErrorResponse). noted_unless o t (backend.CommandComplete m)) s.remote))
-      (subst (λ (x : Gathered DataRow). Gathers k x (with_end t.executed u (execute.Complete t.rows))) (sym is) (ended_gathers u t.executed query refl refl refl refl s.remote refl))
+      (subst (λ (x : Gathered (List DataRow)). Gathers k x (with_end t.executed u (execute.Complete t.rows))) (sym is) (ended_gathers u t.executed query refl refl refl refl s.remote refl))
 
   empty_gathers : (m : EmptyQueryResponse) → k ≡ kind.Query → more ≡ g → Gathers k more (tally_after t (backend.EmptyQueryResponse m))
   empty_gathers m query is =
       let u : Tally = record t { responses = t.responses ++ response_kind.EmptyQuery ∷ [] } in
       subst (Gathers k more) (sym (ap (λ (o : Option ErrorResponse). noted_unless o t (backend.EmptyQueryResponse m)) s.remote))
-      (subst (λ (x : Gathered DataRow). Gathers k x (with_end t.executed u (execute.Complete t.rows))) (sym is) (ended_gathers u t.executed query refl refl (s.unopened (ap has_rows query)) refl s.remote refl))
+      (subst (λ (x : Gathered (List DataRow)). Gathers k x (with_end t.executed u (execute.Complete t.rows))) (sym is) (ended_gathers u t.executed query refl refl (s.unopened (ap has_rows query)) refl s.remote refl))
 
   response_is : {x : Gift DataRow} {row : DataRow} → ok x ≡ ok (response row) → x ≡ response row
   response_is {x} {row} e = cc
+
+  nothing_given : {x : Gift DataRow} → ok x ≡ ok nothing → x ≡ nothing
+  nothing_given {x} e = cc
 
   -- a message that is taken
   pub gathers : (m : Backend) (r : Bool) → role k false m ≡ Taken r → Heeds ExtendedMeans h c g m after more → Gathers k more (tally_after t m)
@@ -189,6 +208,8 @@ module _ (k : Kind) (h after : DefaultExtendedQueryHandler) (c : Client) (g more
   gathers (backend.CommandComplete m) r is heeds = complete_gathers m (complete_kind k m r a is) (heeds.2 ∙ ap (with_gift g) (heeds.1).1)
   gathers (backend.EmptyQueryResponse m) r is heeds = empty_gathers m (empty_kind k m r a is) heeds.1
   gathers (backend.PortalSuspended m) r is heeds = absurd (suspended_kind k m r is)
+  gathers (backend.NoticeResponse m) r is heeds = same (backend.NoticeResponse m) (rw s.remote refl) (heeds.2 ∙ ap (with_gift g) (nothing_given (heeds.1).1))
+  gathers (backend.NotificationResponse m) r is heeds = absurd (heeds.1)
   gathers (backend.ErrorResponse m) r is heeds = absurd (cc)
   gathers m r is heeds = same m (rw s.remote refl) heeds.1
 
@@ -199,7 +220,7 @@ abbrev IsPlain : Request → Type 0
 IsPlain (request.Execute portal max_rows) = ⊥
 IsPlain q = Unit {0}
 
-plain_answer : (q : Request) (g : Gathered DataRow) (t : Tally) → IsExtended q → IsPlain q → Gathers (kind_of q) g t → answer_by q t ≡ given q (g, false)
+plain_answer : (q : Request) (g : Gathered (List DataRow)) (t : Tally) → IsExtended q → IsPlain q → Gathers (kind_of q) g t → answer_by q t ≡ given q (g, false)
 plain_answer (request.Simple query) g t e p s = absurd e
 plain_answer (request.Prepare name query types) g t e p s = ap (λ o. answer_with o (result_of (request.Prepare name query types) t)) s.remote ∙ ap (λ ts. answer.Prepared (record { name = name; param_types = ts })) (sym s.types)
 plain_answer (request.Bind portal statement parameters formats) g t e p s = ap (λ o. answer_with o answer.Bound) s.remote
@@ -320,7 +341,7 @@ taken_false k m rows a is = subst Undescribed is (undescribed k m a)
 
 -- ---- the closing message
 
-suspended_answer : (q : Request) (m : PortalSuspended) (g : Gathered DataRow) (t : Tally) → IsExtended q → role (kind_of q) false (backend.PortalSuspended m) ≡ Closing → Gathers (kind_of q) g t → answer_by q (tally_after t (backend.PortalSuspended m)) ≡ given q (g, true)
+suspended_answer : (q : Request) (m : PortalSuspended) (g : Gathered (List DataRow)) (t : Tally) → IsExtended q → role (kind_of q) false (backend.PortalSuspended m) ≡ Closing → Gathers (kind_of q) g t → answer_by q (tally_after t (backend.PortalSuspended m)) ≡ given q (g, true)
 suspended_answer (request.Simple query) m g t e is s = absurd e
 suspended_answer (request.Execute portal max_rows) m g t e is s =
     let unended : t.executed ≡ None = s.unended refl in
@@ -333,9 +354,9 @@ suspended_answer (request.Describe (target.Portal name)) m g t e is s = absurd (
 suspended_answer (request.Close target) m g t e is s = absurd (cc)
 suspended_answer (request.Query query types parameters) m g t e is s = absurd (cc)
 
-module _ (q : Request) (e : IsExtended q) (h after : DefaultExtendedQueryHandler) (c : Client) (g more : Gathered DataRow) (t : Tally) (s : Gathers (kind_of q) g t) where
+module _ (q : Request) (e : IsExtended q) (h after : DefaultExtendedQueryHandler) (c : Client) (g more : Gathered (List DataRow)) (t : Tally) (s : Gathers (kind_of q) g t) where
   silent : (m : Backend) → tally_after t m ≡ t → more ≡ g → IsPlain q → answer_by q (tally_after t m) ≡ given q (more, false)
-  silent m is are plain = ap (answer_by q) is ∙ plain_answer q g t e plain s ∙ ap (λ (x : Gathered DataRow). given q (x, false)) (sym are)
+  silent m is are plain = ap (answer_by q) is ∙ plain_answer q g t e plain s ∙ ap (λ (x : Gathered (List DataRow)). given q (x, false)) (sym are)
 
   nothing_is : {x : Gift DataRow} → ok x ≡ ok nothing → x ≡ nothing
   nothing_is {x} is = cc
@@ -347,5 +368,5 @@ module _ (q : Request) (e : IsExtended q) (h after : DefaultExtendedQueryHandler
   closing_answer (backend.RowDescription m) is heeds =
       plain_answer q more (tally_after t (backend.RowDescription m)) e (described_plain q m is)
       (description_gathers (kind_of q) h after c g more t (asked q e) s m (described_kind (kind_of q) m is) (heeds.2 ∙ ap (with_gift g) (heeds.1).1))
-  closing_answer (backend.PortalSuspended m) is heeds = suspended_answer q m g t e is s ∙ ap (λ (x : Gathered DataRow). given q (x, true)) (sym (heeds.2 ∙ ap (with_gift g) (nothing_is (heeds.1).1)))
+  closing_answer (backend.PortalSuspended m) is heeds = suspended_answer q m g t e is s ∙ ap (λ (x : Gathered (List DataRow)). given q (x, true)) (sym (heeds.2 ∙ ap (with_gift g) (nothing_is (heeds.1).1)))
   closing_answer m is heeds = absurd (subst (λ (r : Role). Fits (kind_of q) r m) is (fits (kind_of q) m))

@@ -12,5 +12,6 @@ pub mod ParameterLaws
 pub mod Logins
 pub mod LoginLaws
 pub mod CallLaws
-pub mod ReportLaws
 pub mod UniqueLaws
+pub mod WaitingLaws
+pub mod LoginWaiting

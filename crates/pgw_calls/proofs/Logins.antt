@@ -28,11 +28,11 @@ use Rattle.pgw_session.specs.declared.stage.Next.{Next}
 use Rattle.pgw_session.specs.declared.stage.Next.TheVariants.{Goes, Closes, Wrong, PassesOver}
 use Rattle.pgw_session.specs.declared.stage.Next.TheVariants as next
 use Rattle.pgw_session.specs.Input.{Input}
-use Rattle.pgw_session.specs.Logins.{scram_login, methods_refusal, first_refusal, final_refusal, expected_of, first_message, final_message}
-use Rattle.pgw_session.specs.Segments.{is_news, is_known, sends}
+use Rattle.pgw_session.specs.Logins.{must_bind, cleartext_message, md5_message, scram_login, methods_refusal, first_refusal, final_refusal, expected_of, first_message, final_message}
+use Rattle.pgw_session.specs.Segments.{is_news, is_early, is_known, sends}
 use Rattle.pgw_session.specs.Standings.{standing_by}
 use Rattle.pgw_session.specs.Answers.{tally_after, noted_unless}
-use Rattle.pgw_session.specs.Table.{after as table, by_login, by_welcome, by_first, by_final, unless}
+use Rattle.pgw_session.specs.Table.{after as table, news_or, by_login, by_welcome, by_first, by_final, unless, unless_bound}
 use Rattle.pgw_handlers.specs.declared.client_info.ReadyState.{ReadyState}
 use Rattle.pgw_handlers.specs.declared.client_info.ReadyState.TheVariants.{Pending, Ready}
 use Rattle.pgw_handlers.specs.declared.client_info.ServerInformation.{ServerInformation}
@@ -41,7 +41,8 @@ use Rattle.pgw_handlers.specs.Sending.{NotSent, after_sending}
 use Rattle.pgw_handlers.specs.Handling.{Standing, standing, Answer, IsCaused}
 use Rattle.pgw_handlers.specs.Startup.{may_come, Hears, HearsIf, HeardAtStartup, SettlesBy}
 use Rattle.pgw_default_handlers.specs.declared.startup.DefaultStartupHandler.{DefaultStartupHandler}
-use Rattle.pgw_default_handlers.specs.Startup.{login_input, with_stage, with_key, is_exchange, exchanges, Follows, information, StartupMeans}
+use Rattle.pgw_default_handlers.specs.Startup.{login_input, with_stage, with_key, is_exchange, exchanges, Follows, information, closes, Concludes, GivesInformation, StartupMeans}
+use Rattle.pgw_session.proofs.Grammar.{early_news}
 use Rattle.pgw_connection.specs.Talk.{fresh}
 use Rattle.pgw_calls.proofs.Openings.{one_encoding, never_rose}
 use Rattle.pgw_calls.specs.Turns.{knowing}
@@ -71,21 +72,33 @@ IsLogin (Answering k rows) = ⊥
 IsLogin PassingOver = ⊥
 IsLogin s = Unit {0}
 
-news_taken : (input : Input) (s : Stage) (m : Backend) → IsLogin s → is_exchange s ≡ false → is_news m ≡ true → table input s m ≡ Goes s None
-news_taken input Starting m l out is = rw is refl
-news_taken input Admitted m l out is = rw is refl
+-- news, early and late
+abbrev AreNews : Backend → Type 0
+AreNews m = (b : Bool) → is_early b m ≡ true
+
+news_taken : (input : Input) (s : Stage) (m : Backend) → IsLogin s → is_exchange s ≡ false → AreNews m → table input s m ≡ Goes s None
+news_taken input Starting m l out is = rw (is (must_bind input)) refl
+news_taken input Admitted m l out is = rw (early_news false m (is false)) refl
 news_taken input (Challenged login) m l out is = absurd (cc)
 news_taken input (Proving expected) m l out is = absurd (cc)
 news_taken input (Answering k rows) m l out is = absurd l
 news_taken input PassingOver m l out is = absurd l
 
-ready_closes : (input : Input) (s : Stage) (ready : ReadyForQuery) → IsLogin s → is_exchange s ≡ false → table input s (backend.ReadyForQuery ready) ≡ Closes
-ready_closes input Starting ready l out = refl
-ready_closes input Admitted ready l out = refl
-ready_closes input (Challenged login) ready l out = absurd (cc)
-ready_closes input (Proving expected) ready l out = absurd (cc)
-ready_closes input (Answering k rows) ready l out = absurd l
-ready_closes input PassingOver ready l out = absurd l
+-- it closes the segment, or has no place
+abbrev Ends : Next → Type 0
+Ends n = (n ≡ Closes) ⊎ (n ≡ Wrong)
+
+unbound_ends : (b : Bool) → Ends (unless_bound b Closes)
+unbound_ends true = inr refl
+unbound_ends false = inl refl
+
+ready_ends : (input : Input) (s : Stage) (ready : ReadyForQuery) → IsLogin s → is_exchange s ≡ false → Ends (table input s (backend.ReadyForQuery ready))
+ready_ends input Starting ready l out = unbound_ends (must_bind input)
+ready_ends input Admitted ready l out = inl refl
+ready_ends input (Challenged login) ready l out = absurd (cc)
+ready_ends input (Proving expected) ready l out = absurd (cc)
+ready_ends input (Answering k rows) ready l out = absurd l
+ready_ends input PassingOver ready l out = absurd l
 
 error_refused : (input : Input) (s : Stage) (e : ErrorResponse) → IsLogin s → table input s (backend.ErrorResponse e) ≡ next.Refuses (client.RemoteError e)
 error_refused input Starting e l = refl
@@ -111,13 +124,13 @@ exchange_wrong input (Challenged login) m within is = by_first_wrong login m is
 exchange_wrong input (Proving expected) m within is = by_final_wrong expected m is
 exchange_wrong input s m within is = absurd (cc)
 
-outside_wrong : (input : Input) (s : Stage) (m : Backend) → IsLogin s → is_exchange s ≡ false → is_news m ≡ false → by_login input m ≡ Wrong → by_welcome m ≡ Wrong → table input s m ≡ Wrong
-outside_wrong input Starting m l out news first welcome = rw news first
-outside_wrong input Admitted m l out news first welcome = rw news welcome
-outside_wrong input (Challenged login) m l out news first welcome = absurd (cc)
-outside_wrong input (Proving expected) m l out news first welcome = absurd (cc)
-outside_wrong input (Answering k rows) m l out news first welcome = absurd l
-outside_wrong input PassingOver m l out news first welcome = absurd l
+outside_wrong : (input : Input) (s : Stage) (m : Backend) → IsLogin s → is_exchange s ≡ false → is_early (must_bind input) m ≡ false → is_news m ≡ false → by_login input m ≡ Wrong → by_welcome m ≡ Wrong → table input s m ≡ Wrong
+outside_wrong input Starting m l out early news first welcome = rw early first
+outside_wrong input Admitted m l out early news first welcome = rw news welcome
+outside_wrong input (Challenged login) m l out early news first welcome = absurd (cc)
+outside_wrong input (Proving expected) m l out early news first welcome = absurd (cc)
+outside_wrong input (Answering k rows) m l out early news first welcome = absurd l
+outside_wrong input PassingOver m l out early news first welcome = absurd l
 
 -- where an authentication request leads: to a stage of a login, or it is refused
 abbrev Lands : Next → Type 0
@@ -130,10 +143,19 @@ unless_lands : (o : Option ClientError) (n : Next) → Lands n → Lands (unless
 unless_lands None n l = l
 unless_lands (Some e) n l = tt
 
+unbound_lands : (b : Bool) (n : Next) → Lands n → Lands (unless_bound b n)
+unbound_lands true n l = tt
+unbound_lands false n l = l
+
+-- AuthenticationOk before a login block
+ok_lands : (b : Bool) → Lands (news_or (not b) Starting Wrong)
+ok_lands true = tt
+ok_lands false = tt
+
 starting_lands : (input : Input) (a : Authentication) → Lands (table input Starting (backend.Authentication a))
-starting_lands input authentication.Ok = tt
-starting_lands input authentication.CleartextPassword = tt
-starting_lands input (authentication.MD5Password salt) = tt
+starting_lands input authentication.Ok = ok_lands (must_bind input)
+starting_lands input authentication.CleartextPassword = unbound_lands (must_bind input) (Goes Admitted (Some (cleartext_message input))) tt
+starting_lands input (authentication.MD5Password salt) = unbound_lands (must_bind input) (Goes Admitted (Some (md5_message input salt))) tt
 starting_lands input (authentication.SASL methods) = unless_lands (methods_refusal input methods) (Goes (Challenged (scram_login input methods)) (Some (first_message (scram_login input methods)))) tt
 starting_lands input a = tt
 
@@ -252,7 +274,7 @@ module _ (input : Input) (h : Handler) (c : Client) (at : IsAt input h c) where
   admitted m false after r heard = (refl, heard)
 
   -- news change no stage
-  news_welcomed : (m : Backend) (g : Handler) (s : Sight) (after : Standing Handler) → is_exchange h.stage ≡ false → is_news m ≡ true → after ≡ standing g s → g.stage ≡ h.stage → login_input g s.client.config ≡ login_input h c.config → s.wrote ≡ [] →
+  news_welcomed : (m : Backend) (g : Handler) (s : Sight) (after : Standing Handler) → is_exchange h.stage ≡ false → AreNews m → after ≡ standing g s → g.stage ≡ h.stage → login_input g s.client.config ≡ login_input h c.config → s.wrote ≡ [] →
       login_standing g s.client ≡ standing_by (login_standing h c) m → ((t : Tally) → tally_after t m ≡ t) → Welcomed input h c m after
   news_welcomed m g s after out news is stage same wrote stands plain =
       welcomed_by m g s after (ap (λ (x : Standing Handler). x.handler) is) (ap (λ (x : Standing Handler). x.sight) is) (record {
@@ -268,7 +290,14 @@ module _ (input : Input) (h : Handler) (c : Client) (at : IsAt input h c) where
       Welcomed input h c (backend.NegotiateProtocolVersion m) after
   negotiate_welcomed m None after out is heard = absurd (heard.1)
   negotiate_welcomed m (Some version) after out is heard =
-      news_welcomed (backend.NegotiateProtocolVersion m) h (with_version version (fresh c)) after out (ap is_known is) heard.0 refl refl refl (rw is refl) (λ t. negotiate_plain t t.remote m)
+      news_welcomed (backend.NegotiateProtocolVersion m) h (with_version version (fresh c)) after out (λ b. ap is_known is) heard.0 refl refl refl (rw is refl) (λ t. negotiate_plain t t.remote m)
+
+  concludes_pending : {A : Type 0} (m : Backend) (n : Next) (before after : Standing Handler) → Concludes (closes n) m before after (Ok Pending) → A
+  concludes_pending m Closes before after given = pending_not_ready given.1
+  concludes_pending m Wrong before after given = absurd (given.1)
+  concludes_pending m PassesOver before after given = absurd (given.1)
+  concludes_pending m (Goes stage reply) before after given = absurd (given.1)
+  concludes_pending m (next.Refuses e) before after given = absurd (given.1)
 
   pub welcomed : (m : Backend) (after : Standing Handler) → HeardAtStartup exchanges StartupMeans (standing h (fresh c)) m after (Ok Pending) → Welcomed input h c m after
   welcomed (backend.Authentication a) after (inl follows) =
@@ -278,19 +307,18 @@ module _ (input : Input) (h : Handler) (c : Client) (at : IsAt input h c) where
   welcomed (backend.ParameterStatus m) after heard =
       let x = admitted (backend.ParameterStatus m) (is_exchange h.stage) after Pending heard in
       let kept = x.1 in
-      news_welcomed (backend.ParameterStatus m) h (with_parameter m.name m.value (fresh c)) after x.0 refl kept.0 refl refl refl refl (λ t. parameter_plain t t.remote m)
+      news_welcomed (backend.ParameterStatus m) h (with_parameter m.name m.value (fresh c)) after x.0 (λ b. refl) kept.0 refl refl refl refl (λ t. parameter_plain t t.remote m)
   welcomed (backend.BackendKeyData m) after heard =
       let x = admitted (backend.BackendKeyData m) (is_exchange h.stage) after Pending heard in
       let kept = x.1 in
-      news_welcomed (backend.BackendKeyData m) (with_key m h) (fresh c) after x.0 refl kept.0 refl refl refl refl (λ t. key_plain t t.remote m)
+      news_welcomed (backend.BackendKeyData m) (with_key m h) (fresh c) after x.0 (λ b. refl) kept.0 refl refl refl refl (λ t. key_plain t t.remote m)
   welcomed (backend.NoticeResponse m) after heard =
       let x = admitted (backend.NoticeResponse m) (is_exchange h.stage) after Pending heard in
       let kept = x.1 in
-      news_welcomed (backend.NoticeResponse m) h (fresh c) after x.0 refl kept.0 refl refl refl refl (λ t. notice_plain t t.remote m)
+      news_welcomed (backend.NoticeResponse m) h (fresh c) after x.0 (λ b. refl) kept.0 refl refl refl refl (λ t. notice_plain t t.remote m)
   welcomed (backend.ReadyForQuery m) after heard =
       let x = admitted (backend.ReadyForQuery m) (is_exchange h.stage) after Pending heard in
-      let given = x.1 in
-      pending_not_ready (given.1)
+      concludes_pending (backend.ReadyForQuery m) (table (login_input h c.config) h.stage (backend.ReadyForQuery m)) (standing h (with_status m.status (fresh c))) after x.1
   welcomed (backend.ErrorResponse m) after heard = absurd (heard.1)
   welcomed m after heard = let x = admitted m (is_exchange h.stage) after Pending heard in let refused = x.1 in absurd (refused.1)
 
@@ -322,6 +350,14 @@ module _ (input : Input) (h : Handler) (c : Client) (at : IsAt input h c) where
   settles_not m None after x heard = absurd (heard.1)
   settles_not m (Some version) after x heard = not_ok_pending heard.1
 
+  -- where the information is given, the table closes the segment
+  concludes : (m : Backend) (n : Next) (before after : Standing Handler) (x : ServerInformation) → Concludes (closes n) m before after (Ok (Ready x)) → (n ≡ Closes) × GivesInformation before after (Ok (Ready x))
+  concludes m Closes before after x given = (refl, given)
+  concludes m Wrong before after x given = absurd (given.1)
+  concludes m PassesOver before after x given = absurd (given.1)
+  concludes m (Goes stage reply) before after x given = absurd (given.1)
+  concludes m (next.Refuses e) before after x given = absurd (given.1)
+
   pub informs : (m : Backend) (after : Standing Handler) (x : ServerInformation) → HeardAtStartup exchanges StartupMeans (standing h (fresh c)) m after (Ok (Ready x)) → Informed input h c m after x
   informs (backend.Authentication a) after x (inl follows) = follows_not (backend.Authentication a) _ after x follows
   informs (backend.Authentication a) after x (inr starves) = absurd (starves.1)
@@ -331,11 +367,13 @@ module _ (input : Input) (h : Handler) (c : Client) (at : IsAt input h c) where
   informs (backend.NoticeResponse m) after x heard = let y = admitted (backend.NoticeResponse m) (is_exchange h.stage) after (Ready x) heard in let kept = y.1 in not_ok_pending kept.1
   informs (backend.ReadyForQuery m) after x heard =
       let y = admitted (backend.ReadyForQuery m) (is_exchange h.stage) after (Ready x) heard in
-      let given = y.1 in
+      let before : Standing Handler = standing h (with_status m.status (fresh c)) in
+      let ended = concludes (backend.ReadyForQuery m) (table (login_input h c.config) h.stage (backend.ReadyForQuery m)) before after x y.1 in
+      let given = ended.1 in
       let told : x ≡ information h (with_status m.status (fresh c)).client = ready_is given.1 in
       let sight : after.sight ≡ with_status m.status (fresh c) = ap (λ (s : Standing Handler). s.sight) given.0 in
       record {
-        closes = ready_closes input h.stage m at.login y.0;
+        closes = sym (next_is (backend.ReadyForQuery m)) ∙ ended.0;
         wrote = ap (λ (s : Sight). s.wrote) sight;
         config = ap (λ (s : Sight). s.client.config) sight;
         knows = ap (λ (i : ServerInformation). informed i after.sight.client) told ∙ ap (λ (s : Sight). informed (information h (with_status m.status (fresh c)).client) s.client) sight;
@@ -382,8 +420,14 @@ module _ (input : Input) (h : Handler) (c : Client) (at : IsAt input h c) where
 
   settles_fails : (m : NegotiateProtocolVersion) (v : Option ProtocolVersion) (after : Standing Handler) (e : ClientError) → is_exchange h.stage ≡ false → negotiated_version m.newest_minor_protocol ≡ v → SettlesBy {A = ServerInformation} v m (standing h (fresh c)) after (Err e) →
       FailsBy input h.stage (backend.NegotiateProtocolVersion m) e
-  settles_fails m None after e out is heard = misplaced (backend.NegotiateProtocolVersion m) e (outside_wrong input h.stage (backend.NegotiateProtocolVersion m) at.login out (ap is_known is) refl refl) heard.1
+  settles_fails m None after e out is heard = misplaced (backend.NegotiateProtocolVersion m) e (outside_wrong input h.stage (backend.NegotiateProtocolVersion m) at.login out (ap is_known is) (ap is_known is) refl refl) heard.1
   settles_fails m (Some version) after e out is heard = err_not_ok heard.1
+
+  concludes_fails : (m : Backend) (n : Next) (before after : Standing Handler) (e : ClientError) → table input h.stage m ≡ n → Ends n → Concludes (closes n) m before after (Err e) → FailsBy input h.stage m e
+  concludes_fails m Closes before after e is ends given = inl given.1
+  concludes_fails m Wrong before after e is ends given = misplaced m e is given.1
+  concludes_fails m n before after e is (inl closes) given = absurd (cc)
+  concludes_fails m n before after e is (inr wrong) given = absurd (cc)
 
   pub fails_by : (m : Backend) (after : Standing Handler) (e : ClientError) → HeardAtStartup exchanges StartupMeans (standing h (fresh c)) m after (Err e) → IsCaused e 0 0 after.sight.broken → FailsBy input h.stage m e
   fails_by (backend.Authentication a) after e (inl follows) caused =
@@ -393,6 +437,9 @@ module _ (input : Input) (h : Handler) (c : Client) (at : IsAt input h c) where
   fails_by (backend.ParameterStatus m) after e heard caused = refused (backend.ParameterStatus m) (is_exchange h.stage) after e refl refl (λ out x. inl x.1) heard
   fails_by (backend.BackendKeyData m) after e heard caused = refused (backend.BackendKeyData m) (is_exchange h.stage) after e refl refl (λ out x. err_not_ok x.1) heard
   fails_by (backend.NoticeResponse m) after e heard caused = refused (backend.NoticeResponse m) (is_exchange h.stage) after e refl refl (λ out x. err_not_ok x.1) heard
-  fails_by (backend.ReadyForQuery m) after e heard caused = refused (backend.ReadyForQuery m) (is_exchange h.stage) after e refl refl (λ out x. inl x.1) heard
+  fails_by (backend.ReadyForQuery m) after e heard caused =
+      refused (backend.ReadyForQuery m) (is_exchange h.stage) after e refl refl
+      (λ out x. concludes_fails (backend.ReadyForQuery m) (table input h.stage (backend.ReadyForQuery m)) (standing h (with_status m.status (fresh c))) after e refl (ready_ends input h.stage m at.login out)
+      (subst (λ (n : Next). Concludes (closes n) (backend.ReadyForQuery m) (standing h (with_status m.status (fresh c))) after (Err e)) (next_is (backend.ReadyForQuery m)) x)) heard
   fails_by (backend.ErrorResponse m) after e heard caused = inr (inl (error_refused input h.stage m at.login ∙ ap next.Refuses (sym heard.1)))
-  fails_by m after e heard caused = refused m (is_exchange h.stage) after e refl refl (λ out x. misplaced m e (outside_wrong input h.stage m at.login out refl refl refl) x.1) heard
+  fails_by m after e heard caused = refused m (is_exchange h.stage) after e refl refl (λ out x. misplaced m e (outside_wrong input h.stage m at.login out refl refl refl refl) x.1) heard

@@ -24,7 +24,7 @@ use Rattle.pgw_session.specs.Answers.{answer_of}
 use Rattle.pgw_session.specs.Transcript.{SpellsGot}
 use Rattle.pgw_handlers.specs.Client.{Client}
 use Rattle.pgw_connection.specs.Line.{Reasons}
-use Rattle.pgw_calls.specs.Turns.{standing_of_client, Exchanged, Does, IsAnswered, IsPassing, IsCutOff}
+use Rattle.pgw_calls.specs.Turns.{standing_of_client, Exchanged, Does, IsAnswered, IsPassedSegment, IsPassing, IsCutOff}
 use Rattle.pgw_calls.specs.Calls.{Answers, Stops, Misplaces, Breaks, Comes, Reports}
 use Rattle.pgw_calls.proofs.Exchanges.{fold_sends}
 use Rattle.pgw_calls.proofs.PassedLaws.{Behind, behind_first}
@@ -136,6 +136,9 @@ same_over s es xs bytes rest p q b l =
 over_not_cut : (s : Standing) (es : List Event) (xs : List Backend) (bytes rest : List ℕ) → IsPassedOver es → IsQuiet xs → Begins s es bytes → Leaves s (map Got xs) bytes rest → Ended (fold standing_at s (map Got xs)) rest → ⊥
 over_not_cut s es xs bytes rest p quiet b l e = not_cut s p.ms xs p.ready bytes rest p.all quiet (subst (λ (x : List Event). Begins s x bytes) p.are b) l e
 
+pub more_not : (m : Backend) (len : ℕ) → More ≡ Whole m len → ⊥
+more_not m len is = cc
+
 -- ---- answers
 
 record AnswerFirst (k : Kind) (rows : Bool) (es : List Event) : Type 0 where
@@ -234,9 +237,19 @@ no_open k (x ∷ ms) rows behind m len es s bytes left taken is a b l whole =
     let o = meet k rows s x es (map Got ms) bytes left a b l in
     no_open k ms taken.0 behind m len o.more (standing_by s x) o.left left taken.2 is (subst (λ (r : Role). Behind k r o.more) taken.1 o.behind) o.begins o.leaves whole
 
+-- nor does one stand at its place
+no_misplaced : (k : Kind) (ms : List Backend) (rows behind : Bool) (m : Backend) (tail es : List Event) (s : Standing) (bytes rest : List ℕ) → AreTaken k rows ms behind → role k behind m ≡ Misplaced → IsAnswer k rows es → Begins s es bytes →
+    Leaves s (map Got ms ++ Got m ∷ tail) bytes rest → ⊥
+no_misplaced k [] rows behind m tail es s bytes rest taken is a b l =
+    let o = meet k rows s m es tail bytes rest a b l in
+    subst (λ (r : Role). Behind k r o.more) (ap (λ (x : Bool). role k x m) taken ∙ is) o.behind
+no_misplaced k (x ∷ ms) rows behind m tail es s bytes rest taken is a b l =
+    let o = meet k rows s x es (map Got ms ++ Got m ∷ tail) bytes rest a b l in
+    no_misplaced k ms taken.0 behind m tail o.more (standing_by s x) o.left rest taken.2 is (subst (λ (r : Role). Behind k r o.more) taken.1 o.behind) o.begins o.leaves
+
 -- ---- a call
 
-module _ {A : Type 0} (give : A → Answer) (P : Reasons) (q : Request) (breaks : passes_over (kind_of q) ≡ false) (c : Client) (bytes sent : List ℕ) (info : Client) (rest : List ℕ) (es : List Event) (spelled more : List ℕ) (segment : IsRequestSegment q es)
+module _ (P : Reasons) (q : Request) (c : Client) (bytes sent : List ℕ) (info : Client) (rest : List ℕ) (es : List Event) (spelled more : List ℕ) (segment : IsRequestSegment q es)
     (got : SpellsGot (standing_of_client c) es spelled) (are : bytes ≡ spelled ++ more) where
   abbrev from : Standing
   from = standing_of_client c
@@ -250,10 +263,10 @@ module _ {A : Type 0} (give : A → Answer) (P : Reasons) (q : Request) (breaks 
       let l : Leaves from (map Got a.ms ++ Got a.last ∷ a.rest) bytes rest = subst (λ (y : List Event). Leaves from y bytes rest) a.are (leaves_unsent from (sends_of q) s.0 xs bytes rest s.1 (x.spelled, x.begins, x.got)) in
       segment.1 ∙ ap (λ (y : List Event). map Sent (sends_of q) ++ y) (same_answer (kind_of q) a.ms false a.behind a.last a.rest segment.0 from bytes rest a.taken a.ends segment.2 begins l ∙ sym a.are) ∙ sym s.1
 
-  answered : (a : Answer) → Does (IsAnswered q a) c bytes sent info rest → a ≡ answer_of q es
+  pub answered : (a : Answer) → Does (IsAnswered q a) c bytes sent info rest → a ≡ answer_of q es
   answered a x = sym (ap (answer_of q) (unique x.0 (x.1).0 x.2) ∙ (x.1).1)
 
-  stops : (e : ClientError) (next : Front) → ((m : Backend) (len : ℕ) → next ≡ Whole m len → ⊥) → Stops q c bytes sent e info rest next → ⊥
+  pub stops : (e : ClientError) (next : Front) → ((m : Backend) (len : ℕ) → next ≡ Whole m len → ⊥) → Stops q c bytes sent e info rest next → ⊥
   stops e next ends x =
       let xs = (x.0).0 in
       let o = (x.0).1 in
@@ -264,10 +277,10 @@ module _ {A : Type 0} (give : A → Answer) (P : Reasons) (q : Request) (breaks 
       let last = ended_unsent from (sends_of q) o.0 xs rest o.1 ended in
       no_front (kind_of q) a.ms false a.behind e a.rest segment.0 from bytes rest a.taken a.ends segment.2 begins (subst (λ (z : List Event). Leaves from z bytes rest) a.are l) (subst (λ (z : List Event). Ended (fold standing_at from z) rest) a.are last)
 
-  more_not : (m : Backend) (len : ℕ) → More ≡ Whole m len → ⊥
-  more_not m len is = cc
+  no_more : (e : ClientError) → Stops q c bytes sent e info rest More → ⊥
+  no_more e x = stops e More more_not x
 
-  opens : (m : Backend) → Misplaces false P q c bytes sent m info rest → ⊥
+  pub opens : (m : Backend) → Misplaces false P q c bytes sent m info rest → ⊥
   opens m x =
       let left = x.0 in
       let o = (x.1).1 in
@@ -278,21 +291,42 @@ module _ {A : Type 0} (give : A → Answer) (P : Reasons) (q : Request) (breaks 
       no_open (kind_of q) a.ms false a.behind m (x.2).0 segment.0 from bytes left a.taken a.misplaced segment.2 begins (subst (λ (z : List Event). Leaves from z bytes left) a.are l)
       (ap (λ v. front v left) (sym at ∙ sym (ap (λ (k : Client). k.protocol_version) y.knows)) ∙ (x.2).1)
 
+  misplaces : (m : Backend) (b : Bool) → Misplaces b P q c bytes sent m info rest → ⊥
+  misplaces m true x = no_more (client.UnexpectedMessage m) x.1
+  misplaces m false x = opens m x
+
+  -- one that was passed over is not the segment
+  pub passed : (m : Backend) → Does (IsPassedSegment q m) c bytes sent info rest → ⊥
+  passed m x =
+      let o = x.1 in
+      let y = x.2 in
+      let a = o.2 in
+      let l = leaves_unsent from (sends_of q) o.0 x.0 bytes rest o.1 (y.spelled, y.begins, y.got) in
+      no_misplaced (kind_of q) a.ms false a.behind m a.rest segment.0 from bytes rest a.taken a.misplaced segment.2 begins (subst (λ (z : List Event). Leaves from z bytes rest) a.are l)
+
+module _ {A : Type 0} (give : A → Answer) (P : Reasons) (q : Request) (c : Client) (bytes sent : List ℕ) (info : Client) (rest : List ℕ) (es : List Event) (spelled more : List ℕ) (segment : IsRequestSegment q es)
+    (got : SpellsGot (standing_of_client c) es spelled) (are : bytes ≡ spelled ++ more) where
+  ends_not : (e : ClientError) → Stops q c bytes sent e info rest More → ⊥
+  ends_not e x = no_more P q c bytes sent info rest es spelled more segment got are e x
+
+  answers : (a : Answer) → Does (IsAnswered q a) c bytes sent info rest → a ≡ answer_of q es
+  answers a x = answered P q c bytes sent info rest es spelled more segment got are a x
+
   reports_broken : (result : Result A ClientError) → Breaks P q c bytes sent info rest result → Reports give P q (answer_of q es) c bytes sent info rest result
   reports_broken (Err client.OutOfMemory) x = tt
-  reports_broken (Err (client.PgWireError why)) x = absurd (stops x.0 (Bad why) (λ m len is. cc) x.1)
-  reports_broken (Err client.ReadLimit) x = absurd (stops x.1 More more_not x.2)
-  reports_broken (Err client.IoError) (inl x) = absurd (stops x.1 More more_not x.2)
+  reports_broken (Err (client.PgWireError why)) x = absurd (stops P q c bytes sent info rest es spelled more segment got are x.0 (Bad why) (λ m len is. cc) x.1)
+  reports_broken (Err client.ReadLimit) x = absurd (ends_not x.1 x.2)
+  reports_broken (Err client.IoError) (inl x) = absurd (ends_not x.1 x.2)
   reports_broken (Err client.IoError) (inr x) = x
-  reports_broken (Err client.UnexpectedEOF) x = absurd (stops client.UnexpectedEOF More more_not x.1)
-  reports_broken (Err (client.RemoteError e)) x = absurd (stops (client.RemoteError e) More more_not x.1)
-  reports_broken (Err (client.UnexpectedMessage m)) x = absurd (opens m (subst (λ (b : Bool). Misplaces b P q c bytes sent m info rest) breaks x))
+  reports_broken (Err client.UnexpectedEOF) x = absurd (ends_not client.UnexpectedEOF x.1)
+  reports_broken (Err (client.RemoteError e)) x = absurd (ends_not (client.RemoteError e) x.1)
+  reports_broken (Err (client.UnexpectedMessage m)) x = absurd (misplaces P q c bytes sent info rest es spelled more segment got are m (passes_over (kind_of q)) x)
   reports_broken result x = absurd x
 
   reports_usable : (result : Result A ClientError) → Answers give q c bytes sent info rest result → Reports give P q (answer_of q es) c bytes sent info rest result
-  reports_usable (Ok x) y = answered (give x) y
-  reports_usable (Err (client.RemoteError e)) y = answered (answer.Remote e) y
-  reports_usable (Err (client.UnexpectedMessage m)) y = absurd (let passes = ((y.1).2).passes in cc)
+  reports_usable (Ok x) y = answers (give x) y
+  reports_usable (Err (client.RemoteError e)) y = answers (answer.Remote e) y
+  reports_usable (Err (client.UnexpectedMessage m)) y = absurd (passed P q c bytes sent info rest es spelled more segment got are m y)
   reports_usable (Err (client.PgWireError why)) y = y.0
   reports_usable (Err e) y = absurd y
 

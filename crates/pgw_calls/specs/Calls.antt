@@ -1,5 +1,5 @@
 -- A client's call, by its answer.
-use Rattle.std.specs.Prelude.{◌≡◌, ◌⊎◌, ℕ, Bool, true, false, List, [], ◌++◌, Result, Ok, Err}
+use Rattle.std.specs.Prelude.{◌≡◌, ◌⊎◌, ◌≤◌, ℕ, ◌+◌, Bool, true, false, List, [], ◌++◌, length, Result, Ok, Err}
 use Rattle.pgw_types.specs.declared.error.PgWireError.{PgWireError}
 use Rattle.pgw_backend.specs.Front.{Front, front, More, Bad}
 use Rattle.pgw_backend.specs.declared.backend.PgWireBackendMessage.{PgWireBackendMessage as Backend}
@@ -11,12 +11,14 @@ use Rattle.pgw_session.specs.declared.types.Request.TheVariants as request
 use Rattle.pgw_session.specs.declared.types.Response.{Response}
 use Rattle.pgw_session.specs.declared.types.Answer.{Answer}
 use Rattle.pgw_session.specs.declared.types.Answer.TheVariants as answer
+use Rattle.pgw_session.specs.Events.{Event}
 use Rattle.pgw_session.specs.Requests.{kind_of, sends_of, passes_over, behind_error}
-use Rattle.pgw_session.specs.Segments.{sends}
+use Rattle.pgw_session.specs.Segments.{IsRequestSegment, sends}
+use Rattle.pgw_session.specs.Transcript.{SpellsGot}
 use Rattle.pgw_handlers.specs.Client.{Client}
-use Rattle.pgw_connection.specs.Line.{Reasons}
+use Rattle.pgw_connection.specs.Line.{Line, Reasons}
 use Rattle.pgw_connection.specs.Talk.{Next, End}
-use Rattle.pgw_calls.specs.Turns.{Does, IsAnswered, IsPassedSegment, IsFrontOf, IsOpenFor, Opened}
+use Rattle.pgw_calls.specs.Turns.{standing_of_client, Does, IsAnswered, IsPassedSegment, IsFrontOf, IsOpenFor, Opened}
 
 -- the request has no encoding, and nothing was done
 abbrev pub IsRefused : Request → Client → List ℕ → List ℕ → PgWireError → Client → List ℕ → Type 0
@@ -79,3 +81,26 @@ Reports give P q a c bytes sent info rest (Err client.OutOfMemory) = Unit {0}
 Reports give P q a c bytes sent info rest (Err client.IoError) = IsUnwritten P q c bytes sent info rest
 Reports give P q a c bytes sent info rest (Err (client.PgWireError why)) = encodings (sends_of q) ≡ Err why
 Reports give P q a c bytes sent info rest (Err e) = ⊥
+
+-- ---- where a link still has a whole segment
+
+-- The request has an encoding, and the bytes in the buffer and those to come begin with bytes that
+-- spell the messages of this segment of it, and that the limit lets the client read.
+pub record StillHas (q : Request) (c : Client) (old : Line) (coming : List ℕ) (es : List Event)
+    : Type 0 where
+  pub segment : IsRequestSegment q es
+  pub spelled : List ℕ
+  pub more : List ℕ
+  pub begins : old.buffer ++ coming ≡ spelled ++ more
+  pub got : SpellsGot (standing_of_client c) es spelled
+  pub within : old.read + length spelled ≤ old.limit + length old.buffer
+  pub sent : List ℕ
+  pub put : encodings (sends_of q) ≡ Ok sent
+
+-- the call gives this answer and leaves a client that can be used; or memory was wanting
+abbrev pub IsReported : {A : Type 0} → (A → Answer) → Answer → Result A ClientError → Bool →
+    Type 0
+IsReported give a (Ok x) broken = (give x ≡ a) × (broken ≡ false)
+IsReported give a (Err (client.RemoteError e)) broken = (answer.Remote e ≡ a) × (broken ≡ false)
+IsReported give a (Err client.OutOfMemory) broken = Unit {0}
+IsReported give a (Err e) broken = ⊥

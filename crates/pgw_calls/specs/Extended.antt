@@ -25,7 +25,7 @@ executed true rows = execute.Suspended rows
 executed false rows = execute.Complete rows
 
 -- what was gathered, as the request's answer
-abbrev pub given : Request → Gathered DataRow × Bool → Answer
+abbrev pub given : Request → Gathered (List DataRow) × Bool → Answer
 given (request.Simple query) x = answer.Responses []
 given (request.Prepare name query types) x = answer.Prepared (record { name = name; param_types = (x.0).types })
 given (request.Bind portal statement parameters formats) x = answer.Bound

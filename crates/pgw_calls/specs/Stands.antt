@@ -7,7 +7,7 @@ use Rattle.pgw_config.specs.declared.config.Config.{Config}
 use Rattle.pgw_session.specs.declared.types.Request.{Request}
 use Rattle.pgw_session.specs.declared.types.Answer.{Answer}
 use Rattle.pgw_session.specs.declared.types.Answer.TheVariants as answer
-use Rattle.pgw_session.specs.Input.{Input}
+use Rattle.pgw_session.specs.Input.{Input, input_with}
 use Rattle.pgw_session.specs.Events.{Event, joined}
 use Rattle.pgw_session.specs.Standings.{first_standing, standing_of}
 use Rattle.pgw_session.specs.Requests.{kind_of, passes_over}
@@ -19,7 +19,7 @@ use Rattle.pgw_calls.specs.Turns.{knowing, Exchanged, IsAnswered, IsPassedSegmen
 
 -- what a client logs in with
 abbrev pub login : Config → List ℕ → Input
-login config nonce = record { config = config; requests = []; nonce = nonce }
+login config nonce = input_with config [] nonce
 
 -- a request that was made, and the events of its call
 pub record Made : Type 0 where
@@ -109,7 +109,7 @@ AreAnswered (t ∷ ts) = IsRequestSegment t.request t.events × AreAnswered ts
 
 -- what the session of these requests is given
 abbrev pub session : Config → List ℕ → List Made → Input
-session config nonce ts = record { config = config; requests = requests_of ts; nonce = nonce }
+session config nonce ts = input_with config (requests_of ts) nonce
 
 -- The session's transcript: of the bytes read those in the buffer are left, those before spell the messages got, those
 -- written are the encodings of the messages sent, and the client knows what all of it tells.

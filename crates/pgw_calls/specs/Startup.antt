@@ -1,5 +1,5 @@
 -- A client's login, by its answer.
-use Rattle.std.specs.Prelude.{◌≡◌, ◌⊎◌, ℕ, Bool, true, false, List, [], ◌∷◌, ◌++◌, None, Result, Ok, Err}
+use Rattle.std.specs.Prelude.{◌≡◌, ◌⊎◌, ◌≤◌, ℕ, ◌+◌, Bool, true, false, List, [], ◌∷◌, ◌++◌, length, None, Result, Ok, Err}
 use Rattle.pgw_types.specs.declared.error.PgWireError.{PgWireError}
 use Rattle.pgw_backend.specs.declared.client_error.PgWireClientError.{PgWireClientError as ClientError}
 use Rattle.pgw_backend.specs.declared.client_error.PgWireClientError.TheVariants as client
@@ -7,15 +7,16 @@ use Rattle.pgw_frontend.specs.Frontend.{encodings}
 use Rattle.pgw_config.specs.declared.config.Config.{Config}
 use Rattle.pgw_session.specs.Input.{Input}
 use Rattle.pgw_session.specs.Events.{Event}
-use Rattle.pgw_session.specs.Standings.{first_standing}
+use Rattle.pgw_session.specs.Standings.{first_standing, standing_of}
 use Rattle.pgw_session.specs.Segments.{IsStartupSegment, startup_message}
 use Rattle.pgw_session.specs.Failures.{HasNoPlace, FailsAtStartup, Unreadable, Unsendable, LeftWith, WaitsStill, IsHopeless, IsUnfinished, Told}
 use Rattle.pgw_handlers.specs.declared.client_info.ServerInformation.{ServerInformation}
 use Rattle.pgw_handlers.specs.Client.{Client}
-use Rattle.pgw_connection.specs.Line.{Reasons}
+use Rattle.pgw_session.specs.Transcript.{SpellsGot, EncodesSent}
+use Rattle.pgw_connection.specs.Line.{Line, Reasons}
 use Rattle.pgw_connection.specs.Talk.{End}
 use Rattle.pgw_connection.specs.Desk.{first_client, with_information}
-use Rattle.pgw_calls.specs.Turns.{Exchanged}
+use Rattle.pgw_calls.specs.Turns.{Exchanged, knowing}
 use Rattle.pgw_calls.specs.Stands.{login}
 
 -- The events are the startup segment. A client that is given the information knows what they tell, and the parameters of
@@ -63,3 +64,28 @@ LoginEnds P config nonce bytes sent info rest (Err e) false = ⊥
 -- a login came to this end
 abbrev pub LoginCall : Config → List ℕ → List ℕ → List ℕ → Reasons → End ServerInformation → Type 0
 LoginCall config nonce bytes sent P end = LoginEnds P config nonce bytes sent end.info end.rest end.answer end.broken
+
+-- ---- where a link still has a whole startup segment
+
+-- The bytes in the buffer and those to come begin with bytes that spell the messages of this startup
+-- segment, and that the limit lets the client read; and its messages to the server have encodings.
+pub record StillLogsIn (config : Config) (nonce : List ℕ) (old : Line) (coming : List ℕ)
+    (es : List Event) : Type 0 where
+  pub segment : IsStartupSegment (login config nonce) es
+  pub spelled : List ℕ
+  pub more : List ℕ
+  pub begins : old.buffer ++ coming ≡ spelled ++ more
+  pub got : SpellsGot (first_standing config) es spelled
+  pub within : old.read + length spelled ≤ old.limit + length old.buffer
+  pub sent : List ℕ
+  pub put : EncodesSent es sent
+
+-- The login ends in a client that can be used, and knows what the segment tells; or memory was
+-- wanting.
+abbrev pub IsLetIn : Config → List Event → Result ServerInformation ClientError → Client → Bool →
+    Type 0
+IsLetIn config es (Ok information) info broken =
+    (with_information information info ≡ knowing config (standing_of config es))
+    × (information.parameters ≡ info.parameters) × (broken ≡ false)
+IsLetIn config es (Err client.OutOfMemory) info broken = Unit {0}
+IsLetIn config es (Err e) info broken = ⊥

@@ -1,5 +1,5 @@
 //! What holds of calls.
-ghost use Rattle.std.specs.Prelude.{◌≡◌, ℕ, Bool, false, Ok, List, [], ◌∷◌, ◌++◌, map};
+ghost use Rattle.std.specs.Prelude.{◌≡◌, ℕ, Bool, false, Ok, List, [], ◌∷◌, ◌++◌, map, Option, Some};
 ghost use Rattle.pgw_backend.specs.declared.backend.PgWireBackendMessage.{PgWireBackendMessage as Backend};
 ghost use Rattle.pgw_session.specs.declared.types.Request.{Request as TheRequest};
 ghost use Rattle.pgw_session.specs.declared.stage.Role.TheVariants.{Misplaced};
@@ -13,7 +13,8 @@ ghost use Rattle.pgw_default_handlers.specs.declared.simple.DefaultSimpleQueryHa
 ghost use Rattle.pgw_default_handlers.specs.Simple.{QueryMeans};
 ghost use Rattle.pgw_connection.specs.Talk.{End, end, Asked, passes};
 ghost use Rattle.pgw_connection.specs.Desk.{first_client, with_information};
-ghost use Rattle.pgw_connection.specs.Line.{Line, Drew, Moved, Pause, IsFlushed};
+ghost use Rattle.pgw_types.specs.Counts.{Rose};
+ghost use Rattle.pgw_connection.specs.Line.{Line, Drew, Moved, Pause, IsFlushed, Foretold};
 ghost use Rattle.pgw_config.specs.declared.config.Config.{Config as TheConfig};
 ghost use Rattle.pgw_session.specs.declared.types.Answer.TheVariants as answer;
 ghost use Rattle.pgw_session.specs.declared.types.Request.TheVariants as request;
@@ -21,7 +22,7 @@ ghost use Rattle.pgw_handlers.specs.declared.client_info.ServerInformation.{Serv
 ghost use Rattle.pgw_handlers.specs.Startup.{HeardAtStartup, startup};
 ghost use Rattle.pgw_default_handlers.specs.declared.startup.DefaultStartupHandler.{DefaultStartupHandler as TheLogin};
 ghost use Rattle.pgw_default_handlers.specs.Startup.{StartupMeans, exchanges};
-ghost use Rattle.pgw_calls.specs.Startup.{LoginCall};
+ghost use Rattle.pgw_calls.specs.Startup.{LoginCall, StillLogsIn, IsLetIn};
 ghost use Rattle.pgw_query.specs.declared.data.DataRow.{DataRow as TheRow};
 ghost use Rattle.pgw_default_handlers.specs.declared.extended.DefaultExtendedQueryHandler.{DefaultExtendedQueryHandler as TheExtended};
 ghost use Rattle.pgw_default_handlers.specs.Extended.{ExtendedMeans};
@@ -29,7 +30,7 @@ ghost use Rattle.pgw_connection.specs.Calls.{Call};
 ghost use Rattle.pgw_connection.specs.Reading.{Grew, Ended};
 ghost use Rattle.pgw_connection.specs.Extended.{Finish, Requested};
 ghost use Rattle.pgw_connection.specs.ExtendedSteps.{Called};
-ghost use Rattle.pgw_calls.specs.Calls.{SimpleCall, Reports};
+ghost use Rattle.pgw_calls.specs.Calls.{SimpleCall, Reports, StillHas, IsReported};
 ghost use Rattle.pgw_calls.specs.Turns.{standing_of_client};
 ghost use Rattle.pgw_session.specs.Answers.{answer_of};
 ghost use Rattle.pgw_session.specs.Transcript.{SpellsGot};
@@ -38,80 +39,151 @@ ghost use Rattle.pgw_calls.specs.Stands.{Made, Stands, StandsBehind, AreAnswered
 
 /// A simple query is one segment, and its answer is that of its own segment.
 pub fn simple_queries_are_segments()
-    ensures { (q : List ℕ) (before now : Line) (h : TheHandler) (c : Client) (bytes sent : List ℕ) (end : End (List TheResponse)) →
-        Asked (λ old new answer. QueryMeans old (simple_query q) new answer) (HeardInQuery QueryMeans) (Pause before now) passes h c bytes sent end → SimpleCall q c bytes sent (Pause before now) end }
+    ensures { (q : List ℕ) (before now : Line) (h : TheHandler) (c : Client) (bytes sent : List ℕ)
+        (end : End (List TheResponse)) →
+        Asked (λ old new answer. QueryMeans old (simple_query q) new answer)
+        (HeardInQuery QueryMeans) (Pause before now) passes h c bytes sent end →
+        SimpleCall q c bytes sent (Pause before now) end }
 {}
 
 /// A login is the startup segment, and each of its errors has the cause that it has in a session.
 pub fn logins_are_startup_segments()
-    ensures { (before now : Line) (config : TheConfig) (h : TheLogin) (bytes sent : List ℕ) (end : End TheInformation) →
-        Asked (λ old new answer. StartupMeans old startup new answer) (HeardAtStartup exchanges StartupMeans) (Pause before now) (λ e. false) h (first_client config) bytes sent end → LoginCall config h.nonce bytes sent (Pause before now) end }
+    ensures { (before now : Line) (config : TheConfig) (h : TheLogin) (bytes sent : List ℕ)
+        (end : End TheInformation) →
+        Asked (λ old new answer. StartupMeans old startup new answer)
+        (HeardAtStartup exchanges StartupMeans) (Pause before now) (λ e. false) h
+        (first_client config) bytes sent end →
+        LoginCall config h.nonce bytes sent (Pause before now) end }
 {}
 
 /// Where the bytes that stood in the buffer and were read begin with spellings of a segment of a simple query, the call
 /// gives that segment's answer.
 pub fn whole_segments_are_reported()
-    ensures { (q : List ℕ) (before now : Line) (h : TheHandler) (c : Client) (bytes sent : List ℕ) (end : End (List TheResponse)) (es : List Event) (spelled more : List ℕ) →
-        Asked (λ old new answer. QueryMeans old (simple_query q) new answer) (HeardInQuery QueryMeans) (Pause before now) passes h c bytes sent end →
-        IsRequestSegment (request.Simple q) es → SpellsGot (standing_of_client c) es spelled → bytes ≡ spelled ++ more →
-        Reports answer.Responses (Pause before now) (request.Simple q) (answer_of (request.Simple q) es) c bytes sent end.info end.rest end.answer }
+    ensures { (q : List ℕ) (before now : Line) (h : TheHandler) (c : Client) (bytes sent : List ℕ)
+        (end : End (List TheResponse)) (es : List Event) (spelled more : List ℕ) →
+        Asked (λ old new answer. QueryMeans old (simple_query q) new answer)
+        (HeardInQuery QueryMeans) (Pause before now) passes h c bytes sent end →
+        IsRequestSegment (request.Simple q) es → SpellsGot (standing_of_client c) es spelled → bytes
+        ≡ spelled ++ more →
+        Reports answer.Responses (Pause before now) (request.Simple q)
+        (answer_of (request.Simple q) es) c bytes sent end.info end.rest end.answer }
 {}
 
 /// A call of extended queries is one segment, and its answer is that of its own segment.
 pub fn extended_queries_are_segments()
-    ensures { (q : TheRequest) (before now : Line) (h : TheExtended) (c : Client) (bytes sent : List ℕ) (end : Finish TheExtended TheRow) → IsExtended q →
-        Requested ExtendedMeans (Pause before now) q h c bytes sent end → ExtendedCall q c bytes sent (Pause before now) end }
+    ensures { (q : TheRequest) (before now : Line) (h : TheExtended) (c : Client)
+        (bytes sent : List ℕ) (end : Finish TheExtended TheRow) → IsExtended q →
+        Requested ExtendedMeans (Pause before now) q h c bytes sent end →
+        ExtendedCall q c bytes sent (Pause before now) end }
 {}
 
 /// Where those bytes begin with spellings of a segment of such a request, the call gives that segment's answer.
 pub fn whole_extended_segments_are_reported()
-    ensures { (q : TheRequest) (before now : Line) (h : TheExtended) (c : Client) (bytes sent : List ℕ) (end : Finish TheExtended TheRow) (es : List Event) (spelled more : List ℕ) → IsExtended q →
-        Requested ExtendedMeans (Pause before now) q h c bytes sent end → IsRequestSegment q es → SpellsGot (standing_of_client c) es spelled → bytes ≡ spelled ++ more →
-        Reports (given q) (Pause before now) q (answer_of q es) c bytes sent end.info end.rest end.answer }
+    ensures { (q : TheRequest) (before now : Line) (h : TheExtended) (c : Client)
+        (bytes sent : List ℕ) (end : Finish TheExtended TheRow) (es : List Event)
+        (spelled more : List ℕ) → IsExtended q →
+        Requested ExtendedMeans (Pause before now) q h c bytes sent end → IsRequestSegment q es →
+        SpellsGot (standing_of_client c) es spelled → bytes ≡ spelled ++ more →
+        Reports (given q) (Pause before now) q (answer_of q es) c bytes sent end.info end.rest
+        end.answer }
+{}
+
+/// Of a link that knows what is to come: where the buffer and that begin with a segment of a simple query, within the limit,
+/// and no call of the link fails, the call gives that segment's answer, or memory was wanting.
+pub fn waiting_segments_are_reported()
+    ensures { (q : List ℕ) (h : TheHandler) (c : Client) (old now : Line)
+        (last : End (List TheResponse)) (coming : List ℕ) (is : Option (List ℕ))
+        (es : List Event) →
+        Call (λ before after answer. QueryMeans before (simple_query q) after answer)
+        (HeardInQuery QueryMeans) passes h c old now last →
+        Foretold (Some coming) is old.tape now.tape →
+        StillHas (request.Simple q) c old coming es → (Rose old.faults now.faults → ⊥) →
+        IsReported answer.Responses (answer_of (request.Simple q) es) last.answer last.broken }
+{}
+
+/// So does a call of extended queries.
+pub fn waiting_extended_segments_are_reported()
+    ensures { (q : TheRequest) (h : TheExtended) (c : Client) (old now : Line)
+        (last : Finish TheExtended TheRow) (coming : List ℕ) (is : Option (List ℕ))
+        (es : List Event) → IsExtended q → Called ExtendedMeans q h c old now last →
+        Foretold (Some coming) is old.tape now.tape → StillHas q c old coming es →
+        (Rose old.faults now.faults → ⊥) →
+        IsReported (given q) (answer_of q es) last.answer last.broken }
+{}
+
+/// Of a link that knows what is to come: where the buffer and that begin with a whole startup segment, within the limit,
+/// whose messages to the server have encodings, and no call of the link fails, the login gives a client that knows what
+/// that segment tells, or memory was wanting.
+pub fn waiting_logins_are_reported()
+    ensures { (config : TheConfig) (h : TheLogin) (old now : Line) (last : End TheInformation)
+        (coming : List ℕ) (is : Option (List ℕ)) (es : List Event) →
+        Call (λ before after answer. StartupMeans before startup after answer)
+        (HeardAtStartup exchanges StartupMeans) (λ e. false) h (first_client config) old now last →
+        Foretold (Some coming) is old.tape now.tape →
+        StillLogsIn config h.nonce old coming es → (Rose old.faults now.faults → ⊥) →
+        IsLetIn config es last.answer last.info last.broken }
 {}
 
 /// No segment of a request begins with a message that has no place behind those that are taken.
 pub fn misplaced_messages_begin_no_segment()
-    ensures { (q : TheRequest) (ms : List Backend) (behind : Bool) (m : Backend) (more : List Event) → AreTaken (kind_of q) false ms behind → role (kind_of q) behind m ≡ Misplaced →
+    ensures { (q : TheRequest) (ms : List Backend) (behind : Bool) (m : Backend)
+        (more : List Event) → AreTaken (kind_of q) false ms behind → role (kind_of q) behind m
+        ≡ Misplaced →
         IsRequestSegment q (map Sent (sends_of q) ++ (map Got ms ++ Got m ∷ more)) → ⊥ }
 {}
 
 /// A client that has logged in over a new line stands for its login alone.
 pub fn logins_begin_a_client()
-    ensures { (config : TheConfig) (h : TheLogin) (old now : Line) (told : Client) (information : TheInformation) → old.buffer ≡ [] →
-        Call (λ before after answer. StartupMeans before startup after answer) (HeardAtStartup exchanges StartupMeans) (λ e. false) h (first_client config) old now (end (Ok information) told false now.buffer) →
-        (read wrote : List ℕ) × Moved old now read wrote × (IsFlushed old → IsFlushed now) × Stands config h.nonce [] read wrote (with_information information told) now.buffer }
+    ensures { (config : TheConfig) (h : TheLogin) (old now : Line) (told : Client)
+        (information : TheInformation) → old.buffer ≡ [] →
+        Call (λ before after answer. StartupMeans before startup after answer)
+        (HeardAtStartup exchanges StartupMeans) (λ e. false) h (first_client config) old now
+        (end (Ok information) told false now.buffer) →
+        (read wrote : List ℕ) × Moved old now read wrote × IsFlushed now ×
+        Stands config h.nonce [] read wrote (with_information information told) now.buffer }
 {}
 
 /// A simple query takes a client that stands for some requests to one that stands for one request more.
 pub fn simple_queries_follow_one_another()
-    ensures { (config : TheConfig) (nonce : List ℕ) (ts : List Made) (read wrote : List ℕ) (q : List ℕ) (h : TheHandler) (c : Client) (old now : Line) (last : End (List TheResponse)) → Stands config nonce ts read wrote c old.buffer →
-        Call (λ before after answer. QueryMeans before (simple_query q) after answer) (HeardInQuery QueryMeans) passes h c old now last →
-        (more sent : List ℕ) × Moved old now more sent × (IsFlushed old → last.broken ≡ false → IsFlushed now) × StandsBehind answer.Responses config nonce ts (request.Simple q) (read ++ more) (wrote ++ sent) last.info last.rest last.answer last.broken }
+    ensures { (config : TheConfig) (nonce : List ℕ) (ts : List Made) (read wrote : List ℕ)
+        (q : List ℕ) (h : TheHandler) (c : Client) (old now : Line)
+        (last : End (List TheResponse)) → Stands config nonce ts read wrote c old.buffer →
+        Call (λ before after answer. QueryMeans before (simple_query q) after answer)
+        (HeardInQuery QueryMeans) passes h c old now last →
+        (more sent : List ℕ) × Moved old now more sent × (last.broken ≡ false → IsFlushed now) ×
+        StandsBehind answer.Responses config nonce ts (request.Simple q)
+        (read ++ more) (wrote ++ sent) last.info last.rest last.answer last.broken }
 {}
 
 /// So does a call of extended queries.
 pub fn extended_queries_follow_one_another()
-    ensures { (config : TheConfig) (nonce : List ℕ) (ts : List Made) (read wrote : List ℕ) (q : TheRequest) (h : TheExtended) (c : Client) (old now : Line) (last : Finish TheExtended TheRow) → IsExtended q → Stands config nonce ts read wrote c old.buffer →
-        Called ExtendedMeans q h c old now last →
-        (more sent : List ℕ) × Moved old now more sent × (IsFlushed old → last.broken ≡ false → IsFlushed now) × StandsBehind (given q) config nonce ts q (read ++ more) (wrote ++ sent) last.info last.rest last.answer last.broken }
+    ensures { (config : TheConfig) (nonce : List ℕ) (ts : List Made) (read wrote : List ℕ)
+        (q : TheRequest) (h : TheExtended) (c : Client) (old now : Line)
+        (last : Finish TheExtended TheRow) → IsExtended q →
+        Stands config nonce ts read wrote c old.buffer → Called ExtendedMeans q h c old now last →
+        (more sent : List ℕ) × Moved old now more sent × (last.broken ≡ false → IsFlushed now) ×
+        StandsBehind (given q) config nonce ts q
+        (read ++ more) (wrote ++ sent) last.info last.rest last.answer last.broken }
 {}
 
 /// A client whose buffer is filled stands for the same requests.
 pub fn filled_clients_stand()
-    ensures { (config : TheConfig) (nonce : List ℕ) (ts : List Made) (read wrote : List ℕ) (c : Client) (old now : Line) → Stands config nonce ts read wrote c old.buffer →
-        Grew old now →
-        (more : List ℕ) × Drew old now more × (IsFlushed old → IsFlushed now) × Stands config nonce ts (read ++ more) wrote c now.buffer }
+    ensures { (config : TheConfig) (nonce : List ℕ) (ts : List Made) (read wrote : List ℕ)
+        (c : Client) (old now : Line) → Stands config nonce ts read wrote c old.buffer →
+        Grew old now → (more : List ℕ) × Drew old now more ×
+        Stands config nonce ts (read ++ more) wrote c now.buffer }
 {}
 
 /// So does one that is told that nothing is left to read.
 pub fn ended_clients_stand()
-    ensures { (config : TheConfig) (nonce : List ℕ) (ts : List Made) (read wrote : List ℕ) (c : Client) (old now : Line) → Stands config nonce ts read wrote c old.buffer →
-        Ended old now →
-        Drew old now [] × (IsFlushed old → IsFlushed now) × Stands config nonce ts read wrote c now.buffer }
+    ensures { (config : TheConfig) (nonce : List ℕ) (ts : List Made) (read wrote : List ℕ)
+        (c : Client) (old now : Line) → Stands config nonce ts read wrote c old.buffer →
+        Ended old now → Drew old now [] × Stands config nonce ts read wrote c now.buffer }
 {}
 
 /// A client that stands for requests, each answered by its own segment, is a session of them.
 pub fn clients_are_sessions()
-    ensures { (config : TheConfig) (nonce : List ℕ) (ts : List Made) (read wrote : List ℕ) (c : Client) (buffer : List ℕ) → Stands config nonce ts read wrote c buffer → AreAnswered ts → IsSession config nonce ts read wrote c buffer }
+    ensures { (config : TheConfig) (nonce : List ℕ) (ts : List Made) (read wrote : List ℕ)
+        (c : Client) (buffer : List ℕ) → Stands config nonce ts read wrote c buffer →
+        AreAnswered ts → IsSession config nonce ts read wrote c buffer }
 {}

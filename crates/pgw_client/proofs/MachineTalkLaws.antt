@@ -23,9 +23,12 @@ use Rattle.pgw_session.proofs.Complete.{prefix_split}
 use Rattle.pgw_session.proofs.Sound.{SoundAt, Cause, conversation_sound}
 use Rattle.pgw_session.proofs.NotesLaws.{notes_tell}
 use Rattle.pgw_course.specs.Play.{behind}
-use Rattle.pgw_client.specs.Machine.{NotesCourse, Started, notes_end, report_at, runs}
-use Rattle.pgw_client.specs.SessionSteps.{Wrote, WroteSome, Waiting, Paused, Because, Conversed, Session, Stopping, Reason, memory, unsent, stopped, failed, unread, at_limit, at_end, talk_end}
-use Rattle.pgw_client.proofs.SessionTakingLaws.{memory_or}
+use Rattle.pgw_dialogue.specs.Machine.{NotesCourse, Started, notes_end, report_at, runs}
+use Rattle.pgw_client.specs.SessionSteps.{Paused, Because, Conversed, Session, Stopping, Reason, memory, unsent, stopped, failed, unread, at_limit, at_end}
+use Rattle.pgw_link.specs.Sending.{Wrote, WroteSome}
+use Rattle.pgw_dialogue.specs.Machine.{talk_end}
+use Rattle.pgw_course.specs.Course.{Waiting}
+use Rattle.pgw_dialogue.proofs.WireLaws.{memory_or}
 
 cancel : (xs a b : List ℕ) → xs ++ a ≡ xs ++ b → a ≡ b
 cancel [] a b e = e

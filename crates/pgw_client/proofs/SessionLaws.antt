@@ -23,8 +23,10 @@ use Rattle.pgw_session.proofs.Complete.{ended_whole, never_waits}
 use Rattle.pgw_session.proofs.FailureLaws.{complete_is_completed, ended_misplaced, ended_refused, ended_unread, unencoded, unfinished, misplaced_left, left_with, waits_still}
 use Rattle.pgw_session.proofs.FailureLaws as failures
 use Rattle.pgw_session.proofs.FaultLaws.{startup_error}
-use Rattle.pgw_client.specs.SessionSteps.{Session, Reason, memory, unsent, stopped, failed, unread, at_limit, at_end, talk_end}
-use Rattle.pgw_client.specs.Session.{ErrorCause, Causes, HasEnded, InLockstep, IsRefused, KeepsPace, LeavesUnsent, Reports, Tells}
+use Rattle.pgw_client.specs.SessionSteps.{Session, Reason, memory, unsent, stopped, failed, unread, at_limit, at_end}
+use Rattle.pgw_dialogue.specs.Machine.{talk_end}
+use Rattle.pgw_client.specs.Session.{ErrorCause, Causes, HasEnded, InLockstep, KeepsPace, LeavesUnsent, Reports, Tells}
+use Rattle.pgw_session.specs.Failures.{IsRefused}
 
 -- ---- causes
 

@@ -10,23 +10,14 @@ use Rattle.pgw_session.specs.declared.notes.Notes.{Notes}
 use Rattle.pgw_session.specs.Input.{Input}
 use Rattle.pgw_session.specs.Machine.{End, error_of, rules_by}
 use Rattle.pgw_session.specs.Notes.{notes_book}
-use Rattle.pgw_client.specs.Wire.{Unless, IsOwn}
-use Rattle.pgw_client.specs.Machine.{IsWhole, NotesCourse, report_at, runs}
-use Rattle.pgw_client.specs.SessionSteps.{Wrote, WroteSome, Begins, Broke, Going, Settled, memory, stopped}
+use Rattle.pgw_dialogue.specs.Wire.{Unless}
+use Rattle.pgw_dialogue.proofs.MachineLaws.{begins_at}
+use Rattle.pgw_dialogue.proofs.WireLaws.{memory_or}
+use Rattle.pgw_dialogue.specs.Machine.{IsWhole, NotesCourse, report_at, runs}
+use Rattle.pgw_client.specs.SessionSteps.{Broke, Going, Settled, memory, stopped}
+use Rattle.pgw_link.specs.Sending.{Wrote, WroteSome}
+use Rattle.pgw_course.specs.Course.{Begins}
 use Rattle.pgw_client.specs.SessionSteps as outcomes
-
-pub memory_or : (e : ClientError) → (e ≡ client.OutOfMemory) ⊎ (e ≡ client.OutOfMemory → ⊥)
-memory_or client.OutOfMemory = inl refl
-memory_or e = inr (λ is. cc)
-
-pub own_not_io : (e : ClientError) → IsOwn e → e ≡ client.IoError → ⊥
-own_not_io e own is = subst IsOwn is own
-
--- what was written before the rest of a run is the beginning of what it puts out
-pub begins_at : (input : Input) (notes : Notes) (wrote rest : List ℕ) (course : NotesCourse) → course ≡ runs input notes wrote rest → Begins course wrote
-begins_at input notes wrote rest course is =
-    let grows = sent_grows (rules_by notes_book input) (Waits notes wrote []) rest in
-    (grows.0, ap (λ c. sent_of c) is ∙ grows.1)
 
 -- a message is refused
 pub refused : {input : Input} {old_notes notes : Notes} {old new : Tape} {old_buffer buffer : List ℕ} (e : ClientError) → Going input old_notes notes old new old_buffer buffer

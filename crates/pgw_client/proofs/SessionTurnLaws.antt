@@ -1,5 +1,5 @@
 -- How a session over a link goes on with a read, and how it ends.
-use Rattle.std.proofs.Common.{◌≡◌, ◌<◌, ◌≤◌, ℕ, ◌+◌, List, [], ◌∷◌, ◌++◌, length, Option, Some, None, Ok, Err, Bool, true, false, inl, inr, arith, refl, ◌∙◌, ap, sym, subst, append_assoc, length-append}
+use Rattle.std.proofs.Common.{◌≡◌, ◌<◌, ◌≤◌, ℕ, ◌+◌, List, [], ◌∷◌, ◌++◌, length, Option, Ok, Err, Bool, true, false, inl, inr, arith, refl, ◌∙◌, ap, sym, subst, append_assoc, length-append}
 use Rattle.std.proofs.lemmas.List.{append-nil, nil_from_length}
 use Rattle.std.specs.Io.KnownBytes.{Keeps}
 use Rattle.std.specs.Prelude.{IsSome}
@@ -16,11 +16,14 @@ use Rattle.pgw_session.specs.Input.{Input}
 use Rattle.pgw_session.specs.Machine.{rules_by}
 use Rattle.pgw_session.specs.Notes.{notes_book}
 use Rattle.pgw_session.proofs.ReadingLaws.{reads_more, steady_by}
-use Rattle.pgw_client.specs.Wire.{Unless}
-use Rattle.pgw_client.specs.Machine.{NotesCourse, notes_end, runs}
-use Rattle.pgw_client.specs.SessionSteps.{ReadsNothing, Broke, Settled, Came, Reading, Conversed, Paused, Waiting, FillFails, failed, memory, at_limit, at_end}
+use Rattle.pgw_dialogue.specs.Wire.{Unless}
+use Rattle.pgw_dialogue.specs.Machine.{NotesCourse, notes_end, runs}
+use Rattle.pgw_client.specs.SessionSteps.{Broke, Settled, Came, Reading, Conversed, Paused, FillFails, failed, memory, at_limit, at_end}
+use Rattle.pgw_link.specs.Sending.{ReadsNothing}
+use Rattle.pgw_course.specs.Course.{Waiting}
 use Rattle.pgw_client.specs.SessionSteps as outcomes
-use Rattle.pgw_client.proofs.SessionTakingLaws.{begins_at, memory_or}
+use Rattle.pgw_dialogue.proofs.MachineLaws.{begins_at}
+use Rattle.pgw_dialogue.proofs.WireLaws.{memory_or}
 
 -- ---- the link's end
 

@@ -1,8 +1,3 @@
-pub mod Input
-pub mod Demands
+pub mod OverLink
 pub mod Session
-pub mod Wire
-pub mod Machine
 pub mod SessionSteps
-pub mod Rows
-pub mod Inbox

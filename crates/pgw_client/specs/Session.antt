@@ -1,12 +1,13 @@
 -- What a session over a link answers, and why.
 use Rattle.std.specs.Prelude.{◌≡◌, ◌⊎◌, ◌<◌, ◌≤◌, ℕ, ◌+◌, List, [], ◌∷◌, ◌++◌, length, Some, None, Result, Ok, Err, IsErrOf}
-use Rattle.pgw_link.specs.Tape.{Tape, Rose, MovedBy}
+use Rattle.pgw_types.specs.Counts.{Rose}
+use Rattle.pgw_link.specs.Tape.{Tape, MovedBy}
 use Rattle.pgw_backend.specs.declared.client_error.PgWireClientError.{PgWireClientError as ClientError}
 use Rattle.pgw_backend.specs.declared.client_error.PgWireClientError.TheVariants as client
 use Rattle.pgw_session.specs.declared.types.SessionReport.{SessionReport}
 use Rattle.pgw_session.specs.Demands.{refused_config}
 use Rattle.pgw_session.specs.Input.{Input}
-use Rattle.pgw_session.specs.Failures.{Told, HasNoPlace, FailsAtStartup, LeftWith, Unreadable, Unsendable, IsHopeless, IsUnfinished, WaitsStill}
+use Rattle.pgw_session.specs.Failures.{Told, HasNoPlace, IsRefused, LeftWith, Unreadable, Unsendable, IsHopeless, IsUnfinished, WaitsStill}
 
 -- the count of faults never falls, and IoError is answered only where it rose
 pub record IoHasCause {T : Type 0} (before now : ℕ) (result : Result T ClientError) : Type 0 where
@@ -59,10 +60,6 @@ pub record HasEnded (limit : ℕ) (taken : List ℕ) (old new : Tape) : Type 0 w
 -- not all that the bytes taken make due was written and flushed; before is how many bytes were written before the call
 abbrev pub Unflushed : Input → List ℕ → List ℕ → ℕ → ℕ → Type 0
 Unflushed input taken sent before flushed = (unsent : List ℕ) × Told input taken (sent ++ unsent) × (flushed < before + length (sent ++ unsent))
-
--- a message at startup for which this error stands
-abbrev pub IsRefused : Input → List ℕ → List ℕ → ClientError → Type 0
-IsRefused input taken sent e = FailsAtStartup input taken sent e × IsHopeless input taken
 
 -- The cause of each error, where these bytes were taken and written. No other error comes.
 abbrev pub ErrorCause : Input → ℕ → Tape → Tape → List ℕ → List ℕ → ClientError → Type 0

@@ -1,44 +1,22 @@
 -- What the calls over a link leave. Of the clauses of `run_session` only `session` cites it, and none on transcripts; the
 -- claims on dialogues rest on it.
-use Rattle.std.specs.Prelude.{◌≡◌, ◌⊎◌, ◌<◌, ◌≤◌, ℕ, ◌+◌, List, [], ◌∷◌, ◌++◌, length, take, Some, None, Result, Ok, Err, IsErrOf, true, false, Bool}
+use Rattle.std.specs.Prelude.{◌≡◌, ◌⊎◌, ◌<◌, ◌≤◌, ℕ, ◌+◌, List, [], ◌∷◌, ◌++◌, length, take, Some, Result, Ok, Err, IsErrOf, true, false, Bool}
 use Rattle.pgw_backend.specs.Front.{front, More}
 use Rattle.pgw_link.specs.Tape.{Tape, Took, Failed}
+use Rattle.pgw_link.specs.Sending.{ReadsNothing}
 use Rattle.pgw_backend.specs.declared.client_error.PgWireClientError.{PgWireClientError as ClientError}
 use Rattle.pgw_backend.specs.declared.client_error.PgWireClientError.TheVariants as client
-use Rattle.pgw_course.specs.Course.{Course, Waits, Over, sent_of}
+use Rattle.pgw_course.specs.Course.{Begins, Course, Waits, Waiting, Over, sent_of}
 use Rattle.pgw_session.specs.declared.types.SessionReport.{SessionReport}
 use Rattle.pgw_session.specs.declared.notes.Notes.{Notes}
 use Rattle.pgw_session.specs.Input.{Input}
-use Rattle.pgw_session.specs.Answers.{tally_of}
 use Rattle.pgw_session.specs.Transcript.{report_of}
-use Rattle.pgw_session.specs.Machine.{End, Complete, error_of, end_with}
-use Rattle.pgw_session.specs.Talk.{Talk, Ending, conversation, first_passed}
-use Rattle.pgw_client.specs.Machine.{NotesCourse, IsWhole, notes_end, report_at, runs}
+use Rattle.pgw_session.specs.Machine.{End, Complete, error_of}
+use Rattle.pgw_session.specs.Talk.{Talk, Ending, conversation}
+use Rattle.pgw_dialogue.specs.Machine.{NotesCourse, IsWhole, notes_end, report_at, runs, talk_end}
 use Rattle.pgw_client.specs.Session.{HasEnded, LeavesFlushed}
 
 -- ---- single calls
-
--- nothing was read
-pub record ReadsNothing (old new : Tape) : Type 0 where
-  pub took : new.took ≡ old.took
-  pub ended : new.ended ≡ old.ended
-  pub reads : new.reads ≡ old.reads
-
--- all of the bytes were written and flushed
-pub record Wrote (old new : Tape) (bytes : List ℕ) : Type 0 where
-  pub reads_nothing : ReadsNothing old new
-  pub wrote : new.wrote ≡ old.wrote ++ bytes
-  pub flushed : new.flushed ≡ length new.wrote
-  pub writes : new.writes ≤ old.writes + length bytes
-
--- a front of the bytes was written, and not all of them were flushed
-pub record WroteSome (old new : Tape) (bytes : List ℕ) : Type 0 where
-  pub count : ℕ
-  pub reads_nothing : ReadsNothing old new
-  pub count_in : count ≤ length bytes
-  pub wrote : new.wrote ≡ old.wrote ++ take count bytes
-  pub flushed : new.flushed ≡ old.flushed
-  pub writes : new.writes ≤ old.writes + count + 1
 
 -- why a read into a buffer failed: the link's, and nothing moved, or its bytes could not be kept
 abbrev pub FillFails : Tape → Tape → ℕ → ClientError → Type 0
@@ -50,14 +28,6 @@ Filled old new was now room (Ok n) = (piece : List ℕ) × (length piece ≡ n) 
 Filled old new was now room (Err e) = FillFails old new room e
 
 -- ---- why a call ends with an error
-
--- what has been put out is what is written, and maybe more
-abbrev pub Begins : {S R : Type 0} → Course S R → List ℕ → Type 0
-Begins course wrote = (more : List ℕ) × (sent_of course ≡ wrote ++ more)
-
--- the course waits for more bytes
-abbrev pub Waiting : {S R : Type 0} → Course S R → List ℕ → Type 0
-Waiting {S} course sent = (state : S) × (pending : List ℕ) × (course ≡ Waits state sent pending)
 
 -- Why a call that reads nothing did; before is how many bytes were written before what `sent_of` counts.
 pub data Stopping {N : Type 0} (course : Course N (End N)) (sent : List ℕ) (before : ℕ) (new : Tape) (e : ClientError) : Type 0 where
@@ -71,10 +41,6 @@ pub data Reason {N : Type 0} (means : N → ClientError) (course : Course N (End
   unread : e ≡ client.IoError → Waiting course sent → Reason means course sent before taken limit old new e
   at_limit : e ≡ client.ReadLimit → Waiting course sent → length taken ≡ limit → Reason means course sent before taken limit old new e
   at_end : (state : N) → (pending : List ℕ) → course ≡ Waits state sent pending → HasEnded limit taken old new → e ≡ means state → Reason means course sent before taken limit old new e
-
--- what the link's end means in a conversation
-abbrev pub talk_end : Talk → ClientError
-talk_end t = end_with (first_passed t.passed) (tally_of t.open_events).remote
 
 -- the end was not answered; or it was once, all had been flushed, and the course waits
 abbrev pub Paused : {S R : Type 0} → Course S R → List ℕ → Tape → Tape → Type 0

@@ -1,48 +1,32 @@
 //! A session over a link.
-ghost use Rattle.std.specs.Prelude.{◌≡◌, ◌⊎◌, ◌<◌, ◌≤◌, ◌++◌, ℕ, List, codes, false, length, min, Some, None, Err, IfOk, IfErr, IfSome, IsErrOf, OnOk, OnErr};
+ghost use Rattle.std.specs.Prelude.{◌≡◌, ◌<◌, ◌≤◌, length, min, IfOk, IfErr, IfSome, IsErrOf, OnOk, OnErr};
 ghost use Rattle.std.specs.Io.KnownBytes.{Keeps};
-ghost use Rattle.pgw_link.specs.Tape.{HasCause, MovedBy, Rose};
+ghost use Rattle.pgw_link.specs.Tape.{HasCause};
 ghost use Rattle.pgw_link.specs.Foresight.{Ends, Foreseen};
+ghost use Rattle.pgw_link.specs.Sending.{ReadsNothing};
 ghost use Rattle.pgw_session.specs.Demands.{refused_config};
-ghost use Rattle.pgw_session.specs.Events.{Event};
-ghost use Rattle.pgw_session.specs.Transcript.{Completed, Completes, report_of};
-ghost use Rattle.pgw_client.specs.Demands.{Refuses};
-ghost use Rattle.pgw_client.specs.Session.{IoHasCause, Causes, InLockstep, KeepsPace, LeavesFlushed, Reports, Tells};
-ghost use Rattle.pgw_client.specs.Wire.{IsNoDemand};
-ghost use Rattle.pgw_client.specs.Input.{input_of, input_with};
-ghost use Rattle.pgw_client.specs.SessionSteps.{Conversed, Filled, ReadsNothing, Session, TookAll, Wrote, WroteSome};
+ghost use Rattle.pgw_client.specs.Session.{IoHasCause};
+ghost use Rattle.pgw_dialogue.specs.Wire.{IsNoDemand};
+ghost use Rattle.pgw_dialogue.specs.Input.{input_of};
+ghost use Rattle.pgw_session.specs.Input.{input_with};
+ghost use Rattle.pgw_client.specs.OverLink.{OverLink, link_span};
+ghost use Rattle.pgw_client.specs.SessionSteps.{Conversed, Filled, Session, TookAll};
 
-use crate::demands::check_config;
-use crate::inbox::Inbox;
-use crate::input::Input;
-use crate::machine::{Progress, advance, end_error, into_report, start};
 use bytes::BytesMut;
 use pgw_backend::client_error::{PgWireClientError, PgWireClientResult};
 use pgw_config::config::Config;
-use pgw_link::link::{Link, LinkFault};
+use pgw_dialogue::demands::check_config;
+use pgw_dialogue::inbox::Inbox;
+use pgw_dialogue::input::Input;
+use pgw_dialogue::machine::{Progress, advance, end_error, into_report, start};
+use pgw_link::link::Link;
+use pgw_link::sending::send;
 use pgw_session::notes::Notes;
 use pgw_session::types::{Request, SessionReport};
 use std::alloc::Global;
 
 /// The most bytes that one read asks for.
-const CHUNK: usize = 8192;
-
-/// Writes the bytes, all of them, and flushes.
-pub fn send<L: Link>(link: &mut L, bytes: &[u8]) -> Result<(), LinkFault>
-    ensures cause { HasCause (L.faults link.old) (L.faults link.new) result }
-    ensures clean { OnOk result (L.faults link.new ≡ L.faults link.old) }
-    ensures kept { L.plan link.new ≡ L.plan link.old }
-    ensures left { L.foretells → Keeps (L.left link.old) (L.left link.new) }
-    ensures sent { OnOk result (Wrote (L.tape link.old) (L.tape link.new) bytes.now) }
-    ensures failed { OnErr result (WroteSome (L.tape link.old) (L.tape link.new) bytes.now) }
-{
-    let mut at = 0;
-    while at < bytes.len() {
-        let n = link.write(&bytes[at..])?;
-        at += n;
-    }
-    link.flush()
-}
+pub const CHUNK: usize = 8192;
 
 // Takes the messages at the buffer's front, and sends what falls due.
 fn take_all<L: Link>(
@@ -54,12 +38,14 @@ fn take_all<L: Link>(
 ) -> PgWireClientResult<bool>
     ensures cause { IoHasCause (L.faults link.old) (L.faults link.new) result }
     ensures talk { IfErr result IsNoDemand }
-    ensures clean { (IsErrOf result PgWireClientError.IoError → ⊥) → L.faults link.new ≡ L.faults link.old }
+    ensures clean { (IsErrOf result PgWireClientError.IoError → ⊥) → L.faults link.new
+        ≡ L.faults link.old }
     ensures kept { L.plan link.new ≡ L.plan link.old }
     ensures left { L.foretells → Keeps (L.left link.old) (L.left link.new) }
     ensures quiet { ReadsNothing (L.tape link.old) (L.tape link.new) }
     ensures talks { (L.tape link.old).flushed ≡ length (L.tape link.old).wrote →
-        TookAll (input_of input.now) notes.old notes.new (L.tape link.old) (L.tape link.new) buffer.old buffer.new result }
+        TookAll (input_of input.now) notes.old notes.new (L.tape link.old) (L.tape link.new)
+        buffer.old buffer.new result }
 {
     let mut out = BytesMut::new(alloc);
     'messages: loop {
@@ -87,25 +73,32 @@ pub fn chunk_size(room: u64) -> usize
     if room < 8192 { room as usize } else { CHUNK }
 }
 
-/// Reads once, no more than there is room for and no more than 8192 bytes.
-pub fn fill<L: Link>(link: &mut L, buffer: &mut Inbox, room: u64) -> PgWireClientResult<usize>
+/// Reads once, no more than there is room for and no more than 8192 bytes, by way of a piece that is cleared once for
+/// all reads.
+pub fn fill<L: Link>(
+    link: &mut L,
+    piece: &mut [u8; CHUNK],
+    buffer: &mut Inbox,
+    room: u64,
+) -> PgWireClientResult<usize>
     requires { 0 < room }
     ensures bound { IfOk result (λ n. n ≤ room) }
     ensures cause { IoHasCause (L.faults link.old) (L.faults link.new) result }
     ensures talk { IfErr result IsNoDemand }
-    ensures clean { (IsErrOf result PgWireClientError.IoError → ⊥) → L.faults link.new ≡ L.faults link.old }
+    ensures clean { (IsErrOf result PgWireClientError.IoError → ⊥) → L.faults link.new
+        ≡ L.faults link.old }
     ensures kept { L.plan link.new ≡ L.plan link.old }
-    ensures foreseen { L.foretells → Foreseen (L.left link.old) (L.left link.new) (L.tape link.old) (L.tape link.new) }
+    ensures foreseen { L.foretells → Foreseen (L.left link.old) (L.left link.new) (L.tape link.old)
+        (L.tape link.new) }
     ensures ends { L.foretells → Ends (L.left link.new) (L.tape link.old) (L.tape link.new) }
     ensures filled { Filled (L.tape link.old) (L.tape link.new) buffer.old buffer.new room result }
 {
-    let mut chunk = [0u8; CHUNK];
     let size = chunk_size(room);
-    let n = match link.read(&mut chunk[..size]) {
+    let n = match link.read(&mut piece[..size]) {
         Ok(n) => n,
         Err(_) => return Err(PgWireClientError::IoError),
     };
-    match buffer.append(&chunk[..n]) {
+    match buffer.append(&piece[..n]) {
         Ok(()) => Ok(n),
         Err(_) => Err(PgWireClientError::OutOfMemory),
     }
@@ -121,14 +114,18 @@ fn converse<L: Link>(
 ) -> PgWireClientResult<()>
     ensures cause { IoHasCause (L.faults link.old) (L.faults link.new) result }
     ensures talk { IfErr result IsNoDemand }
-    ensures clean { (IsErrOf result PgWireClientError.IoError → ⊥) → L.faults link.new ≡ L.faults link.old }
+    ensures clean { (IsErrOf result PgWireClientError.IoError → ⊥) → L.faults link.new
+        ≡ L.faults link.old }
     ensures kept { L.plan link.new ≡ L.plan link.old }
-    ensures foreseen { L.foretells → Foreseen (L.left link.old) (L.left link.new) (L.tape link.old) (L.tape link.new) }
+    ensures foreseen { L.foretells → Foreseen (L.left link.old) (L.left link.new) (L.tape link.old)
+        (L.tape link.new) }
     ensures ends { L.foretells → Ends (L.left link.new) (L.tape link.old) (L.tape link.new) }
     ensures talks { (L.tape link.old).flushed ≡ length (L.tape link.old).wrote →
-        Conversed (input_of input.now) notes.old notes.new limit (L.tape link.old) (L.tape link.new) result }
+        Conversed (input_of input.now) notes.old notes.new limit (L.tape link.old) (L.tape link.new)
+        result }
 {
     let mut buffer = Inbox::new(alloc);
+    let mut piece = [0u8; CHUNK];
     let mut read: u64 = 0;
     'reads: loop {
         let done = match take_all(alloc, link, input, notes, &mut buffer) {
@@ -141,7 +138,7 @@ fn converse<L: Link>(
         if read >= limit {
             return Err(PgWireClientError::ReadLimit);
         }
-        let n = match fill(link, &mut buffer, limit - read) {
+        let n = match fill(link, &mut piece, &mut buffer, limit - read) {
             Ok(n) => n,
             Err(e) => return Err(e),
         };
@@ -161,11 +158,14 @@ fn hold_session<L: Link>(
 ) -> PgWireClientResult<SessionReport>
     ensures cause { IoHasCause (L.faults link.old) (L.faults link.new) result }
     ensures talk { IfErr result IsNoDemand }
-    ensures clean { (IsErrOf result PgWireClientError.IoError → ⊥) → L.faults link.new ≡ L.faults link.old }
+    ensures clean { (IsErrOf result PgWireClientError.IoError → ⊥) → L.faults link.new
+        ≡ L.faults link.old }
     ensures kept { L.plan link.new ≡ L.plan link.old }
-    ensures foreseen { L.foretells → Foreseen (L.left link.old) (L.left link.new) (L.tape link.old) (L.tape link.new) }
+    ensures foreseen { L.foretells → Foreseen (L.left link.old) (L.left link.new) (L.tape link.old)
+        (L.tape link.new) }
     ensures ends { L.foretells → Ends (L.left link.new) (L.tape link.old) (L.tape link.new) }
-    ensures session { Session (input_of input.now) limit (L.tape link.old) (L.tape link.new) result }
+    ensures session { Session (input_of input.now) limit (L.tape link.old) (L.tape link.new)
+        result }
 {
     let mut out = BytesMut::new(alloc);
     let mut notes = match start(alloc, input, &mut out) {
@@ -200,46 +200,13 @@ pub fn run_session<L: Link>(
     nonce: &[u8; 18],
     limit: u64,
 ) -> PgWireClientResult<SessionReport>
-    // A configuration that demands an encrypted connection, or else a login bound to one, is refused by that key, or
-    // memory is wanting: the link is as it was.
-    ensures refused { IfSome (refused_config config.now) (λ key. Refuses key result × (link.new ≡ link.old)) }
-    // No other is refused so, but for a user name that has no prepared form.
-    ensures demands { (key : List ℕ) → result ≡ Err (PgWireClientError.InvalidConfig key) → (refused_config config.now ≡ Some key) ⊎ (key ≡ codes "user") }
-    // IoError comes only where a call of the link failed.
-    ensures cause { IoHasCause (L.faults link.old) (L.faults link.new) result }
-    // Where a call of the link failed, IoError is the answer.
-    ensures failing { L.faults link.old < L.faults link.new → IsErrOf result PgWireClientError.IoError }
+    // What is promised of the session, its answer, and what it leaves is one record.
+    ensures session { OverLink (input_with config.now requests.now nonce.now) limit L.foretells
+        (link_span L.tape L.left L.faults link.old link.new) result }
+    // A configuration that demands what this client cannot do leaves the link as it was.
+    ensures untouched { IfSome (refused_config config.now) (λ key. link.new ≡ link.old) }
     // What the link was made with stays.
     ensures kept { L.plan link.new ≡ L.plan link.old }
-    // The answer is that of a completed session: a transcript for this input, whose bytes were read and written.
-    ensures completed { IfOk result (λ report. MovedBy (L.tape link.old) (L.tape link.new)
-        (λ taken sent. Completed (input_with config.now requests.now nonce.now) taken sent report)) }
-    // Each error has its cause, and no other comes.
-    ensures causes { Causes (input_with config.now requests.now nonce.now) limit (L.tape link.old) (L.tape link.new) result }
-    // Where nothing is demanded that is refused, whatever the answer: the bytes taken are those of a legal prefix. What
-    // was written are the encodings of the messages sent in it, all of them, or a front of them after IoError and want of
-    // memory.
-    ensures told { refused_config config.now ≡ None → MovedBy (L.tape link.old) (L.tape link.new) (Tells (input_with config.now requests.now nonce.now) result) }
-    // It is within the limit, in few calls.
-    ensures paced { MovedBy (L.tape link.old) (L.tape link.new) (KeepsPace limit (L.tape link.old) (L.tape link.new)) }
-    // The link's end is answered at most once, behind it nothing is asked for any more. Then, whatever the answer, all
-    // that was written had been flushed, the bytes taken complete no transcript and end within a message, and nothing is
-    // due. No body can know which of its reads the end will answer. So this refuses every read that waits for nothing
-    // wanted: one before a message that is due was written and flushed, and one behind the last ReadyForQuery.
-    ensures lockstep { InLockstep (input_with config.now requests.now nonce.now) (L.tape link.old) (L.tape link.new) }
-    // Where nothing is demanded that is refused, what was written was flushed, but after IoError.
-    ensures flushed { refused_config config.now ≡ None → LeavesFlushed (L.tape link.old) (L.tape link.new) result }
-    // Where nothing is demanded that is refused, it is a session by the record that laws cite: as that a dialogue which is
-    // given the same bytes puts out the same and answers the same.
-    ensures session { refused_config config.now ≡ None → Session (input_with config.now requests.now nonce.now) limit (L.tape link.old) (L.tape link.new) result }
-    // Of a link that knows what is to come: the bytes taken are its front, and the end is answered behind the last byte.
-    ensures foreseen { L.foretells → Foreseen (L.left link.old) (L.left link.new) (L.tape link.old) (L.tape link.new) }
-    ensures ends { L.foretells → Ends (L.left link.new) (L.tape link.old) (L.tape link.new) }
-    // Where nothing is demanded that is refused, the bytes to come are known and complete a transcript within the limit, and
-    // no call of the link failed, its report is the answer.
-    ensures reports { L.foretells → refused_config config.now ≡ None → (whole : List ℕ) → L.left link.old ≡ Some whole → (segments : List (List Event)) →
-        Completes (input_with config.now requests.now nonce.now) limit whole segments →
-        (Rose (L.faults link.old) (L.faults link.new) → ⊥) → Reports (report_of (input_with config.now requests.now nonce.now) segments) result }
 {
     match check_config(alloc, config) {
         Ok(()) => {}

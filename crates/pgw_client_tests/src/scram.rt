@@ -28,6 +28,10 @@ fn name_of(answer: &PgWireClientResult<SessionReport>) -> &'static str {
         Ok(_) => "logged in",
         Err(PgWireClientError::ScramError(ScramFault::SignatureMismatch)) => "another signature",
         Err(PgWireClientError::ScramError(ScramFault::PasswordNotUtf8)) => "no text",
+        Err(PgWireClientError::UnexpectedMessage(_)) => "no place",
+        Err(PgWireClientError::UnsupportedSASLAuthMethods(_)) => "no method",
+        Err(PgWireClientError::RemoteError(_)) => "the server's error",
+        Err(PgWireClientError::InvalidConfig(_)) => "refused",
         Err(_) => "another error",
     }
 }
@@ -112,10 +116,11 @@ const BOUND: &[(bool, ChannelBinding, &[u8], &[u8])] = &[
 
 fn bound_config(
     alloc: Global,
+    password: &[u8],
     has_hash: bool,
     mode: ChannelBinding,
 ) -> Result<Config, OutOfMemory> {
-    let mut config = config_of(alloc, b"pencil")?;
+    let mut config = config_of(alloc, password)?;
     config.channel_binding = mode;
     if has_hash {
         config.certificate_hash(alloc, &[0, 1, 2])?;
@@ -126,10 +131,11 @@ fn bound_config(
 fn bound_end(
     alloc: Global,
     link: &mut MemoryLink,
+    password: &[u8],
     has_hash: bool,
     mode: ChannelBinding,
 ) -> Result<&'static str, OutOfMemory> {
-    let config = bound_config(alloc, has_hash, mode)?;
+    let config = bound_config(alloc, password, has_hash, mode)?;
     let ended = ending_of(alloc, link, &config);
     drop(config);
     Ok(ended)
@@ -138,13 +144,14 @@ fn bound_end(
 // Whether a login is as it is to be, and how it ended.
 fn bound(
     alloc: Global,
+    password: &[u8],
     has_hash: bool,
     mode: ChannelBinding,
     server: &[u8],
     want: &[u8],
 ) -> Result<(&'static str, bool), OutOfMemory> {
     let mut link = link_of(alloc, server, 50)?;
-    let ended = bound_end(alloc, &mut link, has_hash, mode);
+    let ended = bound_end(alloc, &mut link, password, has_hash, mode);
     let is_wanted = link.written() == want;
     drop(link);
     Ok((ended?, is_wanted))
@@ -153,8 +160,65 @@ fn bound(
 #[test]
 fn bound_logins(rt: HostRuntime) -> Result<(), Fail> {
     for (has_hash, mode, server, want) in BOUND {
-        let found = bound(rt.alloc(), *has_hash, *mode, server, want)?;
+        let found = bound(rt.alloc(), b"pencil", *has_hash, *mode, server, want)?;
         assert_eq!(rt; found, ("logged in", true));
+    }
+    Ok(())
+}
+
+// The startup message of bob.
+const STARTUP: &[u8] = b"\0\0\0\x12\0\x03\0\0user\0bob\0\0";
+
+// Where a login must be bound: whether the hash is given, what the server says, how it ends, and what it is told. In order:
+// no hash; AuthenticationOk, a password in clear text, one under MD5, and ReadyForQuery before the login; methods of which
+// none binds; the server's error; and a whole login behind a parameter.
+const REQUIRED: &[(bool, &[u8], &str, &[u8])] = &[
+    (false, b"R\0\0\0\x08\0\0\0\0Z\0\0\0\x05I", "refused", b""),
+    (true, b"R\0\0\0\x08\0\0\0\0", "no place", STARTUP),
+    (true, b"R\0\0\0\x08\0\0\0\x03", "no place", STARTUP),
+    (true, b"R\0\0\0\x0c\0\0\0\x05salt", "no place", STARTUP),
+    (true, b"Z\0\0\0\x05I", "no place", STARTUP),
+    (
+        true,
+        b"R\0\0\0\x17\0\0\0\x0aSCRAM-SHA-256\0\0",
+        "no method",
+        STARTUP,
+    ),
+    (true, b"E\0\0\0\x05\0", "the server's error", STARTUP),
+    (
+        true,
+        b"S\0\0\0\x08a\0b\0R\0\0\0*\0\0\0\x0aSCRAM-SHA-256\0SCRAM-SHA-256-PLUS\0\0R\0\0\0J\0\0\0\x0br=AAAAAAAAAAAAAAAAAAAAAAAAserver,s=W22ZaJ0SNY7soEsUEjb6gQ==,i=4096R\0\0\06\0\0\0\x0cv=AgnmmpwEqh4yJJu61zXE3CzWo9YrCXYpGY5tt0H8Wmk=R\0\0\0\x08\0\0\0\0Z\0\0\0\x05I",
+        "logged in",
+        b"\0\0\0\x12\0\x03\0\0user\0bob\0\0p\0\0\0SSCRAM-SHA-256-PLUS\0\0\0\08p=tls-server-end-point,,n=bob,r=AAAAAAAAAAAAAAAAAAAAAAAAp\0\0\0zc=cD10bHMtc2VydmVyLWVuZC1wb2ludCwsAAEC,r=AAAAAAAAAAAAAAAAAAAAAAAAserver,p=wJWbwlmx4xT1JKIrbb5dE2+iDVQM7u/0fSttRFhWKkU=",
+    ),
+];
+
+#[test]
+fn required_bindings(rt: HostRuntime) -> Result<(), Fail> {
+    for (has_hash, server, end, want) in REQUIRED {
+        let mode = ChannelBinding::Require;
+        let found = bound(rt.alloc(), b"pencil", *has_hash, mode, server, want)?;
+        assert_eq!(rt; found, (*end, true));
+    }
+    Ok(())
+}
+
+// The same with a hash and a password that is no text: what the server says, and how it ends. In order: a parameter and the
+// method that binds; and a password in clear text.
+const REQUIRED_OF_NO_TEXT: &[(&[u8], &str)] = &[
+    (
+        b"S\0\0\0\x08a\0b\0R\0\0\0\x1c\0\0\0\x0aSCRAM-SHA-256-PLUS\0\0",
+        "no text",
+    ),
+    (b"R\0\0\0\x08\0\0\0\x03", "no place"),
+];
+
+#[test]
+fn required_bindings_of_no_text(rt: HostRuntime) -> Result<(), Fail> {
+    for (server, end) in REQUIRED_OF_NO_TEXT {
+        let mode = ChannelBinding::Require;
+        let found = bound(rt.alloc(), b"\xff", true, mode, server, STARTUP)?;
+        assert_eq!(rt; found, (*end, true));
     }
     Ok(())
 }

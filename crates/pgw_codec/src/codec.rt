@@ -61,11 +61,14 @@ impl PgWireMessageClientCodec {
         src: &mut BytesMut,
     ) -> PgWireResult<Option<PgWireBackendMessage>>
         // A message that is read is spelled by the bytes that were taken.
-        ensures found { IfOk result (λ o. IfSome o (λ m. (g : List ℕ) × (src.old.items ≡ g ++ src.new.items) × SpellsIn self.old m g)) }
+        ensures found { IfOk result (λ o. IfSome o
+            (λ m. (g : List ℕ) × (src.old.items ≡ g ++ src.new.items) × SpellsIn self.old m g)) }
         // What is spelled at the front is read, unless memory runs out.
-        ensures only { (m : TheMessage) (g rest : List ℕ) → SpellsIn self.old m g → src.old.items ≡ g ++ rest → Decodes result src.old.items src.new.items (Ok (Some (m, rest))) }
+        ensures only { (m : TheMessage) (g rest : List ℕ) → SpellsIn self.old m g → src.old.items
+            ≡ g ++ rest → Decodes result src.old.items src.new.items (Ok (Some (m, rest))) }
         // Which message it is or which refusal, and when nothing is whole yet.
-        ensures exact { Decodes result src.old.items src.new.items (backend_front self.old src.old.items) }
+        ensures exact { Decodes result src.old.items src.new.items
+            (backend_front self.old src.old.items) }
         ensures kept { self.new ≡ self.old }
     {
         PgWireBackendMessage::decode(alloc, src, &self.decode_context)
@@ -78,11 +81,14 @@ impl PgWireMessageClientCodec {
         src: &mut B,
     ) -> PgWireResult<Option<PgWireBackendMessage>>
         // A message that is read is spelled by the bytes that were taken.
-        ensures found { IfOk result (λ o. IfSome o (λ m. (g : List ℕ) × (B.held src.old ≡ g ++ B.held src.new) × SpellsIn self.old m g)) }
+        ensures found { IfOk result (λ o. IfSome o
+            (λ m. (g : List ℕ) × (B.held src.old ≡ g ++ B.held src.new) × SpellsIn self.old m g)) }
         // What is spelled at the front is read, unless memory runs out.
-        ensures only { (m : TheMessage) (g rest : List ℕ) → SpellsIn self.old m g → B.held src.old ≡ g ++ rest → Decodes result (B.held src.old) (B.held src.new) (Ok (Some (m, rest))) }
+        ensures only { (m : TheMessage) (g rest : List ℕ) → SpellsIn self.old m g → B.held src.old
+            ≡ g ++ rest → Decodes result (B.held src.old) (B.held src.new) (Ok (Some (m, rest))) }
         // Which message it is or which refusal, and when nothing is whole yet.
-        ensures exact { Decodes result (B.held src.old) (B.held src.new) (backend_front self.old (B.held src.old)) }
+        ensures exact { Decodes result (B.held src.old) (B.held src.new)
+            (backend_front self.old (B.held src.old)) }
         ensures kept { self.new ≡ self.old }
     {
         PgWireBackendMessage::decode_from(alloc, src, &self.decode_context)

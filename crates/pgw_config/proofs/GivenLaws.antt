@@ -6,8 +6,8 @@ use Rattle.std.specs.Prelude.{codes, unwrap_or, option_and_then}
 use Rattle.std.specs.List.{filter_map, cons_option, flat_map}
 use Rattle.pgw_types.specs.Numbers.{number_in}
 use Rattle.pgw_types.specs.declared.context.ProtocolVersion.TheVariants.{PROTOCOL3_0}
-use Rattle.pgw_backend.specs.declared.client_error.PgWireClientError.{PgWireClientError}
-use Rattle.pgw_conninfo.specs.Marks.{pieces_at}
+use Rattle.pgw_types.specs.declared.config_error.ConfigError.{ConfigError}
+use Rattle.pgw_types.specs.Marks.{pieces_at}
 use Rattle.pgw_conninfo.specs.declared.part.Part.{Part}
 use Rattle.pgw_conninfo.specs.declared.part.Part.TheVariants as part
 use Rattle.pgw_config.specs.Choices.{with_value, ssl_mode_of, ssl_negotiation_of, target_of, channel_binding_of, load_balance_of}
@@ -176,7 +176,7 @@ abbrev all_by : {A : Type 0} → (Part → A → A) → List Part → A → A
 all_by by [] x = x
 all_by by (p ∷ parts) x = all_by by parts (by p x)
 
-folds_by : {A : Type 0} (f : Config → A) (by : Part → A → A) (c new : Config) (p : Part) (parts : List Part) (r : Result Config PgWireClientError) → Steps f by → applied c p ≡ r
+folds_by : {A : Type 0} (f : Config → A) (by : Part → A → A) (c new : Config) (p : Part) (parts : List Part) (r : Result Config ConfigError) → Steps f by → applied c p ≡ r
     → ((d : Config) → all_applied d parts ≡ Ok new → f new ≡ all_by by parts (f d)) → next_applied (λ d. all_applied d parts) r ≡ Ok new → f new ≡ all_by by parts (by p (f c))
 folds_by f by c new p parts (Err e) steps is more h = cc
 folds_by f by c new p parts (Ok d) steps is more h = more d h ∙ ap (λ x. all_by by parts x) (steps c d p is)

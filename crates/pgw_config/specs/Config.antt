@@ -2,8 +2,8 @@
 use Rattle.std.specs.Prelude.{ℕ, List, [], None, true, slice_index, ◌==◌, if◌then◌else◌}
 use Rattle.pgw_types.specs.declared.context.ProtocolVersion.TheVariants.{PROTOCOL3_0}
 use Rattle.pgw_config.specs.declared.config.Config.{Config}
-use Rattle.pgw_conninfo.specs.declared.address.Host.{Host}
-use Rattle.pgw_conninfo.specs.declared.address.Host.TheVariants.{Tcp, Unix}
+use Rattle.pgw_types.specs.declared.address.Host.{Host}
+use Rattle.pgw_types.specs.declared.address.Host.TheVariants.{Tcp, Unix}
 use Rattle.pgw_config.specs.declared.config.SslMode.TheVariants as ssl_mode
 use Rattle.pgw_config.specs.declared.config.SslNegotiation.TheVariants as ssl_negotiation
 use Rattle.pgw_config.specs.declared.config.TargetSessionAttrs.TheVariants as target

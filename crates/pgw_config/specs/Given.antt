@@ -3,7 +3,7 @@
 use Rattle.std.specs.Prelude.{◌≡◌, ℕ, zero, suc, ℤ, pos, negsuc, List, [], ◌∷◌, Bool, true, not, ◌==◌, codes, Option, Some, None, unwrap_or, if◌then◌else◌}
 use Rattle.std.specs.List.{filter_map, flat_map}
 use Rattle.pgw_types.specs.Numbers.{number_in}
-use Rattle.pgw_conninfo.specs.Marks.{pieces_at}
+use Rattle.pgw_types.specs.Marks.{pieces_at}
 use Rattle.pgw_conninfo.specs.declared.part.Part.{Part}
 use Rattle.pgw_conninfo.specs.declared.part.Part.TheVariants as part
 use Rattle.pgw_config.specs.Choices.{ssl_mode_of, ssl_negotiation_of, target_of, channel_binding_of, load_balance_of}
@@ -14,8 +14,8 @@ use Rattle.pgw_config.specs.Lists.{hosts_of, port_of}
 use Rattle.pgw_config.specs.Numbers.{signed_in}
 use Rattle.pgw_config.specs.Pieces.{all_read}
 use Rattle.pgw_config.specs.declared.config.Config.{Config}
-use Rattle.pgw_conninfo.specs.declared.address.Host.{Host}
-use Rattle.pgw_conninfo.specs.declared.address.HostAddr.{HostAddr}
+use Rattle.pgw_types.specs.declared.address.Host.{Host}
+use Rattle.pgw_types.specs.declared.address.HostAddr.{HostAddr}
 use Rattle.pgw_config.specs.declared.config.SslMode.TheVariants as ssl_mode
 use Rattle.pgw_config.specs.declared.config.SslNegotiation.TheVariants as ssl_negotiation
 use Rattle.pgw_config.specs.declared.config.TargetSessionAttrs.TheVariants as target

@@ -3,10 +3,10 @@ use Rattle.std.specs.Prelude.{ℕ, zero, suc, ◌+◌, ◌-◌, ◌*◌, ◌^◌
 use Rattle.std.specs.List.{list_all}
 use Rattle.std.specs.Char.{is_digit}
 use Rattle.std.specs.Str.Parse.{digits_value}
-use Rattle.pgw_conninfo.specs.Marks.{pieces_at}
+use Rattle.pgw_types.specs.Marks.{pieces_at}
 use Rattle.pgw_config.specs.Pieces.{pushed, all_read}
-use Rattle.pgw_conninfo.specs.declared.address.HostAddr.{HostAddr}
-use Rattle.pgw_conninfo.specs.declared.address.HostAddr.TheVariants.{V4, V6}
+use Rattle.pgw_types.specs.declared.address.HostAddr.{HostAddr}
+use Rattle.pgw_types.specs.declared.address.HostAddr.TheVariants.{V4, V6}
 
 -- digits alone, whose number has so many bits
 unfoldable pub digits_in : ℕ → ℕ → List ℕ → Option ℕ

@@ -3,11 +3,11 @@ use Rattle.std.specs.Prelude.{ℕ, List, ◌++◌, length, map, Option, Some, �
 use Rattle.pgw_types.specs.Numbers.{number_in}
 use Rattle.pgw_config.specs.Config.{host_named}
 use Rattle.pgw_config.specs.Choices.{with_value}
-use Rattle.pgw_conninfo.specs.Marks.{pieces_at}
+use Rattle.pgw_types.specs.Marks.{pieces_at}
 use Rattle.pgw_config.specs.Pieces.{read_onto}
 use Rattle.pgw_config.specs.HostAddr.{addr_of}
 use Rattle.pgw_config.specs.declared.config.Config.{Config}
-use Rattle.pgw_conninfo.specs.declared.address.Host.{Host}
+use Rattle.pgw_types.specs.declared.address.Host.{Host}
 use Rattle.pgw_config.specs.declared.keys.ListKey.{ListKey}
 use Rattle.pgw_config.specs.declared.keys.ListKey.TheVariants as list
 

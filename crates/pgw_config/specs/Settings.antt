@@ -1,7 +1,7 @@
 -- What the parts of a connection text do to a configuration.
 use Rattle.std.specs.Prelude.{ℕ, List, [], ◌∷◌, ◌++◌, Option, Some, None, Result, Ok, Err}
-use Rattle.pgw_backend.specs.declared.client_error.PgWireClientError.{PgWireClientError}
-use Rattle.pgw_backend.specs.declared.client_error.PgWireClientError.TheVariants.{InvalidConfig, UnknownConfig}
+use Rattle.pgw_types.specs.declared.config_error.ConfigError.{ConfigError}
+use Rattle.pgw_types.specs.declared.config_error.ConfigError.TheVariants.{InvalidConfig, UnknownConfig}
 use Rattle.pgw_config.specs.Keys.{key_of}
 use Rattle.pgw_config.specs.Choices.{with_choice}
 use Rattle.pgw_config.specs.Numbers.{with_number}
@@ -31,27 +31,27 @@ value_set config (key.List k) value = with_list config k value
 value_set config (key.Number k) value = with_number config k value
 
 -- a value that the key does not take is refused by the key's name
-abbrev pub taken : List ℕ → Option Config → Result Config PgWireClientError
+abbrev pub taken : List ℕ → Option Config → Result Config ConfigError
 taken name None = Err (InvalidConfig name)
 taken name (Some config) = Ok config
 
-abbrev pub set_by : Config → List ℕ → List ℕ → Option Key → Result Config PgWireClientError
+abbrev pub set_by : Config → List ℕ → List ℕ → Option Key → Result Config ConfigError
 set_by config name value None = Err (UnknownConfig name)
 set_by config name value (Some k) = taken name (value_set config k value)
 
-abbrev pub pair_set : Config → List ℕ → List ℕ → Result Config PgWireClientError
+abbrev pub pair_set : Config → List ℕ → List ℕ → Result Config ConfigError
 pair_set config name value = set_by config name value (key_of name)
 
-abbrev pub applied : Config → Part → Result Config PgWireClientError
+abbrev pub applied : Config → Part → Result Config ConfigError
 applied config (part.Pair name value) = pair_set config name value
 applied config (part.Host name) = Ok (record config { host = config.host ++ host_named name ∷ [] })
 applied config (part.Password password) = Ok (record config { password = Some password })
 
 -- one part after the other, up to the first that is refused
-abbrev pub next_applied : (Config → Result Config PgWireClientError) → Result Config PgWireClientError → Result Config PgWireClientError
+abbrev pub next_applied : (Config → Result Config ConfigError) → Result Config ConfigError → Result Config ConfigError
 next_applied rest (Ok config) = rest config
 next_applied rest (Err e) = Err e
 
-abbrev pub all_applied : Config → List Part → Result Config PgWireClientError
+abbrev pub all_applied : Config → List Part → Result Config ConfigError
 all_applied config [] = Ok config
 all_applied config (p ∷ parts) = next_applied (λ c. all_applied c parts) (applied config p)

@@ -4,20 +4,20 @@ ghost use Rattle.pgw_config.specs.Address.{first_port, socket, address_of};
 ghost use Rattle.pgw_config.specs.Answers.{Answers, IsInvalid};
 
 use crate::config::{Config, Host};
-use pgw_backend::client_error::{PgWireClientError, PgWireClientResult};
-pub use pgw_conninfo::address::Address;
+pub use pgw_types::address::Address;
+use pgw_types::config_error::{ConfigError, ConfigResult};
 use pgw_types::listed::Duplicate;
 use pgw_types::memory::OutOfMemory;
 use pgw_types::text::Text;
 use std::alloc::Global;
 
 /// The error of a key whose value does not do.
-pub(crate) fn invalid(alloc: Global, key: &str) -> PgWireClientError
+pub(crate) fn invalid(alloc: Global, key: &str) -> ConfigError
     ensures { IsInvalid key.now result }
 {
     match Text::from_str(alloc, key) {
-        Ok(key) => PgWireClientError::InvalidConfig(key),
-        Err(_) => PgWireClientError::OutOfMemory,
+        Ok(key) => ConfigError::InvalidConfig(key),
+        Err(_) => ConfigError::OutOfMemory,
     }
 }
 
@@ -42,7 +42,7 @@ impl Config {
 
     /// The first address and the first port, else the first host and the first port, else
     /// `InvalidConfig("host")`.
-    pub fn address(&self, alloc: Global) -> PgWireClientResult<Address>
+    pub fn address(&self, alloc: Global) -> ConfigResult<Address>
         ensures { Answers result (address_of self.now) }
     {
         let port = self.first_port();

@@ -81,7 +81,8 @@ fn load_balance_in(word: &str) -> Option<LoadBalanceHosts>
 
 /// Puts a value into a field, if there is one. Whether there is.
 pub(crate) fn put<T: Drop>(field: &mut T, value: Option<T>) -> bool
-    ensures { (with_it : T → TheConfig) → with_value value with_it ≡ (if result then Some (with_it field.new) else None) }
+    ensures { (with_it : T → TheConfig) → with_value value with_it
+        ≡ (if result then Some (with_it field.new) else None) }
 {
     let Some(value) = value else {
         return false;

@@ -5,7 +5,7 @@ ghost use Rattle.std.specs.Cmp.Rules.{comparing};
 ghost use Rattle.std.proofs.Common.{rules};
 ghost use Rattle.pgw_config.specs.Config.{no_config};
 
-pub use pgw_conninfo::address::{Host, HostAddr};
+pub use pgw_types::address::{Host, HostAddr};
 use pgw_types::context::ProtocolVersion;
 use pgw_types::listed::{Duplicate, Listed};
 use pgw_types::memory::OutOfMemory;
@@ -245,7 +245,11 @@ impl Config {
 // The texts and the lists of a configuration, each copied.
 impl Config {
     fn duplicate_login(&self) -> Result<(Option<Text>, Option<Octets>, Option<Octets>), OutOfMemory>
-        ensures { IfOk result (λ r. r ≡ (self.now.user, self.now.password, self.now.certificate_hash)) }
+        ensures { IfOk result (λ r. r ≡ (
+          self.now.user,
+          self.now.password,
+          self.now.certificate_hash,
+        )) }
     {
         let user = self.user.duplicate()?;
         let password = self.password.duplicate()?;
@@ -253,7 +257,11 @@ impl Config {
     }
 
     fn duplicate_texts(&self) -> Result<(Option<Text>, Option<Text>, Option<Text>), OutOfMemory>
-        ensures { IfOk result (λ r. r ≡ (self.now.dbname, self.now.options, self.now.application_name)) }
+        ensures { IfOk result (λ r. r ≡ (
+          self.now.dbname,
+          self.now.options,
+          self.now.application_name,
+        )) }
     {
         let dbname = self.dbname.duplicate()?;
         let options = self.options.duplicate()?;

@@ -5,7 +5,7 @@ use crate::config::{
     ChannelBinding, Config, Host, HostAddr, LoadBalanceHosts, SslMode, SslNegotiation,
     TargetSessionAttrs,
 };
-use pgw_conninfo::address::Address;
+use pgw_types::address::Address;
 use pgw_wire::equality;
 
 /// Two values are equal exactly where they are the same.

@@ -186,7 +186,8 @@ fn empty_piece(texts: &[Text]) -> Option<usize>
 }
 
 fn read_cut(alloc: Global, texts: &[Text]) -> Result<Option<Listed<u16>>, OutOfMemory>
-    ensures { IfOk result (λ r. r ≡ cut_by texts.now (position (λ piece. length piece == 0) texts.now)) }
+    ensures { IfOk result (λ r. r ≡ cut_by texts.now
+        (position (λ piece. length piece == 0) texts.now)) }
 {
     match empty_piece(texts) {
         None => read_tail(alloc, texts),

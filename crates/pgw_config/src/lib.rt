@@ -8,6 +8,7 @@ pub mod address;
 mod choices;
 pub mod config;
 pub mod equality;
+pub mod error;
 mod host_addr;
 mod keys;
 mod lists;

@@ -7,7 +7,7 @@ ghost use Rattle.pgw_config.specs.Lists.{port_of, with_list, hosts_of};
 ghost use Rattle.pgw_config.specs.Config.{host_named};
 ghost use Rattle.pgw_config.specs.HostAddr.{addr_of};
 ghost use Rattle.pgw_config.specs.Pieces.{pushed, read_onto};
-ghost use Rattle.pgw_conninfo.specs.Marks.{pieces_at};
+ghost use Rattle.pgw_types.specs.Marks.{pieces_at};
 
 use crate::choices::put;
 use crate::config::{Config, Host, HostAddr};
@@ -120,7 +120,8 @@ pub(crate) fn extend(
     key: ListKey,
     value: &str,
 ) -> Result<bool, OutOfMemory>
-    ensures { IfOk result (λ taken. with_list config.old key value.now ≡ (if taken then Some config.new else None)) }
+    ensures { IfOk result (λ taken. with_list config.old key value.now
+        ≡ (if taken then Some config.new else None)) }
 {
     match key {
         ListKey::Host => {

@@ -58,7 +58,9 @@ fn later_if_set(earlier: Option<u64>, seconds: i64) -> Option<u64>
 
 // Sets a time, where the text is one. Whether it is.
 fn set_time(field: &mut Option<u64>, text: &str) -> bool
-    ensures { (with_it : Option ℕ → TheConfig) → with_value (signed_in text.now) (λ t. with_it (later_time field.old t)) ≡ (if result then Some (with_it field.new) else None) }
+    ensures { (with_it : Option ℕ → TheConfig) →
+        with_value (signed_in text.now) (λ t. with_it (later_time field.old t))
+        ≡ (if result then Some (with_it field.new) else None) }
 {
     let Some(seconds) = read_seconds(text) else {
         return false;
@@ -69,7 +71,9 @@ fn set_time(field: &mut Option<u64>, text: &str) -> bool
 
 // The same of a time that there always is.
 fn set_idle(field: &mut u64, text: &str) -> bool
-    ensures { (with_it : ℕ → TheConfig) → with_value (signed_in text.now) (λ t. with_it (later_idle field.old t)) ≡ (if result then Some (with_it field.new) else None) }
+    ensures { (with_it : ℕ → TheConfig) → with_value (signed_in text.now)
+        (λ t. with_it (later_idle field.old t))
+        ≡ (if result then Some (with_it field.new) else None) }
 {
     let Some(seconds) = read_seconds(text) else {
         return false;
@@ -80,7 +84,8 @@ fn set_idle(field: &mut u64, text: &str) -> bool
 
 // Sets a flag, where the text is a number, which is not zero where it is set. Whether it is.
 fn set_flag(field: &mut bool, text: &str) -> bool
-    ensures { (with_it : Bool → TheConfig) → with_value (number_in 64 text.now) (λ n. with_it (not (n == 0))) ≡ (if result then Some (with_it field.new) else None) }
+    ensures { (with_it : Bool → TheConfig) → with_value (number_in 64 text.now)
+        (λ n. with_it (not (n == 0))) ≡ (if result then Some (with_it field.new) else None) }
 {
     let Some(number) = read_u64(text) else {
         return false;
@@ -91,7 +96,9 @@ fn set_flag(field: &mut bool, text: &str) -> bool
 
 // Sets a number, where the text is one. Whether it is.
 fn set_retries(field: &mut Option<u32>, text: &str) -> bool
-    ensures { (with_it : Option ℕ → TheConfig) → with_value (number_in 32 text.now) (λ n. with_it (Some n)) ≡ (if result then Some (with_it field.new) else None) }
+    ensures { (with_it : Option ℕ → TheConfig) →
+        with_value (number_in 32 text.now) (λ n. with_it (Some n))
+        ≡ (if result then Some (with_it field.new) else None) }
 {
     let Some(retries) = read_u32(text) else {
         return false;

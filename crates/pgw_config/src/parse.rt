@@ -1,7 +1,7 @@
 //! Connection texts.
-ghost use Rattle.std.specs.Prelude.{◌≡◌, Result, Err, Some, IfOk, IfErr};
-ghost use Rattle.pgw_backend.specs.declared.client_error.PgWireClientError.{PgWireClientError as ClientError};
-ghost use Rattle.pgw_config.specs.Answers.{Answers, IsRefusal};
+ghost use Rattle.std.specs.Prelude.{◌≡◌, Result, Err, Some, IfOk};
+ghost use Rattle.pgw_types.specs.declared.config_error.ConfigError.{ConfigError as TheError};
+ghost use Rattle.pgw_config.specs.Answers.{Answers};
 ghost use Rattle.pgw_config.specs.Parse.{ended_by, outcome_of, HasOutcome, IsParsed};
 ghost use Rattle.pgw_conninfo.specs.Text.{HasCut};
 ghost use Rattle.pgw_conninfo.specs.declared.part.Cut.{Cut as TheCut};
@@ -11,22 +11,22 @@ ghost use Rattle.pgw_config.specs.declared.config.Config.{Config as TheConfig};
 use crate::address::invalid;
 use crate::config::Config;
 use crate::settings::apply_all;
-use pgw_backend::client_error::{PgWireClientError, PgWireClientResult};
 use pgw_conninfo::part::{Cut, Fault};
 use pgw_conninfo::text;
+use pgw_types::config_error::{ConfigError, ConfigResult};
 use std::alloc::Global;
 
-fn refusal(alloc: Global, fault: Fault) -> PgWireClientError
+fn refusal(alloc: Global, fault: Fault) -> ConfigError
     ensures { (config : TheConfig) → Answers (Err result) (ended_by (Some fault) config) }
 {
     match fault {
         Fault::Syntax => invalid(alloc, "syntax"),
         Fault::Host => invalid(alloc, "host"),
-        Fault::NotUtf8(bytes) => PgWireClientError::InvalidUtf8ConfigValue(bytes),
+        Fault::NotUtf8(bytes) => ConfigError::InvalidUtf8ConfigValue(bytes),
     }
 }
 
-fn end_at(alloc: Global, fault: Option<Fault>, config: Config) -> PgWireClientResult<Config>
+fn end_at(alloc: Global, fault: Option<Fault>, config: Config) -> ConfigResult<Config>
     ensures { Answers result (ended_by fault config) }
 {
     match fault {
@@ -35,7 +35,7 @@ fn end_at(alloc: Global, fault: Option<Fault>, config: Config) -> PgWireClientRe
     }
 }
 
-fn apply(alloc: Global, cut: Cut) -> PgWireClientResult<Config>
+fn apply(alloc: Global, cut: Cut) -> ConfigResult<Config>
     ensures { Answers result (outcome_of cut) }
 {
     let config = apply_all(alloc, Config::new(alloc), cut.parts.as_slice())?;
@@ -48,13 +48,14 @@ impl Config {
     ///
     /// `InvalidConfig` names the key whose value does not do, `syntax` where the form is wrong; `UnknownConfig` names a
     /// key that is none; `InvalidUtf8ConfigValue` has the bytes that escapes of a URL stand for.
-    pub fn parse(alloc: Global, text: &str) -> PgWireClientResult<Config>
+    pub fn parse(alloc: Global, text: &str) -> ConfigResult<Config>
         ensures parsed { IsParsed text.now result }
         // A text has one outcome.
-        ensures only { (outcome : Result TheConfig ClientError) → HasOutcome text.now outcome → Answers result outcome }
+        ensures only { (outcome : Result TheConfig TheError) → HasOutcome text.now outcome →
+            Answers result outcome }
         // Of each key the last value counts, of a time the last one above zero, and lists are joined in order.
-        ensures gives { IfOk result (λ config. (parts : TheCut) → HasCut text.now parts → Gives parts.parts config) }
-        ensures refusals { IfErr result IsRefusal }
+        ensures gives { IfOk result (λ config. (parts : TheCut) → HasCut text.now parts →
+            Gives parts.parts config) }
     {
         let cut = text::cut(alloc, text)?;
         apply(alloc, cut)

@@ -1,7 +1,7 @@
 //! What sets the fields of a configuration. A `set_` or `add_` that is refused changes nothing.
 ghost use Rattle.std.specs.Prelude.{◌≡◌, ◌∷◌, ◌++◌, [], Some, IfOk, OnOk, OnErr};
 ghost use Rattle.pgw_config.specs.Config.{host_named};
-ghost use Rattle.pgw_conninfo.specs.declared.address.Host.TheVariants as host;
+ghost use Rattle.pgw_types.specs.declared.address.Host.TheVariants as host;
 
 use crate::config::{
     ChannelBinding, Config, Host, HostAddr, LoadBalanceHosts, SslMode, SslNegotiation,
@@ -55,7 +55,8 @@ impl Config {
         alloc: Global,
         application_name: &str,
     ) -> Result<(), OutOfMemory>
-        ensures set { OnOk result (self.new ≡ record self.old { application_name = Some application_name.now }) }
+        ensures set { OnOk result (self.new ≡ record self.old
+            { application_name = Some application_name.now }) }
         ensures refused { OnErr result (self.new ≡ self.old) }
     {
         store(&mut self.application_name, alloc, application_name)?;
@@ -71,9 +72,21 @@ impl Config {
         Ok(())
     }
 
+    /// Sets the hash of the server's certificate, as the channel binding `tls-server-end-point` has it
+    /// (RFC 5929, section 4).
+    pub fn set_certificate_hash(&mut self, alloc: Global, hash: &[u8]) -> Result<(), OutOfMemory>
+        ensures set { OnOk result (self.new ≡ record self.old
+            { certificate_hash = Some hash.now }) }
+        ensures refused { OnErr result (self.new ≡ self.old) }
+    {
+        self.certificate_hash = Some(Octets::from_slice(alloc, hash)?);
+        Ok(())
+    }
+
     /// Appends a host; one that begins with a slash is the directory of a Unix socket.
     pub fn add_host(&mut self, alloc: Global, host: &str) -> Result<(), OutOfMemory>
-        ensures set { OnOk result (self.new ≡ record self.old { host = self.old.host ++ host_named host.now ∷ [] }) }
+        ensures set { OnOk result (self.new ≡ record self.old
+            { host = self.old.host ++ host_named host.now ∷ [] }) }
         ensures refused { OnErr result (self.new ≡ self.old) }
     {
         let name = Text::from_str(alloc, host)?;
@@ -83,7 +96,8 @@ impl Config {
 
     /// Appends the directory of a Unix socket.
     pub fn add_host_path(&mut self, alloc: Global, path: &str) -> Result<(), OutOfMemory>
-        ensures set { OnOk result (self.new ≡ record self.old { host = self.old.host ++ host.Unix path.now ∷ [] }) }
+        ensures set { OnOk result (self.new ≡ record self.old
+            { host = self.old.host ++ host.Unix path.now ∷ [] }) }
         ensures refused { OnErr result (self.new ≡ self.old) }
     {
         let directory = Text::from_str(alloc, path)?;
@@ -93,7 +107,8 @@ impl Config {
 
     /// Appends an address.
     pub fn add_hostaddr(&mut self, addr: HostAddr) -> Result<(), OutOfMemory>
-        ensures set { OnOk result (self.new ≡ record self.old { hostaddr = self.old.hostaddr ++ addr ∷ [] }) }
+        ensures set { OnOk result (self.new ≡ record self.old
+            { hostaddr = self.old.hostaddr ++ addr ∷ [] }) }
         ensures refused { OnErr result (self.new ≡ self.old) }
     {
         self.hostaddr.push(addr)?;
@@ -102,7 +117,8 @@ impl Config {
 
     /// Appends a port.
     pub fn add_port(&mut self, port: u16) -> Result<(), OutOfMemory>
-        ensures set { OnOk result (self.new ≡ record self.old { port = self.old.port ++ port ∷ [] }) }
+        ensures set { OnOk result (self.new ≡ record self.old
+            { port = self.old.port ++ port ∷ [] }) }
         ensures refused { OnErr result (self.new ≡ self.old) }
     {
         self.port.push(port)?;
@@ -145,7 +161,8 @@ impl Config {
         application_name: &str,
     ) -> Result<&mut Config, OutOfMemory>
         ensures same { IfOk result (λ r. r.ghost_name ≡ self.entry.ghost_name) }
-        ensures set { IfOk result (λ r. r.now ≡ record self.old { application_name = Some application_name.now }) }
+        ensures set { IfOk result (λ r. r.now
+            ≡ record self.old { application_name = Some application_name.now }) }
     {
         self.set_application_name(alloc, application_name)?;
         Ok(self)
@@ -160,24 +177,25 @@ impl Config {
         Ok(self)
     }
 
-    /// Sets the hash of the server's certificate, as the channel binding `tls-server-end-point` has it
-    /// (RFC 5929, section 4), and hands the configuration on.
+    /// `set_certificate_hash`, which hands the configuration on.
     pub fn certificate_hash(
         &mut self,
         alloc: Global,
         hash: &[u8],
     ) -> Result<&mut Config, OutOfMemory>
         ensures same { IfOk result (λ r. r.ghost_name ≡ self.entry.ghost_name) }
-        ensures set { IfOk result (λ r. r.now ≡ record self.old { certificate_hash = Some hash.now }) }
+        ensures set { IfOk result (λ r. r.now
+            ≡ record self.old { certificate_hash = Some hash.now }) }
     {
-        self.certificate_hash = Some(Octets::from_slice(alloc, hash)?);
+        self.set_certificate_hash(alloc, hash)?;
         Ok(self)
     }
 
     /// `add_host`, which hands the configuration on.
     pub fn host(&mut self, alloc: Global, host: &str) -> Result<&mut Config, OutOfMemory>
         ensures same { IfOk result (λ r. r.ghost_name ≡ self.entry.ghost_name) }
-        ensures set { IfOk result (λ r. r.now ≡ record self.old { host = self.old.host ++ host_named host.now ∷ [] }) }
+        ensures set { IfOk result (λ r. r.now
+            ≡ record self.old { host = self.old.host ++ host_named host.now ∷ [] }) }
     {
         self.add_host(alloc, host)?;
         Ok(self)
@@ -186,7 +204,8 @@ impl Config {
     /// `add_host_path`, which hands the configuration on.
     pub fn host_path(&mut self, alloc: Global, path: &str) -> Result<&mut Config, OutOfMemory>
         ensures same { IfOk result (λ r. r.ghost_name ≡ self.entry.ghost_name) }
-        ensures set { IfOk result (λ r. r.now ≡ record self.old { host = self.old.host ++ host.Unix path.now ∷ [] }) }
+        ensures set { IfOk result (λ r. r.now
+            ≡ record self.old { host = self.old.host ++ host.Unix path.now ∷ [] }) }
     {
         self.add_host_path(alloc, path)?;
         Ok(self)
@@ -195,7 +214,8 @@ impl Config {
     /// `add_hostaddr`, which hands the configuration on.
     pub fn hostaddr(&mut self, addr: HostAddr) -> Result<&mut Config, OutOfMemory>
         ensures same { IfOk result (λ r. r.ghost_name ≡ self.entry.ghost_name) }
-        ensures set { IfOk result (λ r. r.now ≡ record self.old { hostaddr = self.old.hostaddr ++ addr ∷ [] }) }
+        ensures set { IfOk result (λ r. r.now
+            ≡ record self.old { hostaddr = self.old.hostaddr ++ addr ∷ [] }) }
     {
         self.add_hostaddr(addr)?;
         Ok(self)
@@ -204,7 +224,8 @@ impl Config {
     /// `add_port`, which hands the configuration on.
     pub fn port(&mut self, port: u16) -> Result<&mut Config, OutOfMemory>
         ensures same { IfOk result (λ r. r.ghost_name ≡ self.entry.ghost_name) }
-        ensures set { IfOk result (λ r. r.now ≡ record self.old { port = self.old.port ++ port ∷ [] }) }
+        ensures set { IfOk result (λ r. r.now
+            ≡ record self.old { port = self.old.port ++ port ∷ [] }) }
     {
         self.add_port(port)?;
         Ok(self)
@@ -291,7 +312,8 @@ impl Config {
         self
     }
 
-    /// `Require` is refused by a session, since no login is bound to a connection; the others have no effect.
+    /// `Require` is refused by a session where no certificate's hash is given. Without a hash the others
+    /// have no effect.
     pub fn channel_binding(&mut self, binding: ChannelBinding) -> &mut Config
         ensures same { result.ghost_name ≡ self.entry.ghost_name }
         ensures set { result.now ≡ record self.old { channel_binding = binding } }

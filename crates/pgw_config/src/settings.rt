@@ -9,19 +9,19 @@ use crate::config::Config;
 use crate::keys::{Key, TextKey, key_named};
 use crate::lists::{extend, named_host};
 use crate::numbers::count;
-use pgw_backend::client_error::{PgWireClientError, PgWireClientResult};
 use pgw_conninfo::part::Part;
+use pgw_types::config_error::{ConfigError, ConfigResult};
 use pgw_types::listed::Duplicate;
 use pgw_types::memory::OutOfMemory;
 use pgw_types::text::Text;
 use std::alloc::Global;
 
-fn unknown(alloc: Global, key: &str) -> PgWireClientError
+fn unknown(alloc: Global, key: &str) -> ConfigError
     ensures { IsUnknown key.now result }
 {
     match Text::from_str(alloc, key) {
-        Ok(key) => PgWireClientError::UnknownConfig(key),
-        Err(_) => PgWireClientError::OutOfMemory,
+        Ok(key) => ConfigError::UnknownConfig(key),
+        Err(_) => ConfigError::OutOfMemory,
     }
 }
 
@@ -44,7 +44,8 @@ fn write_text(
 
 // Sets a value, where the key takes it. Whether it does.
 fn set_value(alloc: Global, config: &mut Config, key: Key, value: &str) -> Result<bool, OutOfMemory>
-    ensures { IfOk result (λ taken. value_set config.old key value.now ≡ (if taken then Some config.new else None)) }
+    ensures { IfOk result (λ taken. value_set config.old key value.now
+        ≡ (if taken then Some config.new else None)) }
 {
     match key {
         Key::Text(key) => {
@@ -57,7 +58,7 @@ fn set_value(alloc: Global, config: &mut Config, key: Key, value: &str) -> Resul
     }
 }
 
-fn set_pair(alloc: Global, config: &mut Config, name: &str, value: &str) -> PgWireClientResult<()>
+fn set_pair(alloc: Global, config: &mut Config, name: &str, value: &str) -> ConfigResult<()>
     ensures set { OnOk result (pair_set config.old name.now value.now ≡ Ok config.new) }
     ensures refused { IfErr result (λ e. Answers (Err e) (pair_set config.old name.now value.now)) }
 {
@@ -71,7 +72,7 @@ fn set_pair(alloc: Global, config: &mut Config, name: &str, value: &str) -> PgWi
     }
 }
 
-fn apply(alloc: Global, config: &mut Config, part: &Part) -> PgWireClientResult<()>
+fn apply(alloc: Global, config: &mut Config, part: &Part) -> ConfigResult<()>
     ensures set { OnOk result (applied config.old part.now ≡ Ok config.new) }
     ensures refused { IfErr result (λ e. Answers (Err e) (applied config.old part.now)) }
 {
@@ -89,7 +90,7 @@ fn apply(alloc: Global, config: &mut Config, part: &Part) -> PgWireClientResult<
 }
 
 /// The configuration after these parts, from the first on, or the refusal of the first faulty one.
-pub(crate) fn apply_all(alloc: Global, config: Config, parts: &[Part]) -> PgWireClientResult<Config>
+pub(crate) fn apply_all(alloc: Global, config: Config, parts: &[Part]) -> ConfigResult<Config>
     ensures { Answers result (all_applied config parts.now) }
 {
     let mut config = config;

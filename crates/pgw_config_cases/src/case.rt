@@ -3,23 +3,23 @@
 use crate::fields::fields_shown;
 use crate::parts::parts_shown;
 use anyhow::{Context, Result, bail};
-use pgw_backend::client_error::PgWireClientError;
 use pgw_config::address::Address;
 use pgw_config::config::Config;
+use pgw_config::error::ConfigError;
 use std::alloc::Global;
 
-fn refusal_shown(alloc: Global, refusal: &PgWireClientError) -> Result<String> {
+fn refusal_shown(alloc: Global, refusal: &ConfigError) -> Result<String> {
     match refusal {
-        PgWireClientError::InvalidConfig(key) => {
+        ConfigError::InvalidConfig(key) => {
             Ok(format!(in alloc; "InvalidConfig {}", key.as_str())?)
         }
-        PgWireClientError::UnknownConfig(key) => {
+        ConfigError::UnknownConfig(key) => {
             Ok(format!(in alloc; "UnknownConfig {}", key.as_str())?)
         }
-        PgWireClientError::InvalidUtf8ConfigValue(bytes) => {
+        ConfigError::InvalidUtf8ConfigValue(bytes) => {
             Ok(format!(in alloc; "InvalidUtf8ConfigValue {:?}", bytes.as_slice())?)
         }
-        _ => bail!("another error"),
+        ConfigError::OutOfMemory => bail!("out of memory"),
     }
 }
 

@@ -5,8 +5,9 @@ use Rattle.pgw_backend.specs.declared.backend.PgWireBackendMessage.{PgWireBacken
 use Rattle.pgw_backend.specs.declared.backend.PgWireBackendMessage.TheVariants as backend
 use Rattle.pgw_backend.specs.declared.client_error.PgWireClientError.{PgWireClientError as ClientError}
 use Rattle.pgw_backend.specs.declared.client_error.PgWireClientError.TheVariants as client
-use Rattle.pgw_link.specs.Tape.{Tape, Rose}
-use Rattle.pgw_client.specs.SessionSteps.{Wrote, WroteSome}
+use Rattle.pgw_types.specs.Counts.{Rose}
+use Rattle.pgw_link.specs.Tape.{Tape}
+use Rattle.pgw_link.specs.Sending.{Wrote, WroteSome}
 use Rattle.pgw_session.specs.Segments.{is_ready}
 use Rattle.pgw_handlers.specs.Client.{Client, Sight}
 use Rattle.pgw_handlers.specs.Handling.{Standing, standing, Answer, pending, IsCaused, OfError, EndsAtReady}
@@ -17,10 +18,10 @@ use Rattle.pgw_handlers.specs.declared.client_info.ReadyState.{ReadyState}
 use Rattle.pgw_handlers.specs.declared.client_info.ReadyState.TheVariants.{Pending, Ready}
 use Rattle.pgw_connection.specs.Talk as talk
 use Rattle.pgw_connection.specs.Talk.{fresh, Next, Lack, End, end, Hearing, Talk, Passing, IsCut, Asked, passes, is_remote, is_refusal}
-use Rattle.pgw_connection.specs.Line.{Line, Reasons, Pause, IsFlushed, WentWell, Halts, Drew, Moved}
+use Rattle.pgw_connection.specs.Line.{Line, Reasons, Pause, IsFlushed, WentWell, EndedWell, Halts, Drew, Moved}
 use Rattle.pgw_connection.specs.Reading.{GoesOn, Came, PassedOver}
 use Rattle.pgw_connection.specs.Calls.{link_sight, PutAll, PutSome, Puts, Opens, starved, wrote, cut, refused, GivesUp, breaks, fails, passes_over, Follows, starves, writes, cuts, gives_up, HeardOne, Talked, HeardNext, IsHalted, Call}
-use Rattle.pgw_connection.proofs.ReadingLaws.{next_more, drew_on, not_halted, not_at_end, halts_on, at_end_on, at_end_so, pause_on, passing_as, PassedEnd, still_flushed, drew_well, well_still, well_on, went_on, failed, io_of, io_answer}
+use Rattle.pgw_connection.proofs.ReadingLaws.{next_more, drew_on, not_halted, not_at_end, halts_on, at_end_on, at_end_so, pause_on, passing_as, PassedEnd, still_flushed, end_well, ended_on, failed, io_of, io_answer}
 
 -- ---- writing
 
@@ -46,9 +47,6 @@ unflushed old new bytes some w within none flushed =
     let wrote : length new.tape.wrote ≡ length old.tape.wrote + length (take w.count bytes) = ap length w.wrote ∙ length-append old.tape.wrote (take w.count bytes) in
     let whole : length bytes ≡ length (take w.count bytes) + 0 = ap length (sym (take-append-drop w.count bytes)) ∙ length-append (take w.count bytes) (drop w.count bytes) ∙ ap (λ (l : List ℕ). length (take w.count bytes) + length l) none in
     some (nil_from_length bytes (omega (arith, wrote, whole, flushed, w.flushed, within)))
-
-pub put_well : (old new : Line) (bytes : List ℕ) → PutAll bytes old new → WentWell old new
-put_well old new bytes put = (put.goes_on.1, put.flushed)
 
 pub put_some : (old new : Line) (bytes : List ℕ) → bytes ≢ [] → WroteSome old.tape new.tape bytes → old.tape.flushed ≤ length old.tape.wrote → Rose old.faults new.faults → new.buffer ≡ old.buffer → new.read ≡ old.read → new.limit ≡ old.limit → PutSome bytes old new
 put_some old new bytes some w within rose buffer read limit = record {
@@ -196,23 +194,23 @@ module _ {H A : Type 0} (M : Hearing H A) (goes_on : ClientError → Bool) where
   halted_behind e x broken eof goes ends (inr other) = absurd (let no : false ≡ true = sym eof ∙ ap goes_on (sym other.0) ∙ goes in cc)
 
   -- no message came
-  pub heard_none : (h : H) (c : Client) (old new : Line) (e : ClientError) → Came c old new (Err e) → Talked M goes_on h c old new (end (Err e) c true new.buffer)
-  heard_none h c old new e came = record {
+  pub heard_none : (h : H) (c : Client) (old new : Line) (e : ClientError) → IsFlushed old → Came c old new (Err e) → Talked M goes_on h c old new (end (Err e) c true new.buffer)
+  heard_none h c old new e f came = record {
     taken = came.taken;
     sent = [];
     moved = moved_none old new came.taken came.drew;
     talk = talk.lacks h c (old.buffer ++ came.taken) new.buffer e came.found;
-    flushed = λ f usable. absurd (let no : true ≡ false = usable in cc);
-    halts = λ f. flushed_at c old new came.taken came.drew f came.halts;
+    flushed = λ usable. absurd (let no : true ≡ false = usable in cc);
+    halts = flushed_at c old new came.taken came.drew f came.halts;
     at_end = at_end_so _ _ old new (λ (same : failed Backend e ≡ Err client.UnexpectedEOF).
         let is : e ≡ client.UnexpectedEOF = (cc) in
         subst (λ (y : ClientError). IsHalted {A = A} goes_on (Err y) true) (sym is) refl) came.at_end;
-    well = io_answer A (WentWell old new) e (io_of Backend (WentWell old new) e came.well);
+    well = end_well _ old new f (io_answer A (WentWell old new) e (io_of Backend (WentWell old new) e came.well));
   }
 
-  module _ (h handler : H) (c : Client) (s : Sight) (old mid : Line) (m : Backend) (came : Came c old mid (Ok m)) where
-    came_well : WentWell old mid
-    came_well = drew_well old mid came.taken came.drew came.goes_on.1
+  module _ (h handler : H) (c : Client) (s : Sight) (old mid : Line) (m : Backend) (f : IsFlushed old) (came : Came c old mid (Ok m)) where
+    came_well : EndedWell old mid
+    came_well = (came.goes_on.1, still_flushed old mid came.taken came.drew f)
 
     -- memory was wanting
     heard_starved : (last : Client) → Talked M goes_on h c old mid (end (Err client.OutOfMemory) last true mid.buffer)
@@ -221,8 +219,8 @@ module _ {H A : Type 0} (M : Hearing H A) (goes_on : ClientError → Bool) where
       sent = [];
       moved = moved_none old mid came.taken came.drew;
       talk = talk.starves h c (old.buffer ++ came.taken) last mid.buffer;
-      flushed = λ f usable. absurd (let no : true ≡ false = usable in cc);
-      halts = λ f. not_halted last (length mid.tape.wrote) old mid came.goes_on.0;
+      flushed = λ usable. absurd (let no : true ≡ false = usable in cc);
+      halts = not_halted last (length mid.tape.wrote) old mid came.goes_on.0;
       at_end = not_at_end _ old mid came.goes_on.0;
       well = inl came_well;
     }
@@ -242,7 +240,6 @@ module _ {H A : Type 0} (M : Hearing H A) (goes_on : ClientError → Bool) where
       quiet = quiet;
       handler_is = refl;
       info_is = refl;
-      flushed = λ f. put.flushed (still_flushed old mid came.taken came.drew f);
       goes_on = (put.goes_on.0 ∙ came.goes_on.0, put.goes_on.1 ∙ came.goes_on.1);
     }
 
@@ -252,10 +249,10 @@ module _ {H A : Type 0} (M : Hearing H A) (goes_on : ClientError → Bool) where
       sent = s.wrote;
       moved = moved_by old mid new came.taken s.wrote came.drew put.moved;
       talk = talk.closes h c (old.buffer ++ came.taken) m new.buffer (standing handler s) x (next_in new put.buffer) heard usable ready;
-      flushed = λ f _. put.flushed (still_flushed old mid came.taken came.drew f);
-      halts = λ f. not_halted s.client (length new.tape.wrote) old new (put.goes_on.0 ∙ came.goes_on.0);
+      flushed = λ _. put.flushed came_well.1;
+      halts = not_halted s.client (length new.tape.wrote) old new (put.goes_on.0 ∙ came.goes_on.0);
       at_end = not_at_end _ old new (put.goes_on.0 ∙ came.goes_on.0);
-      well = inl (well_on old mid new came_well (put_well mid new s.wrote put));
+      well = inl (put.goes_on.1 ∙ came_well.0, put.flushed came_well.1);
     }
 
     heard_cut : (new : Line) (answer : ReadyState A) → M (standing h (fresh c)) m (standing handler s) (Ok answer) → s.broken ≡ false → PutSome s.wrote mid new → Talked M goes_on h c old new (end (Err client.IoError) s.client true new.buffer)
@@ -264,8 +261,8 @@ module _ {H A : Type 0} (M : Hearing H A) (goes_on : ClientError → Bool) where
       sent = put.part;
       moved = moved_by old mid new came.taken put.part came.drew put.moved;
       talk = talk.unwritten h c (old.buffer ++ came.taken) m new.buffer (standing handler s) answer put.part (next_in new put.buffer) heard usable (cut_from old mid new s.wrote put.part came.goes_on put.cut);
-      flushed = λ f usable. absurd (let no : true ≡ false = usable in cc);
-      halts = λ f. not_halted s.client (length new.tape.wrote) old new (put.ended ∙ came.goes_on.0);
+      flushed = λ usable. absurd (let no : true ≡ false = usable in cc);
+      halts = not_halted s.client (length new.tape.wrote) old new (put.ended ∙ came.goes_on.0);
       at_end = not_at_end _ old new (put.ended ∙ came.goes_on.0);
       well = inr refl;
     }
@@ -276,8 +273,8 @@ module _ {H A : Type 0} (M : Hearing H A) (goes_on : ClientError → Bool) where
       sent = [];
       moved = moved_none old mid came.taken came.drew;
       talk = talk.breaks h c (old.buffer ++ came.taken) m mid.buffer (standing handler s) e came.found heard caused ends usable;
-      flushed = λ f good. absurd (let no : true ≡ false = good in cc);
-      halts = λ f. not_halted s.client (length mid.tape.wrote) old mid came.goes_on.0;
+      flushed = λ good. absurd (let no : true ≡ false = good in cc);
+      halts = not_halted s.client (length mid.tape.wrote) old mid came.goes_on.0;
       at_end = not_at_end _ old mid came.goes_on.0;
       well = inl came_well;
     }
@@ -288,8 +285,8 @@ module _ {H A : Type 0} (M : Hearing H A) (goes_on : ClientError → Bool) where
       sent = [];
       moved = moved_none old mid came.taken came.drew;
       talk = talk.fails h c (old.buffer ++ came.taken) m mid.buffer (standing handler s) e came.found heard goes usable ready;
-      flushed = λ f _. still_flushed old mid came.taken came.drew f;
-      halts = λ f. not_halted s.client (length mid.tape.wrote) old mid came.goes_on.0;
+      flushed = λ _. came_well.1;
+      halts = not_halted s.client (length mid.tape.wrote) old mid came.goes_on.0;
       at_end = not_at_end _ old mid came.goes_on.0;
       well = inl came_well;
     }
@@ -306,10 +303,10 @@ module _ {H A : Type 0} (M : Hearing H A) (goes_on : ClientError → Bool) where
           sent = [];
           moved = moved_none old new (came.taken ++ p.taken) drew;
           talk = talk.passes_over h c (old.buffer ++ (came.taken ++ p.taken)) m (mid.buffer ++ p.taken) (standing handler s) e x last new.buffer broken next heard goes usable quiet passing;
-          flushed = λ f _. still_flushed old new (came.taken ++ p.taken) drew f;
-          halts = λ f. halts_on last mid.tape.flushed (length new.tape.wrote) old mid new came.goes_on.0 (came.drew.flushed ∙ f ∙ ap length (sym drew.wrote)) p.halts;
+          flushed = λ _. still_flushed old new (came.taken ++ p.taken) drew f;
+          halts = halts_on last mid.tape.flushed (length new.tape.wrote) old mid new came.goes_on.0 (came.drew.flushed ∙ f ∙ ap length (sym drew.wrote)) p.halts;
           at_end = at_end_on _ _ old mid new came.goes_on.0 (λ (h : PassedEnd e x broken). halted_behind e x broken eof goes h.0 h.1) p.at_end;
-          well = went_on (failed A x ≡ Err client.IoError) old mid new came_well (io_answer A (WentWell mid new) x p.well);
+          well = ended_on (failed A x ≡ Err client.IoError) old mid new came_well.0 (end_well _ mid new came_well.1 (io_answer A (WentWell mid new) x p.well));
         }
 
     given_up : (eof : goes_on client.UnexpectedEOF ≡ false) (new : Line) (e x : ClientError) (last : Client) (broken : Bool) → M (standing h (fresh c)) m (standing handler s) (Err e) → IsCaused e 0 0 s.broken → s.broken ≡ false
@@ -331,14 +328,14 @@ module _ {H A : Type 0} (M : Hearing H A) (goes_on : ClientError → Bool) where
     heard_next eof new answer result last broken heard caused closes (gives_up e x last2 broken2 usable g) = given_up eof new e x last2 broken2 heard caused usable g
 
   -- no message came, for a client that is as it was
-  pub heard_nothing : (h : H) (c info : Client) (old new : Line) (e : ClientError) → info ≡ c → Came c old new (Err e) → Talked M goes_on h c old new (end (Err e) info true new.buffer)
-  heard_nothing h c info old new e same came = subst (λ (x : Client). Talked M goes_on h c old new (end (Err e) x true new.buffer)) (sym same) (heard_none h c old new e came)
+  pub heard_nothing : (h : H) (c info : Client) (old new : Line) (e : ClientError) → info ≡ c → IsFlushed old → Came c old new (Err e) → Talked M goes_on h c old new (end (Err e) info true new.buffer)
+  heard_nothing h c info old new e same f came = subst (λ (x : Client). Talked M goes_on h c old new (end (Err e) x true new.buffer)) (sym same) (heard_none h c old new e f came)
 
   -- a message was heard from a desk that was cleared
-  pub heard_so : (eof : goes_on client.UnexpectedEOF ≡ false) (h handler : H) (c : Client) (s0 s : Sight) (old mid new : Line) (m : Backend) (closing : Bool) (answer result : Answer A) (last : Client) (broken : Bool) → Came c old mid (Ok m) → s0 ≡ fresh c → closing ≡ is_ready m
+  pub heard_so : (eof : goes_on client.UnexpectedEOF ≡ false) (h handler : H) (c : Client) (s0 s : Sight) (old mid new : Line) (m : Backend) (closing : Bool) (answer result : Answer A) (last : Client) (broken : Bool) → IsFlushed old → Came c old mid (Ok m) → s0 ≡ fresh c → closing ≡ is_ready m
       → M (standing h s0) m (standing handler s) answer → OfError answer 0 0 s.broken → IfOk answer (EndsAtReady m) → Follows goes_on closing s.broken s.wrote s.client mid new answer result last broken → HeardNext M goes_on h c old new handler last broken result
-  heard_so eof h handler c s0 s old mid new m closing answer result last broken came cleared ready heard caused closes follows =
-      heard_next h handler c s old mid m came eof new answer result last broken
+  heard_so eof h handler c s0 s old mid new m closing answer result last broken f came cleared ready heard caused closes follows =
+      heard_next h handler c s old mid m f came eof new answer result last broken
       (subst (λ (x : Sight). M (standing h x) m (standing handler s) answer) cleared heard) caused closes
       (subst (λ (b : Bool). Follows goes_on b s.broken s.wrote s.client mid new answer result last broken) ready follows)
 
@@ -354,15 +351,15 @@ module _ {H A : Type 0} (M : Hearing H A) (goes_on : ClientError → Bool) where
         moved = moved_on old mid new one.taken t.taken after.sight.wrote t.sent one.moved t.moved;
         talk = talk.hears h c (old.buffer ++ (one.taken ++ t.taken)) one.message (mid.buffer ++ t.taken) after t.sent last next one.heard one.usable one.quiet
             (talk_as old mid new handler after.handler info after.sight.client (mid.buffer ++ t.taken) t.sent last one.goes_on (sym one.handler_is) (sym one.info_is) t.talk);
-        flushed = λ f usable. t.flushed (one.flushed f) usable;
-        halts = λ f. halts_on last.info (length new.tape.wrote) (length new.tape.wrote) old mid new one.goes_on.0 refl (t.halts (one.flushed f));
+        flushed = t.flushed;
+        halts = halts_on last.info (length new.tape.wrote) (length new.tape.wrote) old mid new one.goes_on.0 refl t.halts;
         at_end = at_end_on _ _ old mid new one.goes_on.0 (λ is. is) t.at_end;
-        well = went_on (last.answer ≡ Err client.IoError) old mid new (one.goes_on.1, one.flushed) t.well;
+        well = ended_on (last.answer ≡ Err client.IoError) old mid new one.goes_on.1 t.well;
       }
 
 -- ---- a call
 
-module _ {H A : Type 0} (opens : Standing H → Standing H → Answer A → Type 0) (M : Hearing H A) (goes_on : ClientError → Bool) (h handler : H) (c : Client) (s : Sight) (old : Line) where
+module _ {H A : Type 0} (opens : Standing H → Standing H → Answer A → Type 0) (M : Hearing H A) (goes_on : ClientError → Bool) (h handler : H) (c : Client) (s : Sight) (old : Line) (f : IsFlushed old) where
   -- the opening was written, and messages were handed over
   pub call_talked : (info : Client) (mid new : Line) (last : End A) → opens (standing h (fresh c)) (standing handler s) (Ok Pending) → s.broken ≡ false → PutAll s.wrote old mid → info ≡ s.client
       → Talked M goes_on handler info mid new last → Call opens M goes_on h c old new last
@@ -373,10 +370,10 @@ module _ {H A : Type 0} (opens : Standing H → Standing H → Answer A → Type
         sent = s.wrote ++ t.sent;
         moved = moved_on old mid new [] t.taken s.wrote t.sent put.moved t.moved;
         asked = talk.opened (standing handler s) t.sent last opened usable (talk_as M goes_on old mid new handler handler info s.client (old.buffer ++ t.taken) t.sent last put.goes_on refl same bytes);
-        flushed = λ f good. t.flushed (put.flushed f) good;
-        halts = λ f. halts_on last.info (length new.tape.wrote) (length new.tape.wrote) old mid new put.goes_on.0 refl (t.halts (put.flushed f));
+        flushed = t.flushed;
+        halts = halts_on last.info (length new.tape.wrote) (length new.tape.wrote) old mid new put.goes_on.0 refl t.halts;
         at_end = at_end_on _ _ old mid new put.goes_on.0 (λ is. is) t.at_end;
-        well = went_on (last.answer ≡ Err client.IoError) old mid new (put_well old mid s.wrote put) t.well;
+        well = ended_on (last.answer ≡ Err client.IoError) old mid new put.goes_on.1 t.well;
       }
 
   moved_still : Moved old old [] []
@@ -388,10 +385,10 @@ module _ {H A : Type 0} (opens : Standing H → Standing H → Answer A → Type
     sent = [];
     moved = moved_still;
     asked = talk.starves last old.buffer;
-    flushed = λ f good. f;
-    halts = λ f. not_halted last (length old.tape.wrote) old old refl;
+    flushed = λ good. f;
+    halts = not_halted last (length old.tape.wrote) old old refl;
     at_end = not_at_end _ old old refl;
-    well = inl (well_still old);
+    well = inl (refl, f);
   }
 
   bytes_are : (sent : List ℕ) (P : Reasons) (answer : Result A ClientError) (info : Client) (broken : Bool) (rest : List ℕ) → rest ≡ old.buffer
@@ -406,8 +403,8 @@ module _ {H A : Type 0} (opens : Standing H → Standing H → Answer A → Type
     sent = put.part;
     moved = put.moved;
     asked = bytes_are put.part (Pause old new) (Err client.IoError) s.client true new.buffer put.buffer (talk.unwritten (standing handler s) put.part opened usable put.cut);
-    flushed = λ f good. absurd (let no : true ≡ false = good in cc);
-    halts = λ f. not_halted s.client (length new.tape.wrote) old new put.ended;
+    flushed = λ good. absurd (let no : true ≡ false = good in cc);
+    halts = not_halted s.client (length new.tape.wrote) old new put.ended;
     at_end = not_at_end _ old new put.ended;
     well = inr refl;
   }
@@ -418,20 +415,20 @@ module _ {H A : Type 0} (opens : Standing H → Standing H → Answer A → Type
     sent = [];
     moved = moved_still;
     asked = bytes_are [] (Pause old old) (Err e) s.client false old.buffer refl (talk.refused (standing handler s) e opened is usable);
-    flushed = λ f good. f;
-    halts = λ f. not_halted s.client (length old.tape.wrote) old old refl;
+    flushed = λ good. f;
+    halts = not_halted s.client (length old.tape.wrote) old old refl;
     at_end = not_at_end _ old old refl;
-    well = inl (well_still old);
+    well = inl (refl, f);
   }
   call_refused e opened usable caused false is = record {
     taken = [];
     sent = [];
     moved = moved_still;
     asked = bytes_are [] (Pause old old) (Err e) s.client true old.buffer refl (talk.breaks (standing handler s) e opened caused is usable);
-    flushed = λ f good. f;
-    halts = λ f. not_halted s.client (length old.tape.wrote) old old refl;
+    flushed = λ good. f;
+    halts = not_halted s.client (length old.tape.wrote) old old refl;
     at_end = not_at_end _ old old refl;
-    well = inl (well_still old);
+    well = inl (refl, f);
   }
 
   -- what the handler answered as it opened the call, in one of its results
@@ -470,7 +467,7 @@ opened_by was broken out old new opened result (refused e usable same) is = absu
 pub opened_well : (was broken : Bool) (out : List ℕ) (old new : Line) (opened : Result (Unit {0}) ClientError) → Opens was out old new opened (Ok tt) broken → (opened ≡ Ok tt) × (was ≡ false) × PutAll out old new × (broken ≡ false)
 opened_well was broken out old new opened o = opened_by was broken out old new opened (Ok tt) o refl
 
-module _ {H A : Type 0} (opens : Standing H → Standing H → Answer A → Type 0) (M : Hearing H A) (goes_on : ClientError → Bool) (h handler : H) (c : Client) (s0 s : Sight) (old mid : Line) (opened : Result (Unit {0}) ClientError) (cleared : s0 ≡ fresh c) (means : opens (standing h s0) (standing handler s) (pending opened)) where
+module _ {H A : Type 0} (opens : Standing H → Standing H → Answer A → Type 0) (M : Hearing H A) (goes_on : ClientError → Bool) (h handler : H) (c : Client) (s0 s : Sight) (old mid : Line) (f : IsFlushed old) (opened : Result (Unit {0}) ClientError) (cleared : s0 ≡ fresh c) (means : opens (standing h s0) (standing handler s) (pending opened)) where
   means_so : opens (standing h (fresh c)) (standing handler s) (pending opened)
   means_so = subst (λ (x : Sight). opens (standing h x) (standing handler s) (pending opened)) cleared means
 
@@ -478,13 +475,13 @@ module _ {H A : Type 0} (opens : Standing H → Standing H → Answer A → Type
   pub call_opened : (new : Line) (info : Client) (broken : Bool) (last : End A) → Opens s.broken s.wrote old mid opened (Ok tt) broken → info ≡ s.client → Talked M goes_on handler info mid new last → Call opens M goes_on h c old new last
   call_opened new info broken last begun same t =
       let well = opened_well s.broken broken s.wrote old mid opened begun in
-      call_talked opens M goes_on h handler c s old info mid new last
+      call_talked opens M goes_on h handler c s old f info mid new last
       (subst (λ (r : Result (Unit {0}) ClientError). opens (standing h (fresh c)) (standing handler s) (pending r)) well.0 means_so) well.1 well.2 same t
 
-  opens_by : (r : Result (Unit {0}) ClientError) → opens (standing h (fresh c)) (standing handler s) (pending r) → OpensBy opens M goes_on h handler c s old r
+  opens_by : (r : Result (Unit {0}) ClientError) → opens (standing h (fresh c)) (standing handler s) (pending r) → OpensBy opens M goes_on h handler c s old f r
   opens_by (Ok done) o = o
   opens_by (Err e) o = o
 
   -- and one that was not
   pub call_closed : (e : ClientError) (info : Client) (broken : Bool) → OfError opened 0 0 s.broken → Opens s.broken s.wrote old mid opened (Err e) broken → info ≡ s.client → Call opens M goes_on h c old mid (end (Err e) info broken mid.buffer)
-  call_closed e info broken caused begun same = call_unopened opens M goes_on h handler c s old mid opened e info broken (opens_by opened means_so) caused begun same
+  call_closed e info broken caused begun same = call_unopened opens M goes_on h handler c s old f mid opened e info broken (opens_by opened means_so) caused begun same

@@ -1,18 +1,18 @@
 -- Connecting, and canceling over a link of its own.
 use Rattle.std.proofs.Common.{◌≡◌, ◌<◌, ℕ, Bool, false, List, [], ◌∷◌, ◌++◌, Option, Some, None, Result, Ok, Err, sym, ap, subst, ◌∙◌, arith}
-use Rattle.std.specs.Result.{OnOk, IfErr}
-use Rattle.pgw_types.specs.declared.error.PgWireError.{PgWireError}
+use Rattle.pgw_types.specs.declared.config_error.ConfigError.{ConfigError}
+use Rattle.pgw_backend.specs.ClientError.{of_config}
 use Rattle.pgw_backend.specs.declared.client_error.PgWireClientError.{PgWireClientError as ClientError}
 use Rattle.pgw_backend.specs.declared.client_error.PgWireClientError.TheVariants as client
-use Rattle.pgw_conninfo.specs.declared.address.Address.{Address}
+use Rattle.pgw_types.specs.declared.address.Address.{Address}
 use Rattle.pgw_config.specs.declared.config.Config.{Config}
 use Rattle.pgw_config.specs.Address.{address_of}
 use Rattle.pgw_config.specs.Answers.{Answers}
-use Rattle.pgw_link.specs.Tape.{Tape, Rose}
+use Rattle.pgw_types.specs.Counts.{Rose}
+use Rattle.pgw_link.specs.Tape.{Tape}
 use Rattle.pgw_link.specs.Dials.{DialTape, Dialled, Shut, CountsClose}
 use Rattle.pgw_session.specs.Demands.{refused_config}
-use Rattle.pgw_client.specs.Demands.{Checked}
-use Rattle.pgw_client.specs.Wire.{PutOut}
+use Rattle.pgw_dialogue.specs.Demands.{Checked}
 use Rattle.pgw_handlers.specs.Client.{Client}
 use Rattle.pgw_handlers.specs.Handling.{Standing, Answer, IsCaused}
 use Rattle.pgw_handlers.specs.declared.client_info.ServerInformation.{ServerInformation}
@@ -20,8 +20,7 @@ use Rattle.pgw_connection.specs.Talk.{end, Hearing}
 use Rattle.pgw_connection.specs.Desk.{with_information}
 use Rattle.pgw_connection.specs.Line.{Line, line}
 use Rattle.pgw_connection.specs.Calls.{Call}
-use Rattle.pgw_connection.specs.Connecting.{never, LeadsTo, IsRefusedBy, NoLink, DialledOnce, LogsIn, new_line, ConnectedAt, Connected, ClosedAgain, NotConnectedAt, NotConnected, SentOnce, NotSentOnce, Cancels}
-use Rattle.pgw_connection.specs.Connecting as connecting
+use Rattle.pgw_connection.specs.Connecting.{never, LeadsTo, LacksAddress, IsRefusedBy, NoLink, DialledOnce, LogsIn, new_line, ConnectedAt, Connected, ClosedAgain, NotConnectedAt, NotConnected}
 
 -- ---- the address
 
@@ -29,9 +28,8 @@ pub leads : (config : Config) (address : Address) (o : Option (List ℕ)) → o 
 leads config address None is c at = (sym is, at)
 leads config address (Some key) is c at = absurd c
 
-pub no_lead : (config : Config) (e : ClientError) (o : Option (List ℕ)) → Checked o (Ok tt) → Answers (Err e) (address_of config) → IsRefusedBy o config e
-no_lead config e None c at = at
-no_lead config e (Some key) c at = absurd c
+pub lacks : (config : Config) (why : ConfigError) (e : ClientError) → Answers (Err why) (address_of config) → e ≡ of_config why → LacksAddress config e
+lacks config why e is same = λ other. (why, is (λ short. other (same ∙ ap of_config short)), same)
 
 pub refused_demand : (config : Config) (e : ClientError) (o : Option (List ℕ)) → Checked o (Err e) → IsRefusedBy o config e
 refused_demand config e None c = absurd c
@@ -64,8 +62,8 @@ from_new opens M h c also info t made faults read limit also_limit buffer new r 
 pub once : (to : Address) (old between new : DialTape) (first after : Tape) → Dialled to old between first → Shut between new after → DialledOnce to old new first after
 once to old between new first after d s = record { dialled = s.dialled ∙ d.dialled; fresh = d.fresh; shut = s.shut ∙ ap (λ (l : List Tape). l ++ after ∷ []) d.shut }
 
-pub rose_some : (faults : ℕ) → Rose 0 faults → 0 < faults
-rose_some faults r = omega (arith, r)
+pub rose_some : (before faults : ℕ) → Rose before faults → 0 < faults
+rose_some before faults r = omega (arith, r)
 
 pub counts_from : (before dialled now faults : ℕ) → dialled ≡ before → CountsClose dialled now faults → CountsClose before now faults
 counts_from before dialled now faults same c = subst (λ (n : ℕ). CountsClose n now faults) same c
@@ -73,18 +71,9 @@ counts_from before dialled now faults same c = subst (λ (n : ℕ). CountsClose 
 pub failed_some : (e : ClientError) (before faults : ℕ) → before ≡ 0 → IsCaused e before faults false → e ≡ client.IoError → 0 < faults
 failed_some e before faults none caused is =
     let rose : Rose before faults = subst (λ (x : ClientError). IsCaused x before faults false) is caused in
-    rose_some faults (subst (λ (n : ℕ). Rose n faults) none rose)
+    rose_some before faults rose
 
 -- a failed call of a link raises its dialer's count as the link is closed
 pub rose_once : (before dialled now none faults : ℕ) → none ≡ 0 → dialled ≡ before → Rose none faults → CountsClose dialled now faults → Rose before now
 rose_once before dialled now none faults is same rose counts =
-    (counts_from before dialled now faults same counts).failed (rose_some faults (subst (λ (n : ℕ). Rose n faults) is rose))
-
--- ---- a cancel
-
-pub cancel_sent : {same foretells : Type 0} {was is : Option (List ℕ)} {old new : DialTape} {before now : ℕ} (config : Config) (spelled : Result (List ℕ) PgWireError) (address : Address) (out : List ℕ) (r : Result (Unit {0}) ClientError) → PutOut spelled [] out (Ok tt) → address_of config ≡ Ok address
-    → OnOk r (SentOnce address out old new) → IfErr r (NotSentOnce foretells address out was is old new before now) → Cancels same foretells config spelled was is old new before now r
-cancel_sent {same} {foretells} {was} {is} {old} {new} {before} {now} config spelled address out (Ok done) p at s f =
-    connecting.sent address p.0 at p.1 (subst (λ (b : List ℕ). SentOnce address b old new) p.2 s)
-cancel_sent {same} {foretells} {was} {is} {old} {new} {before} {now} config spelled address out (Err e) p at s f =
-    connecting.unsent address p.0 e at p.1 (subst (λ (b : List ℕ). NotSentOnce foretells address b was is old new before now e) p.2 f)
+    (counts_from before dialled now faults same counts).failed (rose_some none faults rose)

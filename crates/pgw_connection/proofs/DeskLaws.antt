@@ -6,8 +6,8 @@ use Rattle.pgw_backend.specs.declared.client_error.PgWireClientError.{PgWireClie
 use Rattle.pgw_backend.specs.declared.client_error.PgWireClientError.TheVariants as client
 use Rattle.pgw_backend.specs.ClientError.{of_wire}
 use Rattle.pgw_wire.specs.Framing.{Appends}
-use Rattle.pgw_client.specs.Wire.{PutOut}
-use Rattle.pgw_client.proofs.WireLaws.{told_of}
+use Rattle.pgw_dialogue.specs.Wire.{PutOut}
+use Rattle.pgw_dialogue.proofs.WireLaws.{told_of}
 use Rattle.pgw_handlers.specs.Client.{Client, Sight}
 use Rattle.pgw_handlers.specs.Sending.{NotSent, IsUsable, IsSpelled, bytes_or_none}
 use Rattle.pgw_connection.specs.Desk.{is_wanting}

@@ -1,5 +1,5 @@
 -- The steps of a call of extended queries.
-use Rattle.std.proofs.Common.{◌≡◌, ◌⊎◌, Bool, true, false, List, [], ◌∷◌, ◌++◌, Result, Ok, Err, refl, sym, ap, subst, ◌∙◌, inl, inr}
+use Rattle.std.proofs.Common.{◌≡◌, ◌⊎◌, Bool, true, false, List, [], ◌∷◌, ◌++◌, Option, Some, Result, Ok, Err, refl, sym, ap, subst, ◌∙◌, inl, inr}
 use Rattle.pgw_frontend.specs.declared.frontend.PgWireFrontendMessage.{PgWireFrontendMessage as Frontend}
 use Rattle.pgw_frontend.specs.declared.frontend.PgWireFrontendMessage.TheVariants as frontend
 use Rattle.pgw_ext.specs.declared.parse.Parse.{Parse}
@@ -17,19 +17,20 @@ use Rattle.pgw_query.specs.declared.data.RowDescription.{RowDescription}
 use Rattle.pgw_query.specs.declared.data.DataRow.{DataRow}
 use Rattle.pgw_query.specs.declared.description.ParameterDescription.{ParameterDescription}
 use Rattle.pgw_query.specs.declared.response.CommandComplete.{CommandComplete}
+use Rattle.pgw_query.specs.declared.response.NoticeResponse.{NoticeResponse}
+use Rattle.pgw_query.specs.declared.notification.NotificationResponse.{NotificationResponse}
 use Rattle.pgw_ext.specs.declared.execute.PortalSuspended.{PortalSuspended}
 use Rattle.pgw_session.specs.declared.stage.Kind.{Kind}
 use Rattle.pgw_session.specs.declared.stage.Role.TheVariants.{Failing}
-use Rattle.pgw_session.specs.Requests.{role}
 use Rattle.pgw_handlers.specs.Client.{Client, Sight}
 use Rattle.pgw_handlers.specs.Handling.{Standing, standing, Answer, OfError}
-use Rattle.pgw_handlers.specs.Extended.{ExtendedCall, on_portal_suspended, done, sync, nothing}
+use Rattle.pgw_handlers.specs.Extended.{ExtendedCall, on_portal_suspended, on_notice, on_notification, done, sync, nothing}
 use Rattle.pgw_connection.specs.declared.gathered.Gathered.{Gathered}
 use Rattle.pgw_connection.specs.Talk.{fresh, told, first_of}
 use Rattle.pgw_connection.specs.Line.{Line}
 use Rattle.pgw_connection.specs.Reading.{PassedOver}
 use Rattle.pgw_connection.specs.Calls.{Opens as Begins, starved, wrote, cut, refused}
-use Rattle.pgw_connection.specs.Extended.{Meaning, calls_for, call_for, RefusesBy, Opens, opened, goes, stops}
+use Rattle.pgw_connection.specs.Extended.{Meaning, calls_for, call_for, HeedsBy, RefusesBy, place, Opens, opened, goes, stops}
 use Rattle.pgw_connection.specs.ExtendedSteps as steps
 use Rattle.pgw_connection.specs.ExtendedSteps.{Heeded, heeds, refuses, wants, Took, Synced, spares, sends, cuts, Settled, passed_answer, is_due, answer_with, HeededOne, TookOne, Exchanged, HeededNext, Called, Answered, given}
 use Rattle.pgw_connection.proofs.CallLaws.{opened_well}
@@ -85,19 +86,35 @@ opens_nothing M m s a b c d e f g = opened s
 -- ---- one message
 
 -- a message that no function heeds
-pub heeded_none : {H R : Type 0} (M : Meaning H R) (h : H) (c : Client) (g : Gathered R) (m : Backend) → ((x : ParameterDescription) → m ≡ backend.ParameterDescription x → ⊥) → ((x : RowDescription) → m ≡ backend.RowDescription x → ⊥)
-    → ((x : DataRow) → m ≡ backend.DataRow x → ⊥) → ((x : CommandComplete) → m ≡ backend.CommandComplete x → ⊥) → ((x : PortalSuspended) → m ≡ backend.PortalSuspended x → ⊥) → Heeded M h c g m h g (Ok tt)
-heeded_none M h c g (backend.ParameterDescription x) a b d e f = absurd (a x refl)
-heeded_none M h c g (backend.RowDescription x) a b d e f = absurd (b x refl)
-heeded_none M h c g (backend.DataRow x) a b d e f = absurd (d x refl)
-heeded_none M h c g (backend.CommandComplete x) a b d e f = absurd (e x refl)
-heeded_none M h c g (backend.PortalSuspended x) a b d e f = absurd (f x refl)
-heeded_none M h c g m a b d e f = heeds (refl, refl)
+pub heeded_none : {H R : Type 0} (M : Meaning H R) (h : H) (c : Client) (g : Gathered (List R)) (m : Backend) → ((x : ParameterDescription) → m ≡ backend.ParameterDescription x → ⊥) → ((x : RowDescription) → m ≡ backend.RowDescription x → ⊥)
+    → ((x : DataRow) → m ≡ backend.DataRow x → ⊥) → ((x : CommandComplete) → m ≡ backend.CommandComplete x → ⊥) → ((x : PortalSuspended) → m ≡ backend.PortalSuspended x → ⊥)
+    → ((x : NoticeResponse) → m ≡ backend.NoticeResponse x → ⊥) → ((x : NotificationResponse) → m ≡ backend.NotificationResponse x → ⊥) → Heeded M h c g m h g (Ok tt)
+heeded_none M h c g (backend.ParameterDescription x) a b d e f i j = absurd (a x refl)
+heeded_none M h c g (backend.RowDescription x) a b d e f i j = absurd (b x refl)
+heeded_none M h c g (backend.DataRow x) a b d e f i j = absurd (d x refl)
+heeded_none M h c g (backend.CommandComplete x) a b d e f i j = absurd (e x refl)
+heeded_none M h c g (backend.PortalSuspended x) a b d e f i j = absurd (f x refl)
+heeded_none M h c g (backend.NoticeResponse x) a b d e f i j = absurd (i x refl)
+heeded_none M h c g (backend.NotificationResponse x) a b d e f i j = absurd (j x refl)
+heeded_none M h c g m a b d e f i j = heeds (refl, refl)
 
-pub heeded_done : {H R : Type 0} (M : Meaning H R) (h : H) (c : Client) (g : Gathered R) (x : PortalSuspended) (after : H) (r : Result (Unit {0}) ClientError) → M (standing h (fresh c)) on_portal_suspended (standing after (fresh c)) (done r) → OfError r 0 0 false
+-- a function that gives nothing
+heeded_by : {H R : Type 0} (M : Meaning H R) (h : H) (c : Client) (g : Gathered (List R)) (m : Backend) (call : ExtendedCall) (after : H) (r : Result (Unit {0}) ClientError) → call_for m ≡ Some call → M (standing h (fresh c)) call (standing after (fresh c)) (done r) → OfError r 0 0 false
+    → Heeded M h c g m after g r
+heeded_by M h c g m call after (Ok y) is heard caused = heeds (subst (λ (o : Option ExtendedCall). HeedsBy M o h c g m after g) (sym is) (nothing, heard, refl))
+heeded_by M h c g m call after (Err e) is heard caused = refuses e (subst (λ (o : Option ExtendedCall). RefusesBy M o h c after e) (sym is) heard) caused
+
+pub heeded_done : {H R : Type 0} (M : Meaning H R) (h : H) (c : Client) (g : Gathered (List R)) (x : PortalSuspended) (after : H) (r : Result (Unit {0}) ClientError) → M (standing h (fresh c)) on_portal_suspended (standing after (fresh c)) (done r) → OfError r 0 0 false
     → Heeded M h c g (backend.PortalSuspended x) after g r
-heeded_done M h c g x after (Ok y) heard caused = heeds (nothing, heard, refl)
-heeded_done M h c g x after (Err e) heard caused = refuses e heard caused
+heeded_done M h c g x after r heard caused = heeded_by M h c g (backend.PortalSuspended x) on_portal_suspended after r refl heard caused
+
+pub heeded_notice : {H R : Type 0} (M : Meaning H R) (h : H) (c : Client) (g : Gathered (List R)) (x : NoticeResponse) (after : H) (r : Result (Unit {0}) ClientError) → M (standing h (fresh c)) (on_notice x) (standing after (fresh c)) (done r) → OfError r 0 0 false
+    → Heeded M h c g (backend.NoticeResponse x) after g r
+heeded_notice M h c g x after r heard caused = heeded_by M h c g (backend.NoticeResponse x) (on_notice x) after r refl heard caused
+
+pub heeded_notification : {H R : Type 0} (M : Meaning H R) (h : H) (c : Client) (g : Gathered (List R)) (x : NotificationResponse) (after : H) (r : Result (Unit {0}) ClientError) → M (standing h (fresh c)) (on_notification x) (standing after (fresh c)) (done r) → OfError r 0 0 false
+    → Heeded M h c g (backend.NotificationResponse x) after g r
+heeded_notification M h c g x after r heard caused = heeded_by M h c g (backend.NotificationResponse x) (on_notification x) after r refl heard caused
 
 -- a message that is refused tells nothing
 refused_told : {H R : Type 0} (M : Meaning H R) (h : H) (c : Client) (m : Backend) (after : H) (e : ClientError) → RefusesBy M (call_for m) h c after e → told m c ≡ c
@@ -105,10 +122,10 @@ refused_told M h c (backend.ParameterStatus x) after e r = absurd r
 refused_told M h c (backend.ReadyForQuery x) after e r = absurd r
 refused_told M h c m after e r = refl
 
-pub took_well : {H R : Type 0} (M : Meaning H R) (h : H) (c info : Client) (g more : Gathered R) (m : Backend) (after : H) (broken : Bool) → Heeded M h c g m after more (Ok tt) → info ≡ told m c → broken ≡ false → Took M h c g m after info more (Ok tt) broken
+pub took_well : {H R : Type 0} (M : Meaning H R) (h : H) (c info : Client) (g more : Gathered (List R)) (m : Backend) (after : H) (broken : Bool) → Heeded M h c g m after more (Ok tt) → info ≡ told m c → broken ≡ false → Took M h c g m after info more (Ok tt) broken
 took_well M h c info g more m after broken (heeds x) same usable = subst (λ (b : Bool). Took M h c g m after info more (Ok tt) b) (sym usable) (steps.takes x same)
 
-pub took_ill : {H R : Type 0} (M : Meaning H R) (h : H) (c info : Client) (g more : Gathered R) (m : Backend) (after : H) (e : ClientError) → Heeded M h c g m after more (Err e) → info ≡ told m c → Took M h c g m after info more (Err e) true
+pub took_ill : {H R : Type 0} (M : Meaning H R) (h : H) (c info : Client) (g more : Gathered (List R)) (m : Backend) (after : H) (e : ClientError) → Heeded M h c g m after more (Err e) → info ≡ told m c → Took M h c g m after info more (Err e) true
 took_ill M h c info g more m after e (refuses e2 x caused) same = steps.refuses e x caused (same ∙ refused_told M h c m after e x)
 took_ill M h c info g more m after e wants same = steps.wants
 
@@ -161,9 +178,9 @@ pub never : (broken : Bool) → (broken ≡ true) ⊎ (false ≡ true) → broke
 never broken (inl is) = is
 never broken (inr absurd_is) = absurd (let no : false ≡ true = absurd_is in cc)
 
--- ---- a message by its role
+-- ---- a message by its place
 
-pub heeded_failed : {H R : Type 0} (M : Meaning H R) (k : Kind) (h : H) (c : Client) (g : Gathered R) (m : Backend) (old new : Line) (handler : H) (info : Client) (answer : Answer Bool) (broken due : Bool) (e : ClientError) → role k false m ≡ Failing → due ≡ is_due k → e ≡ first_of client.UnexpectedEOF m
+pub heeded_failed : {H R : Type 0} (M : Meaning H R) (k : Kind) (h : H) (c : Client) (g : Gathered (List R)) (m : Backend) (old new : Line) (handler : H) (info : Client) (answer : Answer Bool) (broken due : Bool) (e : ClientError) → place k m ≡ Failing → due ≡ is_due k → e ≡ first_of client.UnexpectedEOF m
     → Settled M due h c old new e handler info answer broken → HeededOne M k h c g m old new handler info g answer broken
 heeded_failed M k h c g m old new handler info answer broken due e is asked error s =
     steps.fails answer broken is (subst (λ (d : Bool). Settled M d h c old new (first_of client.UnexpectedEOF m) handler info answer broken) asked (subst (λ (x : ClientError). Settled M due h c old new x handler info answer broken) error s)) refl

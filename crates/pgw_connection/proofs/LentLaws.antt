@@ -9,7 +9,7 @@ use Rattle.pgw_handlers.specs.Handling.{HasCause, IsCaused}
 use Rattle.pgw_connection.specs.declared.client.PgWireClient.{PgWireClient}
 use Rattle.pgw_connection.specs.declared.gathered.Gathered.{Gathered}
 use Rattle.pgw_connection.specs.Desk.{client_of}
-use Rattle.pgw_connection.specs.Line.{Line, Foretold}
+use Rattle.pgw_connection.specs.Line.{Line, Foretold, IsFlushed}
 use Rattle.pgw_connection.specs.Calls.{IsUsable}
 use Rattle.pgw_connection.specs.Extended.{Meaning, finish}
 use Rattle.pgw_connection.specs.ExtendedSteps.{Called, given, may_stay}
@@ -17,23 +17,23 @@ use Rattle.pgw_connection.specs.Lent.{Asks, both, line_of}
 use Rattle.pgw_connection.proofs.ForetoldLaws.{foretold_still}
 use Rattle.pgw_connection.proofs.RequestLaws.{called_starved}
 
-given_both : {R A : Type 0} (give : Gathered R → Bool → A) (r : Result (Gathered R × Bool) ClientError) → given give (given both r) ≡ given give r
+given_both : {S A : Type 0} (give : Gathered S → Bool → A) (r : Result (Gathered S × Bool) ClientError) → given give (given both r) ≡ given give r
 given_both give (Ok x) = refl
 given_both give (Err e) = refl
 
-given_caused : {R A : Type 0} (give : Gathered R → Bool → A) (r : Result (Gathered R × Bool) ClientError) (before now : ℕ) (broken : Bool) → HasCause before now broken r → HasCause before now broken (given give r)
+given_caused : {S A : Type 0} (give : Gathered S → Bool → A) (r : Result (Gathered S × Bool) ClientError) (before now : ℕ) (broken : Bool) → HasCause before now broken r → HasCause before now broken (given give r)
 given_caused give (Ok x) before now broken c = record { later = c.later; failed = tt }
 given_caused give (Err e) before now broken c = record { later = c.later; failed = c.failed }
 
-given_usable : {R A : Type 0} (give : Gathered R → Bool → A) (r : Result (Gathered R × Bool) ClientError) (broken : Bool) → IsUsable may_stay r broken → IsUsable may_stay (given give r) broken
+given_usable : {S A : Type 0} (give : Gathered S → Bool → A) (r : Result (Gathered S × Bool) ClientError) (broken : Bool) → IsUsable may_stay r broken → IsUsable may_stay (given give r) broken
 given_usable give (Ok x) broken u = u
 given_usable give (Err e) broken u = u
 
-module _ {X : Type 0} {L : Link.Ghosts X} {H R : Type 0} (foretells : Type 0) (left : X → Option (List ℕ)) (tape : X → Tape) (faults : X → ℕ) (M : Meaning H R) (q : Request) (h : H) (before after : PgWireClient X L) where
+module _ {X : Type 0} {L : Link.Ghosts X} {H R S : Type 0} (foretells : Type 0) (left : X → Option (List ℕ)) (tape : X → Tape) (faults : X → ℕ) (M : Meaning H R) (listed : S → List R) (q : Request) (h : H) (before after : PgWireClient X L) where
   -- a call that makes its own answer of what was gathered
-  pub asks_as : {A : Type 0} (give : Gathered R → Bool → A) (handler : H) (r : Result (Gathered R × Bool) ClientError) (result : Result A ClientError) → result ≡ given give r → Asks foretells left tape faults M q both h handler before after r → Asks foretells left tape faults M q give h handler before after result
+  pub asks_as : {A : Type 0} (give : Gathered S → Bool → A) (handler : H) (r : Result (Gathered S × Bool) ClientError) (result : Result A ClientError) → result ≡ given give r → Asks foretells left tape faults M listed q both h handler before after r → Asks foretells left tape faults M listed q give h handler before after result
   asks_as {A} give handler r result is a =
-      subst (λ (x : Result A ClientError). Asks foretells left tape faults M q give h handler before after x) (sym is)
+      subst (λ (x : Result A ClientError). Asks foretells left tape faults M listed q give h handler before after x) (sym is)
       record {
         broken = λ was. let b = a.broken was in (ap (given give) b.0, b.1, b.2);
         asked = λ usable.
@@ -52,13 +52,13 @@ module _ {X : Type 0} {L : Link.Ghosts X} {H R : Type 0} (foretells : Type 0) (l
   starve_caused false e was now b s = subst (λ (x : ClientError). IsCaused x was now false) (sym (s refl)) tt
 
   -- memory was wanting
-  pub asks_starved : (e : ClientError) → (before.desk.broken ≡ true → (e ≡ client.Broken) × (after ≡ before)) → (before.desk.broken ≡ false → (e ≡ client.OutOfMemory) × (after.desk.broken ≡ true)) → line_of tape faults after ≡ line_of tape faults before
-      → after.link ≡ before.link → after.read ≤ after.limit → after.desk.config ≡ before.desk.config → Asks foretells left tape faults M q both h h before after (Err e)
-  asks_starved e broken starved same link within config = record {
+  pub asks_starved : (e : ClientError) → (before.desk.broken ≡ false → IsFlushed (line_of tape faults before)) → (before.desk.broken ≡ true → (e ≡ client.Broken) × (after ≡ before)) → (before.desk.broken ≡ false → (e ≡ client.OutOfMemory) × (after.desk.broken ≡ true)) → line_of tape faults after ≡ line_of tape faults before
+      → after.link ≡ before.link → after.read ≤ after.limit → after.desk.config ≡ before.desk.config → Asks foretells left tape faults M listed q both h h before after (Err e)
+  asks_starved e flushed broken starved same link within config = record {
     broken = λ was. let b = broken was in (ap Err b.0, b.1, refl);
     asked = λ usable.
         let s = starved usable in
-        let called = called_starved M q h h (client_of before.desk) (client_of after.desk) (line_of tape faults before) in
+        let called = called_starved M q h h (client_of before.desk) (client_of after.desk) (line_of tape faults before) (flushed usable) in
         let there = subst (λ (l : Line). Called M q h (client_of before.desk) (line_of tape faults before) l (finish (Err client.OutOfMemory) h (client_of after.desk) true l.buffer)) (sym same) called in
         let so = subst (λ (x : ClientError). Called M q h (client_of before.desk) (line_of tape faults before) (line_of tape faults after) (finish (Err x) h (client_of after.desk) true after.inbox)) (sym s.0) there in
         record {

@@ -10,12 +10,12 @@ use Rattle.pgw_backend.specs.declared.backend.PgWireBackendMessage.TheVariants a
 use Rattle.pgw_backend.specs.declared.client_error.PgWireClientError.{PgWireClientError as ClientError}
 use Rattle.pgw_backend.specs.declared.client_error.PgWireClientError.TheVariants as client
 use Rattle.pgw_link.specs.Tape.{Tape}
-use Rattle.pgw_client.specs.Wire.{Decoded}
+use Rattle.pgw_dialogue.specs.Wire.{Decoded}
 use Rattle.pgw_session.specs.Segments.{is_ready}
 use Rattle.pgw_handlers.specs.Client.{Client}
 use Rattle.pgw_handlers.specs.Handling.{IsCaused}
 use Rattle.pgw_connection.specs.Talk.{Next, Lack, unread, halts, starves as lack_starves, passes, is_remote, told, in_place_of, first_of, Passing, lacks, closes, goes, starves}
-use Rattle.pgw_connection.specs.Line.{Line, line, Reasons, Pause, IsFlushed, WentWell, NotEnded, Halts, AtEnd, Drew}
+use Rattle.pgw_connection.specs.Line.{Line, line, Reasons, Pause, IsFlushed, WentWell, EndedWell, NotEnded, Halts, AtEnd, Drew}
 use Rattle.pgw_connection.specs.Reading.{GoesOn, Grew, Ended, Failed, Lost, ReadOnce, Found, Came, PassedOver}
 
 -- ---- bytes behind others
@@ -85,6 +85,16 @@ well_on old mid new a b = (b.0 ∙ a.0, λ f. b.1 (a.1 f))
 pub went_on : (A : Type 0) (old mid new : Line) → WentWell old mid → WentWell mid new ⊎ A → WentWell old new ⊎ A
 went_on A old mid new a (inl b) = inl (well_on old mid new a b)
 went_on A old mid new a (inr x) = inr x
+
+-- a line whose writes were flushed ends so
+pub end_well : (A : Type 0) (old new : Line) → IsFlushed old → WentWell old new ⊎ A → EndedWell old new ⊎ A
+end_well A old new f (inl w) = inl (w.0, w.1 f)
+end_well A old new f (inr x) = inr x
+
+-- no call failed up to there, and from there on all went well
+pub ended_on : (A : Type 0) (old mid new : Line) → mid.faults ≡ old.faults → EndedWell mid new ⊎ A → EndedWell old new ⊎ A
+ended_on A old mid new calm (inl w) = inl (w.0 ∙ calm, w.1)
+ended_on A old mid new calm (inr x) = inr x
 
 -- an answer that is an error
 abbrev pub failed : (A : Type 0) → ClientError → Result A ClientError

@@ -11,32 +11,32 @@ use Rattle.pgw_handlers.specs.Client.{Client, Sight}
 use Rattle.pgw_handlers.specs.Handling.{standing, IsCaused, OfError}
 use Rattle.pgw_connection.specs.declared.gathered.Gathered.{Gathered}
 use Rattle.pgw_connection.specs.Talk.{fresh, is_refusal}
-use Rattle.pgw_connection.specs.Line.{Line, Reasons, Pause, Moved}
+use Rattle.pgw_connection.specs.Line.{Line, Reasons, Pause, IsFlushed, Moved}
 use Rattle.pgw_connection.specs.Calls.{PutAll, PutSome, Opens as Begins, starved, wrote, cut, refused}
 use Rattle.pgw_connection.specs.Extended.{Meaning, calls_for, Opens, none_gathered, Finish, finish, Exchange, Requested}
 use Rattle.pgw_connection.specs.Extended as extended
-use Rattle.pgw_connection.specs.ExtendedSteps.{Exchanged, Called, Answered, given}
-use Rattle.pgw_connection.proofs.ReadingLaws.{not_halted, not_at_end, halts_on, at_end_on, well_still, went_on}
-use Rattle.pgw_connection.proofs.CallLaws.{put_well, moved_on, opened_well}
+use Rattle.pgw_connection.specs.ExtendedSteps.{Exchanged, Called, Answered}
+use Rattle.pgw_connection.proofs.ReadingLaws.{not_halted, not_at_end, halts_on, at_end_on, ended_on}
+use Rattle.pgw_connection.proofs.CallLaws.{moved_on, opened_well}
 use Rattle.pgw_connection.proofs.ExchangeLaws.{exchange_as}
 
 moved_still : (old : Line) → Moved old old [] []
 moved_still old = record { took = sym (append-nil old.tape.took); wrote = sym (append-nil old.tape.wrote); read = omega arith; limit = refl }
 
 -- memory was wanting
-pub called_starved : {H R : Type 0} (M : Meaning H R) (q : Request) (h handler : H) (c info : Client) (old : Line) → Called M q h c old old (finish (Err client.OutOfMemory) handler info true old.buffer)
-called_starved M q h handler c info old = record {
+pub called_starved : {H R : Type 0} (M : Meaning H R) (q : Request) (h handler : H) (c info : Client) (old : Line) → IsFlushed old → Called M q h c old old (finish (Err client.OutOfMemory) handler info true old.buffer)
+called_starved M q h handler c info old f = record {
   taken = [];
   sent = [];
   moved = moved_still old;
   requested = extended.starves handler info old.buffer;
-  flushed = λ f good. f;
-  halts = λ f. not_halted info (length old.tape.wrote) old old refl;
+  flushed = λ good. f;
+  halts = not_halted info (length old.tape.wrote) old old refl;
   at_end = not_at_end _ old old refl;
-  well = inl (well_still old);
+  well = inl (refl, f);
 }
 
-module _ {H R : Type 0} (M : Meaning H R) (q : Request) (h handler : H) (c : Client) (s : Sight) (old : Line) where
+module _ {H R : Type 0} (M : Meaning H R) (q : Request) (h handler : H) (c : Client) (s : Sight) (old : Line) (f : IsFlushed old) where
   -- the opening was written, and messages were exchanged
   called_exchanged : (info : Client) (mid new : Line) (last : Finish H R) → Opens M (calls_for (sends_of q)) (standing h (fresh c)) (standing handler s) (Ok tt) → s.broken ≡ false → PutAll s.wrote old mid → info ≡ s.client
       → Exchanged M (kind_of q) handler info none_gathered mid new last → Called M q h c old new last
@@ -47,10 +47,10 @@ module _ {H R : Type 0} (M : Meaning H R) (q : Request) (h handler : H) (c : Cli
         sent = s.wrote ++ t.sent;
         moved = moved_on old mid new [] t.taken s.wrote t.sent put.moved t.moved;
         requested = extended.opened (standing handler s) t.sent last o usable (exchange_as M (kind_of q) old mid new handler info s.client none_gathered (old.buffer ++ t.taken) t.sent last put.goes_on same bytes);
-        flushed = λ f good. t.flushed (put.flushed f) good;
-        halts = λ f. halts_on last.info (length new.tape.wrote) (length new.tape.wrote) old mid new put.goes_on.0 refl (t.halts (put.flushed f));
+        flushed = t.flushed;
+        halts = halts_on last.info (length new.tape.wrote) (length new.tape.wrote) old mid new put.goes_on.0 refl t.halts;
         at_end = at_end_on _ _ old mid new put.goes_on.0 (λ is. is) t.at_end;
-        well = went_on (last.answer ≡ Err client.IoError) old mid new (put_well old mid s.wrote put) t.well;
+        well = ended_on (last.answer ≡ Err client.IoError) old mid new put.goes_on.1 t.well;
       }
 
   bytes_are : (sent : List ℕ) (P : Reasons) (e : ClientError) (info : Client) (broken : Bool) (rest : List ℕ) → rest ≡ old.buffer
@@ -65,8 +65,8 @@ module _ {H R : Type 0} (M : Meaning H R) (q : Request) (h handler : H) (c : Cli
     sent = put.part;
     moved = put.moved;
     requested = bytes_are put.part (Pause old new) client.IoError s.client true new.buffer put.buffer (extended.unwritten (standing handler s) put.part o usable put.cut);
-    flushed = λ f good. absurd (let no : true ≡ false = good in cc);
-    halts = λ f. not_halted s.client (length new.tape.wrote) old new put.ended;
+    flushed = λ good. absurd (let no : true ≡ false = good in cc);
+    halts = not_halted s.client (length new.tape.wrote) old new put.ended;
     at_end = not_at_end _ old new put.ended;
     well = inr refl;
   }
@@ -77,20 +77,20 @@ module _ {H R : Type 0} (M : Meaning H R) (q : Request) (h handler : H) (c : Cli
     sent = [];
     moved = moved_still old;
     requested = bytes_are [] (Pause old old) e s.client false old.buffer refl (extended.refused (standing handler s) e o is usable);
-    flushed = λ f good. f;
-    halts = λ f. not_halted s.client (length old.tape.wrote) old old refl;
+    flushed = λ good. f;
+    halts = not_halted s.client (length old.tape.wrote) old old refl;
     at_end = not_at_end _ old old refl;
-    well = inl (well_still old);
+    well = inl (refl, f);
   }
   called_refused e o usable caused false is = record {
     taken = [];
     sent = [];
     moved = moved_still old;
     requested = bytes_are [] (Pause old old) e s.client true old.buffer refl (extended.breaks (standing handler s) e o is caused usable);
-    flushed = λ f good. f;
-    halts = λ f. not_halted s.client (length old.tape.wrote) old old refl;
+    flushed = λ good. f;
+    halts = not_halted s.client (length old.tape.wrote) old old refl;
     at_end = not_at_end _ old old refl;
-    well = inl (well_still old);
+    well = inl (refl, f);
   }
 
   called_ended : (new : Line) (opened result : Result (Unit {0}) ClientError) (e : ClientError) (broken : Bool) → Opens M (calls_for (sends_of q)) (standing h (fresh c)) (standing handler s) opened → OfError opened 0 0 s.broken
@@ -98,7 +98,7 @@ module _ {H R : Type 0} (M : Meaning H R) (q : Request) (h handler : H) (c : Cli
   called_ended new opened result e broken o caused (starved opened2 wanting same) is =
       let x : client.OutOfMemory ≡ e = cc in
       subst (λ (y : ClientError). Called M q h c old new (finish (Err y) handler s.client true new.buffer)) x
-      (subst (λ (l : Line). Called M q h c old l (finish (Err client.OutOfMemory) handler s.client true l.buffer)) (sym same) (called_starved M q h handler c s.client old))
+      (subst (λ (l : Line). Called M q h c old l (finish (Err client.OutOfMemory) handler s.client true l.buffer)) (sym same) (called_starved M q h handler c s.client old f))
   called_ended new opened result e broken o caused (wrote usable put) is = absurd cc
   called_ended new opened result e broken o caused (cut usable put) is =
       let x : client.IoError ≡ e = cc in
@@ -108,7 +108,7 @@ module _ {H R : Type 0} (M : Meaning H R) (q : Request) (h handler : H) (c : Cli
       subst (λ (y : ClientError). Called M q h c old new (finish (Err y) handler s.client (not (is_refusal e2)) new.buffer)) x
       (subst (λ (l : Line). Called M q h c old l (finish (Err e2) handler s.client (not (is_refusal e2)) l.buffer)) (sym same) (called_refused e2 o usable caused (is_refusal e2) refl))
 
-module _ {H R : Type 0} (M : Meaning H R) (q : Request) (h handler : H) (c : Client) (s0 s : Sight) (old mid : Line) (ms : List Frontend) (handed : Result (Unit {0}) ClientError) (all : ms ≡ sends_of q) (cleared : s0 ≡ fresh c) (opens : Opens M (calls_for ms) (standing h s0) (standing handler s) handed) where
+module _ {H R : Type 0} (M : Meaning H R) (q : Request) (h handler : H) (c : Client) (s0 s : Sight) (old mid : Line) (f : IsFlushed old) (ms : List Frontend) (handed : Result (Unit {0}) ClientError) (all : ms ≡ sends_of q) (cleared : s0 ≡ fresh c) (opens : Opens M (calls_for ms) (standing h s0) (standing handler s) handed) where
   opens_so : Opens M (calls_for (sends_of q)) (standing h (fresh c)) (standing handler s) handed
   opens_so = subst (λ (l : List Frontend). Opens M (calls_for l) (standing h (fresh c)) (standing handler s) handed) all (subst (λ (x : Sight). Opens M (calls_for ms) (standing h x) (standing handler s) handed) cleared opens)
 
@@ -116,25 +116,15 @@ module _ {H R : Type 0} (M : Meaning H R) (q : Request) (h handler : H) (c : Cli
   pub called_opened : (new : Line) (info : Client) (broken : Bool) (k : Kind) (last : Finish H R) → Begins s.broken s.wrote old mid handed (Ok tt) broken → info ≡ s.client → k ≡ kind_of q → Exchanged M k handler info none_gathered mid new last → Called M q h c old new last
   called_opened new info broken k last begun same kind_is t =
       let well = opened_well s.broken broken s.wrote old mid handed begun in
-      called_exchanged M q h handler c s old info mid new last
+      called_exchanged M q h handler c s old f info mid new last
       (subst (λ (r : Result (Unit {0}) ClientError). Opens M (calls_for (sends_of q)) (standing h (fresh c)) (standing handler s) r) well.0 opens_so) well.1 well.2 same
       (subst (λ (x : Kind). Exchanged M x handler info none_gathered mid new last) kind_is t)
 
   -- and one that was not
   pub called_closed : (e : ClientError) (info : Client) (broken : Bool) → OfError handed 0 0 s.broken → Begins s.broken s.wrote old mid handed (Err e) broken → info ≡ s.client → Called M q h c old mid (finish (Err e) handler info broken mid.buffer)
   called_closed e info broken caused begun same =
-      subst (λ (y : Client). Called M q h c old mid (finish (Err e) handler y broken mid.buffer)) (sym same) (called_ended M q h handler c s old mid handed (Err e) e broken opens_so caused begun refl)
+      subst (λ (y : Client). Called M q h c old mid (finish (Err e) handler y broken mid.buffer)) (sym same) (called_ended M q h handler c s old f mid handed (Err e) e broken opens_so caused begun refl)
 
 -- the same request
 pub called_as : {H R : Type 0} (M : Meaning H R) (q asked : Request) (h : H) (c : Client) (old new : Line) (last : Finish H R) → asked ≡ q → Called M asked h c old new last → Called M q h c old new last
 called_as M q asked h c old new last same called = subst (λ (x : Request). Called M x h c old new last) same called
-
--- ---- a call's own answer
-
-pub answered : {H R A : Type 0} (M : Meaning H R) (q : Request) (give : Gathered R → Bool → A) (h : H) (c : Client) (old new : Line) (handler : H) (info : Client) (broken : Bool) (rest : List ℕ) (answer : Result (Gathered R × Bool) ClientError) (result : Result A ClientError)
-    → rest ≡ new.buffer → result ≡ given give answer → Called M q h c old new (finish answer handler info broken rest) → Answered M q give h c old new handler info broken result
-answered M q give h c old new handler info broken rest answer result same is called = record {
-  answer = answer;
-  gives = is;
-  called = subst (λ (b : List ℕ). Called M q h c old new (finish answer handler info broken b)) same called;
-}

@@ -3,7 +3,7 @@ use Rattle.std.specs.Prelude.{◌≡◌, ◌⊎◌, ℕ, Bool, true, false, not,
 use Rattle.pgw_types.specs.declared.error.PgWireError.{PgWireError}
 use Rattle.pgw_types.specs.declared.context.ProtocolVersion.{ProtocolVersion}
 use Rattle.pgw_backend.specs.Front.{front, More, Bad, Whole}
-use Rattle.pgw_client.specs.Wire.{Unless}
+use Rattle.pgw_dialogue.specs.Wire.{Unless}
 use Rattle.pgw_backend.specs.declared.client_error.PgWireClientError.{PgWireClientError as ClientError}
 use Rattle.pgw_backend.specs.declared.client_error.PgWireClientError.TheVariants as client
 use Rattle.pgw_backend.specs.declared.backend.PgWireBackendMessage.{PgWireBackendMessage as Backend}
@@ -15,7 +15,7 @@ use Rattle.pgw_handlers.specs.Handling.{Standing, standing, Answer}
 use Rattle.pgw_handlers.specs.declared.client_info.ReadyState.{ReadyState}
 use Rattle.pgw_handlers.specs.declared.client_info.ReadyState.TheVariants.{Pending, Ready}
 use Rattle.pgw_connection.specs.Talk.{fresh, Next, End, end, Hearing, Talk, Asked, IsCut, passes, is_refusal}
-use Rattle.pgw_connection.specs.Line.{Line, Pause, IsFlushed, WentWell, NotEnded, Halts, AtEnd, Moved}
+use Rattle.pgw_connection.specs.Line.{Line, Pause, IsFlushed, EndedWell, NotEnded, Halts, AtEnd, Moved}
 use Rattle.pgw_connection.specs.Reading.{GoesOn, PassedOver}
 
 -- ---- what no handler changes
@@ -122,7 +122,6 @@ pub record HeardOne {H A : Type 0} (M : Hearing H A) (h : H) (c : Client) (old n
   pub quiet : is_ready message ≡ false
   pub handler_is : after.handler ≡ handler
   pub info_is : after.sight.client ≡ info
-  pub flushed : IsFlushed old → IsFlushed new
   pub goes_on : GoesOn old new
 
 -- messages were handed over up to the call's end
@@ -131,9 +130,9 @@ pub record Talked {H A : Type 0} (M : Hearing H A) (goes_on : ClientError → Bo
   pub sent : List ℕ
   pub moved : Moved old new taken sent
   pub talk : Talk M (Pause old new) goes_on h c (old.buffer ++ taken) sent last
-  pub flushed : IsFlushed old → last.broken ≡ false → IsFlushed new
-  pub well : WentWell old new ⊎ (last.answer ≡ Err client.IoError)
-  pub halts : IsFlushed old → Halts last.info (length new.tape.wrote) old new
+  pub flushed : last.broken ≡ false → IsFlushed new
+  pub well : EndedWell old new ⊎ (last.answer ≡ Err client.IoError)
+  pub halts : Halts last.info (length new.tape.wrote) old new
   pub at_end : AtEnd old new (IsHalted goes_on last.answer last.broken)
 
 -- one message was handed over: the call goes on, or has ended
@@ -142,20 +141,28 @@ HeardNext M goes_on h c old new handler info broken (Ok Pending) = HeardOne M h 
 HeardNext M goes_on h c old new handler info broken (Ok (Ready x)) = Talked M goes_on h c old new (end (Ok x) info broken new.buffer)
 HeardNext M goes_on h c old new handler info broken (Err e) = Talked M goes_on h c old new (end (Err e) info broken new.buffer)
 
+-- the same behind some rows: the call goes on from there as it does from the beginning, or has ended
+abbrev pub HeardOn : {H A : Type 0} → Hearing H A → (ClientError → Bool) → H → Client → Line → Line → H → Client → Bool → Answer A → Type 0
+HeardOn {A = A} M goes_on h c old new handler info broken (Ok Pending) =
+    ((final : Line) (last : End A) → Talked M goes_on handler info new final last →
+    Talked M goes_on h c old final last) × (broken ≡ false)
+HeardOn M goes_on h c old new handler info broken (Ok (Ready x)) = Talked M goes_on h c old new (end (Ok x) info broken new.buffer)
+HeardOn M goes_on h c old new handler info broken (Err e) = Talked M goes_on h c old new (end (Err e) info broken new.buffer)
+
 -- ---- a call
 
 -- A call of a client, as its handler means it: what it read and wrote, that what it read is counted, that a usable client
 -- has flushed all that it wrote, that behind any answer but IoError no call of the link failed and all that was written is
--- flushed, if all was before, and that the link's end was answered at most once in it: asked for a message that was
+-- flushed, and that the link's end was answered at most once in it: asked for a message that was
 -- awaited, with all flushed, and it is what the call answers, or the error behind which it passed messages over.
 pub record Call {H A : Type 0} (opens : Standing H → Standing H → Answer A → Type 0) (M : Hearing H A) (goes_on : ClientError → Bool) (h : H) (c : Client) (old new : Line) (last : End A) : Type 0 where
   pub taken : List ℕ
   pub sent : List ℕ
   pub moved : Moved old new taken sent
   pub asked : Asked opens M (Pause old new) goes_on h c (old.buffer ++ taken) sent last
-  pub flushed : IsFlushed old → last.broken ≡ false → IsFlushed new
-  pub well : WentWell old new ⊎ (last.answer ≡ Err client.IoError)
-  pub halts : IsFlushed old → Halts last.info (length new.tape.wrote) old new
+  pub flushed : last.broken ≡ false → IsFlushed new
+  pub well : EndedWell old new ⊎ (last.answer ≡ Err client.IoError)
+  pub halts : Halts last.info (length new.tape.wrote) old new
   pub at_end : AtEnd old new (IsHalted goes_on last.answer last.broken)
 
 -- ---- taking a message from the buffer

@@ -1,16 +1,18 @@
 -- What a connect and a cancel do to their dialer, and what they answer.
 use Rattle.std.specs.Prelude.{◌≡◌, ◌≢◌, ◌⊎◌, ◌<◌, ◌≤◌, ℕ, Bool, true, false, List, [], ◌∷◌, ◌++◌, Option, Some, None, Result, Ok, Err}
 use Rattle.pgw_types.specs.declared.error.PgWireError.{PgWireError}
+use Rattle.pgw_types.specs.declared.config_error.ConfigError.{ConfigError}
+use Rattle.pgw_backend.specs.ClientError.{of_config}
 use Rattle.pgw_backend.specs.declared.client_error.PgWireClientError.{PgWireClientError as ClientError}
 use Rattle.pgw_backend.specs.declared.client_error.PgWireClientError.TheVariants as client
-use Rattle.pgw_conninfo.specs.declared.address.Address.{Address}
+use Rattle.pgw_types.specs.declared.address.Address.{Address}
 use Rattle.pgw_config.specs.declared.config.Config.{Config}
 use Rattle.pgw_config.specs.Address.{address_of}
-use Rattle.pgw_link.specs.Tape.{Tape, Rose, new_tape}
+use Rattle.pgw_types.specs.Counts.{Rose}
+use Rattle.pgw_link.specs.Tape.{Tape, new_tape}
 use Rattle.pgw_link.specs.Dials.{DialTape, Dialled, NotDialled, CountsClose}
 use Rattle.pgw_session.specs.Demands.{refused_config}
-use Rattle.pgw_client.specs.Demands.{IsInvalidConfig}
-use Rattle.pgw_client.specs.SessionSteps.{Wrote, WroteSome}
+use Rattle.pgw_dialogue.specs.Demands.{IsInvalidConfig}
 use Rattle.pgw_handlers.specs.Client.{Client}
 use Rattle.pgw_handlers.specs.Handling.{Standing, Answer}
 use Rattle.pgw_handlers.specs.declared.client_info.ServerInformation.{ServerInformation}
@@ -28,10 +30,15 @@ never e = false
 abbrev pub LeadsTo : Config → Address → Type 0
 LeadsTo config address = (refused_config config ≡ None) × (address_of config ≡ Ok address)
 
--- a demand is refused by its key; else there is no address; or memory was wanting
+-- the configuration has no address, which is refused so; or memory was wanting
+abbrev pub LacksAddress : Config → ClientError → Type 0
+LacksAddress config e = e ≢ client.OutOfMemory →
+    (why : ConfigError) × (address_of config ≡ Err why) × (e ≡ of_config why)
+
+-- a demand is refused by its key; else there is no address
 abbrev pub IsRefusedBy : Option (List ℕ) → Config → ClientError → Type 0
 IsRefusedBy (Some key) config e = IsInvalidConfig key e
-IsRefusedBy None config e = e ≢ client.OutOfMemory → address_of config ≡ Err e
+IsRefusedBy None config e = LacksAddress config e
 
 -- ---- the dialer
 
@@ -90,29 +97,3 @@ NotConnectedAt foretells opens M handler config limit address was is old new bef
 abbrev pub NotConnected : {S : Type 0} → Type 0 → Type 0 → (Standing S → Standing S → Answer ServerInformation → Type 0) → Hearing S ServerInformation → S → Config → ℕ → Option (List ℕ) → Option (List ℕ) → DialTape → DialTape → ℕ → ℕ → ClientError → Type 0
 NotConnected same foretells opens M handler config limit was is old new before now e =
     (same × IsRefusedBy (refused_config config) config e) ⊎ ((address : Address) × LeadsTo config address × NotConnectedAt foretells opens M handler config limit address was is old new before now e)
-
--- ---- a message over a link of its own
-
--- a link was dialled, these bytes written to it, and the link closed
-abbrev pub SentOnce : Address → List ℕ → DialTape → DialTape → Type 0
-SentOnce address bytes old new =
-    (first : Tape) × (after : Tape) × DialledOnce address old new first after × Wrote first after bytes
-
--- a link was dialled, and not all of them were written; or none was dialled
-pub data NotSentOnce (foretells : Type 0) (address : Address) (bytes : List ℕ) (was is : Option (List ℕ)) (old new : DialTape) (before now : ℕ) : ClientError → Type 0 where
-  no_link : (e : ClientError) → NoLink foretells address was is old new before now e →
-      NotSentOnce foretells address bytes was is old new before now e
-  cut : Rose before now → (first after : Tape) → DialledOnce address old new first after → WroteSome first after bytes →
-      NotSentOnce foretells address bytes was is old new before now client.IoError
-
--- What a cancel answers: `spelled` is the one message that it sends, and `same` says that the dialer is as it was.
-pub data Cancels (same foretells : Type 0) (config : Config) (spelled : Result (List ℕ) PgWireError) (was is : Option (List ℕ)) (old new : DialTape) (before now : ℕ) : Result (Unit {0}) ClientError → Type 0 where
-  sent : (address : Address) (bytes : List ℕ) → address_of config ≡ Ok address → spelled ≡ Ok bytes →
-      SentOnce address bytes old new → Cancels same foretells config spelled was is old new before now (Ok tt)
-  unsent : (address : Address) (bytes : List ℕ) (e : ClientError) → address_of config ≡ Ok address → spelled ≡ Ok bytes →
-      NotSentOnce foretells address bytes was is old new before now e → Cancels same foretells config spelled was is old new before now (Err e)
-  no_address : (e : ClientError) → same → (e ≢ client.OutOfMemory → address_of config ≡ Err e) →
-      Cancels same foretells config spelled was is old new before now (Err e)
-  unspelled : (e : ClientError) → same →
-      (e ≢ client.OutOfMemory → (why : PgWireError) × (spelled ≡ Err why) × (e ≡ client.PgWireError why)) →
-      Cancels same foretells config spelled was is old new before now (Err e)

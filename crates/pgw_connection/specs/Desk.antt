@@ -55,7 +55,3 @@ insert_all m (p ∷ ps) = insert_all (map.insert m p.0 p.1) ps
 -- number and key replace the client's
 abbrev pub with_information : ServerInformation → Client → Client
 with_information told c = record c { parameters = insert_all c.parameters (map.entries told.parameters); process_id = told.process_id; secret_key = told.secret_key }
-
--- the request that cancels what the server does for the client of this process number and key
-abbrev pub cancel_bytes : ℤ → SecretKey → Result (List ℕ) PgWireError
-cancel_bytes pid key = encoding (frontend.CancelRequest (record { pid = pid; secret_key = key }))

@@ -15,7 +15,7 @@ use Rattle.pgw_frontend.specs.declared.frontend.PgWireFrontendMessage.TheVariant
 use Rattle.pgw_session.specs.declared.types.Request.{Request}
 use Rattle.pgw_handlers.specs.Client.{Client}
 use Rattle.pgw_handlers.specs.Handling.{Standing, standing, IsCaused}
-use Rattle.pgw_handlers.specs.Extended.{ExtendedCall, parse, bind, execute, describe, close, sync, flush, on_parameter_description, on_row_description, on_data_row, on_command_complete, on_portal_suspended, Given, Gift, nothing, types, columns, response, tag}
+use Rattle.pgw_handlers.specs.Extended.{ExtendedCall, parse, bind, execute, describe, close, sync, flush, on_parameter_description, on_row_description, on_data_row, on_command_complete, on_portal_suspended, on_notice, on_notification, Given, Gift, nothing, types, columns, response, tag}
 use Rattle.pgw_connection.specs.Line.{Reasons}
 use Rattle.pgw_connection.specs.Talk.{fresh, Next, Lack, Passing, told, IsCut, is_refusal}
 use Rattle.pgw_connection.specs.declared.gathered.Gathered.{Gathered}
@@ -24,8 +24,18 @@ abbrev pub Meaning : Type 0 → Type 0 → Type 1
 Meaning H R = Standing H → ExtendedCall → Standing H → Given R → Type 0
 
 -- of no message
-abbrev pub none_gathered : {R : Type 0} → Gathered R
+abbrev pub none_gathered : {R : Type 0} → Gathered (List R)
 none_gathered = record { types = []; columns = []; responses = [] }
+
+-- its responses as a list, of which `listed` says what it is
+abbrev pub as_lists : {S R : Type 0} → (S → List R) → Gathered S → Gathered (List R)
+as_lists listed g =
+    record { types = g.types; columns = g.columns; responses = listed g.responses }
+
+abbrev pub in_lists : {S R : Type 0} → (S → List R) →
+    Result (Gathered S × Bool) ClientError → Result (Gathered (List R) × Bool) ClientError
+in_lists listed (Ok x) = Ok (as_lists listed x.0, x.1)
+in_lists listed (Err e) = Err e
 
 -- the handler's function for a message, if it has one
 abbrev pub call_for : Backend → Option ExtendedCall
@@ -34,10 +44,12 @@ call_for (backend.RowDescription m) = Some (on_row_description m)
 call_for (backend.DataRow m) = Some (on_data_row m)
 call_for (backend.CommandComplete m) = Some (on_command_complete m)
 call_for (backend.PortalSuspended m) = Some on_portal_suspended
+call_for (backend.NoticeResponse m) = Some (on_notice m)
+call_for (backend.NotificationResponse m) = Some (on_notification m)
 call_for m = None
 
 -- what its reply adds
-abbrev pub with_gift : {R : Type 0} → Gathered R → Gift R → Gathered R
+abbrev pub with_gift : {R : Type 0} → Gathered (List R) → Gift R → Gathered (List R)
 with_gift g nothing = g
 with_gift g (types ts) = record g { types = ts }
 with_gift g (columns fs) = record g { columns = fs }
@@ -45,11 +57,11 @@ with_gift g (response r) = record g { responses = g.responses ++ r ∷ [] }
 with_gift g (tag t) = g
 
 -- a message is heeded by its function, or tells of the connection, or nothing
-abbrev pub HeedsBy : {H R : Type 0} → Meaning H R → Option ExtendedCall → H → Client → Gathered R → Backend → H → Gathered R → Type 0
+abbrev pub HeedsBy : {H R : Type 0} → Meaning H R → Option ExtendedCall → H → Client → Gathered (List R) → Backend → H → Gathered (List R) → Type 0
 HeedsBy M None h c g m after more = (after ≡ h) × (more ≡ g)
 HeedsBy {R = R} M (Some call) h c g m after more = (gift : Gift R) × M (standing h (fresh c)) call (standing after (fresh c)) (Ok gift) × (more ≡ with_gift g gift)
 
-abbrev pub Heeds : {H R : Type 0} → Meaning H R → H → Client → Gathered R → Backend → H → Gathered R → Type 0
+abbrev pub Heeds : {H R : Type 0} → Meaning H R → H → Client → Gathered (List R) → Backend → H → Gathered (List R) → Type 0
 Heeds M h c g m after more = HeedsBy M (call_for m) h c g m after more
 
 -- its function refuses it
@@ -60,13 +72,13 @@ RefusesBy M (Some call) h c after e = M (standing h (fresh c)) call (standing af
 -- how a call ended: its answer and whether the portal was suspended, the handler, what the client knows, whether it
 -- cannot be used any more, and the bytes left in its buffer
 pub record Finish (H R : Type 0) : Type 0 where
-  pub answer : Result (Gathered R × Bool) ClientError
+  pub answer : Result (Gathered (List R) × Bool) ClientError
   pub handler : H
   pub info : Client
   pub broken : Bool
   pub rest : List ℕ
 
-abbrev pub finish : {H R : Type 0} → Result (Gathered R × Bool) ClientError → H → Client → Bool → List ℕ → Finish H R
+abbrev pub finish : {H R : Type 0} → Result (Gathered (List R) × Bool) ClientError → H → Client → Bool → List ℕ → Finish H R
 finish answer h c broken rest = record { answer = answer; handler = h; info = c; broken = broken; rest = rest }
 
 abbrev pub is_suspended : Backend → Bool
@@ -79,9 +91,15 @@ Syncs M None before after = after ≡ before
 Syncs M (Some m) before after = M before sync after (Ok nothing) × (after.sight.broken ≡ false)
 
 -- the answer behind messages that were passed over: the error, or the outcome where none came
-abbrev pub outcome_behind : {R : Type 0} → Gathered R → ClientError → Bool → Result (Gathered R × Bool) ClientError
+abbrev pub outcome_behind : {R : Type 0} → Gathered (List R) → ClientError → Bool → Result (Gathered (List R) × Bool) ClientError
 outcome_behind g client.UnexpectedEOF false = Ok (g, false)
 outcome_behind g e broken = Err e
+
+-- What becomes of a message by the table of requests, in which a notification has no place; but of
+-- that the handler is asked.
+abbrev pub place : Kind → Backend → Role
+place k (backend.NotificationResponse m) = Taken false
+place k m = role k false m
 
 -- whether a message has a place
 abbrev pub IsPlaced : Role → Type 0
@@ -91,40 +109,40 @@ IsPlaced r = Unit {0}
 -- A message behind which the answer is over and ReadyForQuery is awaited: one that completes a portal, behind which Sync
 -- is due; or the server's error, behind which it is due by the table. With where the handler stands then, the error so far
 -- (UnexpectedEOF: none), and what was gathered.
-pub data EndsAnswer {H R : Type 0} (M : Meaning H R) (k : Kind) (h : H) (c : Client) (g : Gathered R) : Backend → Option Frontend → Standing H → ClientError → Gathered R → Type 0 where
-  completing : (m : Backend) (after : H) (more : Gathered R) → role k false m ≡ Completing → Heeds M h c g m after more →
+pub data EndsAnswer {H R : Type 0} (M : Meaning H R) (k : Kind) (h : H) (c : Client) (g : Gathered (List R)) : Backend → Option Frontend → Standing H → ClientError → Gathered (List R) → Type 0 where
+  completing : (m : Backend) (after : H) (more : Gathered (List R)) → place k m ≡ Completing → Heeds M h c g m after more →
       EndsAnswer M k h c g m (Some sync_message) (standing after (fresh c)) client.UnexpectedEOF more
   failing : (m : ErrorResponse) → EndsAnswer M k h c g (backend.ErrorResponse m) (behind_error k) (standing h (fresh c)) (client.RemoteError m) g
 
 -- From a handler, what the client knows and what was gathered, over the bytes to come, to the bytes written and the end:
--- the messages of one call, by the table of requests (`role`). P says why no more bytes came, and why bytes were not
+-- the messages of one call, by the table of requests (`place`). P says why no more bytes came, and why bytes were not
 -- written.
-pub data Exchange {H R : Type 0} (M : Meaning H R) (P : Reasons) (k : Kind) : H → Client → Gathered R → List ℕ → List ℕ → Finish H R → Type 0 where
-  lacks : (h : H) (c : Client) (g : Gathered R) (bytes rest : List ℕ) (e : ClientError) → Lack P c bytes rest e → Exchange M P k h c g bytes [] (finish (Err e) h c true rest)
+pub data Exchange {H R : Type 0} (M : Meaning H R) (P : Reasons) (k : Kind) : H → Client → Gathered (List R) → List ℕ → List ℕ → Finish H R → Type 0 where
+  lacks : (h : H) (c : Client) (g : Gathered (List R)) (bytes rest : List ℕ) (e : ClientError) → Lack P c bytes rest e → Exchange M P k h c g bytes [] (finish (Err e) h c true rest)
   -- a message is taken
-  takes : (h : H) (c : Client) (g : Gathered R) (bytes : List ℕ) (m : Backend) (rest : List ℕ) (rows : Bool) (after : H) (more : Gathered R) (sent : List ℕ) (last : Finish H R) →
-      Next c bytes m rest → role k false m ≡ Taken rows → Heeds M h c g m after more → Exchange M P k after (told m c) more rest sent last → Exchange M P k h c g bytes sent last
+  takes : (h : H) (c : Client) (g : Gathered (List R)) (bytes : List ℕ) (m : Backend) (rest : List ℕ) (rows : Bool) (after : H) (more : Gathered (List R)) (sent : List ℕ) (last : Finish H R) →
+      Next c bytes m rest → place k m ≡ Taken rows → Heeds M h c g m after more → Exchange M P k after (told m c) more rest sent last → Exchange M P k h c g bytes sent last
   -- it closes the call
-  closes : (h : H) (c : Client) (g : Gathered R) (bytes : List ℕ) (m : Backend) (rest : List ℕ) (after : H) (more : Gathered R) →
-      Next c bytes m rest → role k false m ≡ Closing → Heeds M h c g m after more → Exchange M P k h c g bytes [] (finish (Ok (more, is_suspended m)) after (told m c) false rest)
+  closes : (h : H) (c : Client) (g : Gathered (List R)) (bytes : List ℕ) (m : Backend) (rest : List ℕ) (after : H) (more : Gathered (List R)) →
+      Next c bytes m rest → place k m ≡ Closing → Heeds M h c g m after more → Exchange M P k h c g bytes [] (finish (Ok (more, is_suspended m)) after (told m c) false rest)
   -- it ends the answer: Sync is sent where one is due, and what comes is passed over up to ReadyForQuery
-  ends : (h : H) (c : Client) (g : Gathered R) (bytes : List ℕ) (m : Backend) (rest : List ℕ) (due : Option Frontend) (before s : Standing H) (e : ClientError) (more : Gathered R) (x : ClientError) (last : Client) (left : List ℕ) (broken : Bool) →
+  ends : (h : H) (c : Client) (g : Gathered (List R)) (bytes : List ℕ) (m : Backend) (rest : List ℕ) (due : Option Frontend) (before s : Standing H) (e : ClientError) (more : Gathered (List R)) (x : ClientError) (last : Client) (left : List ℕ) (broken : Bool) →
       Next c bytes m rest → EndsAnswer M k h c g m due before e more → Syncs M due before s → Passing P e s.sight.client rest x last left broken →
       Exchange M P k h c g bytes s.sight.wrote (finish (outcome_behind more x broken) s.handler last broken left)
   -- Sync is not sent: the handler answers an error, and what it put is dropped; or it is not written whole,
   -- or not flushed
-  unsynced : (h : H) (c : Client) (g : Gathered R) (bytes : List ℕ) (m : Backend) (rest : List ℕ) (due : Frontend) (before after : Standing H) (e x : ClientError) (more : Gathered R) →
+  unsynced : (h : H) (c : Client) (g : Gathered (List R)) (bytes : List ℕ) (m : Backend) (rest : List ℕ) (due : Frontend) (before after : Standing H) (e x : ClientError) (more : Gathered (List R)) →
       Next c bytes m rest → EndsAnswer M k h c g m (Some due) before e more → M before sync after (Err x) → IsCaused x 0 0 after.sight.broken → after.sight.broken ≡ false → Exchange M P k h c g bytes [] (finish (Err x) after.handler after.sight.client true rest)
-  unwritten : (h : H) (c : Client) (g : Gathered R) (bytes : List ℕ) (m : Backend) (rest : List ℕ) (due : Frontend) (before after : Standing H) (e : ClientError) (more : Gathered R) (part : List ℕ) →
+  unwritten : (h : H) (c : Client) (g : Gathered (List R)) (bytes : List ℕ) (m : Backend) (rest : List ℕ) (due : Frontend) (before after : Standing H) (e : ClientError) (more : Gathered (List R)) (part : List ℕ) →
       Next c bytes m rest → EndsAnswer M k h c g m (Some due) before e more → M before sync after (Ok nothing) → after.sight.broken ≡ false → IsCut P after.sight.wrote part →
       Exchange M P k h c g bytes part (finish (Err client.IoError) after.handler after.sight.client true rest)
-  -- the handler refuses a message that has a place
-  refuses : (h : H) (c : Client) (g : Gathered R) (bytes : List ℕ) (m : Backend) (rest : List ℕ) (after : H) (e : ClientError) →
-      Next c bytes m rest → IsPlaced (role k false m) → RefusesBy M (call_for m) h c after e → IsCaused e 0 0 false → Exchange M P k h c g bytes [] (finish (Err e) after c true rest)
+  -- the handler refuses a message that has a place, or a notification
+  refuses : (h : H) (c : Client) (g : Gathered (List R)) (bytes : List ℕ) (m : Backend) (rest : List ℕ) (after : H) (e : ClientError) →
+      Next c bytes m rest → IsPlaced (place k m) → RefusesBy M (call_for m) h c after e → IsCaused e 0 0 false → Exchange M P k h c g bytes [] (finish (Err e) after c true rest)
   -- a message has no place
-  misplaced : (h : H) (c : Client) (g : Gathered R) (bytes : List ℕ) (m : Backend) (rest : List ℕ) (e : ClientError) →
-      Next c bytes m rest → role k false m ≡ Misplaced → IsUnexpected m e → Exchange M P k h c g bytes [] (finish (Err e) h c true rest)
-  starves : (h after : H) (c last : Client) (g : Gathered R) (bytes rest : List ℕ) → Exchange M P k h c g bytes [] (finish (Err client.OutOfMemory) after last true rest)
+  misplaced : (h : H) (c : Client) (g : Gathered (List R)) (bytes : List ℕ) (m : Backend) (rest : List ℕ) (e : ClientError) →
+      Next c bytes m rest → place k m ≡ Misplaced → IsUnexpected m e → Exchange M P k h c g bytes [] (finish (Err e) h c true rest)
+  starves : (h after : H) (c last : Client) (g : Gathered (List R)) (bytes rest : List ℕ) → Exchange M P k h c g bytes [] (finish (Err client.OutOfMemory) after last true rest)
 
 -- ---- a call
 

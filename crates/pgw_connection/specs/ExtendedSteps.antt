@@ -5,9 +5,10 @@ use Rattle.pgw_backend.specs.ClientError.{IsUnexpected}
 use Rattle.pgw_backend.specs.declared.client_error.PgWireClientError.{PgWireClientError as ClientError}
 use Rattle.pgw_backend.specs.declared.client_error.PgWireClientError.TheVariants as client
 use Rattle.pgw_session.specs.declared.stage.Kind.{Kind}
+use Rattle.pgw_session.specs.declared.stage.Kind.TheVariants as kind
 use Rattle.pgw_session.specs.declared.stage.Role.TheVariants.{Taken, Closing, Completing, Failing, Misplaced}
 use Rattle.pgw_session.specs.declared.types.Request.{Request}
-use Rattle.pgw_session.specs.Requests.{role, behind_error}
+use Rattle.pgw_session.specs.Requests.{behind_error}
 use Rattle.pgw_handlers.specs.Client.{Client, Sight}
 use Rattle.pgw_handlers.specs.Handling.{standing, Answer, IsCaused}
 use Rattle.pgw_handlers.specs.Extended.{sync, nothing}
@@ -15,21 +16,21 @@ use Rattle.pgw_handlers.specs.declared.client_info.ReadyState.{ReadyState}
 use Rattle.pgw_handlers.specs.declared.client_info.ReadyState.TheVariants.{Pending, Ready}
 use Rattle.pgw_connection.specs.declared.gathered.Gathered.{Gathered}
 use Rattle.pgw_connection.specs.Talk.{fresh, Next, told, first_of, is_remote, is_refusal}
-use Rattle.pgw_connection.specs.Line.{Line, Pause, IsFlushed, WentWell, Halts, AtEnd, Drew, Moved}
+use Rattle.pgw_connection.specs.Line.{Line, Pause, IsFlushed, EndedWell, Halts, AtEnd, Drew, Moved}
 use Rattle.pgw_connection.specs.Reading.{GoesOn, PassedOver}
 use Rattle.pgw_connection.specs.Calls.{IsHalted, PutAll, PutSome}
-use Rattle.pgw_connection.specs.Extended.{Meaning, call_for, Heeds, RefusesBy, Finish, finish, is_suspended, Exchange, Requested}
+use Rattle.pgw_connection.specs.Extended.{Meaning, call_for, Heeds, RefusesBy, Finish, finish, is_suspended, place, Exchange, Requested, in_lists}
 
 -- ---- one message
 
 -- A message was given to its function: it was heeded, or refused, or memory was wanting for what the function gave.
-pub data Heeded {H R : Type 0} (M : Meaning H R) (h : H) (c : Client) (g : Gathered R) (m : Backend) (after : H) (more : Gathered R) : Result (Unit {0}) ClientError → Type 0 where
+pub data Heeded {H R : Type 0} (M : Meaning H R) (h : H) (c : Client) (g : Gathered (List R)) (m : Backend) (after : H) (more : Gathered (List R)) : Result (Unit {0}) ClientError → Type 0 where
   heeds : Heeds M h c g m after more → Heeded M h c g m after more (Ok tt)
   refuses : (e : ClientError) → RefusesBy M (call_for m) h c after e → IsCaused e 0 0 false → Heeded M h c g m after more (Err e)
   wants : Heeded M h c g m after more (Err client.OutOfMemory)
 
 -- The same, and what it tells of the connection was noted.
-pub data Took {H R : Type 0} (M : Meaning H R) (h : H) (c : Client) (g : Gathered R) (m : Backend) (after : H) (info : Client) (more : Gathered R) : Result (Unit {0}) ClientError → Bool → Type 0 where
+pub data Took {H R : Type 0} (M : Meaning H R) (h : H) (c : Client) (g : Gathered (List R)) (m : Backend) (after : H) (info : Client) (more : Gathered (List R)) : Result (Unit {0}) ClientError → Bool → Type 0 where
   takes : Heeds M h c g m after more → info ≡ told m c → Took M h c g m after info more (Ok tt) false
   refuses : (e : ClientError) → RefusesBy M (call_for m) h c after e → IsCaused e 0 0 false → info ≡ c → Took M h c g m after info more (Err e) true
   wants : Took M h c g m after info more (Err client.OutOfMemory) true
@@ -70,47 +71,61 @@ abbrev pub answer_with : ReadyState Bool → Result (Unit {0}) ClientError → A
 answer_with state (Ok done) = Ok state
 answer_with state (Err e) = Err e
 
--- What becomes of a message by its role.
-pub data HeededOne {H R : Type 0} (M : Meaning H R) (k : Kind) (h : H) (c : Client) (g : Gathered R) (m : Backend) (old new : Line) (handler : H) (info : Client) (more : Gathered R) : Answer Bool → Bool → Type 0 where
-  takes : (rows : Bool) (r : Result (Unit {0}) ClientError) (broken : Bool) → role k false m ≡ Taken rows → Took M h c g m handler info more r broken → new ≡ old
+-- What becomes of a message by its place.
+pub data HeededOne {H R : Type 0} (M : Meaning H R) (k : Kind) (h : H) (c : Client) (g : Gathered (List R)) (m : Backend) (old new : Line) (handler : H) (info : Client) (more : Gathered (List R)) : Answer Bool → Bool → Type 0 where
+  takes : (rows : Bool) (r : Result (Unit {0}) ClientError) (broken : Bool) → place k m ≡ Taken rows → Took M h c g m handler info more r broken → new ≡ old
       → HeededOne M k h c g m old new handler info more (answer_with Pending r) broken
-  closes : (r : Result (Unit {0}) ClientError) (broken : Bool) → role k false m ≡ Closing → Took M h c g m handler info more r broken → new ≡ old
+  closes : (r : Result (Unit {0}) ClientError) (broken : Bool) → place k m ≡ Closing → Took M h c g m handler info more r broken → new ≡ old
       → HeededOne M k h c g m old new handler info more (answer_with (Ready (is_suspended m)) r) broken
-  stops : (e : ClientError) (broken : Bool) → role k false m ≡ Completing → Took M h c g m handler info more (Err e) broken → new ≡ old → HeededOne M k h c g m old new handler info more (Err e) broken
-  completes : (after : H) (between : Client) (answer : Answer Bool) (was broken : Bool) → role k false m ≡ Completing → Took M h c g m after between more (Ok tt) was
+  stops : (e : ClientError) (broken : Bool) → place k m ≡ Completing → Took M h c g m handler info more (Err e) broken → new ≡ old → HeededOne M k h c g m old new handler info more (Err e) broken
+  completes : (after : H) (between : Client) (answer : Answer Bool) (was broken : Bool) → place k m ≡ Completing → Took M h c g m after between more (Ok tt) was
       → Settled M true after between old new client.UnexpectedEOF handler info answer broken → HeededOne M k h c g m old new handler info more answer broken
-  fails : (answer : Answer Bool) (broken : Bool) → role k false m ≡ Failing → Settled M (is_due k) h c old new (first_of client.UnexpectedEOF m) handler info answer broken → more ≡ g
+  fails : (answer : Answer Bool) (broken : Bool) → place k m ≡ Failing → Settled M (is_due k) h c old new (first_of client.UnexpectedEOF m) handler info answer broken → more ≡ g
       → HeededOne M k h c g m old new handler info more answer broken
-  misplaced : (e : ClientError) → role k false m ≡ Misplaced → IsUnexpected m e → handler ≡ h → info ≡ c → new ≡ old → HeededOne M k h c g m old new handler info more (Err e) true
+  misplaced : (e : ClientError) → place k m ≡ Misplaced → IsUnexpected m e → handler ≡ h → info ≡ c → new ≡ old → HeededOne M k h c g m old new handler info more (Err e) true
 
 -- a message was taken, and the call goes on
-pub record TookOne {H R : Type 0} (M : Meaning H R) (k : Kind) (h : H) (c : Client) (g : Gathered R) (old new : Line) (handler : H) (info : Client) (more : Gathered R) : Type 0 where
+pub record TookOne {H R : Type 0} (M : Meaning H R) (k : Kind) (h : H) (c : Client) (g : Gathered (List R)) (old new : Line) (handler : H) (info : Client) (more : Gathered (List R)) : Type 0 where
   pub taken : List ℕ
   pub message : Backend
   pub rows : Bool
   pub drew : Drew old new taken
   pub next : Next c (old.buffer ++ taken) message new.buffer
-  pub takes : role k false message ≡ Taken rows
+  pub takes : place k message ≡ Taken rows
   pub heeds : Heeds M h c g message handler more
   pub info_is : info ≡ told message c
   pub goes_on : GoesOn old new
 
 -- messages were taken up to the call's end
-pub record Exchanged {H R : Type 0} (M : Meaning H R) (k : Kind) (h : H) (c : Client) (g : Gathered R) (old new : Line) (last : Finish H R) : Type 0 where
+pub record Exchanged {H R : Type 0} (M : Meaning H R) (k : Kind) (h : H) (c : Client) (g : Gathered (List R)) (old new : Line) (last : Finish H R) : Type 0 where
   pub taken : List ℕ
   pub sent : List ℕ
   pub moved : Moved old new taken sent
   pub exchange : Exchange M (Pause old new) k h c g (old.buffer ++ taken) sent last
-  pub flushed : IsFlushed old → last.broken ≡ false → IsFlushed new
-  pub well : WentWell old new ⊎ (last.answer ≡ Err client.IoError)
-  pub halts : IsFlushed old → Halts last.info (length new.tape.wrote) old new
+  pub flushed : last.broken ≡ false → IsFlushed new
+  pub well : EndedWell old new ⊎ (last.answer ≡ Err client.IoError)
+  pub halts : Halts last.info (length new.tape.wrote) old new
   pub at_end : AtEnd old new (IsHalted is_remote last.answer last.broken)
 
 -- one message was taken: the call goes on, or has ended, and this says whether the portal was suspended
-abbrev pub HeededNext : {H R : Type 0} → Meaning H R → Kind → H → Client → Gathered R → Line → Line → H → Client → Gathered R → Bool → Answer Bool → Type 0
+abbrev pub HeededNext : {H R : Type 0} → Meaning H R → Kind → H → Client → Gathered (List R) → Line → Line → H → Client → Gathered (List R) → Bool → Answer Bool → Type 0
 HeededNext M k h c g old new handler info more broken (Ok Pending) = TookOne M k h c g old new handler info more × (broken ≡ false)
 HeededNext M k h c g old new handler info more broken (Ok (Ready suspended)) = Exchanged M k h c g old new (finish (Ok (more, suspended)) handler info broken new.buffer)
 HeededNext M k h c g old new handler info more broken (Err e) = Exchanged M k h c g old new (finish (Err e) handler info broken new.buffer)
+
+-- the same behind some rows: the call goes on from there as it does from the beginning, or has ended
+abbrev pub HeededOn : {H R : Type 0} → Meaning H R → Kind → H → Client → Gathered (List R) → Line → Line → H → Client → Gathered (List R) → Bool → Answer Bool → Type 0
+HeededOn {H = H} {R = R} M k h c g old new handler info more broken (Ok Pending) =
+    ((final : Line) (last : Finish H R) → Exchanged M k handler info more new final last →
+    Exchanged M k h c g old final last) × (broken ≡ false)
+HeededOn M k h c g old new handler info more broken (Ok (Ready suspended)) = Exchanged M k h c g old new (finish (Ok (more, suspended)) handler info broken new.buffer)
+HeededOn M k h c g old new handler info more broken (Err e) = Exchanged M k h c g old new (finish (Err e) handler info broken new.buffer)
+
+-- in these a handler is asked to take rows together
+abbrev pub takes_rows : Kind → Bool
+takes_rows kind.Execute = true
+takes_rows kind.Query = true
+takes_rows k = false
 
 -- ---- a call
 
@@ -124,18 +139,20 @@ pub record Called {H R : Type 0} (M : Meaning H R) (q : Request) (h : H) (c : Cl
   pub sent : List ℕ
   pub moved : Moved old new taken sent
   pub requested : Requested M (Pause old new) q h c (old.buffer ++ taken) sent last
-  pub flushed : IsFlushed old → last.broken ≡ false → IsFlushed new
-  pub well : WentWell old new ⊎ (last.answer ≡ Err client.IoError)
-  pub halts : IsFlushed old → Halts last.info (length new.tape.wrote) old new
+  pub flushed : last.broken ≡ false → IsFlushed new
+  pub well : EndedWell old new ⊎ (last.answer ≡ Err client.IoError)
+  pub halts : Halts last.info (length new.tape.wrote) old new
   pub at_end : AtEnd old new (IsHalted is_remote last.answer last.broken)
 
 -- the answer made of what was gathered
-abbrev pub given : {R A : Type 0} → (Gathered R → Bool → A) → Result (Gathered R × Bool) ClientError → Result A ClientError
+abbrev pub given : {S A : Type 0} → (Gathered S → Bool → A) → Result (Gathered S × Bool) ClientError → Result A ClientError
 given give (Ok x) = Ok (give x.0 x.1)
 given give (Err e) = Err e
 
--- The same, for a call that makes its own answer of what was gathered.
-pub record Answered {H R A : Type 0} (M : Meaning H R) (q : Request) (give : Gathered R → Bool → A) (h : H) (c : Client) (old new : Line) (handler : H) (info : Client) (broken : Bool) (result : Result A ClientError) : Type 0 where
-  pub answer : Result (Gathered R × Bool) ClientError
+-- The same, for a call that makes its own answer of what was gathered, in which `listed` says what the responses are.
+pub record Answered {H R S A : Type 0} (M : Meaning H R) (listed : S → List R) (q : Request)
+    (give : Gathered S → Bool → A) (h : H) (c : Client) (old new : Line) (handler : H) (info : Client)
+    (broken : Bool) (result : Result A ClientError) : Type 0 where
+  pub answer : Result (Gathered S × Bool) ClientError
   pub gives : result ≡ given give answer
-  pub called : Called M q h c old new (finish answer handler info broken new.buffer)
+  pub called : Called M q h c old new (finish (in_lists listed answer) handler info broken new.buffer)

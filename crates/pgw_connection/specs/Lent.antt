@@ -4,6 +4,7 @@ use Rattle.pgw_backend.specs.declared.client_error.PgWireClientError.{PgWireClie
 use Rattle.pgw_backend.specs.declared.client_error.PgWireClientError.TheVariants as client
 use Rattle.pgw_link.specs.Tape.{Tape}
 use Rattle.pgw_link.specs.declared.link.Link as Link
+use Rattle.pgw_handlers.specs.Client.{Client}
 use Rattle.pgw_session.specs.declared.types.Request.{Request}
 use Rattle.pgw_session.specs.declared.types.PrepareResponse.{PrepareResponse}
 use Rattle.pgw_session.specs.declared.types.DescribeResponse.{DescribeResponse}
@@ -20,23 +21,23 @@ use Rattle.pgw_connection.specs.ExtendedSteps.{Answered, may_stay}
 
 -- ---- what each call makes of what was gathered
 
-abbrev pub both : {R : Type 0} → Gathered R → Bool → Gathered R × Bool
+abbrev pub both : {S : Type 0} → Gathered S → Bool → Gathered S × Bool
 both g suspended = (g, suspended)
 
-abbrev pub prepared : {R : Type 0} → Option (List ℕ) → Gathered R → Bool → PrepareResponse
+abbrev pub prepared : {S : Type 0} → Option (List ℕ) → Gathered S → Bool → PrepareResponse
 prepared name g suspended = record { name = name; param_types = g.types }
 
-abbrev pub no_answer : {R : Type 0} → Gathered R → Bool → Unit {0}
+abbrev pub no_answer : {S : Type 0} → Gathered S → Bool → Unit {0}
 no_answer g suspended = tt
 
-abbrev pub executed : {R : Type 0} → Gathered R → Bool → ExecuteResult (List R)
+abbrev pub executed : {S : Type 0} → Gathered S → Bool → ExecuteResult S
 executed g true = Suspended g.responses
 executed g false = Complete g.responses
 
-abbrev pub described : {R : Type 0} → Gathered R → Bool → DescribeResponse
+abbrev pub described : {S : Type 0} → Gathered S → Bool → DescribeResponse
 described g suspended = record { param_types = g.types; fields = g.columns }
 
-abbrev pub all_responses : {R : Type 0} → Gathered R → Bool → List R
+abbrev pub all_responses : {S : Type 0} → Gathered S → Bool → S
 all_responses g suspended = g.responses
 
 -- ---- a call
@@ -44,13 +45,24 @@ all_responses g suspended = g.responses
 abbrev pub line_of : {X : Type 0} {L : Link.Ghosts X} → (X → Tape) → (X → ℕ) → PgWireClient X L → Line
 line_of tape faults c = line (tape c.link) (faults c.link) c.inbox c.read c.limit
 
--- A request was asked by a client, with a handler, and this came of it.
-pub record Asks {X : Type 0} {L : Link.Ghosts X} {H R A : Type 0} (foretells : Type 0) (left : X → Option (List ℕ)) (tape : X → Tape) (faults : X → ℕ) (M : Meaning H R) (q : Request) (give : Gathered R → Bool → A) (h handler : H) (before after : PgWireClient X L) (result : Result A ClientError) : Type 0 where
+abbrev pub link_of : {X : Type 0} {L : Link.Ghosts X} → PgWireClient X L → X
+link_of c = c.link
+
+-- what a client knows of its connection, and whether an earlier error left it unusable
+abbrev pub known_by : {X : Type 0} {L : Link.Ghosts X} → PgWireClient X L → Client
+known_by c = client_of c.desk
+
+abbrev pub is_broken : {X : Type 0} {L : Link.Ghosts X} → PgWireClient X L → Bool
+is_broken c = c.desk.broken
+
+-- A request was asked by a client, with a handler, and this came of it. `listed` says which list the handler's responses
+-- are kept in.
+pub record Asks {X : Type 0} {L : Link.Ghosts X} {H R S A : Type 0} (foretells : Type 0) (left : X → Option (List ℕ)) (tape : X → Tape) (faults : X → ℕ) (M : Meaning H R) (listed : S → List R) (q : Request) (give : Gathered S → Bool → A) (h handler : H) (before after : PgWireClient X L) (result : Result A ClientError) : Type 0 where
   -- a client that an earlier error left unusable stays as it is
   pub broken : before.desk.broken ≡ true → (result ≡ Err client.Broken) × (after ≡ before) × (handler ≡ h)
   -- else the request's messages are opened as the handler means it, and each message is heeded so up to the end of the
   -- call, over the bytes that stood in the buffer and those that were read; what it sent is what was written
-  pub asked : before.desk.broken ≡ false → Answered M q give h (client_of before.desk) (line_of tape faults before) (line_of tape faults after) handler (client_of after.desk) after.desk.broken result
+  pub asked : before.desk.broken ≡ false → Answered M listed q give h (client_of before.desk) (line_of tape faults before) (line_of tape faults after) handler (client_of after.desk) after.desk.broken result
   -- of a link that knows what is to come: the bytes taken are its front, and the end is answered behind the last byte
   pub foretold : foretells → Foretold (left before.link) (left after.link) (tape before.link) (tape after.link)
   -- IoError comes only where a call of the link failed, and Broken from no other client than the one above

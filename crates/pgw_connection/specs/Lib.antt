@@ -8,3 +8,5 @@ pub mod Extended
 pub mod ExtendedSteps
 pub mod Targets
 pub mod Lent
+pub mod Closing
+pub mod Canceling

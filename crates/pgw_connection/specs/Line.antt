@@ -3,7 +3,8 @@ use Rattle.std.specs.Prelude.{◌≡◌, ◌⊎◌, ◌<◌, ℕ, ◌+◌, List,
 use Rattle.pgw_backend.specs.Front.{front, More}
 use Rattle.pgw_backend.specs.declared.client_error.PgWireClientError.{PgWireClientError as ClientError}
 use Rattle.pgw_backend.specs.declared.client_error.PgWireClientError.TheVariants as client
-use Rattle.pgw_link.specs.Tape.{Tape, Rose}
+use Rattle.pgw_types.specs.Counts.{Rose}
+use Rattle.pgw_link.specs.Tape.{Tape}
 use Rattle.pgw_link.specs.Foresight.{Foreseen, Ends}
 use Rattle.pgw_handlers.specs.Client.{Client}
 
@@ -31,6 +32,10 @@ IsFlushed now = now.tape.flushed ≡ length now.tape.wrote
 -- the link's calls went well, and all that was written is flushed, if all was before
 abbrev pub WentWell : Line → Line → Type 0
 WentWell old new = (new.faults ≡ old.faults) × (IsFlushed old → IsFlushed new)
+
+-- they did, and all that was written is flushed
+abbrev pub EndedWell : Line → Line → Type 0
+EndedWell old new = (new.faults ≡ old.faults) × IsFlushed new
 
 -- Why a call does not go on: why no more bytes came, by the error that is answered; and why these last bytes of a piece
 -- were not written, or, where there are none, the piece was not flushed.

@@ -4,7 +4,7 @@ use Rattle.std.specs.Prelude.{◌≡◌, ◌⊎◌, ◌<◌, ℕ, ◌+◌, lengt
 use Rattle.pgw_backend.specs.declared.backend.PgWireBackendMessage.{PgWireBackendMessage as Backend}
 use Rattle.pgw_backend.specs.declared.client_error.PgWireClientError.{PgWireClientError as ClientError}
 use Rattle.pgw_backend.specs.declared.client_error.PgWireClientError.TheVariants as client
-use Rattle.pgw_link.specs.Tape.{Rose}
+use Rattle.pgw_types.specs.Counts.{Rose}
 use Rattle.pgw_handlers.specs.Client.{Client}
 use Rattle.pgw_connection.specs.Talk.{Next, Lack, Passing, is_remote}
 use Rattle.pgw_connection.specs.Line.{Line, IsAtEnd, Reasons, Pause, WentWell, NotEnded, Halts, AtEnd, Drew}

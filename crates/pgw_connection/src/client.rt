@@ -4,8 +4,9 @@ ghost use Rattle.pgw_connection.specs.Desk.{client_of};
 ghost use Rattle.pgw_connection.specs.Calls.{Kept, KeptRest, kept, kept_rest, link_sight};
 
 use crate::desk::Desk;
-use pgw_client::inbox::Inbox;
+use crate::reading::Piece;
 use pgw_config::config::Config;
+use pgw_dialogue::inbox::Inbox;
 use pgw_handlers::{ClientInfo, Seen};
 use pgw_link::link::Link;
 use pgw_query::response::TransactionStatus;
@@ -21,6 +22,8 @@ pub struct PgWireClient<L: Link> {
     pub(crate) desk: Desk,
     pub(crate) link: L,
     pub(crate) inbox: Inbox,
+    // What its bytes are read by way of.
+    pub(crate) piece: Piece,
     pub(crate) read: u64,
     pub(crate) limit: u64,
     ghost within: { read ≤ limit },
@@ -109,8 +112,10 @@ impl<L: Link> ClientInfo for PgWireClient<L> {
     }
 
     fn set_protocol_version(&mut self, version: ProtocolVersion)
-        ensures set { link_sight (client_of self.new.desk) (L.tape self.new.link) self.new.desk.broken
-            ≡ with_version version (link_sight (client_of self.old.desk) (L.tape self.old.link) self.old.desk.broken) }
+        ensures set { link_sight (client_of self.new.desk) (L.tape self.new.link)
+            self.new.desk.broken
+            ≡ with_version version (link_sight (client_of self.old.desk) (L.tape self.old.link)
+            self.old.desk.broken) }
         ensures own { kept self.new.desk.config self.new.inbox self.new.read self.new.limit
             ≡ kept self.old.desk.config self.old.inbox self.old.read self.old.limit }
         ensures rest { kept_rest (L.tape self.new.link) ≡ kept_rest (L.tape self.old.link) }
@@ -125,8 +130,10 @@ impl<L: Link> ClientInfo for PgWireClient<L> {
     }
 
     fn set_transaction_status(&mut self, status: TransactionStatus)
-        ensures set { link_sight (client_of self.new.desk) (L.tape self.new.link) self.new.desk.broken
-            ≡ with_status status (link_sight (client_of self.old.desk) (L.tape self.old.link) self.old.desk.broken) }
+        ensures set { link_sight (client_of self.new.desk) (L.tape self.new.link)
+            self.new.desk.broken
+            ≡ with_status status (link_sight (client_of self.old.desk) (L.tape self.old.link)
+            self.old.desk.broken) }
         ensures own { kept self.new.desk.config self.new.inbox self.new.read self.new.limit
             ≡ kept self.old.desk.config self.old.inbox self.old.read self.old.limit }
         ensures rest { kept_rest (L.tape self.new.link) ≡ kept_rest (L.tape self.old.link) }

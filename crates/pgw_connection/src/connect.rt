@@ -1,31 +1,33 @@
-//! Connecting, and canceling over a link of its own.
-ghost use Rattle.std.specs.Prelude.{◌≡◌, ◌≤◌, ◌<◌, ◌+◌, [], length, true, false, Err, IfOk, IfErr, OnOk, OnErr};
+//! Connecting.
+ghost use Rattle.std.specs.Prelude.{◌≡◌, ◌≤◌, ◌<◌, ◌+◌, [], length, true, false, Ok, Err, IfOk, IfErr, OnOk, OnErr};
 ghost use Rattle.pgw_backend.specs.declared.client_error.PgWireClientError.TheVariants as client;
+ghost use Rattle.pgw_config.specs.Address.{address_of};
 ghost use Rattle.pgw_session.specs.Demands.{refused_config};
 ghost use Rattle.pgw_handlers.specs.Handling.{HasCause};
 ghost use Rattle.pgw_handlers.specs.Startup.{startup, HeardAtStartup};
 ghost use Rattle.pgw_connection.specs.Talk.{end};
-ghost use Rattle.pgw_connection.specs.Desk.{client_of, first_client, cancel_bytes};
+ghost use Rattle.pgw_connection.specs.Desk.{client_of, first_client};
 ghost use Rattle.pgw_connection.specs.Line.{Foretold};
 ghost use Rattle.pgw_connection.specs.Lent.{line_of};
-ghost use Rattle.pgw_connection.specs.Calls.{IsUsable, HeardNext, Talked, Call};
-ghost use Rattle.pgw_connection.specs.Connecting.{never, LeadsTo, IsRefusedBy, NoLink, LogsIn, ConnectedAt, NotConnectedAt, Connected, NotConnected, SentOnce, NotSentOnce, Cancels};
+ghost use Rattle.pgw_connection.specs.Calls.{HeardNext, Talked, Call};
+ghost use Rattle.pgw_connection.specs.Connecting.{never, LeadsTo, LacksAddress, IsRefusedBy, NoLink, LogsIn, ConnectedAt, NotConnectedAt, Connected, NotConnected};
 ghost use Rattle.pgw_link.specs.Tape.{new_tape};
 ghost use Rattle.pgw_link.specs.Dials.{Dialled, Shut, CountsClose};
 
 use crate::client::PgWireClient;
 use crate::desk::Desk;
+use crate::reading::{Piece, new_piece};
 use bytes::BytesMut;
 use pgw_backend::client_error::{PgWireClientError, PgWireClientResult};
-use pgw_client::demands::check_config;
-use pgw_client::inbox::Inbox;
-use pgw_client::session::send;
-use pgw_client::table::is_ready;
 use pgw_config::config::Config;
-use pgw_conninfo::address::Address;
+use pgw_dialogue::demands::check_config;
+use pgw_dialogue::inbox::Inbox;
+use pgw_dialogue::table::is_ready;
 use pgw_handlers::{ReadyState, ServerInformation, StartupHandler};
 use pgw_link::dialer::{DialError, Dialer};
 use pgw_link::link::Link;
+use pgw_link::sending::send;
+use pgw_types::address::Address;
 use std::alloc::Global;
 
 impl<L: Link> PgWireClient<L> {
@@ -137,10 +139,21 @@ impl<L: Link> PgWireClient<L> {
             Ok(information) => information,
             Err(error) => return Err(error),
         };
-        match self.desk.take_in(information) {
+        match self.desk.take_in(alloc, information) {
             Ok(()) => Ok(()),
             Err(_) => Err(PgWireClientError::OutOfMemory),
         }
+    }
+}
+
+// Where a configuration leads.
+pub(crate) fn address_in(alloc: Global, config: &Config) -> PgWireClientResult<Address>
+    ensures leads { IfOk result (λ address. address_of config.now ≡ Ok address) }
+    ensures lacks { IfErr result (LacksAddress config.now) }
+{
+    match config.address(alloc) {
+        Ok(address) => Ok(address),
+        Err(why) => Err(PgWireClientError::from(why)),
     }
 }
 
@@ -150,13 +163,34 @@ fn address_for(alloc: Global, config: &Config) -> PgWireClientResult<Address>
     ensures refused { IfErr result (IsRefusedBy (refused_config config.now) config.now) }
 {
     match check_config(alloc, config) {
-        Ok(()) => config.address(alloc),
+        Ok(()) => address_in(alloc, config),
         Err(error) => Err(error),
     }
 }
 
+// The same, and a piece to read by.
+fn place_for(alloc: Global, config: &Config) -> PgWireClientResult<(Address, Piece)>
+    ensures leads { IfOk result (λ place. LeadsTo config.now place.0) }
+    ensures refused { IfErr result (IsRefusedBy (refused_config config.now) config.now) }
+{
+    let address = match address_for(alloc, config) {
+        Ok(address) => address,
+        Err(error) => return Err(error),
+    };
+    match new_piece(alloc) {
+        Ok(piece) => Ok((address, piece)),
+        Err(_) => Err(PgWireClientError::OutOfMemory),
+    }
+}
+
 // A client over a link of its own, before a server told anything.
-fn client_over<L: Link>(alloc: Global, config: Config, link: L, limit: u64) -> PgWireClient<L>
+fn client_over<L: Link>(
+    alloc: Global,
+    config: Config,
+    link: L,
+    piece: Piece,
+    limit: u64,
+) -> PgWireClient<L>
     requires { (L.tape link).flushed ≡ length (L.tape link).wrote }
     ensures client { client_of result.desk ≡ first_client config }
     ensures broken { result.desk.broken ≡ false }
@@ -169,13 +203,14 @@ fn client_over<L: Link>(alloc: Global, config: Config, link: L, limit: u64) -> P
         desk: Desk::new(alloc, config),
         link,
         inbox: Inbox::new(alloc),
+        piece,
         read: 0,
         limit,
     }
 }
 
 // A link to the address.
-fn dial_to<D: Dialer>(address: &Address, dialer: &mut D) -> PgWireClientResult<D::Link>
+pub(crate) fn dial_to<D: Dialer>(address: &Address, dialer: &mut D) -> PgWireClientResult<D::Link>
     ensures faultless { IfOk result (λ link. D.Link.faults link ≡ 0) }
     ensures calm { OnOk result (D.faults dialer.new ≡ D.faults dialer.old) }
     ensures dialled { IfOk result
@@ -199,15 +234,7 @@ fn hang_up<D: Dialer>(client: PgWireClient<D::Link>, dialer: &mut D)
         (D.Link.faults client.link) }
     ensures shut { Shut (D.tape dialer.old) (D.tape dialer.new) (D.Link.tape client.link) }
 {
-    let PgWireClient {
-        desk,
-        link,
-        inbox: _inbox,
-        read: _read,
-        limit: _limit,
-    } = client;
-    drop(desk);
-    dialer.close(link);
+    dialer.close(client.into_link());
 }
 
 // Logs in over a link to the address, and closes the link where that fails.
@@ -215,6 +242,7 @@ fn connect_at<D: Dialer, S: StartupHandler + Drop>(
     alloc: Global,
     config: Config,
     address: &Address,
+    piece: Piece,
     handler: S,
     dialer: &mut D,
     limit: u64,
@@ -244,34 +272,13 @@ fn connect_at<D: Dialer, S: StartupHandler + Drop>(
             return Err(error);
         }
     };
-    let mut client = client_over(alloc, config, link, limit);
+    let mut client = client_over(alloc, config, link, piece, limit);
     match client.log_in(alloc, handler) {
         Ok(()) => Ok(client),
         Err(error) => {
             hang_up(client, dialer);
             Err(error)
         }
-    }
-}
-
-// Writes some bytes over a link of its own, which is closed behind that.
-fn send_once<D: Dialer>(bytes: &[u8], address: &Address, dialer: &mut D) -> PgWireClientResult<()>
-    ensures sent { OnOk result
-        (SentOnce address.now bytes.now (D.tape dialer.old) (D.tape dialer.new)) }
-    ensures failed { IfErr result
-        (NotSentOnce D.foretells address.now bytes.now (D.offer dialer.old) (D.offer dialer.new)
-        (D.tape dialer.old) (D.tape dialer.new) (D.faults dialer.old) (D.faults dialer.new)) }
-    ensures later { D.faults dialer.old ≤ D.faults dialer.new }
-{
-    let mut link = match dial_to(address, dialer) {
-        Ok(link) => link,
-        Err(error) => return Err(error),
-    };
-    let sent = send(&mut link, bytes);
-    dialer.close(link);
-    match sent {
-        Ok(()) => Ok(()),
-        Err(_) => Err(PgWireClientError::IoError),
     }
 }
 
@@ -309,41 +316,22 @@ impl<L: Link> PgWireClient<L> {
         ensures config { IfOk result (λ client. client.desk.config ≡ config) }
         ensures limit { IfOk result (λ client. client.limit ≡ limit) }
     {
-        match address_for(alloc, &config) {
-            Ok(address) => connect_at(alloc, config, &address, startup_handler, dialer, limit),
+        match place_for(alloc, &config) {
+            Ok((address, piece)) => {
+                connect_at(
+                    alloc,
+                    config,
+                    &address,
+                    piece,
+                    startup_handler,
+                    dialer,
+                    limit,
+                )
+            }
             Err(error) => {
                 drop(config);
                 Err(error)
             }
-        }
-    }
-
-    /// Asks the server to cancel what it does for this client: over a link of its own, which is closed behind that.
-    /// It dials once at most, and the client's own link stays as it is.
-    pub fn cancel<D: Dialer>(&self, alloc: Global, dialer: &mut D) -> PgWireClientResult<()>
-        ensures broken { self.now.desk.broken ≡ true → (result ≡ Err client.Broken) ×
-            (dialer.new ≡ dialer.old) }
-        // One request was written to a link to the client's address and flushed; or why not.
-        ensures cancels { self.now.desk.broken ≡ false → Cancels (dialer.new ≡ dialer.old)
-            D.foretells self.now.desk.config
-            (cancel_bytes self.now.desk.process_id self.now.desk.secret_key)
-            (D.offer dialer.old) (D.offer dialer.new) (D.tape dialer.old) (D.tape dialer.new)
-            (D.faults dialer.old) (D.faults dialer.new) result }
-        // IoError comes only where the dialer's count rose.
-        ensures cause { HasCause (D.faults dialer.old) (D.faults dialer.new) self.now.desk.broken
-            result }
-    {
-        if self.desk.broken {
-            return Err(PgWireClientError::Broken);
-        }
-        let mut out = BytesMut::new(alloc);
-        match self.desk.put_cancel(&mut out) {
-            Ok(()) => {}
-            Err(error) => return Err(error),
-        }
-        match self.desk.config.address(alloc) {
-            Ok(address) => send_once(out.as_slice(), &address, dialer),
-            Err(error) => Err(error),
         }
     }
 }

@@ -5,18 +5,18 @@ ghost use Rattle.pgw_session.specs.Segments.{is_ready};
 ghost use Rattle.pgw_config.specs.declared.config.Config.{Config as TheConfig};
 ghost use Rattle.pgw_connection.specs.Talk.{fresh, told};
 ghost use Rattle.pgw_frontend.specs.Frontend.{encoding};
-ghost use Rattle.pgw_client.specs.Wire.{PutOut};
+ghost use Rattle.pgw_dialogue.specs.Wire.{PutOut};
 ghost use Rattle.pgw_handlers.specs.Handling.{OfError};
 ghost use Rattle.pgw_handlers.specs.Sending.{Sent, NotSent, IsSpelled, IsUsable};
-ghost use Rattle.pgw_connection.specs.Desk.{client_of, sight_of, first_client, insert_all, with_information, is_wanting, cancel_bytes};
+ghost use Rattle.pgw_connection.specs.Desk.{client_of, sight_of, first_client, insert_all, with_information, is_wanting};
 
 use bytes::BytesMut;
 use pgw_backend::backend::PgWireBackendMessage;
 use pgw_backend::client_error::{PgWireClientError, PgWireClientResult};
 use pgw_config::config::Config;
+use pgw_dialogue::standings::own_key;
 use pgw_frontend::frontend::PgWireFrontendMessage;
 use pgw_handlers::{ClientInfo, Outgoing, Seen, ServerInformation};
-use pgw_opening::cancel::CancelRequest;
 use pgw_query::response::TransactionStatus;
 use pgw_types::context::ProtocolVersion;
 use pgw_types::listed::Duplicate;
@@ -79,9 +79,14 @@ impl Desk {
         self.out.clear();
     }
 
-    /// Takes in what the server told of itself.
-    pub(crate) fn take_in(&mut self, information: ServerInformation) -> Result<(), OutOfMemory>
-        ensures ok { OnOk result (client_of self.new ≡ with_information information (client_of self.old)) }
+    /// Takes in what the server told of itself. The key is a copy, which keeps no larger block alive.
+    pub(crate) fn take_in(
+        &mut self,
+        alloc: Global,
+        information: ServerInformation,
+    ) -> Result<(), OutOfMemory>
+        ensures ok { OnOk result (client_of self.new
+            ≡ with_information information (client_of self.old)) }
         ensures broken { self.new.broken ≡ self.old.broken }
         ensures config { self.new.config ≡ self.old.config }
     {
@@ -91,30 +96,17 @@ impl Desk {
             secret_key,
         } = information;
         insert_all(&mut self.parameters, &parameters)?;
+        let secret_key = own_key(alloc, &secret_key)?;
         self.process_id = process_id;
         self.secret_key = secret_key;
         Ok(())
     }
 
-    /// Appends the request that cancels what the server does for the client, or nothing.
-    pub(crate) fn put_cancel(&self, out: &mut BytesMut) -> PgWireClientResult<()>
-        ensures { PutOut (cancel_bytes self.now.process_id self.now.secret_key) out.old.items out.new.items result }
-    {
-        let key = match self.secret_key.duplicate() {
-            Ok(key) => key,
-            Err(_) => return Err(PgWireClientError::OutOfMemory),
-        };
-        let request = CancelRequest::new(self.process_id, key);
-        let message = PgWireFrontendMessage::CancelRequest(request);
-        let done = put(&message, out);
-        drop(message);
-        done
-    }
-
     /// Notes what a message tells that is passed over, and says whether it is ReadyForQuery.
     pub(crate) fn note(&mut self, message: &PgWireBackendMessage) -> Result<bool, OutOfMemory>
         ensures ready { IfOk result (λ ready. ready ≡ is_ready message.now) }
-        ensures told { IfOk result (λ ready. client_of self.new ≡ told message.now (client_of self.old)) }
+        ensures told { IfOk result (λ ready. client_of self.new
+            ≡ told message.now (client_of self.old)) }
         ensures kept { OnErr result (client_of self.new ≡ client_of self.old) }
         ensures broken { self.new.broken ≡ self.old.broken }
         ensures config { self.new.config ≡ self.old.config }
@@ -187,8 +179,8 @@ impl ClientInfo for Desk {
     }
 }
 
-// Appends a message's one spelling, or nothing.
-fn put(message: &PgWireFrontendMessage, out: &mut BytesMut) -> PgWireClientResult<()>
+/// Appends a message's one spelling, or nothing.
+pub(crate) fn put(message: &PgWireFrontendMessage, out: &mut BytesMut) -> PgWireClientResult<()>
     ensures { PutOut (encoding message.now) out.old.items out.new.items result }
 {
     match message.encode(out) {
@@ -207,8 +199,10 @@ fn is_wanting(error: &PgWireClientError) -> bool
 impl Desk {
     // Appends what a handler sends. A message that has no spelling leaves the desk as it was, any other error unusable.
     fn append(&mut self, message: &PgWireFrontendMessage) -> PgWireClientResult<()>
-        ensures sent { OnOk result (Sent (encoding message.now) (sight_of self.old) (sight_of self.new)) }
-        ensures failed { IfErr result (λ e. NotSent (encoding message.now) (sight_of self.old) (sight_of self.new) e) }
+        ensures sent { OnOk result (Sent (encoding message.now) (sight_of self.old)
+            (sight_of self.new)) }
+        ensures failed { IfErr result (λ e. NotSent (encoding message.now) (sight_of self.old)
+            (sight_of self.new) e) }
         ensures spelled { IsSpelled (encoding message.now) result }
         ensures client { client_of self.new ≡ client_of self.old }
         ensures usable { IsUsable result self.old.broken self.new.broken }

@@ -1,24 +1,26 @@
 //! How a client asks a request of extended queries, and hands its answer to a handler.
-ghost use Rattle.std.specs.Prelude.{◌≡◌, ◌≢◌, ◌⊎◌, ◌<◌, ◌≤◌, ◌+◌, length, true, false, Ok, Err, IfOk};
+ghost use Rattle.std.specs.Prelude.{◌≡◌, ◌≢◌, ◌⊎◌, ◌<◌, ◌≤◌, ◌+◌, length, true, false, Ok, Err, IfOk, OnErr};
 ghost use Rattle.pgw_backend.specs.declared.client_error.PgWireClientError.TheVariants as client;
 ghost use Rattle.pgw_session.specs.declared.types.Request.{Request as TheRequest};
 ghost use Rattle.pgw_handlers.specs.Handling.{HasCause, IsCaused};
+ghost use Rattle.pgw_handlers.specs.Extended.{TakesRows};
 ghost use Rattle.pgw_handlers.specs.declared.client_info.ReadyState.TheVariants.{Pending};
 ghost use Rattle.pgw_connection.specs.Desk.{client_of};
 ghost use Rattle.pgw_connection.specs.Line.{Foretold};
 ghost use Rattle.pgw_connection.specs.Lent.{line_of};
 ghost use Rattle.pgw_connection.specs.Calls.{IsUsable};
 ghost use Rattle.pgw_connection.specs.Talk.{is_remote};
-ghost use Rattle.pgw_connection.specs.Extended.{none_gathered, finish, is_suspended};
-ghost use Rattle.pgw_connection.specs.ExtendedSteps.{is_due, passed_answer, no_error, may_stay, Synced, Settled, HeededOne, HeededNext, Exchanged, Called};
+ghost use Rattle.pgw_connection.specs.Extended.{none_gathered, finish, is_suspended, place, as_lists, in_lists};
+ghost use Rattle.pgw_connection.specs.ExtendedSteps.{is_due, passed_answer, no_error, may_stay, Synced, Settled, HeededOne, HeededNext, Exchanged, Called, HeededOn, takes_rows};
 
 use crate::client::PgWireClient;
 use crate::gathered::{Gathered, hand_all, nothing_gathered, take};
 use crate::reading::first_of;
 use pgw_backend::backend::PgWireBackendMessage;
 use pgw_backend::client_error::{PgWireClientError, PgWireClientResult, unexpected};
-use pgw_client::requests::{kind_of, sends_of};
-use pgw_client::table::{behind_error, role};
+use pgw_dialogue::inbox::Inbox;
+use pgw_dialogue::requests::{kind_of, sends_of};
+use pgw_dialogue::table::{behind_error, role};
 use pgw_ext::extendedquery::Sync;
 use pgw_handlers::{ExtendedQueryHandler, ReadyState};
 use pgw_link::link::Link;
@@ -26,6 +28,7 @@ use pgw_session::stage::{Kind, Role};
 use pgw_session::types::Request;
 use pgw_types::memory::OutOfMemory;
 use std::alloc::Global;
+use std::mem::replace;
 
 // Whether Sync is due behind the server's error.
 fn is_due(kind: Kind) -> bool
@@ -37,11 +40,28 @@ fn is_due(kind: Kind) -> bool
     is_due
 }
 
+// Whether rows may come.
+fn takes_rows(kind: Kind) -> bool
+    ensures { result ≡ takes_rows kind }
+{
+    matches!(kind, Kind::Execute | Kind::Query)
+}
+
 // Whether the message says that a portal was suspended.
 fn is_suspended(message: &PgWireBackendMessage) -> bool
     ensures { result ≡ is_suspended message.now }
 {
     matches!(message, PgWireBackendMessage::PortalSuspended(_))
+}
+
+// What becomes of a message by the table of requests; of a notification the handler is asked.
+fn place(kind: Kind, message: &PgWireBackendMessage) -> Role
+    ensures { result ≡ place kind message.now }
+{
+    match message {
+        PgWireBackendMessage::NotificationResponse(_) => Role::Taken(false),
+        _ => role(kind, false, message),
+    }
 }
 
 // What messages that were passed over answer.
@@ -129,14 +149,14 @@ impl<L: Link> PgWireClient<L> {
         }
     }
 
-    // Heeds a message by its role.
+    // Heeds a message by its place.
     #[tactic(auto, using(crate::proofs::ForetoldLaws::foretold_still))]
     fn heed_one<H: ExtendedQueryHandler>(
         &mut self,
         alloc: Global,
         handler: &mut H,
         kind: Kind,
-        gathered: &mut Gathered<H::QueryResponse>,
+        gathered: &mut Gathered<H::Responses>,
         message: PgWireBackendMessage,
     ) -> PgWireClientResult<ReadyState<bool>>
         requires usable { self.old.desk.broken ≡ false }
@@ -148,12 +168,13 @@ impl<L: Link> PgWireClient<L> {
         ensures foretold { L.foretells → Foretold (L.left self.old.link) (L.left self.new.link)
             (L.tape self.old.link) (L.tape self.new.link) }
         ensures usable { IsUsable is_remote result self.new.desk.broken }
-        ensures heeded { HeededOne H.means kind handler.old (client_of self.old.desk) gathered.old
-            message
+        ensures heeded { HeededOne H.means kind handler.old (client_of self.old.desk)
+            (as_lists H.Responses.listed gathered.old) message
             (line_of L.tape L.faults self.old) (line_of L.tape L.faults self.new)
-            handler.new (client_of self.new.desk) gathered.new result self.new.desk.broken }
+            handler.new (client_of self.new.desk) (as_lists H.Responses.listed gathered.new)
+            result self.new.desk.broken }
     {
-        match role(kind, false, &message) {
+        match place(kind, &message) {
             Role::Taken(_) => match take(alloc, handler, &mut self.desk, gathered, message) {
                 Ok(()) => Ok(ReadyState::Pending),
                 Err(error) => Err(error),
@@ -186,7 +207,7 @@ impl<L: Link> PgWireClient<L> {
         alloc: Global,
         handler: &mut H,
         kind: Kind,
-        gathered: &mut Gathered<H::QueryResponse>,
+        gathered: &mut Gathered<H::Responses>,
     ) -> PgWireClientResult<ReadyState<bool>>
         requires usable { self.old.desk.broken ≡ false }
         ensures limit { self.new.limit ≡ self.old.limit }
@@ -197,9 +218,11 @@ impl<L: Link> PgWireClient<L> {
         ensures foretold { L.foretells → Foretold (L.left self.old.link) (L.left self.new.link)
             (L.tape self.old.link) (L.tape self.new.link) }
         ensures usable { IsUsable is_remote result self.new.desk.broken }
-        ensures heeded { HeededNext H.means kind handler.old (client_of self.old.desk) gathered.old
+        ensures heeded { HeededNext H.means kind handler.old (client_of self.old.desk)
+            (as_lists H.Responses.listed gathered.old)
             (line_of L.tape L.faults self.old) (line_of L.tape L.faults self.new)
-            handler.new (client_of self.new.desk) gathered.new self.new.desk.broken result }
+            handler.new (client_of self.new.desk) (as_lists H.Responses.listed gathered.new)
+            self.new.desk.broken result }
     {
         match self.next_message(alloc) {
             Ok(message) => self.heed_one(alloc, handler, kind, gathered, message),
@@ -210,13 +233,72 @@ impl<L: Link> PgWireClient<L> {
         }
     }
 
+    // Has the handler take rows that stand whole at the buffer's front, as many as it likes.
+    fn take_rows_in_exchange<H: ExtendedQueryHandler>(
+        &mut self,
+        alloc: Global,
+        handler: &mut H,
+        responses: &mut H::Responses,
+    ) -> Result<usize, OutOfMemory>
+        ensures desk { self.new.desk ≡ self.old.desk }
+        ensures link { self.new.link ≡ self.old.link }
+        ensures read { self.new.read ≡ self.old.read }
+        ensures limit { self.new.limit ≡ self.old.limit }
+        ensures taken { IfOk result (TakesRows H.means handler.old handler.new
+            (H.Responses.listed responses.old) (H.Responses.listed responses.new)
+            self.old.inbox self.new.inbox) }
+        ensures shorter { length self.new.inbox ≤ length self.old.inbox }
+        ensures err { OnErr result (self.new.inbox ≡ self.old.inbox) }
+    {
+        self.inbox.settle()?;
+        let mut parts = replace(&mut self.inbox, Inbox::new(alloc)).into_parts();
+        let taken = handler.take_rows(&mut parts.front, responses);
+        self.inbox = parts.into_inbox();
+        taken
+    }
+
+    // Has the handler take rows, where any may come, and heeds the message behind them.
+    fn go_on_in_exchange<H: ExtendedQueryHandler>(
+        &mut self,
+        alloc: Global,
+        handler: &mut H,
+        kind: Kind,
+        gathered: &mut Gathered<H::Responses>,
+    ) -> PgWireClientResult<ReadyState<bool>>
+        requires usable { self.old.desk.broken ≡ false }
+        ensures limit { self.new.limit ≡ self.old.limit }
+        ensures config { self.new.desk.config ≡ self.old.desk.config }
+        ensures shrinks { result ≡ Ok Pending → length self.new.inbox + self.old.read < length
+            self.old.inbox + self.new.read }
+        ensures cause { HasCause (L.faults self.old.link) (L.faults self.new.link) false result }
+        ensures foretold { L.foretells → Foretold (L.left self.old.link) (L.left self.new.link)
+            (L.tape self.old.link) (L.tape self.new.link) }
+        ensures usable { IsUsable is_remote result self.new.desk.broken }
+        ensures heeded { HeededOn H.means kind handler.old (client_of self.old.desk)
+            (as_lists H.Responses.listed gathered.old)
+            (line_of L.tape L.faults self.old) (line_of L.tape L.faults self.new)
+            handler.new (client_of self.new.desk) (as_lists H.Responses.listed gathered.new)
+            self.new.desk.broken result }
+    {
+        if !takes_rows(kind) {
+            return self.heed_next(alloc, handler, kind, gathered);
+        }
+        match self.take_rows_in_exchange(alloc, handler, &mut gathered.responses) {
+            Ok(_) => self.heed_next(alloc, handler, kind, gathered),
+            Err(_) => {
+                self.desk.broken = true;
+                Err(PgWireClientError::OutOfMemory)
+            }
+        }
+    }
+
     // The messages of a call, up to its end.
     fn exchange<H: ExtendedQueryHandler>(
         &mut self,
         alloc: Global,
         handler: &mut H,
         kind: Kind,
-    ) -> PgWireClientResult<(Gathered<H::QueryResponse>, bool)>
+    ) -> PgWireClientResult<(Gathered<H::Responses>, bool)>
         requires usable { self.old.desk.broken ≡ false }
         ensures limit { self.new.limit ≡ self.old.limit }
         ensures config { self.new.desk.config ≡ self.old.desk.config }
@@ -227,12 +309,12 @@ impl<L: Link> PgWireClient<L> {
         ensures exchanged { Exchanged H.means kind handler.old (client_of self.old.desk)
             none_gathered
             (line_of L.tape L.faults self.old) (line_of L.tape L.faults self.new)
-            (finish result handler.new (client_of self.new.desk) self.new.desk.broken
-            self.new.inbox) }
+            (finish (in_lists H.Responses.listed result) handler.new (client_of self.new.desk)
+            self.new.desk.broken self.new.inbox) }
     {
         let mut gathered = nothing_gathered(alloc);
         'messages: loop {
-            match self.heed_next(alloc, handler, kind, &mut gathered) {
+            match self.go_on_in_exchange(alloc, handler, kind, &mut gathered) {
                 Ok(ReadyState::Pending) => {}
                 Ok(ReadyState::Ready(suspended)) => return Ok((gathered, suspended)),
                 Err(error) => return Err(error),
@@ -247,7 +329,7 @@ impl<L: Link> PgWireClient<L> {
         alloc: Global,
         handler: &mut H,
         request: &Request,
-    ) -> PgWireClientResult<(Gathered<H::QueryResponse>, bool)>
+    ) -> PgWireClientResult<(Gathered<H::Responses>, bool)>
         requires usable { self.old.desk.broken ≡ false }
         ensures limit { self.new.limit ≡ self.old.limit }
         ensures config { self.new.desk.config ≡ self.old.desk.config }
@@ -257,8 +339,8 @@ impl<L: Link> PgWireClient<L> {
         ensures usable { IsUsable may_stay result self.new.desk.broken }
         ensures called { Called H.means request.now handler.old (client_of self.old.desk)
             (line_of L.tape L.faults self.old) (line_of L.tape L.faults self.new)
-            (finish result handler.new (client_of self.new.desk) self.new.desk.broken
-            self.new.inbox) }
+            (finish (in_lists H.Responses.listed result) handler.new (client_of self.new.desk)
+            self.new.desk.broken self.new.inbox) }
     {
         let messages = match sends_of(alloc, request) {
             Ok(messages) => messages,
@@ -293,14 +375,45 @@ impl<L: Link> PgWireClient<L> {
         PgWireClientError::OutOfMemory
     }
 
-    // The same of a client that may be broken, and a request that memory may have been wanting for.
+    // The same of a client that may be broken.
+    #[tactic(auto, using(crate::proofs::ForetoldLaws::foretold_still))]
+    pub(crate) fn ask_by<H: ExtendedQueryHandler>(
+        &mut self,
+        alloc: Global,
+        handler: &mut H,
+        request: &Request,
+    ) -> PgWireClientResult<(Gathered<H::Responses>, bool)>
+        ensures within { self.new.read ≤ self.new.limit }
+        ensures limit { self.new.limit ≡ self.old.limit }
+        ensures config { self.new.desk.config ≡ self.old.desk.config }
+        ensures cause { HasCause (L.faults self.old.link) (L.faults self.new.link)
+            self.old.desk.broken result }
+        ensures foretold { L.foretells → Foretold (L.left self.old.link) (L.left self.new.link)
+            (L.tape self.old.link) (L.tape self.new.link) }
+        ensures broken { self.old.desk.broken ≡ true → (result ≡ Err client.Broken) ×
+            (self.new ≡ self.old) × (handler.new ≡ handler.old) }
+        ensures usable { self.old.desk.broken ≡ false → IsUsable may_stay result
+            self.new.desk.broken }
+        ensures called { self.old.desk.broken ≡ false
+            → Called H.means request.now handler.old (client_of self.old.desk)
+            (line_of L.tape L.faults self.old) (line_of L.tape L.faults self.new)
+            (finish (in_lists H.Responses.listed result) handler.new (client_of self.new.desk)
+            self.new.desk.broken self.new.inbox) }
+    {
+        if self.desk.broken {
+            return Err(PgWireClientError::Broken);
+        }
+        self.request(alloc, handler, request)
+    }
+
+    // The same, and a request that memory may have been wanting for.
     #[tactic(auto, using(crate::proofs::ForetoldLaws::foretold_still))]
     pub(crate) fn ask<H: ExtendedQueryHandler>(
         &mut self,
         alloc: Global,
         handler: &mut H,
         request: Result<Request, OutOfMemory>,
-    ) -> PgWireClientResult<(Gathered<H::QueryResponse>, bool)>
+    ) -> PgWireClientResult<(Gathered<H::Responses>, bool)>
         ensures within { self.new.read ≤ self.new.limit }
         ensures limit { self.new.limit ≡ self.old.limit }
         ensures config { self.new.desk.config ≡ self.old.desk.config }
@@ -315,8 +428,8 @@ impl<L: Link> PgWireClient<L> {
         ensures called { (q : TheRequest) → IfOk request (λ r. r ≡ q) → self.old.desk.broken ≡ false
             → Called H.means q handler.old (client_of self.old.desk)
             (line_of L.tape L.faults self.old) (line_of L.tape L.faults self.new)
-            (finish result handler.new (client_of self.new.desk) self.new.desk.broken
-            self.new.inbox) }
+            (finish (in_lists H.Responses.listed result) handler.new (client_of self.new.desk)
+            self.new.desk.broken self.new.inbox) }
     {
         if self.desk.broken {
             drop(request);

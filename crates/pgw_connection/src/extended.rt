@@ -1,8 +1,8 @@
 //! Extended queries.
-ghost use Rattle.std.specs.Prelude.{◌≡◌, Err, IfOk};
+ghost use Rattle.std.specs.Prelude.{◌≡◌, ℕ, List, Err, IfOk};
 ghost use Rattle.std.specs.Option.{option_copied};
 ghost use Rattle.pgw_session.specs.declared.types.Request.{Request as TheRequest};
-ghost use Rattle.pgw_session.specs.declared.types.Request.TheVariants as request;
+ghost use Rattle.pgw_session.specs.declared.types.Request.TheVariants as kind;
 ghost use Rattle.pgw_connection.specs.Targets.{target_of};
 ghost use Rattle.pgw_connection.specs.Lent.{Asks, both, prepared, no_answer, executed, described, all_responses};
 
@@ -45,9 +45,10 @@ impl<'a, L: Link, H: ExtendedQueryHandler> ExtendedQueryClient<'a, L, H> {
         &mut self,
         alloc: Global,
         request: Result<Request, OutOfMemory>,
-    ) -> PgWireClientResult<(Gathered<H::QueryResponse>, bool)>
+    ) -> PgWireClientResult<(Gathered<H::Responses>, bool)>
         ensures asks { (q : TheRequest) → IfOk request (λ r. r ≡ q) → Asks L.foretells L.left L.tape
-            L.faults H.means q both self.old.handler.now self.new.handler.now self.old.client.now
+            L.faults H.means H.Responses.listed q both self.old.handler.now self.new.handler.now
+            self.old.client.now
             self.new.client.now result }
         ensures same_client { self.new.client.ghost_name ≡ self.old.client.ghost_name }
         ensures same_handler { self.new.handler.ghost_name ≡ self.old.handler.ghost_name }
@@ -55,10 +56,29 @@ impl<'a, L: Link, H: ExtendedQueryHandler> ExtendedQueryClient<'a, L, H> {
         self.client.ask(alloc, self.handler, request)
     }
 
+    /// Asks a request of extended queries, and gives what its messages gave, and whether a portal
+    /// was suspended.
+    pub fn request(
+        &mut self,
+        alloc: Global,
+        request: &Request,
+    ) -> PgWireClientResult<(Gathered<H::Responses>, bool)>
+        requires { (sql : List ℕ) → request.now ≡ kind.Simple sql → ⊥ }
+        ensures asks { Asks L.foretells L.left L.tape L.faults H.means
+            H.Responses.listed request.now both
+            self.old.handler.now self.new.handler.now self.old.client.now self.new.client.now
+            result }
+        ensures same_client { self.new.client.ghost_name ≡ self.old.client.ghost_name }
+        ensures same_handler { self.new.handler.ghost_name ≡ self.old.handler.ghost_name }
+    {
+        self.client.ask_by(alloc, self.handler, request)
+    }
+
     // Memory was wanting for a request.
     fn starve(&mut self) -> PgWireClientError
-        ensures asks { (q : TheRequest) → Asks L.foretells L.left L.tape L.faults H.means q both
-            self.old.handler.now self.new.handler.now self.old.client.now self.new.client.now
+        ensures asks { (q : TheRequest) → Asks L.foretells L.left L.tape L.faults H.means
+            H.Responses.listed q both self.old.handler.now self.new.handler.now self.old.client.now
+            self.new.client.now
             (Err result) }
         ensures same_client { self.new.client.ghost_name ≡ self.old.client.ghost_name }
         ensures same_handler { self.new.handler.ghost_name ≡ self.old.handler.ghost_name }
@@ -75,7 +95,7 @@ impl<'a, L: Link, H: ExtendedQueryHandler> ExtendedQueryClient<'a, L, H> {
         param_types: &[u32],
     ) -> PgWireClientResult<PrepareResponse>
         ensures asks { Asks L.foretells L.left L.tape L.faults H.means
-            (request.Prepare (option_copied name.entry) query.now param_types.now)
+            H.Responses.listed (kind.Prepare (option_copied name.entry) query.now param_types.now)
             (prepared (option_copied name.entry)) self.old.handler.now self.new.handler.now
             self.old.client.now self.new.client.now result }
         ensures same_client { self.new.client.ghost_name ≡ self.old.client.ghost_name }
@@ -104,7 +124,8 @@ impl<'a, L: Link, H: ExtendedQueryHandler> ExtendedQueryClient<'a, L, H> {
         result_formats: Listed<i16>,
     ) -> PgWireClientResult<()>
         ensures asks { Asks L.foretells L.left L.tape L.faults H.means
-            (request.Bind (option_copied portal.entry) (option_copied statement.entry) params
+            H.Responses.listed (kind.Bind (option_copied portal.entry)
+            (option_copied statement.entry) params
             result_formats) no_answer self.old.handler.now self.new.handler.now self.old.client.now
             self.new.client.now result }
         ensures same_client { self.new.client.ghost_name ≡ self.old.client.ghost_name }
@@ -123,9 +144,10 @@ impl<'a, L: Link, H: ExtendedQueryHandler> ExtendedQueryClient<'a, L, H> {
         alloc: Global,
         portal: Option<&str>,
         max_rows: i32,
-    ) -> PgWireClientResult<ExecuteResult<Listed<H::QueryResponse>>>
+    ) -> PgWireClientResult<ExecuteResult<H::Responses>>
         ensures asks { Asks L.foretells L.left L.tape L.faults H.means
-            (request.Execute (option_copied portal.entry) max_rows) executed self.old.handler.now
+            H.Responses.listed (kind.Execute (option_copied portal.entry) max_rows) executed
+            self.old.handler.now
             self.new.handler.now self.old.client.now self.new.client.now result }
         ensures same_client { self.new.client.ghost_name ≡ self.old.client.ghost_name }
         ensures same_handler { self.new.handler.ghost_name ≡ self.old.handler.ghost_name }
@@ -143,7 +165,8 @@ impl<'a, L: Link, H: ExtendedQueryHandler> ExtendedQueryClient<'a, L, H> {
         target: DescribeTarget<'_>,
     ) -> PgWireClientResult<DescribeResponse>
         ensures asks { Asks L.foretells L.left L.tape L.faults H.means
-            (request.Describe (target_of target.entry)) described self.old.handler.now
+            H.Responses.listed (kind.Describe (target_of target.entry)) described
+            self.old.handler.now
             self.new.handler.now self.old.client.now self.new.client.now result }
         ensures same_client { self.new.client.ghost_name ≡ self.old.client.ghost_name }
         ensures same_handler { self.new.handler.ghost_name ≡ self.old.handler.ghost_name }
@@ -160,7 +183,7 @@ impl<'a, L: Link, H: ExtendedQueryHandler> ExtendedQueryClient<'a, L, H> {
     /// Closes a statement or a portal.
     pub fn close(&mut self, alloc: Global, target: DescribeTarget<'_>) -> PgWireClientResult<()>
         ensures asks { Asks L.foretells L.left L.tape L.faults H.means
-            (request.Close (target_of target.entry)) no_answer self.old.handler.now
+            H.Responses.listed (kind.Close (target_of target.entry)) no_answer self.old.handler.now
             self.new.handler.now self.old.client.now self.new.client.now result }
         ensures same_client { self.new.client.ghost_name ≡ self.old.client.ghost_name }
         ensures same_handler { self.new.handler.ghost_name ≡ self.old.handler.ghost_name }
@@ -178,9 +201,10 @@ impl<'a, L: Link, H: ExtendedQueryHandler> ExtendedQueryClient<'a, L, H> {
         sql: &str,
         param_types: &[u32],
         params: Listed<Option<Octets>>,
-    ) -> PgWireClientResult<Listed<H::QueryResponse>>
+    ) -> PgWireClientResult<H::Responses>
         ensures asks { Asks L.foretells L.left L.tape L.faults H.means
-            (request.Query sql.now param_types.now params) all_responses self.old.handler.now
+            H.Responses.listed (kind.Query sql.now param_types.now params) all_responses
+            self.old.handler.now
             self.new.handler.now self.old.client.now self.new.client.now result }
         ensures same_client { self.new.client.ghost_name ≡ self.old.client.ghost_name }
         ensures same_handler { self.new.handler.ghost_name ≡ self.old.handler.ghost_name }
@@ -193,7 +217,7 @@ impl<'a, L: Link, H: ExtendedQueryHandler> ExtendedQueryClient<'a, L, H> {
 }
 
 // All rows came, or the portal was suspended behind some.
-fn executed<R: Drop>(gathered: Gathered<R>, suspended: bool) -> ExecuteResult<Listed<R>>
+fn executed<S: Drop>(gathered: Gathered<S>, suspended: bool) -> ExecuteResult<S>
     ensures { result ≡ executed gathered suspended }
 {
     let responses = gathered.responses;

@@ -3,39 +3,39 @@ ghost use Rattle.std.specs.Prelude.{◌≡◌, ◌∷◌, [], false};
 ghost use Rattle.pgw_handlers.specs.Handling.{standing, OfError};
 ghost use Rattle.pgw_handlers.specs.Client.{Client};
 ghost use Rattle.pgw_connection.specs.Desk.{client_of, sight_of};
-ghost use Rattle.pgw_connection.specs.Extended.{none_gathered, calls_for, Opens};
+ghost use Rattle.pgw_connection.specs.Extended.{none_gathered, as_lists, calls_for, Opens};
 ghost use Rattle.pgw_connection.specs.Calls.{IsUsable};
 ghost use Rattle.pgw_connection.specs.ExtendedSteps.{Heeded, Took, no_error};
 
 use crate::desk::Desk;
 use pgw_backend::backend::PgWireBackendMessage;
 use pgw_backend::client_error::{PgWireClientError, PgWireClientResult};
-use pgw_backend::field_info::FieldInfo;
-use pgw_backend::pg_type::PgType;
 use pgw_frontend::frontend::PgWireFrontendMessage;
-use pgw_handlers::ExtendedQueryHandler;
+use pgw_handlers::{ExtendedQueryHandler, ResponseList};
 use pgw_query::data::DataRow;
+use pgw_query::field_info::FieldInfo;
+use pgw_query::pg_type::PgType;
 use pgw_types::listed::Listed;
 use std::alloc::Global;
 
-/// What the messages of a call gave so far.
+/// What the messages of a request gave.
 #[derive(Drop)]
-pub struct Gathered<R> {
+pub struct Gathered<S> {
     /// The parameters' types and the columns that were told last.
-    pub(crate) types: Listed<PgType>,
-    pub(crate) columns: Listed<FieldInfo>,
+    pub types: Listed<PgType>,
+    pub columns: Listed<FieldInfo>,
     /// What was made of each row.
-    pub(crate) responses: Listed<R>,
+    pub responses: S,
 }
 
 // Of no message.
-pub(crate) fn nothing_gathered<R>(alloc: Global) -> Gathered<R>
-    ensures { result ≡ none_gathered }
+pub(crate) fn nothing_gathered<S: ResponseList>(alloc: Global) -> Gathered<S>
+    ensures { as_lists S.listed result ≡ none_gathered }
 {
     Gathered {
         types: Listed::new(alloc),
         columns: Listed::new(alloc),
-        responses: Listed::new(alloc),
+        responses: S::no_responses(alloc),
     }
 }
 
@@ -48,7 +48,9 @@ fn hand<H: ExtendedQueryHandler>(
     desk: &mut Desk,
     message: PgWireFrontendMessage,
 ) -> PgWireClientResult<()>
-    ensures opens { Opens H.means (calls_for (message ∷ [])) (standing handler.old (sight_of desk.old)) (standing handler.new (sight_of desk.new)) result }
+    ensures opens { Opens H.means (calls_for (message ∷ []))
+        (standing handler.old (sight_of desk.old)) (standing handler.new (sight_of desk.new))
+        result }
     ensures config { desk.new.config ≡ desk.old.config }
     ensures cause { OfError result 0 0 desk.new.broken }
 {
@@ -74,7 +76,9 @@ pub(crate) fn hand_all<H: ExtendedQueryHandler>(
     desk: &mut Desk,
     messages: Vec<PgWireFrontendMessage>,
 ) -> PgWireClientResult<()>
-    ensures opens { Opens H.means (calls_for messages.items) (standing handler.old (sight_of desk.old)) (standing handler.new (sight_of desk.new)) result }
+    ensures opens { Opens H.means (calls_for messages.items)
+        (standing handler.old (sight_of desk.old)) (standing handler.new (sight_of desk.new))
+        result }
     ensures config { desk.new.config ≡ desk.old.config }
     ensures cause { OfError result 0 0 desk.new.broken }
 {
@@ -93,14 +97,16 @@ pub(crate) fn hand_all<H: ExtendedQueryHandler>(
 fn heed_row<H: ExtendedQueryHandler>(
     alloc: Global,
     handler: &mut H,
-    gathered: &mut Gathered<H::QueryResponse>,
+    gathered: &mut Gathered<H::Responses>,
     row: DataRow,
 ) -> PgWireClientResult<()>
-    ensures heeded { (c : Client) → Heeded H.means handler.old c gathered.old (PgWireBackendMessage.DataRow row) handler.new gathered.new result }
+    ensures heeded { (c : Client) → Heeded H.means handler.old c
+        (as_lists H.Responses.listed gathered.old) (PgWireBackendMessage.DataRow row)
+        handler.new (as_lists H.Responses.listed gathered.new) result }
     ensures cause { OfError result 0 0 false }
 {
     match handler.on_data_row(alloc, row) {
-        Ok(response) => match gathered.responses.push(response) {
+        Ok(response) => match gathered.responses.keep(response) {
             Ok(()) => Ok(()),
             Err(_) => Err(PgWireClientError::OutOfMemory),
         },
@@ -112,10 +118,12 @@ fn heed_row<H: ExtendedQueryHandler>(
 fn heed<H: ExtendedQueryHandler>(
     alloc: Global,
     handler: &mut H,
-    gathered: &mut Gathered<H::QueryResponse>,
+    gathered: &mut Gathered<H::Responses>,
     message: PgWireBackendMessage,
 ) -> PgWireClientResult<()>
-    ensures heeded { (c : Client) → Heeded H.means handler.old c gathered.old message handler.new gathered.new result }
+    ensures heeded { (c : Client) → Heeded H.means handler.old c
+        (as_lists H.Responses.listed gathered.old) message
+        handler.new (as_lists H.Responses.listed gathered.new) result }
     ensures cause { OfError result 0 0 false }
 {
     match message {
@@ -141,6 +149,8 @@ fn heed<H: ExtendedQueryHandler>(
             Err(error) => Err(error),
         },
         PgWireBackendMessage::PortalSuspended(_) => handler.on_portal_suspended(alloc),
+        PgWireBackendMessage::NoticeResponse(m) => handler.on_notice(alloc, m),
+        PgWireBackendMessage::NotificationResponse(m) => handler.on_notification(alloc, m),
         other => {
             drop(other);
             Ok(())
@@ -153,14 +163,16 @@ pub(crate) fn take<H: ExtendedQueryHandler>(
     alloc: Global,
     handler: &mut H,
     desk: &mut Desk,
-    gathered: &mut Gathered<H::QueryResponse>,
+    gathered: &mut Gathered<H::Responses>,
     message: PgWireBackendMessage,
 ) -> PgWireClientResult<()>
     requires usable { desk.old.broken ≡ false }
     ensures config { desk.new.config ≡ desk.old.config }
     ensures cause { OfError result 0 0 false }
     ensures usable { IsUsable no_error result desk.new.broken }
-    ensures took { Took H.means handler.old (client_of desk.old) gathered.old message handler.new (client_of desk.new) gathered.new result desk.new.broken }
+    ensures took { Took H.means handler.old (client_of desk.old)
+        (as_lists H.Responses.listed gathered.old) message handler.new (client_of desk.new)
+        (as_lists H.Responses.listed gathered.new) result desk.new.broken }
 {
     match desk.note(&message) {
         Ok(_) => match heed(alloc, handler, gathered, message) {

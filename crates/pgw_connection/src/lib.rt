@@ -5,20 +5,24 @@
 //! awaited a message, and all that was sent had been flushed.
 #![tactic(auto)]
 
+pub mod canceling;
 pub mod client;
+mod closing;
 mod connect;
 pub mod desk;
 mod exchange;
 pub mod extended;
-mod gathered;
+pub mod gathered;
 mod reading;
 mod requests;
 mod sending;
 mod simple;
 
+pub use crate::canceling::CancelToken;
 pub use crate::client::PgWireClient;
 pub use crate::desk::Desk;
 pub use crate::extended::{ExtendedQueryClient, ExtendedQueryState};
+pub use crate::gathered::Gathered;
 pub use crate::requests::DescribeTarget;
 pub use pgw_frontend::frontend::PgWireFrontendMessage;
 pub use pgw_handlers::{

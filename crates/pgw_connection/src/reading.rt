@@ -1,12 +1,13 @@
 //! How a client comes by its messages.
-ghost use Rattle.std.specs.Prelude.{◌≡◌, ◌⊎◌, ◌≤◌, ◌<◌, ◌+◌, length, true, false, Ok, Err, OnOk, OnErr, IfErr, IsErrOf};
+ghost use Rattle.std.specs.Prelude.{◌≡◌, ◌⊎◌, ◌≤◌, ◌<◌, ◌+◌, length, take, true, false, Ok, Err, OnOk, OnErr, IfOk, IfErr, IsErrOf};
+ghost use Rattle.pgw_link.specs.Tape.{Took, Failed, HasCause as LinkHasCause};
 ghost use Rattle.pgw_backend.specs.declared.client_error.PgWireClientError.TheVariants as client;
 ghost use Rattle.pgw_connection.specs.Desk.{client_of};
 ghost use Rattle.pgw_connection.specs.Line.{Foretold};
 ghost use Rattle.pgw_connection.specs.Lent.{line_of};
 ghost use Rattle.pgw_connection.specs.Reading.{ReadOnce, Came, PassedOver, awaited};
 ghost use Rattle.pgw_link.specs.Foresight.{Ends, Foreseen};
-ghost use Rattle.pgw_client.specs.Wire.{IsOwn};
+ghost use Rattle.pgw_dialogue.specs.Wire.{IsOwn};
 ghost use Rattle.pgw_handlers.specs.declared.client_info.ReadyState.TheVariants.{Pending};
 ghost use Rattle.pgw_connection.specs.Calls.{Polled};
 ghost use Rattle.pgw_connection.specs.Talk.{passes, is_remote, in_place_of, first_of};
@@ -17,11 +18,42 @@ use pgw_backend::backend::PgWireBackendMessage;
 use pgw_backend::client_error::{PgWireClientError, PgWireClientResult};
 use pgw_client::session::chunk_size;
 use pgw_handlers::ReadyState;
-use pgw_link::link::Link;
+use pgw_link::link::{Link, LinkFault};
+use pgw_types::memory::OutOfMemory;
 use std::alloc::Global;
 
 /// The most bytes that one read asks for.
-const CHUNK: usize = 8192;
+pub(crate) const CHUNK: usize = 8192;
+
+/// What a client's bytes are read by way of. It is cleared once, as the client is made.
+pub(crate) type Piece = Box<[u8; CHUNK]>;
+
+/// A piece.
+pub(crate) fn new_piece(alloc: Global) -> Result<Piece, OutOfMemory> {
+    Ok(Box::new(alloc, [0u8; CHUNK])?)
+}
+
+// Reads once into the front of a piece, no more than so many bytes.
+fn read_piece<L: Link>(
+    link: &mut L,
+    piece: &mut [u8; CHUNK],
+    size: usize,
+) -> Result<usize, LinkFault>
+    requires some { 0 < size }
+    requires within { size ≤ 8192 }
+    ensures bound { IfOk result (λ n. n ≤ size) }
+    ensures moved { IfOk result
+        (λ n. Took (L.tape link.old) (L.tape link.new) (take n piece.new)) }
+    ensures failed { OnErr result (Failed (L.tape link.old) (L.tape link.new)
+        ((L.tape link.old).reads + 1) (L.tape link.old).writes) }
+    ensures cause { LinkHasCause (L.faults link.old) (L.faults link.new) result }
+    ensures no_fault { OnOk result (L.faults link.new ≡ L.faults link.old) }
+    ensures foreseen { L.foretells → Foreseen (L.left link.old) (L.left link.new)
+        (L.tape link.old) (L.tape link.new) }
+    ensures ends { L.foretells → Ends (L.left link.new) (L.tape link.old) (L.tape link.new) }
+{
+    link.read(&mut piece[..size])
+}
 
 // What a failure behind an error answers: the link's end leaves the error as it is.
 fn in_place_of(error: PgWireClientError, failure: PgWireClientError) -> PgWireClientError
@@ -78,9 +110,8 @@ impl<L: Link> PgWireClient<L> {
         if self.read >= self.limit {
             return Err(PgWireClientError::ReadLimit);
         }
-        let mut chunk = [0u8; CHUNK];
         let size = chunk_size(self.limit - self.read);
-        let n = match self.link.read(&mut chunk[..size]) {
+        let n = match read_piece(&mut self.link, &mut self.piece, size) {
             Ok(n) => n,
             Err(_) => return Err(PgWireClientError::IoError),
         };
@@ -88,7 +119,7 @@ impl<L: Link> PgWireClient<L> {
             return Ok(false);
         }
         self.read += n as u64;
-        match self.inbox.append(&chunk[..n]) {
+        match self.inbox.append(&self.piece[..n]) {
             Ok(()) => Ok(true),
             Err(_) => Err(PgWireClientError::OutOfMemory),
         }

@@ -52,7 +52,8 @@ pub(crate) fn prepare(
     query: &str,
     param_types: &[u32],
 ) -> Result<Request, OutOfMemory>
-    ensures { IfOk result (λ r. r ≡ request.Prepare (option_copied name.entry) query.now param_types.now) }
+    ensures { IfOk result (λ r. r ≡ request.Prepare (option_copied name.entry) query.now
+        param_types.now) }
 {
     let name = named(alloc, name)?;
     let query = Text::from_str(alloc, query)?;
@@ -66,7 +67,8 @@ pub(crate) fn bind(
     params: Listed<Option<Octets>>,
     result_formats: Listed<i16>,
 ) -> Result<Request, OutOfMemory>
-    ensures { IfOk result (λ r. r ≡ request.Bind (option_copied portal.entry) (option_copied statement.entry) params result_formats) }
+    ensures { IfOk result (λ r. r ≡ request.Bind (option_copied portal.entry)
+        (option_copied statement.entry) params result_formats) }
 {
     let portal = named(alloc, portal)?;
     let statement = named(alloc, statement)?;

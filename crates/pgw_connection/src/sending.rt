@@ -1,7 +1,7 @@
 //! How a client writes what its handlers send, and what becomes of their answers.
 ghost use Rattle.std.specs.Prelude.{◌≡◌, ◌⊎◌, ◌≤◌, true, false, length, IfErr, OnOk, OnErr};
 ghost use Rattle.pgw_backend.specs.declared.client_error.PgWireClientError.TheVariants as client;
-ghost use Rattle.pgw_client.specs.SessionSteps.{Wrote, WroteSome};
+ghost use Rattle.pgw_link.specs.Sending.{Wrote, WroteSome};
 ghost use Rattle.pgw_handlers.specs.Handling.{HasCause, IsCaused, OfError};
 ghost use Rattle.pgw_connection.specs.Talk.{passes, is_refusal};
 ghost use Rattle.pgw_connection.specs.Desk.{client_of};
@@ -11,10 +11,10 @@ ghost use Rattle.pgw_connection.specs.Calls.{IsUsable, goes_on_if, Puts, Opens, 
 
 use crate::client::PgWireClient;
 use pgw_backend::client_error::{PgWireClientError, PgWireClientResult};
-use pgw_client::session::send;
 use pgw_frontend::frontend::PgWireFrontendMessage;
 use pgw_handlers::{Outgoing, ReadyState};
 use pgw_link::link::Link;
+use pgw_link::sending::send;
 use std::alloc::Global;
 
 // An error behind which a client goes on, once ReadyForQuery has come.

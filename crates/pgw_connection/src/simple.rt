@@ -1,21 +1,24 @@
 //! Simple queries.
-ghost use Rattle.std.specs.Prelude.{◌≡◌, ◌≤◌, ◌<◌, ◌+◌, length, true, false, Err, OnOk};
+ghost use Rattle.std.specs.Prelude.{◌≡◌, ◌≤◌, ◌<◌, ◌+◌, length, true, false, Err, IfOk, OnOk, OnErr};
 ghost use Rattle.pgw_backend.specs.declared.client_error.PgWireClientError.TheVariants as client;
 ghost use Rattle.pgw_handlers.specs.Handling.{HasCause};
-ghost use Rattle.pgw_handlers.specs.Simple.{simple_query, HeardInQuery};
+ghost use Rattle.pgw_handlers.specs.Simple.{simple_query, HeardInQuery, TakesRows};
 ghost use Rattle.pgw_connection.specs.Talk.{end, passes};
 ghost use Rattle.pgw_connection.specs.Desk.{client_of};
 ghost use Rattle.pgw_connection.specs.Line.{Foretold};
 ghost use Rattle.pgw_connection.specs.Lent.{line_of};
-ghost use Rattle.pgw_connection.specs.Calls.{IsUsable, may_go_on, HeardNext, Talked, Call};
+ghost use Rattle.pgw_connection.specs.Calls.{IsUsable, may_go_on, HeardNext, HeardOn, Talked, Call};
 
 use crate::client::PgWireClient;
 use pgw_backend::client_error::{PgWireClientError, PgWireClientResult};
-use pgw_client::table::is_ready;
+use pgw_dialogue::inbox::Inbox;
+use pgw_dialogue::table::is_ready;
 use pgw_handlers::{ReadyState, SimpleQueryHandler};
 use pgw_link::link::Link;
 use pgw_types::listed::Listed;
+use pgw_types::memory::OutOfMemory;
 use std::alloc::Global;
+use std::mem::replace;
 
 impl<L: Link> PgWireClient<L> {
     // Takes a message and has the handler hear it.
@@ -51,6 +54,56 @@ impl<L: Link> PgWireClient<L> {
         self.follow(alloc, true, closing, answer)
     }
 
+    // Has the handler take rows that stand whole at the buffer's front, as many as it likes.
+    fn take_rows_in_query<H: SimpleQueryHandler>(
+        &mut self,
+        alloc: Global,
+        handler: &mut H,
+    ) -> Result<usize, OutOfMemory>
+        ensures desk { self.new.desk ≡ self.old.desk }
+        ensures link { self.new.link ≡ self.old.link }
+        ensures read { self.new.read ≡ self.old.read }
+        ensures limit { self.new.limit ≡ self.old.limit }
+        ensures taken { IfOk result (TakesRows H.means handler.old handler.new
+            self.old.inbox self.new.inbox) }
+        ensures shorter { length self.new.inbox ≤ length self.old.inbox }
+        ensures err { OnErr result (self.new.inbox ≡ self.old.inbox) }
+    {
+        self.inbox.settle()?;
+        let mut parts = replace(&mut self.inbox, Inbox::new(alloc)).into_parts();
+        let taken = handler.take_rows(&mut parts.front);
+        self.inbox = parts.into_inbox();
+        taken
+    }
+
+    // Has the handler take rows, and hear the message behind them.
+    fn go_on_in_query<H: SimpleQueryHandler>(
+        &mut self,
+        alloc: Global,
+        handler: &mut H,
+    ) -> PgWireClientResult<ReadyState<Listed<H::QueryResponse>>>
+        requires { self.old.desk.broken ≡ false }
+        ensures limit { self.new.limit ≡ self.old.limit }
+        ensures config { self.new.desk.config ≡ self.old.desk.config }
+        ensures shrinks { OnOk result
+            (length self.new.inbox + self.old.read < length self.old.inbox + self.new.read) }
+        ensures cause { HasCause (L.faults self.old.link) (L.faults self.new.link) false result }
+        ensures foretold { L.foretells → Foretold (L.left self.old.link) (L.left self.new.link)
+            (L.tape self.old.link) (L.tape self.new.link) }
+        ensures usable { IsUsable passes result self.new.desk.broken }
+        ensures heard { HeardOn (HeardInQuery H.means) passes handler.old (client_of self.old.desk)
+            (line_of L.tape L.faults self.old) (line_of L.tape L.faults self.new)
+            handler.new (client_of self.new.desk) self.new.desk.broken result }
+    {
+        match self.take_rows_in_query(alloc, handler) {
+            Ok(_) => self.hear_in_query(alloc, handler),
+            Err(_) => {
+                self.desk.broken = true;
+                Err(PgWireClientError::OutOfMemory)
+            }
+        }
+    }
+
     // Hands messages to the handler until the query ends.
     fn talk_in_query<H: SimpleQueryHandler>(
         &mut self,
@@ -69,7 +122,7 @@ impl<L: Link> PgWireClient<L> {
             (end result (client_of self.new.desk) self.new.desk.broken self.new.inbox) }
     {
         'messages: loop {
-            match self.hear_in_query(alloc, handler) {
+            match self.go_on_in_query(alloc, handler) {
                 Ok(ReadyState::Pending) => {}
                 Ok(ReadyState::Ready(responses)) => return Ok(responses),
                 Err(error) => return Err(error),

@@ -4,6 +4,7 @@ ghost use Rattle.std.specs.Prelude.{◌<◌};
 use crate::link::CaseDialer;
 use crate::pieces::Pieces;
 use anyhow::Result;
+use pgw_client::{Config, PgWireClientError, PgWireClientResult};
 use pgw_link::memory::MemoryLink;
 use pgw_link::memory_dialer::MemoryDialer;
 use pgw_types::listed::Listed;
@@ -23,7 +24,8 @@ pub struct Case {
     fail_second_writes: Vec<u64>,
     fail_flush: u64,
     pub limit: u64,
-    pub config: String,
+    hash: Vec<u8>,
+    config: String,
 }
 
 impl Case {
@@ -38,6 +40,7 @@ impl Case {
             fail_second_writes: Vec::new(alloc),
             fail_flush: 0,
             limit: 100_000,
+            hash: Vec::new(alloc),
             config: String::from_str(alloc, "user=bob host=a")?,
         })
     }
@@ -49,7 +52,7 @@ impl Case {
             if case.name.is_empty() {
                 case.name.push_str(word)?;
             } else if let Some((key, value)) = word.split_once('=') {
-                case.set(key, value)?;
+                case.set(alloc, key, value)?;
             } else {
                 pieces.append(alloc, word, &mut case.server)?;
             }
@@ -57,7 +60,7 @@ impl Case {
         Ok(case)
     }
 
-    fn set(&mut self, key: &str, value: &str) -> Result<()> {
+    fn set(&mut self, alloc: Global, key: &str, value: &str) -> Result<()> {
         match key {
             "limit" => self.limit = value.parse::<u64>()?,
             "cut" => self.cut = Some(value.parse::<NonZeroUsize>()?),
@@ -65,6 +68,7 @@ impl Case {
             "fail-write" => self.fail_writes.push(value.parse::<u64>()?)?,
             "fail-flush" => self.fail_flush = value.parse::<u64>()?,
             "fail-dial" => self.fail_dials.push(value.parse::<u64>()?)?,
+            "hash" => self.hash = hex::decode(alloc, value)?,
             "fail-second-write" => self.fail_second_writes.push(value.parse::<u64>()?)?,
             _ => {
                 self.config.push_str(" ")?;
@@ -74,6 +78,18 @@ impl Case {
             }
         }
         Ok(())
+    }
+
+    /// What a client is configured by, with the certificate's hash where one is set.
+    pub fn configuration(&self, alloc: Global) -> Result<PgWireClientResult<Config>> {
+        let mut config = match Config::parse(alloc, self.config.as_str()) {
+            Ok(config) => config,
+            Err(e) => return Ok(Err(PgWireClientError::from(e))),
+        };
+        if !self.hash.is_empty() {
+            config.set_certificate_hash(alloc, self.hash.as_slice())?;
+        }
+        Ok(Ok(config))
     }
 
     /// A dialer with a link to the server, and one to a server that says nothing.

@@ -1,6 +1,6 @@
 //! A link in memory whose flush may fail, and its dialer.
 ghost use Rattle.std.specs.Prelude.{◌≤◌, ◌≡◌};
-ghost use Rattle.pgw_link.specs.Tape.{Rose};
+ghost use Rattle.pgw_types.specs.Counts.{Rose};
 
 use pgw_client::{Address, DialError, Dialer, Link, LinkFault, MemoryDialer, MemoryLink};
 

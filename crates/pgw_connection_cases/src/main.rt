@@ -5,6 +5,7 @@
 mod case;
 mod extended;
 mod link;
+mod listener;
 mod own;
 mod pieces;
 mod run;

@@ -1,10 +1,10 @@
-//! What a caller reads and sends by itself.
+//! What a caller reads, sends and sets by itself.
 
 use crate::link::CaseLink;
 use crate::shown::{said, told};
-use anyhow::{Result, bail};
+use anyhow::{Context, Result, bail};
 use pgw_client::{Listed, Text};
-use pgw_connection::{Outgoing, PgWireClient, PgWireFrontendMessage};
+use pgw_connection::{ClientInfo, Outgoing, PgWireClient, PgWireFrontendMessage};
 use pgw_ext::extendedquery::{Parse, Sync};
 use std::alloc::Global;
 
@@ -38,4 +38,22 @@ fn message(alloc: Global, word: &str) -> Result<PgWireFrontendMessage> {
 pub fn send(alloc: Global, client: &mut Client, word: &str) -> Result<String> {
     let message = message(alloc, word)?;
     said(alloc, client.send(message), "ok")
+}
+
+/// Sets a parameter.
+pub fn set(alloc: Global, client: &mut Client, text: &str) -> Result<String> {
+    let (name, value) = text.split_once(' ').context("a name and a value")?;
+    let name = Text::from_str(alloc, name)?;
+    let value = Text::from_str(alloc, value)?;
+    client.set_server_parameter(name, value)?;
+    Ok(String::from_str(alloc, "ok")?)
+}
+
+/// The value of a parameter.
+pub fn parameter(alloc: Global, client: &Client, name: &str) -> Result<String> {
+    let value = match client.server_parameters().get(name) {
+        Some(value) => value.as_str(),
+        None => "-",
+    };
+    Ok(String::from_str(alloc, value)?)
 }

@@ -3,10 +3,11 @@
 use crate::case::Case;
 use crate::extended::extended;
 use crate::link::{CaseDialer, CaseLink};
-use crate::own::{fill, poll, send};
-use crate::shown::{error_name, said, status_shown, told};
+use crate::listener::Listener;
+use crate::own::{fill, parameter, poll, send, set};
+use crate::shown::{Shown, error_name, said, status_shown, told};
 use anyhow::Result;
-use pgw_client::{Config, PgWireClientError, PgWireClientResult};
+use pgw_client::{Listed, PgWireClientError, PgWireClientResult};
 use pgw_connection::PgWireClient;
 use pgw_default_handlers::{DefaultSimpleQueryHandler, DefaultStartupHandler};
 use pgw_row_counter::RowCounter;
@@ -24,6 +25,32 @@ fn count(alloc: Global, client: &mut Client, sql: &str) -> Result<String> {
     told(alloc, client.simple_query(alloc, RowCounter::new(), sql))
 }
 
+// A handler of a caller's own, which keeps notices and notifications.
+fn listen(alloc: Global, client: &mut Client, sql: &str) -> Result<String> {
+    told(alloc, client.simple_query(alloc, Listener::new(alloc), sql))
+}
+
+// The same, by an extended query.
+fn listen_extended(alloc: Global, client: &mut Client, sql: &str) -> Result<String> {
+    let mut listener = Listener::new(alloc);
+    let mut lent = client.extended_query(&mut listener);
+    let rows = told(alloc, lent.query(alloc, sql, &[], Listed::new(alloc)))?;
+    let heard = listener.heard.shown(alloc)?;
+    Ok(format!(in alloc; "{rows}, {heard}")?)
+}
+
+// Cancels by a token.
+fn cancel_by_token(
+    alloc: Global,
+    client: &Client,
+    dialer: &mut CaseDialer,
+) -> Result<PgWireClientResult<()>> {
+    match client.cancel_token(alloc) {
+        Ok(token) => Ok(token.cancel(alloc, dialer)),
+        Err(error) => Ok(Err(error)),
+    }
+}
+
 // A call that asks nothing of the server, or one of extended queries.
 fn other(alloc: Global, client: &mut Client, word: &str, rest: &str) -> Result<String> {
     match word {
@@ -36,6 +63,17 @@ fn other(alloc: Global, client: &mut Client, word: &str, rest: &str) -> Result<S
     }
 }
 
+// The same, or one by a handler that listens, or one that has to do with a parameter.
+fn quiet(alloc: Global, client: &mut Client, word: &str, rest: &str) -> Result<String> {
+    match word {
+        "set" => set(alloc, client, rest),
+        "parameter" => parameter(alloc, client, rest),
+        "listen" => listen(alloc, client, rest),
+        "listen-extended" => listen_extended(alloc, client, rest),
+        _ => other(alloc, client, word, rest),
+    }
+}
+
 // One call on a client, and what came of it.
 fn call(alloc: Global, client: &mut Client, dialer: &mut CaseDialer, text: &str) -> Result<String> {
     let (word, rest) = text.split_once(' ').unwrap_or((text, ""));
@@ -43,8 +81,9 @@ fn call(alloc: Global, client: &mut Client, dialer: &mut CaseDialer, text: &str)
         "simple" => simple(alloc, client, rest),
         "count" => count(alloc, client, rest),
         "cancel" => said(alloc, client.cancel(alloc, dialer), "ok"),
+        "token" => said(alloc, cancel_by_token(alloc, client, dialer)?, "ok"),
         "closed" => closed(alloc, dialer),
-        _ => other(alloc, client, word, rest),
+        _ => quiet(alloc, client, word, rest),
     }
 }
 
@@ -94,7 +133,7 @@ fn connect(
     case: &Case,
     dialer: &mut CaseDialer,
 ) -> Result<PgWireClientResult<Client>> {
-    let config = match Config::parse(alloc, case.config.as_str()) {
+    let config = match case.configuration(alloc)? {
         Ok(config) => config,
         Err(e) => return Ok(Err(e)),
     };
@@ -139,13 +178,36 @@ fn all(alloc: Global, client: &mut Client, dialer: &mut CaseDialer, calls: &str)
     Ok(answers)
 }
 
+// What the end of a client comes to.
+fn ended(alloc: Global, client: Client, dialer: &mut CaseDialer) -> Result<String> {
+    let came = said(alloc, client.close(dialer), "ok")?;
+    let closed = closed(alloc, dialer)?;
+    Ok(format!(in alloc; "; end -> {came}, closed {closed}")?)
+}
+
+// What the calls on a client come to, and its end where that is asked for.
+fn whole(
+    alloc: Global,
+    mut client: Client,
+    dialer: &mut CaseDialer,
+    calls: &str,
+) -> Result<String> {
+    match calls.split_once(" ; end") {
+        Some((calls, _)) => {
+            let mut said = all(alloc, &mut client, dialer, calls)?;
+            said.push_str(ended(alloc, client, dialer)?.as_str())?;
+            Ok(said)
+        }
+        None => all(alloc, &mut client, dialer, calls),
+    }
+}
+
 /// What a case's calls come to, one behind the other.
 pub fn answers(alloc: Global, case: &Case, calls: &str) -> Result<String> {
     let mut dialer = case.dialer(alloc)?;
     match connect(alloc, case, &mut dialer)? {
-        Ok(mut client) => {
-            let said = all(alloc, &mut client, &mut dialer, calls);
-            drop(client);
+        Ok(client) => {
+            let said = whole(alloc, client, &mut dialer, calls);
             drop(dialer);
             said
         }

@@ -3,8 +3,8 @@
 use crate::link::CaseLink;
 use anyhow::Result;
 use pgw_client::{
-    DataRow, DescribeResponse, ExecuteResult, Listed, PgWireBackendMessage, PgWireClientError,
-    PgWireClientResult, PgWireError, PrepareResponse, Response, TransactionStatus,
+    DataRows, DescribeResponse, ExecuteResult, Listed, PgWireBackendMessage, PgWireClientError,
+    PgWireClientResult, PgWireError, PrepareResponse, Response, Text, TransactionStatus,
 };
 use pgw_connection::PgWireClient;
 use pgw_handlers::{ClientInfo, ReadyState};
@@ -103,19 +103,31 @@ impl Shown for Listed<u64> {
     }
 }
 
-/// The payloads of some rows.
-impl Shown for Listed<DataRow> {
+/// What a handler heard that listens.
+impl Shown for Listed<Text> {
     fn shown(&self, alloc: Global) -> Result<String> {
-        let mut shown = String::from_str(alloc, "rows")?;
-        for row in self.as_slice() {
+        let mut shown = String::from_str(alloc, "heard")?;
+        for text in self.as_slice() {
             shown.push_str(" ")?;
-            shown.push_str(hex::encode(alloc, row.payload.as_slice())?.as_str())?;
+            shown.push_str(text.as_str())?;
         }
         Ok(shown)
     }
 }
 
-impl Shown for ExecuteResult<Listed<DataRow>> {
+/// The payloads of some rows.
+impl Shown for DataRows {
+    fn shown(&self, alloc: Global) -> Result<String> {
+        let mut shown = String::from_str(alloc, "rows")?;
+        for row in self {
+            shown.push_str(" ")?;
+            shown.push_str(hex::encode(alloc, row.payload)?.as_str())?;
+        }
+        Ok(shown)
+    }
+}
+
+impl Shown for ExecuteResult<DataRows> {
     fn shown(&self, alloc: Global) -> Result<String> {
         match self {
             ExecuteResult::Complete(rows) => {

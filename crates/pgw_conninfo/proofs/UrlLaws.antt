@@ -14,7 +14,7 @@ use Rattle.pgw_conninfo.specs.declared.part.Cut.{Cut}
 use Rattle.pgw_conninfo.specs.declared.part.Part.{Part}
 use Rattle.pgw_conninfo.specs.declared.part.Fault.{Fault}
 use Rattle.pgw_conninfo.specs.declared.part.Fault.TheVariants as fault
-use Rattle.pgw_conninfo.specs.Marks.{before_mark, behind, behind_mark, or_empty, pieces_at}
+use Rattle.pgw_types.specs.Marks.{before_mark, behind, behind_mark, or_empty, pieces_at}
 use Rattle.pgw_conninfo.specs.Part.{Item, up_to_fault, next_by, next, adds}
 use Rattle.pgw_conninfo.specs.UrlReader.{with_pair, AddsPairs, ended, no_pair, paired}
 use Rattle.pgw_conninfo.specs.Url.{text_of, host_in, hosts_in, pair_of, ArePairs, credentials_in, behind_credentials, address_in, IsUrl}

@@ -1,5 +1,4 @@
 pub mod KeyValue
-pub mod Marks
 pub mod Part
 pub mod Reader
 pub mod Shown

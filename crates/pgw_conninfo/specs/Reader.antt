@@ -2,7 +2,7 @@
 use Rattle.std.specs.Prelude.{ℕ, ◌+◌, List, [], ◌∷◌, ◌++◌, length, drop, Bool, true, false, not, ◌||◌, ◌==◌, Option, Some, None, slice_index, if◌then◌else◌}
 use Rattle.std.specs.List.{position, flat_map}
 use Rattle.std.specs.Char.{is_whitespace, encode_utf8}
-use Rattle.pgw_conninfo.specs.Marks.{before}
+use Rattle.pgw_types.specs.Marks.{before}
 use Rattle.pgw_conninfo.specs.KeyValue.{ends_key, ends_value}
 
 -- ---- cuts

@@ -2,7 +2,7 @@
 use Rattle.std.specs.Prelude.{ℕ, List, codes, Option, Some, None}
 use Rattle.std.specs.Str.{chars}
 use Rattle.pgw_conninfo.specs.declared.part.Cut.{Cut}
-use Rattle.pgw_conninfo.specs.Marks.{behind_word}
+use Rattle.pgw_types.specs.Marks.{behind_word}
 use Rattle.pgw_conninfo.specs.KeyValue.{IsCut}
 use Rattle.pgw_conninfo.specs.Url.{IsUrl}
 

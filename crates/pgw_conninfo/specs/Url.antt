@@ -4,7 +4,7 @@ use Rattle.std.specs.List.{flat_map}
 use Rattle.std.specs.Str.{is_utf8}
 use Rattle.std.specs.Cmp.Lexicographic.{pointwise}
 use Rattle.percent_encoding.specs.Percent.{percent_decode}
-use Rattle.pgw_conninfo.specs.Marks.{before_mark, behind_mark, or_empty, pieces_at}
+use Rattle.pgw_types.specs.Marks.{before_mark, behind_mark, or_empty, pieces_at}
 use Rattle.pgw_conninfo.specs.Part.{Item, up_to_fault}
 use Rattle.pgw_conninfo.specs.declared.part.Part.{Part}
 use Rattle.pgw_conninfo.specs.declared.part.Part.TheVariants as part

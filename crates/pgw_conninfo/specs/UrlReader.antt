@@ -1,6 +1,6 @@
 -- How a reader finds the pairs of a URL, behind the parts before them.
 use Rattle.std.specs.Prelude.{◌≡◌, ◌<◌, ℕ, List, [], length, Option, Some, None, Result, Ok, Err}
-use Rattle.pgw_conninfo.specs.Marks.{before_mark, behind_mark, or_empty}
+use Rattle.pgw_types.specs.Marks.{before_mark, behind_mark, or_empty}
 use Rattle.pgw_conninfo.specs.Part.{next}
 use Rattle.pgw_conninfo.specs.Url.{text_of, pair_of}
 use Rattle.pgw_conninfo.specs.declared.part.Cut.{Cut}

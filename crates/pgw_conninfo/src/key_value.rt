@@ -98,7 +98,8 @@ fn value_up_to(text: String, end: Option<usize>) -> Value
 /// What a value stands for, and how many characters of it there are before the one that ends it.
 #[tactic(auto, unfolding(crate::specs::Reader::value_at))]
 fn read_value(alloc: Global, text: &[char], quoted: bool) -> Result<Value, OutOfMemory>
-    ensures value { IfOk result (λ v. (v.text, v.end) ≡ value_at (ends_value quoted) false 0 text.now) }
+    ensures value { IfOk result (λ v. (v.text, v.end)
+        ≡ value_at (ends_value quoted) false 0 text.now) }
     ensures bound { IfOk result (λ v. IfSome v.end (λ at. at < length text.now)) }
 {
     let mut value = String::new(alloc);
@@ -138,7 +139,8 @@ enum Front<'a> {
 
 // The value behind the quote that opens it.
 fn read_quoted<'a>(alloc: Global, key: Text, text: &'a [char]) -> Result<Front<'a>, OutOfMemory>
-    ensures { IfOk result (λ f. shown f ≡ quoted_by key text.now (value_at (ends_value true) false 0 text.now)) }
+    ensures { IfOk result (λ f. shown f ≡ quoted_by key text.now
+        (value_at (ends_value true) false 0 text.now)) }
 {
     let value = read_value(alloc, text, true)?;
     match value.end {
@@ -148,7 +150,8 @@ fn read_quoted<'a>(alloc: Global, key: Text, text: &'a [char]) -> Result<Front<'
 }
 
 fn read_bare<'a>(alloc: Global, key: Text, text: &'a [char]) -> Result<Front<'a>, OutOfMemory>
-    ensures { IfOk result (λ f. shown f ≡ bare_by key text.now (value_at (ends_value false) false 0 text.now)) }
+    ensures { IfOk result (λ f. shown f ≡ bare_by key text.now
+        (value_at (ends_value false) false 0 text.now)) }
 {
     let value = read_value(alloc, text, false)?;
     if value.text.is_empty() {
@@ -171,7 +174,8 @@ fn read_behind_key<'a>(alloc: Global, key: Text, text: &'a [char]) -> Result<Fro
 }
 
 fn read_from_key(alloc: Global, text: &[char]) -> Result<Front<'_>, OutOfMemory>
-    ensures { IfOk result (λ f. shown f ≡ with_key_at (key_at text.now) (behind_blank (behind_key text.now))) }
+    ensures { IfOk result (λ f. shown f ≡ with_key_at (key_at text.now)
+        (behind_blank (behind_key text.now))) }
 {
     let (key, behind) = cut_key(text);
     match skip_blank(behind) {

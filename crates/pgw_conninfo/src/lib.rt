@@ -4,9 +4,7 @@
 //! that a text is cut in one way.
 #![tactic(auto)]
 
-pub mod address;
 mod key_value;
-pub mod marks;
 pub mod part;
 pub mod text;
 mod url;

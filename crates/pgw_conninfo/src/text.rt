@@ -5,9 +5,9 @@ ghost use Rattle.pgw_conninfo.specs.declared.part.Cut.{Cut as TheCut};
 ghost use Rattle.pgw_conninfo.specs.Text.{HasCut, url_in};
 
 use crate::key_value::read_pairs;
-use crate::marks::behind_word;
 use crate::part::Cut;
 use crate::url::read_url;
+use pgw_types::marks::behind_word;
 use pgw_types::memory::OutOfMemory;
 use std::alloc::Global;
 

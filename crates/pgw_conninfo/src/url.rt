@@ -2,14 +2,14 @@
 ghost use Rattle.std.specs.Prelude.{◌≡◌, [], codes, IfOk};
 ghost use Rattle.std.specs.Option.{option_copied};
 ghost use Rattle.pgw_conninfo.specs.declared.part.Part.TheVariants as kind;
-ghost use Rattle.pgw_conninfo.specs.Marks.{or_empty as empty_or};
+ghost use Rattle.pgw_types.specs.Marks.{or_empty as empty_or};
 ghost use Rattle.pgw_conninfo.specs.Part.{up_to_fault, next, adds};
 ghost use Rattle.pgw_conninfo.specs.UrlReader.{AddsPairs};
 ghost use Rattle.pgw_conninfo.specs.Url.{text_of, made, password_in, login_in, credentials_in, behind_credentials, host_and_port, closed_host, host_in, hosts_in, database_in, address_in, pair_of, IsUrl};
 
-use crate::marks::{cut_at, pieces_at};
 use crate::part::{Cut, Fault, Part};
 use percent_encoding::percent_decode;
+use pgw_types::marks::{cut_at, pieces_at};
 use pgw_types::memory::OutOfMemory;
 use pgw_types::octets::Octets;
 use pgw_types::text::Text;

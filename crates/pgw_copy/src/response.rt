@@ -48,7 +48,8 @@ fn put_formats(
     columns: i16,
     column_formats: &[i16],
 ) -> Result<(), OutOfMemory>
-    ensures ok { OnOk result (out.new.body ≡ out.old.body ++ formats format columns column_formats.now) }
+    ensures ok { OnOk result (out.new.body ≡ out.old.body
+        ++ formats format columns column_formats.now) }
     ensures kept { out.new.before ≡ out.old.before }
 {
     put_u8(out, format.cast_unsigned())?;
@@ -66,7 +67,12 @@ pub struct CopyInResponse {
 
 impl CopyInResponse {
     pub fn new(format: i8, columns: i16, column_formats: Listed<i16>) -> CopyInResponse
-        ensures { result ≡ record { format = format; columns = columns; column_formats = column_formats } }
+        ensures { result ≡ record {
+          format = format;
+          columns = columns;
+          column_formats =
+              column_formats;
+        } }
     {
         CopyInResponse {
             format,
@@ -140,7 +146,12 @@ pub struct CopyOutResponse {
 
 impl CopyOutResponse {
     pub fn new(format: i8, columns: i16, column_formats: Listed<i16>) -> CopyOutResponse
-        ensures { result ≡ record { format = format; columns = columns; column_formats = column_formats } }
+        ensures { result ≡ record {
+          format = format;
+          columns = columns;
+          column_formats =
+              column_formats;
+        } }
     {
         CopyOutResponse {
             format,
@@ -214,7 +225,12 @@ pub struct CopyBothResponse {
 
 impl CopyBothResponse {
     pub fn new(format: i8, columns: i16, column_formats: Listed<i16>) -> CopyBothResponse
-        ensures { result ≡ record { format = format; columns = columns; column_formats = column_formats } }
+        ensures { result ≡ record {
+          format = format;
+          columns = columns;
+          column_formats =
+              column_formats;
+        } }
     {
         CopyBothResponse {
             format,

@@ -65,6 +65,14 @@ abbrev pub WantsMore : {S R M E : Type 0} → Rules S R M E → Course S R → T
 WantsMore rules (Waits state sent pending) = rules.read state pending ≡ More
 WantsMore rules (Over ending sent) = Unit {0}
 
+-- what has been put out is what is written, and maybe more
+abbrev pub Begins : {S R : Type 0} → Course S R → List ℕ → Type 0
+Begins course wrote = (more : List ℕ) × (sent_of course ≡ wrote ++ more)
+
+-- the course waits for more bytes
+abbrev pub Waiting : {S R : Type 0} → Course S R → List ℕ → Type 0
+Waiting {S} course sent = (state : S) × (pending : List ℕ) × (course ≡ Waits state sent pending)
+
 -- ---- one machine seen as another
 
 -- where it is, with other states and endings

@@ -1,1 +1,2 @@
 pub mod StartupLaws
+mod RowLaws

@@ -1,31 +1,28 @@
 -- What the table says of an authentication request, and what it refuses.
-use Rattle.std.proofs.Common.{◌≡◌, ℕ, Bool, true, false, List, Option, Some, None, Result, Ok, Err, sym, subst}
-use Rattle.std.specs.Prelude.{codes, is_some}
-use Rattle.std.specs.List.{list_any}
-use Rattle.std.specs.Str.{bytes_eq, is_utf8}
-use Rattle.pgw_types.specs.declared.error.ScramMessageFault.{ScramMessageFault}
+use Rattle.std.proofs.Common.{◌≡◌, ℕ, Bool, true, false, List, Option, Some, None, sym, subst}
+use Rattle.std.specs.Prelude.{not, option_map}
+use Rattle.std.specs.Str.{is_utf8}
 use Rattle.pgw_startup.specs.declared.authentication.Authentication.{Authentication}
 use Rattle.pgw_startup.specs.declared.authentication.Authentication.TheVariants as authentication
 use Rattle.pgw_backend.specs.declared.backend.PgWireBackendMessage.TheVariants as backend
 use Rattle.pgw_backend.specs.declared.client_error.PgWireClientError.{PgWireClientError as ClientError}
 use Rattle.pgw_backend.specs.declared.client_error.PgWireClientError.TheVariants as client
-use Rattle.pgw_backend.specs.declared.client_error.ScramFault.TheVariants as scram_fault
+use Rattle.pgw_backend.specs.ClientError.{of_scram}
+use Rattle.pgw_types.specs.declared.scram_error.ScramClientError.{ScramClientError}
+use Rattle.pgw_types.specs.declared.scram_error.ScramClientError.TheVariants as scram
+use Rattle.pgw_types.specs.declared.scram_error.ScramFault.TheVariants as scram_fault
 use Rattle.pgw_hash.specs.Saslprep.{prepared}
-use Rattle.pgw_scram.specs.declared.messages.ServerFirst.{ServerFirst}
-use Rattle.pgw_scram.specs.declared.messages.ServerFinal.{ServerFinal}
-use Rattle.pgw_scram.specs.declared.messages.ServerFinal.TheVariants.{Signature, Failed}
-use Rattle.pgw_scram.specs.Base64.{salt_of}
-use Rattle.pgw_scram.specs.Readers.{read_server_first, read_server_final}
 use Rattle.pgw_scram.specs.Answers.{unless_so, first_of}
-use Rattle.pgw_scram.specs.Refusals.{begins_with, parts_refusal, verifier_refusal}
+use Rattle.pgw_scram.specs.Refusals as scram_refusal
+use Rattle.pgw_scram.specs.Refusals.{user_refusal}
 use Rattle.pgw_session.specs.declared.stage.Stage.{Stage}
 use Rattle.pgw_session.specs.declared.stage.Stage.TheVariants.{Starting, Challenged, Proving, Admitted, Answering, PassingOver}
 use Rattle.pgw_session.specs.declared.stage.Next.{Next}
-use Rattle.pgw_session.specs.declared.stage.Next.TheVariants.{Goes}
+use Rattle.pgw_session.specs.declared.stage.Next.TheVariants.{Goes, Wrong}
 use Rattle.pgw_session.specs.Input.{Input}
 use Rattle.pgw_session.specs.Requests.{passes_over}
-use Rattle.pgw_session.specs.Logins.{user_of, password_of, scram_login, takes_method, first_message, final_message, expected_of, methods_refusal, first_refusal, final_refusal}
-use Rattle.pgw_session.specs.Table.{unless, misplaced, after as table}
+use Rattle.pgw_session.specs.Logins.{must_bind, cleartext_message, md5_message, user_of, password_of, scram_login, takes_method, first_message, final_message, expected_of, methods_refusal, first_refusal, final_refusal}
+use Rattle.pgw_session.specs.Table.{news_or, unless, unless_bound, misplaced, after as table}
 use Rattle.pgw_default_handlers.specs.Causes.{IsAlwaysCaused, RefusesCaused}
 
 -- ---- what is refused
@@ -42,22 +39,22 @@ both_caused : (a b : Option ClientError) → AreCaused a → AreCaused b → Are
 both_caused None b x y = y
 both_caused (Some e) b x y = x
 
+-- the same of what a client of SCRAM refuses, whose every error has its own cause
+always : (e : ScramClientError) → IsAlwaysCaused (of_scram e)
+always (scram.InvalidConfig key) = λ before now broken. tt
+always (scram.PgWireError why) = λ before now broken. tt
+always (scram.ScramError fault) = λ before now broken. tt
+always scram.OutOfMemory = λ before now broken. tt
+
+scram_caused : (o : Option ScramClientError) → AreCaused (option_map of_scram o)
+scram_caused None = tt
+scram_caused (Some e) = always e
+
 methods_caused : (input : Input) (methods : List (List ℕ)) → AreCaused (methods_refusal input methods)
 methods_caused input methods =
     both_caused (unless_so (takes_method input methods) (client.UnsupportedSASLAuthMethods methods)) _ (so_caused (takes_method input methods) (client.UnsupportedSASLAuthMethods methods) (λ before now broken. tt))
     (both_caused (unless_so (is_utf8 (password_of input)) (client.ScramError scram_fault.PasswordNotUtf8)) _ (so_caused (is_utf8 (password_of input)) (client.ScramError scram_fault.PasswordNotUtf8) (λ before now broken. tt))
-    (so_caused (is_some (prepared (user_of input))) (client.InvalidConfig (codes "user")) (λ before now broken. tt)))
-
-parts_caused : (nonce : List ℕ) (parts : Result ServerFirst ScramMessageFault) → AreCaused (parts_refusal nonce parts)
-parts_caused nonce (Err why) = λ before now broken. tt
-parts_caused nonce (Ok parts) =
-    both_caused (unless_so (begins_with parts.nonce nonce) (client.ScramError scram_fault.NonceMismatch)) _ (so_caused (begins_with parts.nonce nonce) (client.ScramError scram_fault.NonceMismatch) (λ before now broken. tt))
-    (so_caused (is_some (salt_of parts.salt)) (client.ScramError scram_fault.SaltNotBase64) (λ before now broken. tt))
-
-verifier_caused : (expected : List ℕ) (final : Result ServerFinal ScramMessageFault) → AreCaused (verifier_refusal expected final)
-verifier_caused expected (Err why) = λ before now broken. tt
-verifier_caused expected (Ok (Failed text)) = λ before now broken. tt
-verifier_caused expected (Ok (Signature text)) = so_caused (bytes_eq text expected) (client.ScramError scram_fault.SignatureMismatch) (λ before now broken. tt)
+    (scram_caused (user_refusal (prepared (user_of input)))))
 
 unless_caused : (o : Option ClientError) (stage : Stage) (reply : _) → AreCaused o → RefusesCaused (unless o (Goes stage reply))
 unless_caused None stage reply caused = tt
@@ -67,16 +64,25 @@ misplaced_caused : (b : Bool) → RefusesCaused (misplaced b)
 misplaced_caused true = tt
 misplaced_caused false = tt
 
+unbound_caused : (b : Bool) (n : Next) → RefusesCaused n → RefusesCaused (unless_bound b n)
+unbound_caused true n caused = tt
+unbound_caused false n caused = caused
+
+-- AuthenticationOk before a login block
+ok_caused : (b : Bool) → RefusesCaused (news_or (not b) Starting Wrong)
+ok_caused true = tt
+ok_caused false = tt
+
 table_caused : (input : Input) (stage : Stage) (request : Authentication) → RefusesCaused (table input stage (backend.Authentication request))
 table_caused input Starting (authentication.SASL methods) = unless_caused (methods_refusal input methods) (Challenged (scram_login input methods)) (Some (first_message (scram_login input methods))) (methods_caused input methods)
-table_caused input Starting authentication.Ok = tt
-table_caused input Starting authentication.CleartextPassword = tt
-table_caused input Starting (authentication.MD5Password salt) = tt
+table_caused input Starting authentication.Ok = ok_caused (must_bind input)
+table_caused input Starting authentication.CleartextPassword = unbound_caused (must_bind input) (Goes Admitted (Some (cleartext_message input))) tt
+table_caused input Starting (authentication.MD5Password salt) = unbound_caused (must_bind input) (Goes Admitted (Some (md5_message input salt))) tt
 table_caused input Starting request = tt
 table_caused input (Challenged login) (authentication.SASLContinue first) =
-    unless_caused (first_refusal login first) (Proving (expected_of login first)) (Some (final_message login first)) (parts_caused login.nonce (read_server_first first))
+    unless_caused (first_refusal login first) (Proving (expected_of login first)) (Some (final_message login first)) (scram_caused (scram_refusal.first_refusal login.nonce first))
 table_caused input (Challenged login) request = tt
-table_caused input (Proving expected) (authentication.SASLFinal final) = unless_caused (final_refusal expected final) Admitted None (verifier_caused expected (read_server_final final))
+table_caused input (Proving expected) (authentication.SASLFinal final) = unless_caused (final_refusal expected final) Admitted None (scram_caused (scram_refusal.final_refusal expected final))
 table_caused input (Proving expected) request = tt
 table_caused input Admitted authentication.Ok = tt
 table_caused input Admitted request = tt

@@ -2,6 +2,8 @@
 use Rattle.std.specs.Prelude.{◌≡◌, ◌⊎◌, ℕ, List, Bool, true, false, is_some, Ok, Err, Result}
 use Rattle.pgw_types.specs.declared.error.PgWireError.{PgWireError}
 use Rattle.pgw_startup.specs.declared.parameter_status.ParameterStatus.{ParameterStatus}
+use Rattle.pgw_query.specs.declared.response.NoticeResponse.{NoticeResponse}
+use Rattle.pgw_query.specs.declared.notification.NotificationResponse.{NotificationResponse}
 use Rattle.pgw_backend.specs.ClientError.{IsUnexpected}
 use Rattle.pgw_backend.specs.declared.backend.PgWireBackendMessage.{PgWireBackendMessage as Backend}
 use Rattle.pgw_backend.specs.declared.backend.PgWireBackendMessage.TheVariants as backend
@@ -17,8 +19,8 @@ use Rattle.pgw_session.specs.Requests.{role}
 use Rattle.pgw_session.specs.Answers.{no_tally, tally_after}
 use Rattle.pgw_handlers.specs.declared.client_info.ReadyState.TheVariants.{Pending, Ready}
 use Rattle.pgw_handlers.specs.Sending.{Sent, NotSent}
-use Rattle.pgw_handlers.specs.Handling.{Standing, standing, Answer, Keeps, Refuses}
-use Rattle.pgw_handlers.specs.Simple.{SimpleCall, simple_query, on_row_description, on_data_row, on_command_complete, on_empty_query, on_parameter_status, on_ready_for_query}
+use Rattle.pgw_handlers.specs.Handling.{Standing, standing, Answer, Passes, Keeps, Misplaces, Refuses}
+use Rattle.pgw_handlers.specs.Simple.{SimpleCall, simple_query, on_row_description, on_data_row, on_command_complete, on_empty_query, on_parameter_status, on_notice, on_notification, on_ready_for_query}
 use Rattle.pgw_default_handlers.specs.declared.simple.DefaultSimpleQueryHandler.{DefaultSimpleQueryHandler}
 
 abbrev pub with_tally : Tally → Standing DefaultSimpleQueryHandler → Standing DefaultSimpleQueryHandler
@@ -61,8 +63,21 @@ QueryMeans before (on_data_row m) after answer = NotesMessage before (backend.Da
 QueryMeans before (on_command_complete m) after answer = NotesMessage before (backend.CommandComplete m) after answer
 QueryMeans before (on_empty_query m) after answer = NotesMessage before (backend.EmptyQueryResponse m) after answer
 QueryMeans before (on_parameter_status m) after answer = Keeps m before after answer
+QueryMeans before (on_notice m) after answer = Passes before after answer
+QueryMeans before (on_notification m) after answer = Misplaces m before after answer
 QueryMeans before (on_ready_for_query m) after answer = GivesResponses before after answer
 
--- it leaves a parameter to the client
+-- ---- the trait's own bodies
+
 abbrev pub keeps_parameters : (before after : Standing DefaultSimpleQueryHandler) → (m : ParameterStatus) → (answer : Answer (List Response)) → Keeps m before after answer → QueryMeans before (on_parameter_status m) after answer
 keeps_parameters before after m answer kept = kept
+
+abbrev pub passes_notices : (before after : Standing DefaultSimpleQueryHandler) → (m : NoticeResponse) →
+    (answer : Answer (List Response)) → Passes before after answer →
+    QueryMeans before (on_notice m) after answer
+passes_notices before after m answer passed = passed
+
+abbrev pub misplaces_notifications : (before after : Standing DefaultSimpleQueryHandler) →
+    (m : NotificationResponse) → (answer : Answer (List Response)) → Misplaces m before after answer →
+    QueryMeans before (on_notification m) after answer
+misplaces_notifications before after m answer refused = refused

@@ -4,6 +4,8 @@ use Rattle.pgw_wire.specs.declared.secret_key.SecretKey.TheVariants.{I32}
 use Rattle.pgw_startup.specs.declared.backend_key_data.BackendKeyData.{BackendKeyData}
 use Rattle.pgw_startup.specs.declared.negotiate.NegotiateProtocolVersion.{NegotiateProtocolVersion}
 use Rattle.pgw_startup.specs.declared.parameter_status.ParameterStatus.{ParameterStatus}
+use Rattle.pgw_query.specs.declared.response.NoticeResponse.{NoticeResponse}
+use Rattle.pgw_query.specs.declared.notification.NotificationResponse.{NotificationResponse}
 use Rattle.pgw_backend.specs.ClientError.{IsUnexpected}
 use Rattle.pgw_backend.specs.declared.backend.PgWireBackendMessage.{PgWireBackendMessage as Backend}
 use Rattle.pgw_backend.specs.declared.backend.PgWireBackendMessage.TheVariants as backend
@@ -12,24 +14,24 @@ use Rattle.pgw_backend.specs.declared.client_error.PgWireClientError.TheVariants
 use Rattle.pgw_frontend.specs.declared.frontend.PgWireFrontendMessage.{PgWireFrontendMessage as Frontend}
 use Rattle.pgw_frontend.specs.Frontend.{encoding}
 use Rattle.pgw_config.specs.declared.config.Config.{Config}
+use Rattle.pgw_session.specs.Input.{input_with, Input}
 use Rattle.pgw_session.specs.declared.stage.Stage.{Stage}
 use Rattle.pgw_session.specs.declared.stage.Stage.TheVariants.{Starting, Challenged, Proving}
 use Rattle.pgw_session.specs.declared.stage.Next.{Next}
 use Rattle.pgw_session.specs.declared.stage.Next.TheVariants as next
-use Rattle.pgw_session.specs.Input.{Input}
 use Rattle.pgw_session.specs.Segments.{startup_message}
 use Rattle.pgw_session.specs.Table.{after as table}
 use Rattle.pgw_handlers.specs.declared.client_info.ReadyState.TheVariants.{Pending, Ready}
 use Rattle.pgw_handlers.specs.declared.client_info.ServerInformation.{ServerInformation}
 use Rattle.pgw_handlers.specs.Client.{Client, Sight}
 use Rattle.pgw_handlers.specs.Sending.{Sent, NotSent}
-use Rattle.pgw_handlers.specs.Handling.{Standing, standing, Answer, Keeps, Refuses}
-use Rattle.pgw_handlers.specs.Startup.{StartupCall, startup, on_authentication, on_negotiate_protocol_version, on_parameter_status, on_backend_key, on_ready_for_query, Settles}
+use Rattle.pgw_handlers.specs.Handling.{Standing, standing, Answer, Passes, Keeps, Misplaces, Refuses}
+use Rattle.pgw_handlers.specs.Startup.{StartupCall, startup, on_authentication, on_negotiate_protocol_version, on_parameter_status, on_notice, on_notification, on_backend_key, on_ready_for_query, Settles}
 use Rattle.pgw_default_handlers.specs.declared.startup.DefaultStartupHandler.{DefaultStartupHandler}
 
 -- what it logs in with: the client's configuration and the handler's nonce
 abbrev pub login_input : DefaultStartupHandler → Config → Input
-login_input h config = record { config = config; requests = []; nonce = h.nonce }
+login_input h config = input_with config [] h.nonce
 
 -- within a SCRAM login a server says nothing else
 abbrev pub is_exchange : Stage → Bool
@@ -99,13 +101,28 @@ abbrev pub GivesInformation : Standing DefaultStartupHandler → Standing Defaul
 GivesInformation before after (Ok answer) = (after ≡ before) × (answer ≡ Ready (information before.handler before.sight.client))
 GivesInformation before after (Err e) = (after ≡ before) × (e ≡ client.OutOfMemory)
 
+-- the segment closes
+abbrev pub closes : Next → Bool
+closes next.Closes = true
+closes other = false
+
+-- where the table closes the segment the information is given, and else the message has no place
+abbrev pub Concludes : Bool → Backend → Standing DefaultStartupHandler → Standing DefaultStartupHandler → Answer ServerInformation → Type 0
+Concludes true m before after answer = GivesInformation before after answer
+Concludes false m before after answer = Refuses (IsUnexpected m) before after answer
+
+abbrev pub LetsIn : Backend → Standing DefaultStartupHandler → Standing DefaultStartupHandler → Answer ServerInformation → Type 0
+LetsIn m before after answer = Concludes (closes (table (login_input before.handler before.sight.client.config) before.handler.stage m)) m before after answer
+
 abbrev pub StartupMeans : Standing DefaultStartupHandler → StartupCall → Standing DefaultStartupHandler → Answer ServerInformation → Type 0
 StartupMeans before startup after answer = Begins before after answer
 StartupMeans before (on_authentication m) after answer = LogsIn (backend.Authentication m) before after answer
 StartupMeans before (on_negotiate_protocol_version m) after answer = Settles m before after answer
 StartupMeans before (on_parameter_status m) after answer = Keeps m before after answer
+StartupMeans before (on_notice m) after answer = Passes before after answer
+StartupMeans before (on_notification m) after answer = Misplaces m before after answer
 StartupMeans before (on_backend_key m) after answer = KeepsKey m before after answer
-StartupMeans before (on_ready_for_query m) after answer = GivesInformation before after answer
+StartupMeans before (on_ready_for_query m) after answer = LetsIn (backend.ReadyForQuery m) before after answer
 
 -- ---- the trait's own bodies
 
@@ -114,3 +131,13 @@ settles_version before after m answer settled = settled
 
 abbrev pub keeps_parameters : (before after : Standing DefaultStartupHandler) → (m : ParameterStatus) → (answer : Answer ServerInformation) → Keeps m before after answer → StartupMeans before (on_parameter_status m) after answer
 keeps_parameters before after m answer kept = kept
+
+abbrev pub passes_notices : (before after : Standing DefaultStartupHandler) → (m : NoticeResponse) →
+    (answer : Answer ServerInformation) → Passes before after answer →
+    StartupMeans before (on_notice m) after answer
+passes_notices before after m answer passed = passed
+
+abbrev pub misplaces_notifications : (before after : Standing DefaultStartupHandler) →
+    (m : NotificationResponse) → (answer : Answer ServerInformation) → Misplaces m before after answer →
+    StartupMeans before (on_notification m) after answer
+misplaces_notifications before after m answer refused = refused

@@ -1,39 +1,61 @@
 //! The default handler of extended queries.
-ghost use Rattle.std.specs.Prelude.{◌≡◌};
+ghost use Rattle.std.specs.Prelude.{◌≡◌, None};
+ghost use Rattle.pgw_default_handlers.specs.Rows.{rows_of_last};
 
 use pgw_backend::client_error::PgWireClientResult;
-use pgw_backend::field_info::FieldInfo;
-use pgw_backend::pg_type::PgType;
-use pgw_backend::tag::Tag;
-use pgw_client::answers::{columns, types};
+use pgw_dialogue::answers::{columns, types};
 use pgw_ext::extendedquery::{Bind, Close, Describe, Execute, Flush, Parse, Sync};
 use pgw_frontend::frontend::PgWireFrontendMessage;
 use pgw_handlers::{ClientInfo, ExtendedQueryHandler, Outgoing};
 use pgw_query::data::{DataRow, RowDescription};
+use pgw_query::data_rows::DataRows;
 use pgw_query::description::ParameterDescription;
+use pgw_query::field_info::FieldInfo;
+use pgw_query::pg_type::PgType;
 use pgw_query::response::CommandComplete;
-use pgw_types::listed::Listed;
+use pgw_query::tag::Tag;
+use pgw_types::listed::{Duplicate, Listed};
+use pgw_types::memory::OutOfMemory;
+use pgw_types::octets::Octets;
 use std::alloc::Global;
 
-/// Its responses are the rows.
-#[derive(Clone, Copy, Debug)]
-pub struct DefaultExtendedQueryHandler;
+/// Its responses are the rows. It keeps the command tag of the last portal that it ran, once that has ended.
+#[derive(Debug, Drop)]
+pub struct DefaultExtendedQueryHandler {
+    pub last_tag: Option<Tag>,
+}
 
 impl DefaultExtendedQueryHandler {
     pub fn new() -> DefaultExtendedQueryHandler
-        ensures { result ≡ record {} }
+        ensures { result ≡ record { last_tag = None } }
     {
-        DefaultExtendedQueryHandler
+        DefaultExtendedQueryHandler { last_tag: None }
+    }
+
+    /// How many rows the last command inserted, changed, deleted or gave, where its tag tells it.
+    pub fn last_rows(&self) -> Option<usize>
+        ensures { result ≡ rows_of_last self.now.last_tag }
+    {
+        match &self.last_tag {
+            Some(tag) => tag.rows,
+            None => None,
+        }
     }
 }
 
 impl ExtendedQueryHandler for DefaultExtendedQueryHandler {
     ghost use Rattle.std.specs.Prelude.{Ok, Err};
-    ghost use Rattle.pgw_default_handlers.specs.Extended.{ExtendedMeans};
+    ghost use Rattle.pgw_default_handlers.specs.Extended.{ExtendedMeans, misplaces_notifications, passes_notices};
 
     type QueryResponse = DataRow;
 
+    type Responses = DataRows;
+
     ghost means = { ExtendedMeans };
+
+    ghost passes = { passes_notices };
+
+    ghost misplaces = { misplaces_notifications };
 
     fn parse<C: ClientInfo + Outgoing>(
         &mut self,
@@ -59,6 +81,7 @@ impl ExtendedQueryHandler for DefaultExtendedQueryHandler {
         client: &mut C,
         message: Execute,
     ) -> PgWireClientResult<()> {
+        self.last_tag = None;
         client.send(PgWireFrontendMessage::Execute(message))
     }
 
@@ -118,12 +141,19 @@ impl ExtendedQueryHandler for DefaultExtendedQueryHandler {
         Ok(message)
     }
 
+    // Rows are kept as they lie.
+    fn take_rows(&mut self, bytes: &mut Octets, rows: &mut DataRows) -> Result<usize, OutOfMemory> {
+        rows.take_front(bytes)
+    }
+
     fn on_command_complete(
         &mut self,
         alloc: Global,
         message: CommandComplete,
     ) -> PgWireClientResult<Tag> {
-        Ok(Tag::parse(alloc, message.tag.as_str())?)
+        let tag = Tag::parse(alloc, message.tag.as_str())?;
+        self.last_tag = Some(tag.duplicate()?);
+        Ok(tag)
     }
 
     fn on_portal_suspended(&mut self, _alloc: Global) -> PgWireClientResult<()> {

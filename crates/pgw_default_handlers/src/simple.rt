@@ -7,8 +7,8 @@ ghost use Rattle.pgw_default_handlers.specs.Simple.{NotesMessage, is_misplaced, 
 
 use pgw_backend::backend::PgWireBackendMessage;
 use pgw_backend::client_error::PgWireClientResult;
-use pgw_client::answers;
-use pgw_client::table::role;
+use pgw_dialogue::answers;
+use pgw_dialogue::table::role;
 use pgw_frontend::frontend::PgWireFrontendMessage;
 use pgw_handlers::causes::misplaced;
 use pgw_handlers::{ClientInfo, Outgoing, SimpleQueryHandler};
@@ -19,6 +19,8 @@ use pgw_session::stage::{Kind, Role};
 use pgw_session::tally::Tally;
 use pgw_session::types::Response;
 use pgw_types::listed::Listed;
+use pgw_types::memory::OutOfMemory;
+use pgw_types::octets::Octets;
 use pgw_types::text::Text;
 use std::alloc::Global;
 use std::mem::replace;
@@ -58,7 +60,8 @@ impl DefaultSimpleQueryHandler {
 
     // Notes a message that has its place, and refuses any other.
     fn note(&mut self, alloc: Global, message: PgWireBackendMessage) -> PgWireClientResult<()>
-        ensures means { (seen : Sight) → NotesMessage (standing self.old seen) message (standing self.new seen) (pending result) }
+        ensures means { (seen : Sight) → NotesMessage (standing self.old seen) message
+            (standing self.new seen) (pending result) }
         ensures caused { (before now : ℕ) (broken : Bool) → OfError result before now broken }
     {
         if is_misplaced(&self.tally, &message) {
@@ -71,13 +74,17 @@ impl DefaultSimpleQueryHandler {
 
 impl SimpleQueryHandler for DefaultSimpleQueryHandler {
     ghost use Rattle.std.specs.Prelude.{Ok, Err};
-    ghost use Rattle.pgw_default_handlers.specs.Simple.{QueryMeans, keeps_parameters};
+    ghost use Rattle.pgw_default_handlers.specs.Simple.{QueryMeans, keeps_parameters, misplaces_notifications, passes_notices};
 
     type QueryResponse = Response;
 
     ghost means = { QueryMeans };
 
     ghost keeps = { keeps_parameters };
+
+    ghost passes = { passes_notices };
+
+    ghost misplaces = { misplaces_notifications };
 
     fn simple_query<C: ClientInfo + Outgoing>(
         &mut self,
@@ -106,6 +113,17 @@ impl SimpleQueryHandler for DefaultSimpleQueryHandler {
         message: DataRow,
     ) -> PgWireClientResult<()> {
         self.note(alloc, PgWireBackendMessage::DataRow(message))
+    }
+
+    // Where a result is open, rows are added to it as they lie.
+    fn take_rows(&mut self, bytes: &mut Octets) -> Result<usize, OutOfMemory> {
+        if self.tally.remote.is_some() {
+            return Ok(0);
+        }
+        match &mut self.tally.opened {
+            Some(opened) => opened.rows.take_front(bytes),
+            None => Ok(0),
+        }
     }
 
     fn on_command_complete<C: ClientInfo + Outgoing>(

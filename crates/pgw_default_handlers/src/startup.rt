@@ -4,17 +4,17 @@ ghost use Rattle.pgw_wire.specs.declared.secret_key.SecretKey.TheVariants.{I32};
 ghost use Rattle.pgw_session.specs.declared.stage.Stage.TheVariants.{Starting};
 ghost use Rattle.pgw_session.specs.Segments.{startup_message};
 ghost use Rattle.pgw_session.specs.Table.{after as table};
-ghost use Rattle.pgw_client.specs.Input.{input_of};
-ghost use Rattle.pgw_handlers.specs.Handling.{standing, pending, HasCause};
+ghost use Rattle.pgw_dialogue.specs.Input.{input_of};
+ghost use Rattle.pgw_handlers.specs.Handling.{standing, pending, ready, HasCause};
 ghost use Rattle.pgw_default_handlers.specs.Causes.{RefusesCaused};
-ghost use Rattle.pgw_default_handlers.specs.Startup.{Follows, SendsReply, login_input};
+ghost use Rattle.pgw_default_handlers.specs.Startup.{Follows, GivesInformation, SendsReply, closes, login_input};
 
 use pgw_backend::backend::PgWireBackendMessage;
 use pgw_backend::client_error::PgWireClientResult;
-use pgw_client::input::Input;
-use pgw_client::machine::startup_message;
-use pgw_client::table::after;
 use pgw_config::config::Config;
+use pgw_dialogue::input::Input;
+use pgw_dialogue::machine::startup_message;
+use pgw_dialogue::table::after;
 use pgw_frontend::frontend::PgWireFrontendMessage;
 use pgw_handlers::causes::misplaced;
 use pgw_handlers::{ClientInfo, Outgoing, ServerInformation, StartupHandler};
@@ -44,7 +44,8 @@ fn send_reply<C: Outgoing>(
     ensures sends { SendsReply reply (C.sight client.old) (C.sight client.new) result }
     ensures own { C.own client.new ≡ C.own client.old }
     ensures rest { C.rest client.new ≡ C.rest client.old }
-    ensures cause { HasCause (C.faults client.old) (C.faults client.new) (C.sight client.new).broken result }
+    ensures cause { HasCause (C.faults client.old) (C.faults client.new) (C.sight client.new).broken
+        result }
 {
     match reply {
         Some(message) => client.send(message),
@@ -55,7 +56,12 @@ fn send_reply<C: Outgoing>(
 impl DefaultStartupHandler {
     /// A handler of one login. The nonce is to be random and used for no other.
     pub fn new(nonce: [u8; 18]) -> DefaultStartupHandler
-        ensures { result ≡ record { nonce = nonce; stage = Starting; process_id = negsuc 0; secret_key = I32 (pos 0) } }
+        ensures { result ≡ record {
+          nonce = nonce;
+          stage = Starting;
+          process_id = negsuc 0;
+          secret_key = I32 (pos 0);
+        } }
     {
         DefaultStartupHandler {
             nonce,
@@ -72,7 +78,8 @@ impl DefaultStartupHandler {
         config: &Config,
         message: &PgWireBackendMessage,
     ) -> Result<Next, OutOfMemory>
-        ensures { IfOk result (λ n. n ≡ table (login_input self.now config.now) self.now.stage message.now) }
+        ensures { IfOk result (λ n. n ≡ table (login_input self.now config.now) self.now.stage
+            message.now) }
     {
         let input = Input {
             config,
@@ -80,6 +87,39 @@ impl DefaultStartupHandler {
             nonce: &self.nonce,
         };
         after(alloc, &input, &self.stage, message)
+    }
+
+    // Whether a message closes the startup segment.
+    fn closes(
+        &self,
+        alloc: Global,
+        config: &Config,
+        message: &PgWireBackendMessage,
+    ) -> Result<bool, OutOfMemory>
+        ensures { IfOk result (λ b. b ≡ closes
+            (table (login_input self.now config.now) self.now.stage message.now)) }
+    {
+        let next = self.next(alloc, config, message)?;
+        let closes = match &next {
+            Next::Closes => true,
+            _ => false,
+        };
+        drop(next);
+        Ok(closes)
+    }
+
+    // What the server told of itself.
+    fn information<C: ClientInfo>(&self, client: &C) -> PgWireClientResult<ServerInformation>
+        ensures { GivesInformation (standing self.now (C.sight client.now))
+            (standing self.now (C.sight client.now)) (ready result) }
+    {
+        let parameters = client.server_parameters().duplicate()?;
+        let secret_key = self.secret_key.duplicate()?;
+        Ok(ServerInformation {
+            parameters,
+            process_id: self.process_id,
+            secret_key,
+        })
     }
 
     // The message that begins the connection.
@@ -103,10 +143,12 @@ impl DefaultStartupHandler {
         next: Next,
     ) -> PgWireClientResult<()>
         requires { RefusesCaused next }
-        ensures follows { Follows next message (standing self.old (C.sight client.old)) (standing self.new (C.sight client.new)) (pending result) }
+        ensures follows { Follows next message (standing self.old (C.sight client.old))
+            (standing self.new (C.sight client.new)) (pending result) }
         ensures own { C.own client.new ≡ C.own client.old }
         ensures rest { C.rest client.new ≡ C.rest client.old }
-        ensures cause { HasCause (C.faults client.old) (C.faults client.new) (C.sight client.new).broken result }
+        ensures cause { HasCause (C.faults client.old) (C.faults client.new)
+            (C.sight client.new).broken result }
     {
         match next {
             Next::Goes(stage, reply) => {
@@ -126,7 +168,7 @@ impl DefaultStartupHandler {
 
 impl StartupHandler for DefaultStartupHandler {
     ghost use Rattle.std.specs.Prelude.{Ok, Err};
-    ghost use Rattle.pgw_default_handlers.specs.Startup.{StartupMeans, exchanges, keeps_parameters, settles_version};
+    ghost use Rattle.pgw_default_handlers.specs.Startup.{StartupMeans, exchanges, keeps_parameters, misplaces_notifications, passes_notices, settles_version};
 
     ghost means = { StartupMeans };
 
@@ -135,6 +177,10 @@ impl StartupHandler for DefaultStartupHandler {
     ghost settles = { settles_version };
 
     ghost keeps = { keeps_parameters };
+
+    ghost passes = { passes_notices };
+
+    ghost misplaces = { misplaces_notifications };
 
     fn in_exchange(&self) -> bool {
         match self.stage {
@@ -185,16 +231,21 @@ impl StartupHandler for DefaultStartupHandler {
 
     fn on_ready_for_query<C: ClientInfo + Outgoing>(
         &mut self,
-        _alloc: Global,
+        alloc: Global,
         client: &mut C,
-        _message: ReadyForQuery,
+        message: ReadyForQuery,
     ) -> PgWireClientResult<ServerInformation> {
-        let parameters = client.server_parameters().duplicate()?;
-        let secret_key = self.secret_key.duplicate()?;
-        Ok(ServerInformation {
-            parameters,
-            process_id: self.process_id,
-            secret_key,
-        })
+        let message = PgWireBackendMessage::ReadyForQuery(message);
+        match self.closes(alloc, client.config(), &message) {
+            Ok(true) => {
+                drop(message);
+                self.information(client)
+            }
+            Ok(false) => Err(misplaced(alloc, message)),
+            Err(error) => {
+                drop(message);
+                Err(error.into())
+            }
+        }
     }
 }

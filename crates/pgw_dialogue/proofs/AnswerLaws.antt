@@ -2,7 +2,7 @@
 use Rattle.std.proofs.Common.{◌≡◌, ◌≤◌, ℕ, zero, suc, List, [], ◌∷◌, length, Some, Ok, inl, inr, refl, subst}
 use Rattle.pgw_backend.specs.declared.client_error.PgWireClientError.{PgWireClientError as ClientError}
 use Rattle.pgw_backend.specs.declared.client_error.PgWireClientError.TheVariants as client
-use Rattle.pgw_client.specs.Session.{IsRefused}
+use Rattle.pgw_session.specs.Failures.{IsRefused}
 use Rattle.pgw_course.specs.Course.{Waits, Over}
 use Rattle.pgw_session.specs.Events.{Event}
 use Rattle.pgw_session.specs.Faults.{IsStartupError}

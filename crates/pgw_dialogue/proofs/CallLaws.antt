@@ -1,5 +1,5 @@
 -- The calls of a dialogue: what they start from, and what they leave.
-use Rattle.std.proofs.Common.{◌≡◌, ℕ, zero, suc, List, [], ◌∷◌, ◌++◌, Bool, true, false, Some, None, Result, Ok, Err, inl, inr, arith, refl, ◌∙◌, ap, sym, subst}
+use Rattle.std.proofs.Common.{◌≡◌, ℕ, List, [], ◌∷◌, ◌++◌, Some, None, Result, Ok, Err, inl, inr, arith, refl, ◌∙◌, ap, sym, subst}
 use Rattle.pgw_types.specs.declared.error.PgWireError.{PgWireError}
 use Rattle.pgw_backend.specs.declared.client_error.PgWireClientError.{PgWireClientError as ClientError}
 use Rattle.pgw_backend.specs.declared.client_error.PgWireClientError.TheVariants as client
@@ -13,11 +13,11 @@ use Rattle.pgw_session.specs.Machine.{End, Unencoded, error_of, sending}
 use Rattle.pgw_session.specs.Segments.{startup_message}
 use Rattle.pgw_session.specs.Talk.{conversation}
 use Rattle.pgw_session.proofs.FailureLaws.{ends_as}
-use Rattle.pgw_client.specs.Demands.{Checked, IsInvalidConfig}
-use Rattle.pgw_client.specs.Machine.{notes_end, Started}
-use Rattle.pgw_client.specs.Wire.{Unless}
-use Rattle.pgw_client.proofs.DemandLaws.{refused_key}
-use Rattle.pgw_client.proofs.SessionTakingLaws.{memory_or}
+use Rattle.pgw_dialogue.specs.Demands.{Checked, IsInvalidConfig}
+use Rattle.pgw_dialogue.specs.Machine.{notes_end, Started}
+use Rattle.pgw_dialogue.specs.Wire.{Unless}
+use Rattle.pgw_dialogue.proofs.DemandLaws.{refused_key}
+use Rattle.pgw_dialogue.proofs.WireLaws.{memory_or}
 use Rattle.pgw_dialogue.specs.declared.dialogue.Dialogue.{Dialogue}
 use Rattle.pgw_dialogue.specs.declared.phase.State.TheVariants as state
 use Rattle.pgw_dialogue.specs.Dialogue.{Awaits, input_at, Stands, StartCause, Starts}

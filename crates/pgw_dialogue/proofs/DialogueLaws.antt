@@ -10,9 +10,9 @@ use Rattle.pgw_session.specs.Input.{Input}
 use Rattle.pgw_session.specs.Machine.{End, error_of}
 use Rattle.pgw_session.specs.Notes.{view}
 use Rattle.pgw_session.specs.Talk.{Talk, Ending, conversation}
-use Rattle.pgw_client.specs.Machine.{NotesCourse, report_at, runs}
-use Rattle.pgw_client.specs.SessionSteps.{Begins}
-use Rattle.pgw_client.proofs.SessionTakingLaws.{memory_or}
+use Rattle.pgw_dialogue.specs.Machine.{NotesCourse, report_at, runs}
+use Rattle.pgw_course.specs.Course.{Begins}
+use Rattle.pgw_dialogue.proofs.WireLaws.{memory_or}
 use Rattle.pgw_dialogue.specs.declared.dialogue.Dialogue.{Dialogue}
 use Rattle.pgw_dialogue.specs.declared.phase.DialoguePhase.{DialoguePhase}
 use Rattle.pgw_dialogue.specs.declared.phase.DialoguePhase.TheVariants as phase

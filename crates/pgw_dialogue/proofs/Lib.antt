@@ -1,6 +1,13 @@
-pub mod StepLaws
-pub mod TalkLaws
 pub mod AnswerLaws
-pub mod DialogueLaws
+pub mod Bytes
 pub mod CallLaws
-pub mod AgreementLaws
+pub mod DemandLaws
+pub mod DialogueLaws
+pub mod InboxLaws
+pub mod MachineLaws
+pub mod RowLaws
+pub mod StepLaws
+pub mod TableLaws
+pub mod TalkLaws
+pub mod ToldLaws
+pub mod WireLaws

@@ -16,8 +16,8 @@ use Rattle.pgw_session.proofs.Events.{clean_heard}
 use Rattle.pgw_session.proofs.NotesLaws.{notes_tell}
 use Rattle.pgw_session.proofs.ReadingLaws.{reads_more, steady_by}
 use Rattle.pgw_session.proofs.Sound.{SoundAt, Cause, conversation_sound}
-use Rattle.pgw_client.specs.Machine.{NotesCourse, IsWhole, report_at, runs}
-use Rattle.pgw_client.specs.SessionSteps.{Begins}
+use Rattle.pgw_dialogue.specs.Machine.{NotesCourse, IsWhole, report_at, runs}
+use Rattle.pgw_course.specs.Course.{Begins}
 
 -- the conversation as it is noted
 abbrev pub noted : Input → Course Talk Ending → NotesCourse

@@ -2,14 +2,13 @@
 use Rattle.std.specs.Prelude.{◌≡◌, ◌⊎◌, ◌<◌, ◌≤◌, ℕ, ◌+◌, List, [], ◌∷◌, ◌++◌, length, Some, None, Result, Ok, Err}
 use Rattle.pgw_backend.specs.declared.client_error.PgWireClientError.{PgWireClientError as ClientError}
 use Rattle.pgw_backend.specs.declared.client_error.PgWireClientError.TheVariants as client
-use Rattle.pgw_client.specs.Input.{input_with}
-use Rattle.pgw_client.specs.Machine.{notes_end, report_at}
-use Rattle.pgw_client.specs.SessionSteps.{Begins, Waiting}
+use Rattle.pgw_session.specs.Input.{input_with, Input}
+use Rattle.pgw_dialogue.specs.Machine.{notes_end, report_at}
+use Rattle.pgw_course.specs.Course.{Begins, Waiting}
 use Rattle.pgw_course.specs.Course.{Course, Waits, Over}
 use Rattle.pgw_frontend.specs.Frontend.{encodings}
 use Rattle.pgw_session.specs.declared.types.SessionReport.{SessionReport}
 use Rattle.pgw_session.specs.Demands.{refused_config}
-use Rattle.pgw_session.specs.Input.{Input}
 use Rattle.pgw_session.specs.Machine.{Complete, error_of}
 use Rattle.pgw_session.specs.Notes.{view}
 use Rattle.pgw_session.specs.Segments.{startup_message}

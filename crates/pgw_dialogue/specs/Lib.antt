@@ -1,3 +1,9 @@
 pub mod Answers
-pub mod Steps
+pub mod Demands
 pub mod Dialogue
+pub mod Inbox
+pub mod Input
+pub mod Machine
+pub mod Rows
+pub mod Steps
+pub mod Wire

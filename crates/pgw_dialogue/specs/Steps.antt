@@ -1,9 +1,9 @@
 -- What taking the messages at the front did. The proofs carry it, and no public clause cites it.
 use Rattle.std.specs.Prelude.{◌≡◌, List, ℕ, ◌++◌, Bool, true, false, Some, Result, Ok, Err}
 use Rattle.pgw_backend.specs.declared.client_error.PgWireClientError.{PgWireClientError as ClientError}
-use Rattle.pgw_client.specs.Machine.{NotesCourse, IsWhole, report_at, runs}
-use Rattle.pgw_client.specs.SessionSteps.{Begins}
-use Rattle.pgw_client.specs.Wire.{Unless}
+use Rattle.pgw_dialogue.specs.Machine.{NotesCourse, IsWhole, report_at, runs}
+use Rattle.pgw_course.specs.Course.{Begins}
+use Rattle.pgw_dialogue.specs.Wire.{Unless}
 use Rattle.pgw_course.specs.Course.{Waits, Over}
 use Rattle.pgw_session.specs.declared.notes.Notes.{Notes}
 use Rattle.pgw_session.specs.Input.{Input}

@@ -1,26 +1,27 @@
 //! A session whose bytes the caller moves.
 ghost use Rattle.std.specs.Prelude.{◌≡◌, ◌<◌, ℕ, List, ◌++◌, ◌⊎◌, true, Some, Ok, Err, IfSome, OnOk};
 ghost use Rattle.pgw_backend.specs.declared.client_error.PgWireClientError.TheVariants as client;
-ghost use Rattle.pgw_client.specs.Demands.{Refuses};
-ghost use Rattle.pgw_client.specs.Input.{input_with};
-ghost use Rattle.pgw_client.specs.Machine.{notes_end, report_at};
-ghost use Rattle.pgw_client.specs.Wire.{IsEnd, Unless};
+ghost use Rattle.pgw_dialogue.specs.Demands.{Refuses};
+ghost use Rattle.pgw_session.specs.Input.{input_with, Input as TheInput};
+ghost use Rattle.pgw_dialogue.specs.Machine.{notes_end, report_at};
+ghost use Rattle.pgw_dialogue.specs.Wire.{IsEnd, Unless};
 ghost use Rattle.pgw_session.specs.Demands.{refused_config};
 ghost use Rattle.pgw_session.specs.Failures.{EndsAs};
-ghost use Rattle.pgw_session.specs.Input.{Input as TheInput};
 ghost use Rattle.pgw_session.specs.Transcript.{Completed};
 ghost use Rattle.pgw_dialogue.specs.declared.phase.DialoguePhase.TheVariants as phase;
 ghost use Rattle.pgw_dialogue.specs.Answers.{answer_behind, state_behind, taken_of, waiting_answer};
 
+use crate::demands::check_config;
+use crate::inbox::Inbox;
+use crate::input::Input;
+use crate::machine::{self, end_error, into_report};
 use crate::phase::{DialoguePhase, State};
 use crate::steps::{feed, within};
 use bytes::BytesMut;
-use pgw_client::demands::check_config;
-use pgw_client::inbox::Inbox;
-use pgw_client::input::Input;
-use pgw_client::machine::{self, end_error, into_report};
-use pgw_client::{Config, PgWireClientError, PgWireClientResult, Request, SessionReport};
+use pgw_backend::client_error::{PgWireClientError, PgWireClientResult};
+use pgw_config::config::Config;
 use pgw_session::notes::Notes;
+use pgw_session::types::{Request, SessionReport};
 use std::alloc::Global;
 
 /// A session whose bytes the caller moves, by whatever means of input and output it has.
@@ -115,7 +116,8 @@ impl<'a> Dialogue<'a> {
         ensures refused { IfSome (refused_config config.now) (λ key. Refuses key result) }
         // It stands for no bytes given, and for the startup message put out. Else nothing is put out, and the error has its
         // cause.
-        ensures starts { Starts (input_with config.now requests.now nonce.now) limit out.old.items out.new.items result }
+        ensures starts { Starts (input_with config.now requests.now nonce.now) limit out.old.items
+            out.new.items result }
     {
         match check_config(alloc, config) {
             Ok(()) => {}
@@ -160,11 +162,14 @@ impl<'a> Dialogue<'a> {
         // It awaits more bytes, or is done, or broken, as it answers.
         ensures after { IsBehind self.new result }
         // It is starved where memory was wanting, now or before.
-        ensures starved { IsStarved self.new → IsStarved self.old ⊎ (result ≡ Err client.OutOfMemory) }
+        ensures starved { IsStarved self.new → IsStarved self.old
+            ⊎ (result ≡ Err client.OutOfMemory) }
         // Where the transcript is whole nothing changes,
-        ensures done { IsDone self.old → (result ≡ Ok phase.Done) × (self.new ≡ self.old) × (out.new.items ≡ out.old.items) }
+        ensures done { IsDone self.old → (result ≡ Ok phase.Done) × (self.new ≡ self.old)
+            × (out.new.items ≡ out.old.items) }
         // and where an earlier call was refused Broken is the answer, and nothing changes.
-        ensures broken { IsBroken self.old → (result ≡ Err client.Broken) × (self.new ≡ self.old) × (out.new.items ≡ out.old.items) }
+        ensures broken { IsBroken self.old → (result ≡ Err client.Broken) × (self.new ≡ self.old)
+            × (out.new.items ≡ out.old.items) }
     {
         match self.state {
             State::Going => {}
@@ -198,7 +203,8 @@ impl<'a> Dialogue<'a> {
         // It is the one of what was noted, or memory is wanting.
         ensures is { Unless result (result ≡ notes_end self.now.notes) }
         // For every pair that it stands for, the error has its cause, or memory is wanting.
-        ensures cause { (input : TheInput) (limit : ℕ) (given put : List ℕ) → Stands input limit self.now given put → Unless result (EndsAs input given put result) }
+        ensures cause { (input : TheInput) (limit : ℕ) (given put : List ℕ) →
+            Stands input limit self.now given put → Unless result (EndsAs input given put result) }
     {
         end_error(self.alloc, &self.notes)
     }
@@ -209,7 +215,9 @@ impl<'a> Dialogue<'a> {
         // It is that of what was noted.
         ensures reported { result ≡ report_at self.entry.notes }
         // For every pair that it stands for, it is that of a completed session.
-        ensures completed { (input : TheInput) (limit : ℕ) (given put : List ℕ) → Stands input limit self.entry given put → Completed input (taken_of limit given) put result }
+        ensures completed { (input : TheInput) (limit : ℕ) (given put : List ℕ) →
+            Stands input limit self.entry given put →
+            Completed input (taken_of limit given) put result }
     {
         let Dialogue {
             alloc: _alloc,

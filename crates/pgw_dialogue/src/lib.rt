@@ -5,10 +5,22 @@
 //! the report.
 #![tactic(auto)]
 
+pub mod answers;
+pub mod demands;
 pub mod dialogue;
+pub mod equality;
+pub mod inbox;
+pub mod input;
 pub mod laws;
+pub mod logins;
+pub mod machine;
 mod phase;
+pub mod requests;
+pub mod rows;
+pub mod standings;
 mod steps;
+pub mod table;
+pub mod wire;
 
 pub use crate::dialogue::Dialogue;
 pub use crate::phase::DialoguePhase;

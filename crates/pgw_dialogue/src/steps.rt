@@ -1,16 +1,19 @@
 //! The messages of a piece, taken one by one.
-ghost use Rattle.std.specs.Prelude.{◌≡◌, ◌++◌, false, length, take, IfOk, IfErr, OnOk};
-ghost use Rattle.pgw_client.specs.Input.{input_of};
-ghost use Rattle.pgw_client.specs.Wire.{IsOwn};
+ghost use Rattle.std.specs.Prelude.{◌≡◌, ◌≤◌, ◌+◌, ◌++◌, false, length, min, take, IfOk, IfErr, OnOk};
+ghost use Rattle.pgw_dialogue.specs.Input.{input_of};
+ghost use Rattle.pgw_dialogue.specs.Wire.{IsOwn};
 ghost use Rattle.pgw_dialogue.specs.Steps.{Took};
 
+use crate::inbox::Inbox;
+use crate::input::Input;
+use crate::machine::{Progress, advance};
 use bytes::BytesMut;
-use pgw_client::inbox::Inbox;
-use pgw_client::input::Input;
-use pgw_client::machine::{Progress, advance};
-use pgw_client::{PgWireClientError, PgWireClientResult};
+use pgw_backend::client_error::{PgWireClientError, PgWireClientResult};
 use pgw_session::notes::Notes;
 use std::alloc::Global;
+
+/// The bytes of a piece are taken in parts of so many.
+const PART: usize = 8192;
 
 // Takes the messages at the front, and puts out what falls due. Answers whether the session is whole.
 fn take_all(
@@ -21,7 +24,8 @@ fn take_all(
     out: &mut BytesMut,
 ) -> PgWireClientResult<bool>
     ensures own { IfErr result IsOwn }
-    ensures took { Took (input_of input.now) notes.old notes.new inbox.old inbox.new out.old.items out.new.items result }
+    ensures took { Took (input_of input.now) notes.old notes.new inbox.old inbox.new out.old.items
+        out.new.items result }
 {
     'messages: loop {
         match advance(alloc, input, notes, inbox, out) {
@@ -33,7 +37,35 @@ fn take_all(
     }
 }
 
-/// Takes bytes, with the messages that are whole then.
+// Takes a part, with the messages that are whole then.
+fn feed_part(
+    alloc: Global,
+    input: &Input<'_>,
+    notes: &mut Notes,
+    inbox: &mut Inbox,
+    part: &[u8],
+    out: &mut BytesMut,
+) -> PgWireClientResult<bool>
+    ensures own { IfErr result IsOwn }
+    ensures took { Took (input_of input.now) notes.old notes.new (inbox.old ++ part.now) inbox.new
+        out.old.items out.new.items result }
+{
+    match inbox.append(part) {
+        Ok(()) => take_all(alloc, input, notes, inbox, out),
+        Err(_) => Err(PgWireClientError::OutOfMemory),
+    }
+}
+
+// Where the next part ends, of so many bytes: each has 8192, and the last what is left.
+fn part_end(at: usize, len: usize) -> usize
+    requires { at ≤ len }
+    ensures { result ≡ min (at + 8192) len }
+{
+    if len - at > PART { at + PART } else { len }
+}
+
+/// Takes bytes, with the messages that are whole then. It takes them in parts, so that what stands behind a large
+/// message is not kept, and not moved, for each of them.
 pub fn feed(
     alloc: Global,
     input: &Input<'_>,
@@ -43,11 +75,21 @@ pub fn feed(
     out: &mut BytesMut,
 ) -> PgWireClientResult<bool>
     ensures own { IfErr result IsOwn }
-    ensures took { Took (input_of input.now) notes.old notes.new (inbox.old ++ bytes.now) inbox.new out.old.items out.new.items result }
+    ensures took { Took (input_of input.now) notes.old notes.new (inbox.old ++ bytes.now) inbox.new
+        out.old.items out.new.items result }
 {
-    match inbox.append(bytes) {
-        Ok(()) => take_all(alloc, input, notes, inbox, out),
-        Err(_) => Err(PgWireClientError::OutOfMemory),
+    let mut at = 0;
+    'parts: loop {
+        let end = part_end(at, bytes.len());
+        match feed_part(alloc, input, notes, inbox, &bytes[at..end], out) {
+            Ok(true) => return Ok(true),
+            Ok(false) => {}
+            Err(e) => return Err(e),
+        }
+        if end == bytes.len() {
+            return Ok(false);
+        }
+        at = end;
     }
 }
 

@@ -300,3 +300,54 @@ fn beginnings_are_refused(rt: HostRuntime) -> Result<(), Fail> {
     drop(config);
     checked
 }
+
+// Where a login must be bound to the hash 000102: what the server says, what that and a further piece are answered, and
+// what is put out. Computed with Python's hashlib. In order: a login by the method that binds; and AuthenticationOk in
+// place of one.
+const BOUND: &[(&[u8], [&str; 2], &[u8])] = &[
+    (
+        b"R\0\0\0\x1c\0\0\0\x0aSCRAM-SHA-256-PLUS\0\0R\0\0\0J\0\0\0\x0br=AAAAAAAAAAAAAAAAAAAAAAAAserver,s=W22ZaJ0SNY7soEsUEjb6gQ==,i=4096R\0\0\06\0\0\0\x0cv=AgnmmpwEqh4yJJu61zXE3CzWo9YrCXYpGY5tt0H8Wmk=R\0\0\0\x08\0\0\0\0Z\0\0\0\x05I",
+        ["Done", "Done"],
+        b"\0\0\0\x12\0\x03\0\0user\0bob\0\0p\0\0\0SSCRAM-SHA-256-PLUS\0\0\0\08p=tls-server-end-point,,n=bob,r=AAAAAAAAAAAAAAAAAAAAAAAAp\0\0\0zc=cD10bHMtc2VydmVyLWVuZC1wb2ludCwsAAEC,r=AAAAAAAAAAAAAAAAAAAAAAAAserver,p=wJWbwlmx4xT1JKIrbb5dE2+iDVQM7u/0fSttRFhWKkU=",
+    ),
+    (
+        b"R\0\0\0\x08\0\0\0\0Z\0\0\0\x05I",
+        ["UnexpectedMessage", "Broken"],
+        b"\0\0\0\x12\0\x03\0\0user\0bob\0\0",
+    ),
+];
+
+fn bound_config(alloc: Global) -> Result<Config, Fail> {
+    let mut config = Config::parse(alloc, "user=bob password=pencil channel_binding=require")?;
+    config.set_certificate_hash(alloc, &[0, 1, 2])?;
+    Ok(config)
+}
+
+// What a piece and an empty one are answered, and whether this is put out.
+fn bound_answers(
+    alloc: Global,
+    config: &Config,
+    server: &[u8],
+    want: &[u8],
+) -> Result<([&'static str; 2], bool), Fail> {
+    let mut out = BytesMut::new(alloc);
+    let answers = answers_to(alloc, (config, &[]), 1000, [server, b""], &mut out);
+    let is_wanted = out.as_slice() == want;
+    drop(out);
+    Ok((answers?.0, is_wanted))
+}
+
+fn check_bound<R: Abort>(rt: &R, alloc: Global, config: &Config) -> Result<(), Fail> {
+    for (server, names, want) in BOUND {
+        assert_eq!(rt; bound_answers(alloc, config, server, want)?, (*names, true));
+    }
+    Ok(())
+}
+
+#[test]
+fn logins_are_bound(rt: HostRuntime) -> Result<(), Fail> {
+    let config = bound_config(rt.alloc())?;
+    let checked = check_bound(&rt, rt.alloc(), &config);
+    drop(config);
+    checked
+}

@@ -6,10 +6,10 @@ use Rattle.std.proofs.Math.Seq.{take-suc}
 use Rattle.std.specs.List.{concat}
 use Rattle.pgw_backend.specs.declared.client_error.PgWireClientError.{PgWireClientError as ClientError}
 use Rattle.pgw_backend.specs.declared.client_error.PgWireClientError.TheVariants as client
-use Rattle.pgw_client.proofs.SessionTakingLaws.{memory_or}
-use Rattle.pgw_client.specs.Demands.{Refuses}
-use Rattle.pgw_client.specs.Machine.{notes_end, report_at}
-use Rattle.pgw_client.specs.Wire.{Unless}
+use Rattle.pgw_dialogue.proofs.WireLaws.{memory_or}
+use Rattle.pgw_dialogue.specs.Demands.{Refuses}
+use Rattle.pgw_dialogue.specs.Machine.{notes_end, report_at}
+use Rattle.pgw_dialogue.specs.Wire.{Unless}
 use Rattle.pgw_course.specs.Course.{Course, Waits, Over}
 use Rattle.pgw_dialogue.proofs.DialogueLaws.{split, takes_broken, takes_done}
 use Rattle.pgw_dialogue.proofs.TalkLaws.{over_on}

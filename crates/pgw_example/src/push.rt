@@ -1,8 +1,8 @@
 //! A session over bytes that another runtime moves.
 ghost use Rattle.std.specs.Prelude.{◌≡◌, ◌<◌, ◌++◌, ℕ, List, IfOk, IfSome};
 ghost use Rattle.std.specs.List.{concat};
-ghost use Rattle.pgw_client.specs.Demands.{Refuses};
-ghost use Rattle.pgw_client.specs.Input.{input_with};
+ghost use Rattle.pgw_dialogue.specs.Demands.{Refuses};
+ghost use Rattle.pgw_session.specs.Input.{input_with};
 ghost use Rattle.pgw_dialogue.specs.Answers.{taken_of};
 ghost use Rattle.pgw_example.specs.Push.{Held};
 ghost use Rattle.pgw_session.specs.Demands.{refused_config};
@@ -31,9 +31,13 @@ pub fn over_pieces(
     ensures refused { IfSome (refused_config config.now) (λ key. Refuses key result) }
     // What is put out, and the answer, are those of a dialogue that was given all these bytes; so they are those of a
     // session over a link that has them.
-    ensures held { Held (input_with config.now requests.now nonce.now) limit (concat pieces.now) out.old.items out.new.items result }
+    ensures held { Held (input_with config.now requests.now nonce.now) limit (concat pieces.now)
+        out.old.items out.new.items result }
     // The report is that of a completed session, whose bytes were given and put out.
-    ensures completed { IfOk result (λ report. (put : List ℕ) × (out.new.items ≡ out.old.items ++ put) × Completed (input_with config.now requests.now nonce.now) (taken_of limit (concat pieces.now)) put report) }
+    ensures completed { IfOk result (λ report. (put : List ℕ)
+        × (out.new.items ≡ out.old.items ++ put)
+        × Completed (input_with config.now requests.now nonce.now)
+        (taken_of limit (concat pieces.now)) put report) }
 {
     let mut dialogue = Dialogue::start(alloc, config, requests, nonce, limit, out)?;
     for piece in pieces {

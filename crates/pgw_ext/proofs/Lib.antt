@@ -1,3 +1,2 @@
-pub mod KindLaws
 pub mod RowLaws
 pub mod RowsWritten

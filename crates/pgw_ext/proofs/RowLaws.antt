@@ -9,10 +9,10 @@ use Rattle.pgw_wire.proofs.FieldLaws.{text_reads, nat_reads, int_reads}
 use Rattle.pgw_wire.proofs.FrameLaws.{reads_last, made_last}
 use Rattle.pgw_wire.proofs.MarkLaws.{name_reads}
 use Rattle.pgw_wire.proofs.MessageLaws.{is_row, no_body_row}
-use Rattle.pgw_ext.specs.Kinds.{parameter_at, SpellsParameter}
+use Rattle.pgw_wire.specs.Values.{nullable_at, SpellsNullable}
 use Rattle.pgw_wire.specs.Counted.{counted16_at, SpellsCounted16}
 use Rattle.pgw_ext.specs.Rows.{parse_from, parse_of, SpellsParse, parse_complete_of, bind_from, parts_of, bind_of, SpellsBind, bind_complete_of, target_at, SpellsTarget, close_of, SpellsClose, close_complete_of, describe_of, SpellsDescribe, execute_of, SpellsExecute, portal_suspended_of, flush_of, sync_of}
-use Rattle.pgw_ext.proofs.KindLaws.{parameter_reads, parameter_least}
+use Rattle.pgw_wire.proofs.ValueLaws.{nullable_reads, nullable_least}
 use Rattle.pgw_wire.proofs.CountedLaws.{counted16_reads}
 
 -- ---- Parse, ParseComplete
@@ -35,8 +35,8 @@ parse_complete ctx = no_body_row 49 30000 (lit< tt) (record {}) (λ n. refl)
 codes_reads : Reads (counted16_at 2 (int_at w16)) (SpellsCounted16 (SpellsInt w16))
 codes_reads = counted16_reads (int_at w16) (SpellsInt w16) 2 (λ x f h. omega (arith, h.0)) (int_reads w16)
 
-parameters_reads : Reads (counted16_at 4 parameter_at) (SpellsCounted16 SpellsParameter)
-parameters_reads = counted16_reads parameter_at SpellsParameter 4 parameter_least parameter_reads
+parameters_reads : Reads (counted16_at 4 nullable_at) (SpellsCounted16 SpellsNullable)
+parameters_reads = counted16_reads nullable_at SpellsNullable 4 nullable_least nullable_reads
 
 pub bind : (ctx : DecodeContext) → IsRow 66 1073741822 (bind_of ctx) SpellsBind
 unfolding bind_of
@@ -45,7 +45,7 @@ bind ctx = is_row 66 1073741822 (lit< tt) _ SpellsBind
     (reads_last _ _ (pair_reads name_at SpellsName _ _ name_reads
     (pair_reads name_at SpellsName _ _ name_reads
     (pair_reads (counted16_at 2 (int_at w16)) (SpellsCounted16 (SpellsInt w16)) _ _ codes_reads
-    (pair_reads (counted16_at 4 parameter_at) (SpellsCounted16 SpellsParameter) _ _ parameters_reads codes_reads))))))
+    (pair_reads (counted16_at 4 nullable_at) (SpellsCounted16 SpellsNullable) _ _ parameters_reads codes_reads))))))
 
 pub bind_complete : (ctx : DecodeContext) → IsRow 50 30000 (bind_complete_of ctx) NoBody
 unfolding bind_complete_of

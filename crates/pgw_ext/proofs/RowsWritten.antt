@@ -17,7 +17,8 @@ use Rattle.pgw_wire.proofs.WrittenLaws.{text_written, int_written, nat_written, 
 use Rattle.pgw_ext.specs.declared.parse.Parse.{Parse}
 use Rattle.pgw_ext.specs.declared.bind.Bind.{Bind}
 use Rattle.pgw_ext.specs.declared.execute.Execute.{Execute}
-use Rattle.pgw_ext.specs.Kinds.{name, is_name_refused, parameter, SpellsParameter}
+use Rattle.pgw_ext.specs.Kinds.{name, is_name_refused, parameter}
+use Rattle.pgw_wire.specs.Values.{SpellsNullable}
 use Rattle.pgw_wire.specs.Counted.{counted16, SpellsCounted16, is_too_long}
 use Rattle.pgw_wire.proofs.CountedLaws.{count16_written, counted16_written}
 use Rattle.pgw_ext.specs.Rows.{parse, is_parse_refused, SpellsParse, bind, is_bind_refused, SpellsBind, SpellsTarget, SpellsExecute}
@@ -50,12 +51,12 @@ len_written n small = let fits : FitsSigned w32 (pos n) = omega (arith, ints, sm
 minus_one : FitsSigned w32 (negsuc 0)
 minus_one = omega (arith, ints)
 
-parameter_written : (o : Option (List ℕ)) → length (parameter o) < 2 ^ 31 → SpellsParameter o (parameter o)
+parameter_written : (o : Option (List ℕ)) → length (parameter o) < 2 ^ 31 → SpellsNullable o (parameter o)
 unfolding parameter
 parameter_written None small = (0, rows_written (negsuc 0) minus_one)
 parameter_written (Some value) small = (u32 (length value), refl, len_written (length value) (omega (arith, length-append (u32 (length value)) value, small)))
 
-parameters_written : (vs : List (Option (List ℕ))) → length (flat_map parameter vs) < 2 ^ 31 → SpellsMany SpellsParameter vs (flat_map parameter vs)
+parameters_written : (vs : List (Option (List ℕ))) → length (flat_map parameter vs) < 2 ^ 31 → SpellsMany SpellsNullable vs (flat_map parameter vs)
 parameters_written [] small = refl
 parameters_written (v ∷ vs) small =
     let cut = flat_map-cons parameter v vs in
@@ -71,7 +72,7 @@ oids_written = counted16_written (SpellsNat w32) u32 IsOid oid_written
 codes_written : (zs : List ℤ) → AllByRecursion IsCode zs → is_too_long zs ≡ false → SpellsCounted16 (SpellsInt w16) zs (counted16 i16 zs)
 codes_written = counted16_written (SpellsInt w16) i16 IsCode code_written
 
-values_written : (vs : List (Option (List ℕ))) → length (counted16 parameter vs) < 2 ^ 31 → is_too_long vs ≡ false → SpellsCounted16 SpellsParameter vs (counted16 parameter vs)
+values_written : (vs : List (Option (List ℕ))) → length (counted16 parameter vs) < 2 ^ 31 → is_too_long vs ≡ false → SpellsCounted16 SpellsNullable vs (counted16 parameter vs)
 values_written vs small few = (u16 (length vs), flat_map parameter vs, refl, count16_written (length vs) few, parameters_written vs (omega (arith, length-append (u16 (length vs)) (flat_map parameter vs), small)))
 
 pub parse_written : (m : Parse) → IsParse m → refused_if (is_parse_refused m) ≡ None → SpellsParse m (parse m)

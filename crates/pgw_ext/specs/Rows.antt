@@ -7,7 +7,8 @@ use Rattle.pgw_wire.specs.Reading.{nat_at, int_at, text_at, name_at, all_of}
 use Rattle.pgw_wire.specs.Formats.{pair_at, Pair, made_at, SpellsText, SpellsNat, SpellsInt, SpellsName}
 use Rattle.pgw_wire.specs.Writing.{text, i16, u32, has_zero}
 use Rattle.pgw_wire.specs.Counted.{counted16_at, SpellsCounted16, counted16, is_too_long}
-use Rattle.pgw_ext.specs.Kinds.{name, is_name_refused, parameter_at, SpellsParameter, parameter}
+use Rattle.pgw_ext.specs.Kinds.{name, is_name_refused, parameter}
+use Rattle.pgw_wire.specs.Values.{nullable_at, SpellsNullable}
 use Rattle.pgw_ext.specs.declared.parse.Parse.{Parse}
 use Rattle.pgw_ext.specs.declared.parse.ParseComplete.{ParseComplete}
 use Rattle.pgw_ext.specs.declared.bind.Bind.{Bind}
@@ -53,10 +54,10 @@ abbrev pub parts_of : Bind → Parts
 parts_of m = (m.portal_name, (m.statement_name, (m.parameter_format_codes, (m.parameters, m.result_column_format_codes))))
 
 unfoldable pub bind_of : DecodeContext → List ℕ → Result Bind PgWireError
-bind_of ctx bytes = all_of (made_at bind_from (pair_at name_at (pair_at name_at (pair_at (counted16_at 2 (int_at w16)) (pair_at (counted16_at 4 parameter_at) (counted16_at 2 (int_at w16)))))) bytes)
+bind_of ctx bytes = all_of (made_at bind_from (pair_at name_at (pair_at name_at (pair_at (counted16_at 2 (int_at w16)) (pair_at (counted16_at 4 nullable_at) (counted16_at 2 (int_at w16)))))) bytes)
 
 abbrev pub SpellsBind : Bind → List ℕ → Type 0
-SpellsBind m = Pair SpellsName (Pair SpellsName (Pair (SpellsCounted16 (SpellsInt w16)) (Pair (SpellsCounted16 SpellsParameter) (SpellsCounted16 (SpellsInt w16))))) (parts_of m)
+SpellsBind m = Pair SpellsName (Pair SpellsName (Pair (SpellsCounted16 (SpellsInt w16)) (Pair (SpellsCounted16 SpellsNullable) (SpellsCounted16 (SpellsInt w16))))) (parts_of m)
 
 abbrev pub bind : Bind → List ℕ
 bind m = name m.portal_name ++ name m.statement_name ++ counted16 i16 m.parameter_format_codes ++ counted16 parameter m.parameters ++ counted16 i16 m.result_column_format_codes

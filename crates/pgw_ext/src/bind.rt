@@ -5,7 +5,7 @@ ghost use Rattle.std.specs.Int.{w16};
 ghost use Rattle.pgw_wire.specs.Reading.{Reads, int_at};
 ghost use Rattle.pgw_wire.specs.Formats.{pair_at};
 ghost use Rattle.pgw_wire.specs.Writing.{refused_if};
-ghost use Rattle.pgw_ext.specs.Kinds.{parameter_at};
+ghost use Rattle.pgw_wire.specs.Values.{nullable_at};
 ghost use Rattle.pgw_ext.specs.Kinds.{is_name_refused as is_name_refused_list};
 ghost use Rattle.pgw_ext.specs.Rows.{bind_of, bind, is_bind_refused, bind_complete_of};
 ghost use Rattle.pgw_wire.specs.Counted.{is_too_long, counted16_at};
@@ -48,7 +48,13 @@ impl Bind {
         parameters: Listed<Option<Octets>>,
         result_column_format_codes: Listed<i16>,
     ) -> Bind
-        ensures { result ≡ record { portal_name = portal_name; statement_name = statement_name; parameter_format_codes = parameter_format_codes; parameters = parameters; result_column_format_codes = result_column_format_codes } }
+        ensures { result ≡ record {
+          portal_name = portal_name;
+          statement_name = statement_name;
+          parameter_format_codes = parameter_format_codes;
+          parameters = parameters;
+          result_column_format_codes = result_column_format_codes;
+        } }
     {
         Bind {
             portal_name,
@@ -62,14 +68,16 @@ impl Bind {
 
 // Whether a name has no spelling.
 fn is_any_name_refused(m: &Bind) -> bool
-    ensures { result ≡ (is_name_refused_list m.now.portal_name || is_name_refused_list m.now.statement_name) }
+    ensures { result ≡ (is_name_refused_list m.now.portal_name
+        || is_name_refused_list m.now.statement_name) }
 {
     is_name_refused(&m.portal_name) || is_name_refused(&m.statement_name)
 }
 
 // Whether a list has more elements than its count tells.
 fn is_any_list_too_long(m: &Bind) -> bool
-    ensures { result ≡ (is_too_long m.now.parameter_format_codes || (is_too_long m.now.parameters || is_too_long m.now.result_column_format_codes)) }
+    ensures { result ≡ (is_too_long m.now.parameter_format_codes
+        || (is_too_long m.now.parameters || is_too_long m.now.result_column_format_codes)) }
 {
     m.parameter_format_codes.as_slice().len() > 65535
         || (m.parameters.as_slice().len() > 65535
@@ -87,7 +95,8 @@ fn take_values(
     alloc: Global,
     reader: &mut FieldReader<'_>,
 ) -> PgWireResult<(Listed<i16>, (Listed<Option<Octets>>, Listed<i16>))>
-    ensures { Reads result reader.new (pair_at (counted16_at 2 (int_at w16)) (pair_at (counted16_at 4 parameter_at) (counted16_at 2 (int_at w16))) reader.old) }
+    ensures { Reads result reader.new (pair_at (counted16_at 2 (int_at w16))
+        (pair_at (counted16_at 4 nullable_at) (counted16_at 2 (int_at w16))) reader.old) }
 {
     let parameter_formats = take_counted16(alloc, reader, 2)?;
     let parameters = take_parameters(alloc, reader)?;
@@ -219,7 +228,10 @@ impl Duplicate for BindComplete {
 fn copied_values(
     m: &Bind,
 ) -> Result<(Listed<i16>, (Listed<Option<Octets>>, Listed<i16>)), OutOfMemory>
-    ensures { IfOk result (λ copy. copy ≡ (m.now.parameter_format_codes, (m.now.parameters, m.now.result_column_format_codes))) }
+    ensures { IfOk result (λ copy. copy ≡ (
+      m.now.parameter_format_codes,
+      (m.now.parameters, m.now.result_column_format_codes),
+    )) }
 {
     let parameter_formats = m.parameter_format_codes.duplicate()?;
     let parameters = m.parameters.duplicate()?;

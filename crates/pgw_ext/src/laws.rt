@@ -24,16 +24,27 @@ pub fn rows_are_exact()
     ensures close_complete { (ctx : TheContext) → IsRow 51 30000 (close_complete_of ctx) NoBody }
     ensures describe { (ctx : TheContext) → IsRow 68 10000 (describe_of ctx) SpellsDescribe }
     ensures execute { (ctx : TheContext) → IsRow 69 10000 (execute_of ctx) SpellsExecute }
-    ensures portal_suspended { (ctx : TheContext) → IsRow 115 30000 (portal_suspended_of ctx) NoBody }
+    ensures portal_suspended { (ctx : TheContext) →
+        IsRow 115 30000 (portal_suspended_of ctx) NoBody }
     ensures flush { (ctx : TheContext) → IsRow 72 10000 (flush_of ctx) NoBody }
     ensures sync { (ctx : TheContext) → IsRow 83 10000 (sync_of ctx) NoBody }
 {}
 
 /// What is written of a message spells it. The others have no body.
 pub fn what_is_written_is_spelled()
-    ensures parse { (m : TheParse) (g : List ℕ) → IsParse m → encoded (Typed 80) 1073741822 (refused_if (is_parse_refused m)) (parse m) ≡ Ok g → SpellsTyped 80 1073741822 SpellsParse m g }
-    ensures bind { (m : TheBind) (g : List ℕ) → IsBind m → encoded (Typed 66) 1073741822 (refused_if (is_bind_refused m)) (bind m) ≡ Ok g → SpellsTyped 66 1073741822 SpellsBind m g }
-    ensures close { (m : TheClose) (g : List ℕ) → IsClose m → encoded (Typed 67) 10000 (refused_if (is_name_refused m.name)) (m.target_type ∷ name m.name) ≡ Ok g → SpellsTyped 67 10000 SpellsClose m g }
-    ensures describe { (m : TheDescribe) (g : List ℕ) → IsDescribe m → encoded (Typed 68) 10000 (refused_if (is_name_refused m.name)) (m.target_type ∷ name m.name) ≡ Ok g → SpellsTyped 68 10000 SpellsDescribe m g }
-    ensures execute { (m : TheExecute) (g : List ℕ) → IsExecute m → encoded (Typed 69) 10000 (refused_if (is_name_refused m.name)) (name m.name ++ i32 m.max_rows) ≡ Ok g → SpellsTyped 69 10000 SpellsExecute m g }
+    ensures parse { (m : TheParse) (g : List ℕ) → IsParse m →
+        encoded (Typed 80) 1073741822 (refused_if (is_parse_refused m)) (parse m) ≡ Ok g →
+        SpellsTyped 80 1073741822 SpellsParse m g }
+    ensures bind { (m : TheBind) (g : List ℕ) → IsBind m →
+        encoded (Typed 66) 1073741822 (refused_if (is_bind_refused m)) (bind m) ≡ Ok g →
+        SpellsTyped 66 1073741822 SpellsBind m g }
+    ensures close { (m : TheClose) (g : List ℕ) → IsClose m →
+        encoded (Typed 67) 10000 (refused_if (is_name_refused m.name)) (m.target_type ∷ name m.name)
+        ≡ Ok g → SpellsTyped 67 10000 SpellsClose m g }
+    ensures describe { (m : TheDescribe) (g : List ℕ) → IsDescribe m →
+        encoded (Typed 68) 10000 (refused_if (is_name_refused m.name)) (m.target_type ∷ name m.name)
+        ≡ Ok g → SpellsTyped 68 10000 SpellsDescribe m g }
+    ensures execute { (m : TheExecute) (g : List ℕ) → IsExecute m →
+        encoded (Typed 69) 10000 (refused_if (is_name_refused m.name))
+        (name m.name ++ i32 m.max_rows) ≡ Ok g → SpellsTyped 69 10000 SpellsExecute m g }
 {}

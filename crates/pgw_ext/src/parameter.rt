@@ -3,7 +3,8 @@ ghost use Rattle.std.specs.Prelude.{◌≡◌, ◌+◌, ◌^◌, ◌<◌, ◌++�
 ghost use Rattle.std.specs.List.{flat_map};
 ghost use Rattle.pgw_wire.specs.Framing.{saturated};
 ghost use Rattle.pgw_wire.specs.Reading.{Reads, many_at};
-ghost use Rattle.pgw_ext.specs.Kinds.{parameter_at, parameter};
+ghost use Rattle.pgw_ext.specs.Kinds.{parameter};
+ghost use Rattle.pgw_wire.specs.Values.{nullable_at};
 ghost use Rattle.pgw_wire.specs.Counted.{counted16_at, counted16};
 
 use pgw_types::error::PgWireResult;
@@ -15,9 +16,9 @@ use pgw_wire::writer::{Writer, put_i32, put_u16};
 use std::alloc::Global;
 
 // One value, where none is NULL.
-#[tactic(auto, unfolding(crate::specs::Kinds::parameter_at))]
+#[tactic(auto, unfolding(pgw_wire::specs::Values::nullable_at))]
 fn take_parameter(reader: &mut FieldReader<'_>) -> PgWireResult<Option<Octets>>
-    ensures { Reads result reader.new (parameter_at reader.old) }
+    ensures { Reads result reader.new (nullable_at reader.old) }
 {
     let len = reader.take_i32()?;
     if len < 0 {
@@ -33,7 +34,7 @@ fn take_many(
     reader: &mut FieldReader<'_>,
     count: usize,
 ) -> PgWireResult<Listed<Option<Octets>>>
-    ensures { Reads result reader.new (many_at parameter_at count reader.old) }
+    ensures { Reads result reader.new (many_at nullable_at count reader.old) }
 {
     let mut items = Listed::new(alloc);
     for _ in 0..count {
@@ -48,7 +49,7 @@ pub fn take_parameters(
     alloc: Global,
     reader: &mut FieldReader<'_>,
 ) -> PgWireResult<Listed<Option<Octets>>>
-    ensures { Reads result reader.new (counted16_at 4 parameter_at reader.old) }
+    ensures { Reads result reader.new (counted16_at 4 nullable_at reader.old) }
 {
     let count = reader.take_u16()? as usize;
     reader.ensure_count(count, 4)?;

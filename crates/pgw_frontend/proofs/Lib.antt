@@ -1,2 +1,3 @@
 pub mod FrontendLaws
 pub mod FrontendWritten
+pub mod FrontendStable

@@ -22,6 +22,7 @@ use pgw_types::context::DecodeContext;
 use pgw_types::error::{PgWireError, PgWireResult};
 use pgw_types::listed::Duplicate;
 use pgw_types::memory::OutOfMemory;
+use pgw_wire::buffer::Buffer;
 use pgw_wire::kinds::{decode_as, duplicate_as};
 use pgw_wire::message::Message;
 use std::alloc::Global;
@@ -80,11 +81,38 @@ impl PgWireFrontendMessage {
         ctx: &DecodeContext,
     ) -> PgWireResult<Option<PgWireFrontendMessage>>
         // A message that is read is spelled by the bytes that were taken.
-        ensures found { IfOk result (λ o. IfSome o (λ m. (g : List ℕ) × (buf.old.items ≡ g ++ buf.new.items) × SpellsFrontend ctx.now.protocol_version m g)) }
+        ensures found { IfOk result (λ o. IfSome o
+            (λ m. (g : List ℕ) × (buf.old.items ≡ g ++ buf.new.items)
+            × SpellsFrontend ctx.now.protocol_version m g)) }
         // What is spelled at the front is read, in its phase, unless memory runs out.
-        ensures only { (m : TheMessage) (g rest : List ℕ) → Awaits ctx.now m → SpellsFrontend ctx.now.protocol_version m g → buf.old.items ≡ g ++ rest → Decodes result buf.old.items buf.new.items (Ok (Some (m, rest))) }
+        ensures only { (m : TheMessage) (g rest : List ℕ) → Awaits ctx.now m →
+            SpellsFrontend ctx.now.protocol_version m g → buf.old.items ≡ g ++ rest →
+            Decodes result buf.old.items buf.new.items (Ok (Some (m, rest))) }
         // Which message it is or which refusal, and when nothing is whole yet.
-        ensures exact { Decodes result buf.old.items buf.new.items (frontend_front ctx.now buf.old.items) }
+        ensures exact { Decodes result buf.old.items buf.new.items
+            (frontend_front ctx.now buf.old.items) }
+    {
+        decode_exact(alloc, buf, ctx)
+    }
+
+    /// The same at the front of any buffer. What the message keeps of its bytes is a part of the buffer's: a cut of
+    /// octets, which copies nothing and shares their block.
+    pub fn decode_from<B: Buffer>(
+        alloc: Global,
+        buf: &mut B,
+        ctx: &DecodeContext,
+    ) -> PgWireResult<Option<PgWireFrontendMessage>>
+        // A message that is read is spelled by the bytes that were taken.
+        ensures found { IfOk result (λ o. IfSome o (λ m. (g : List ℕ)
+            × (B.held buf.old ≡ g ++ B.held buf.new)
+            × SpellsFrontend ctx.now.protocol_version m g)) }
+        // What is spelled at the front is read, in its phase, unless memory runs out.
+        ensures only { (m : TheMessage) (g rest : List ℕ) → Awaits ctx.now m →
+            SpellsFrontend ctx.now.protocol_version m g → B.held buf.old ≡ g ++ rest →
+            Decodes result (B.held buf.old) (B.held buf.new) (Ok (Some (m, rest))) }
+        // Which message it is or which refusal, and when nothing is whole yet.
+        ensures exact { Decodes result (B.held buf.old) (B.held buf.new)
+            (frontend_front ctx.now (B.held buf.old)) }
     {
         decode_exact(alloc, buf, ctx)
     }
@@ -92,9 +120,13 @@ impl PgWireFrontendMessage {
     /// Appends the whole message, or nothing.
     pub fn encode(&self, buf: &mut BytesMut) -> PgWireResult<()>
         // What is written spells what comes back of the message, under each version that its key suits.
-        ensures spelled { OnOk result ((v : TheVersion) → SuitsFrontend v self.now → (g : List ℕ) × (buf.new.items ≡ buf.old.items ++ g) × SpellsFrontend v (as_read self.now) g) }
+        ensures spelled { OnOk result ((v : TheVersion) → SuitsFrontend v self.now → (g : List ℕ)
+            × (buf.new.items ≡ buf.old.items ++ g) × SpellsFrontend v (as_read self.now) g) }
         // In a context that awaits the message it comes back, whatever follows it, and what follows is left.
-        ensures read_again { OnOk result ((ctx : TheContext) (rest : List ℕ) → SuitsFrontend ctx.protocol_version self.now → Awaits ctx (as_read self.now) → (g : List ℕ) × (buf.new.items ≡ buf.old.items ++ g) × (frontend_front ctx (g ++ rest) ≡ Ok (Some (as_read self.now, rest)))) }
+        ensures read_again { OnOk result ((ctx : TheContext) (rest : List ℕ) →
+            SuitsFrontend ctx.protocol_version self.now → Awaits ctx (as_read self.now) →
+            (g : List ℕ) × (buf.new.items ≡ buf.old.items ++ g)
+            × (frontend_front ctx (g ++ rest) ≡ Ok (Some (as_read self.now, rest)))) }
         // Which bytes are written, or which refusal it is.
         ensures exact { Appends result buf.old.items buf.new.items (encoding self.now) }
     {
@@ -151,23 +183,24 @@ impl PgWireFrontendMessage {
 
 // A request for encryption, or that there is none.
 #[tactic(auto, unfolding(crate::specs::Frontend::negotiation_front))]
-fn decode_negotiation(
+fn decode_negotiation<B: Buffer>(
     alloc: Global,
-    buf: &mut BytesMut,
+    buf: &mut B,
     ctx: &DecodeContext,
 ) -> PgWireResult<Option<PgWireFrontendMessage>>
-    ensures { Decodes result buf.old.items buf.new.items (negotiation_front ctx.now buf.old.items) }
+    ensures { Decodes result (B.held buf.old) (B.held buf.new)
+        (negotiation_front ctx.now (B.held buf.old)) }
 {
-    if buf.len() < 8 {
+    if buf.bytes().len() < 8 {
         return Ok(None);
     }
-    if SslRequest::is_ssl_request_packet(buf.as_slice()) {
-        return Ok(SslRequest::decode(alloc, buf, ctx)?.map(|m| {
+    if SslRequest::is_ssl_request_packet(buf.bytes()) {
+        return Ok(SslRequest::decode_from(alloc, buf, ctx)?.map(|m| {
             PgWireFrontendMessage::SslNegotiation(SslNegotiationMetaMessage::PostgresSsl(m))
         }));
     }
-    if GssEncRequest::is_gss_enc_request_packet(buf.as_slice()) {
-        return Ok(GssEncRequest::decode(alloc, buf, ctx)?.map(|m| {
+    if GssEncRequest::is_gss_enc_request_packet(buf.bytes()) {
+        return Ok(GssEncRequest::decode_from(alloc, buf, ctx)?.map(|m| {
             PgWireFrontendMessage::SslNegotiation(SslNegotiationMetaMessage::PostgresGss(m))
         }));
     }
@@ -176,17 +209,18 @@ fn decode_negotiation(
 
 // A Startup, or a CancelRequest in its place.
 #[tactic(auto, unfolding(crate::specs::Frontend::first_front))]
-fn decode_first(
+fn decode_first<B: Buffer>(
     alloc: Global,
-    buf: &mut BytesMut,
+    buf: &mut B,
     ctx: &DecodeContext,
 ) -> PgWireResult<Option<PgWireFrontendMessage>>
-    ensures { Decodes result buf.old.items buf.new.items (first_front ctx.now buf.old.items) }
+    ensures { Decodes result (B.held buf.old) (B.held buf.new)
+        (first_front ctx.now (B.held buf.old)) }
 {
-    if buf.len() < 8 {
+    if buf.bytes().len() < 8 {
         return Ok(None);
     }
-    if CancelRequest::is_cancel_request_packet(buf.as_slice()) {
+    if CancelRequest::is_cancel_request_packet(buf.bytes()) {
         decode_as(alloc, buf, ctx, PgWireFrontendMessage::CancelRequest)
     } else {
         decode_as(alloc, buf, ctx, PgWireFrontendMessage::Startup)
@@ -195,28 +229,30 @@ fn decode_first(
 
 // A message with a type byte.
 #[tactic(auto, unfolding(crate::specs::Frontend::typed_front))]
-fn decode_typed(
+fn decode_typed<B: Buffer>(
     alloc: Global,
-    buf: &mut BytesMut,
+    buf: &mut B,
     ctx: &DecodeContext,
 ) -> PgWireResult<Option<PgWireFrontendMessage>>
-    ensures { Decodes result buf.old.items buf.new.items (typed_front ctx.now buf.old.items) }
+    ensures { Decodes result (B.held buf.old) (B.held buf.new)
+        (typed_front ctx.now (B.held buf.old)) }
 {
-    if buf.len() < 2 {
+    if buf.bytes().len() < 2 {
         return Ok(None);
     }
-    let byte = buf.as_slice()[0];
+    let byte = buf.bytes()[0];
     decode_by(byte, alloc, buf, ctx)
 }
 
 // By the type byte.
-fn decode_by(
+fn decode_by<B: Buffer>(
     byte: u8,
     alloc: Global,
-    buf: &mut BytesMut,
+    buf: &mut B,
     ctx: &DecodeContext,
 ) -> PgWireResult<Option<PgWireFrontendMessage>>
-    ensures { Decodes result buf.old.items buf.new.items (frontend_by byte ctx.now buf.old.items) }
+    ensures { Decodes result (B.held buf.old) (B.held buf.new)
+        (frontend_by byte ctx.now (B.held buf.old)) }
 {
     match byte {
         b'p' => decode_as(
@@ -243,12 +279,13 @@ fn decode_by(
 
 // Takes the message at the front, if it is whole.
 #[tactic(auto, unfolding(crate::specs::Frontend::frontend_front))]
-fn decode_exact(
+fn decode_exact<B: Buffer>(
     alloc: Global,
-    buf: &mut BytesMut,
+    buf: &mut B,
     ctx: &DecodeContext,
 ) -> PgWireResult<Option<PgWireFrontendMessage>>
-    ensures { Decodes result buf.old.items buf.new.items (frontend_front ctx.now buf.old.items) }
+    ensures { Decodes result (B.held buf.old) (B.held buf.new)
+        (frontend_front ctx.now (B.held buf.old)) }
 {
     if ctx.awaiting_frontend_ssl {
         decode_negotiation(alloc, buf, ctx)

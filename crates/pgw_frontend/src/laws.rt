@@ -11,11 +11,15 @@ ghost use Rattle.pgw_frontend.specs.FrontendSpells.{SpellsFrontend, Awaits, HasT
 
 /// No spelling of a message with a type byte goes on to another's, and no two messages of one phase share a spelling.
 pub fn no_spelling_goes_on()
-    ensures ends { (v : TheVersion) (m n : TheMessage) (g more : List ℕ) → HasTypeByte m → HasTypeByte n → SpellsFrontend v m g → SpellsFrontend v n (g ++ more) → more ≡ [] }
-    ensures same { (ctx : TheContext) (m n : TheMessage) (g : List ℕ) → Awaits ctx m → Awaits ctx n → SpellsFrontend ctx.protocol_version m g → SpellsFrontend ctx.protocol_version n g → n ≡ m }
+    ensures ends { (v : TheVersion) (m n : TheMessage) (g more : List ℕ) → HasTypeByte m →
+        HasTypeByte n → SpellsFrontend v m g → SpellsFrontend v n (g ++ more) → more ≡ [] }
+    ensures same { (ctx : TheContext) (m n : TheMessage) (g : List ℕ) → Awaits ctx m →
+        Awaits ctx n → SpellsFrontend ctx.protocol_version m g →
+        SpellsFrontend ctx.protocol_version n g → n ≡ m }
 {}
 
 /// Where the code of a CancelRequest is looked for a Startup has none, since its major version is 3.
 pub fn a_startup_has_no_code()
-    ensures { (m : TheStartup) (g rest : List ℕ) → m.protocol_number_minor < 2 ^ 16 → SpellsUntyped 10000 SpellsStartup m g → has_code 80877102 (g ++ rest) ≡ false }
+    ensures { (m : TheStartup) (g rest : List ℕ) → m.protocol_number_minor < 2 ^ 16 →
+        SpellsUntyped 10000 SpellsStartup m g → has_code 80877102 (g ++ rest) ≡ false }
 {}

@@ -5,12 +5,12 @@ use Rattle.std.specs.List.{All}
 use Rattle.std.proofs.lemmas.List.{append-nil, length-map, map-append}
 use Rattle.pgw_query.specs.declared.data.DataRow.{DataRow}
 use Rattle.pgw_startup.specs.declared.authentication.Authentication.TheVariants as authentication
-use Rattle.pgw_backend.specs.declared.field_info.FieldInfo.{FieldInfo}
+use Rattle.pgw_query.specs.declared.field_info.FieldInfo.{FieldInfo}
 use Rattle.pgw_backend.specs.declared.backend.PgWireBackendMessage.{PgWireBackendMessage as Backend}
 use Rattle.pgw_backend.specs.declared.backend.PgWireBackendMessage.TheVariants as backend
 use Rattle.pgw_session.specs.declared.stage.Kind.TheVariants as kind
 use Rattle.pgw_session.specs.declared.tally.Tally.{Tally}
-use Rattle.pgw_backend.specs.Fields.{field_info_of}
+use Rattle.pgw_query.specs.Fields.{field_info_of}
 use Rattle.pgw_wire.specs.Writing.{has_zero, text}
 use Rattle.pgw_session.specs.Answers.{answer_by, answers_of, no_tally, tally_at, tally_of}
 use Rattle.pgw_session.specs.declared.types.Request.{Request}
@@ -38,7 +38,7 @@ startup_stands nonce = (
     rest = Got ready ∷ [];
     are = refl;
     all = (refl, tt);
-    accepted = tt;
+    accepted = refl;
     ends = record { ms = []; ready = _; are = refl; all = tt };
   },
 )

@@ -1,5 +1,5 @@
 -- The stream as encodings, and the spellings that it is cut into.
-use Rattle.std.proofs.Common.{◌≡◌, ◌≤◌, ◌<◌, ◌^◌, ◌%◌, ℕ, zero, suc, ◌+◌, List, [], ◌∷◌, ◌++◌, length, map, codes, decimal, None, Result, Ok, Err, refl, ap, sym, ◌∙◌, arith, append_assoc}
+use Rattle.std.proofs.Common.{◌≡◌, ◌≤◌, ◌<◌, ◌^◌, ◌%◌, ◌==◌, false, get_or, inl, inr, ℕ, zero, suc, ◌+◌, List, [], ◌∷◌, ◌++◌, length, map, codes, decimal, None, Result, Ok, Err, refl, ap, sym, ◌∙◌, arith, append_assoc, length-append}
 use Rattle.std.proofs.lemmas.Int.{ints}
 use Rattle.std.specs.Prelude.{pos, IsUtf8}
 use Rattle.std.specs.Int.{w32, to_be_bytes}
@@ -7,14 +7,18 @@ use Rattle.std.proofs.lemmas.List.{append-nil, map-append}
 use Rattle.std.specs.Str.{IsAscii}
 use Rattle.std.proofs.lemmas.Str.{IsUtf8-append, IsUtf8-from_ascii}
 use Rattle.std.proofs.lemmas.Str.Ascii.{IsAscii-nil}
-use Rattle.std.proofs.lemmas.Fmt.{IsAscii-decimal, length-decimal-le}
+use Rattle.std.proofs.lemmas.Fmt.{IsAscii-decimal, decimal_is_IsNumeral, length-decimal-le}
 use Rattle.std.proofs.lemmas.Bool.{le-ltb}
+use Rattle.std.proofs.lemmas.Bool.Decides.{eqb_tells}
+use Rattle.std.proofs.lemmas.Grind.{get_or_default_zero}
+use Rattle.std.proofs.lemmas.List.Folds.{list_any_none}
+use Rattle.std.proofs.lemmas.Str.Parse.{digit_at}
 use Rattle.pgw_types.specs.declared.error.PgWireError.{PgWireError}
 use Rattle.pgw_types.specs.declared.context.ProtocolVersion.{ProtocolVersion}
 use Rattle.pgw_wire.specs.declared.framing.Framing.TheVariants.{Typed}
 use Rattle.pgw_wire.specs.Framing.{encoded, saturated}
 use Rattle.pgw_wire.specs.Reading.{◌>>=◌}
-use Rattle.pgw_wire.specs.Writing.{i16, u32}
+use Rattle.pgw_wire.specs.Writing.{has_zero, i16, i32, refused_if, text, u16, u32}
 use Rattle.pgw_startup.specs.declared.authentication.Authentication.TheVariants as authentication
 use Rattle.pgw_query.specs.Sound.{IsField}
 use Rattle.pgw_frontend.specs.Frontend.{both}
@@ -28,7 +32,7 @@ use Rattle.pgw_session.specs.declared.standing.Standing.{Standing}
 use Rattle.pgw_session.specs.Events.{Got}
 use Rattle.pgw_session.specs.Standings.{standing_by}
 use Rattle.pgw_session.specs.Transcript.{SpellsGot}
-use Rattle.pgw_gen.specs.Stream.{IsStream, Puts, beginning, column, complete, description, encodings, end_of, messages, next_number, numbers, numbers_behind, ready, row_of, rows_of}
+use Rattle.pgw_gen.specs.Stream.{HasEncoding, IsStream, Puts, beginning, column, complete, description, encodings, end_of, messages, next_number, numbers, numbers_behind, ready, row_of, rows_of}
 
 -- ---- encodings
 
@@ -64,16 +68,16 @@ puts_one m old new is = put_by (backend_encoding m) old new is
 abbrev pub row_bytes : List ℕ → List ℕ
 row_bytes digits = 68 ∷ (to_be_bytes w32 (length digits + 10) ++ (0 ∷ 1 ∷ (to_be_bytes w32 (length digits) ++ digits)))
 
-encoded_within : (body : List ℕ) → length body + 4 ≤ 2147483647 → encoded (Typed 68) 2147483647 None body ≡ Ok (68 ∷ (to_be_bytes w32 (length body + 4) ++ body))
+encoded_within : (byte limit : ℕ) (body : List ℕ) → length body + 4 ≤ limit → encoded (Typed byte) limit None body ≡ Ok (byte ∷ (to_be_bytes w32 (length body + 4) ++ body))
 unfolding encoded
-encoded_within body fits =
-    let within : saturated (length body + 4) ≤ 2147483647 = omega (arith, fits) in
-    rw (le-ltb 2147483647 (saturated (length body + 4)) within) refl
+encoded_within byte limit body fits =
+    let within : saturated (length body + 4) ≤ limit = omega (arith, fits) in
+    rw (le-ltb limit (saturated (length body + 4)) within) refl
 
 pub row_encoded : (digits : List ℕ) → length digits ≤ 20 → backend_encoding (backend.DataRow (record { field_count = pos 1; payload = u32 (length digits) ++ digits })) ≡ Ok (row_bytes digits)
 unfolding backend_encoding i16 u32
 row_encoded digits small =
-    let e = encoded_within (i16 (pos 1) ++ (u32 (length digits) ++ digits)) (omega (arith, small)) in
+    let e = encoded_within 68 2147483647 (i16 (pos 1) ++ (u32 (length digits) ++ digits)) (omega (arith, small)) in
     let size : length (i16 (pos 1) ++ (u32 (length digits) ++ digits)) + 4 ≡ length digits + 10 = omega arith in
     e ∙ ap (λ n. Ok (68 ∷ (to_be_bytes w32 n ++ (i16 (pos 1) ++ (u32 (length digits) ++ digits))))) size
 
@@ -112,6 +116,38 @@ put_one count before left rest number next old mid new p more is one =
 
 pub put_all : (count before number : ℕ) (old new : List ℕ) → PutSome count before 0 number old new → Puts (map backend.DataRow (map row_of (numbers_behind count before))) old new
 put_all count before number old new p = rw (p.are ∙ append-nil p.done) p.put
+
+-- ---- what stands around the rows has encodings
+
+pub greeting_encodes : HasEncoding (backend.Authentication authentication.Ok)
+unfolding backend_encoding encoded u32
+greeting_encodes = (_, refl)
+
+pub ready_encodes : HasEncoding ready
+unfolding backend_encoding encoded
+ready_encodes = (_, refl)
+
+pub description_encodes : HasEncoding description
+unfolding backend_encoding encoded refused_if text i16 i32 u16 u32
+description_encodes = (_, refl)
+
+digits_clean : (n : ℕ) → n < 2 ^ 64 → has_zero (decimal n) ≡ false
+digits_clean n small =
+    let digits = (decimal_is_IsNumeral n small).0.1 in
+    list_any_none (λ b. b == 0) (decimal n) (λ k d lt. by (get_or (decimal n) k d) (omega (arith, digit_at (decimal n) k digits lt, get_or_default_zero (decimal n) k d lt)))
+  where
+    by : (b : ℕ) → 0 < b → (b == 0) ≡ false
+    by b more = elim (eqb_tells b 0) [
+      | inl w ↦ absurd (omega (arith, more, w.1))
+      | inr w ↦ w.0
+    ]
+
+pub complete_encodes : (count : ℕ) → count < 2 ^ 32 → HasEncoding (complete count)
+unfolding backend_encoding refused_if text
+complete_encodes count small =
+    let tag = codes "SELECT " ++ decimal count in
+    let len : length (decimal count) ≤ 10 = length-decimal-le 10 count (omega arith) (omega (arith, small)) (omega (arith, small)) in
+    (_, ap (λ b. encoded (Typed 67) 30000 (refused_if b) (text tag)) (digits_clean count (omega (arith, small))) ∙ encoded_within 67 30000 (text tag) (omega (arith, length-append (decimal count) (0 ∷ []), len)))
 
 -- ---- spellings
 

@@ -2,7 +2,7 @@
 use Rattle.std.proofs.Common.{◌≡◌, ◌<◌, ◌≤◌, ◌+◌, ℕ, zero, suc, List, [], ◌∷◌, ◌++◌, length, take, get_or, Result, Ok, Err, refl, ap, sym, subst, ◌∙◌, append_assoc, arith}
 use Rattle.std.proofs.lemmas.List.{append-nil, length-append}
 use Rattle.std.specs.Result.{OnErr}
-use Rattle.pgw_types.specs.declared.memory.OutOfMemory.{OutOfMemory}
+use Rattle.pgw_gen.specs.declared.summary.TooManyRows.{TooManyRows}
 use Rattle.std.proofs.lemmas.Grind.{flat_map-append}
 use Rattle.std.specs.List.{flat_map}
 use Rattle.pgw_query.specs.declared.data.DataRow.{DataRow}
@@ -53,6 +53,6 @@ too_many_at f xs i x first mid lt is adds many rows sum =
     let part = at_item f xs i x lt is in
     omega (arith, more, part, length-append (rows ++ done) (f x), length-append rows done, length-append rows (flat_map f xs))
 
-pub at_err : {T P : Type 0} (r : Result T OutOfMemory) → P → OnErr r P
+pub at_err : {T P : Type 0} (r : Result T TooManyRows) → P → OnErr r P
 at_err (Ok value) p = tt
 at_err (Err e) p = p

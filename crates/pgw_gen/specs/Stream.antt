@@ -87,6 +87,10 @@ abbrev pub encodings : List Backend → Result (List ℕ) PgWireError
 encodings [] = Ok []
 encodings (m ∷ ms) = both (backend_encoding m) (encodings ms)
 
+-- the message is encoded, where memory does not run out
+abbrev pub HasEncoding : Backend → Type 0
+HasEncoding m = (bytes : List ℕ) × (backend_encoding m ≡ Ok bytes)
+
 abbrev pub IsStream : ℕ → ℕ → List ℕ → Type 0
 IsStream count start bytes = encodings (messages count start) ≡ Ok bytes
 

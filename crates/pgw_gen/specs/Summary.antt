@@ -12,7 +12,7 @@ use Rattle.pgw_session.specs.declared.types.Request.{Request}
 use Rattle.pgw_session.specs.declared.types.Request.TheVariants as request
 use Rattle.pgw_session.specs.declared.types.Response.{Response}
 use Rattle.pgw_session.specs.declared.types.SessionReport.{SessionReport}
-use Rattle.pgw_session.specs.Input.{Input}
+use Rattle.pgw_session.specs.Input.{Input, input_with}
 use Rattle.pgw_session.specs.Responses.{rows_in}
 use Rattle.pgw_gen.specs.declared.summary.GenSummary.{GenSummary}
 use Rattle.pgw_gen.specs.declared.summary.Sum.{Sum}
@@ -25,7 +25,7 @@ abbrev pub gen_query : Request
 gen_query = request.Simple (codes "SELECT n")
 
 abbrev pub gen_input : List ℕ → Input
-gen_input nonce = record { config = gen_config; requests = gen_query ∷ []; nonce = nonce }
+gen_input nonce = input_with gen_config (gen_query ∷ []) nonce
 
 -- ---- rows
 

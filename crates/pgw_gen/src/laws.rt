@@ -8,7 +8,11 @@ ghost use Rattle.pgw_gen.specs.Summary.{gen_input, report_rows};
 /// The stream completes the session of the user `gen` with its one query, and the report has its rows, as many as asked
 /// for.
 pub fn the_stream_completes_a_session()
-    ensures completes { (nonce bytes : List ℕ) (count start : ℕ) → count < 2 ^ 64 → IsStream count start bytes → Completes (gen_input nonce) (length bytes) bytes (gen_segments nonce count start) }
-    ensures rows { (nonce : List ℕ) (count start : ℕ) → report_rows (report_of (gen_input nonce) (gen_segments nonce count start)) ≡ rows_of count start }
+    ensures completes { (nonce bytes : List ℕ) (count start : ℕ) → count < 2 ^ 64 →
+        IsStream count start bytes → Completes (gen_input nonce) (length bytes) bytes
+        (gen_segments nonce count start) }
+    ensures rows { (nonce : List ℕ) (count start : ℕ) →
+        report_rows (report_of (gen_input nonce) (gen_segments nonce count start))
+        ≡ rows_of count start }
     ensures counted { (count start : ℕ) → length (rows_of count start) ≡ count }
 {}

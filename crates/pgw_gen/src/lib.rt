@@ -4,6 +4,7 @@
 //! encoded as, and `laws` that they complete the one transcript of that session, whose report has these rows.
 #![tactic(auto)]
 
+pub mod equality;
 pub mod laws;
 pub mod stream;
 pub mod summary;

@@ -1,7 +1,7 @@
 //! What a server sends in a session with one query that gives a number of rows.
 ghost use Rattle.std.specs.Prelude.{◌≡◌, ◌<◌, ◌∷◌, [], ◌^◌, map, IfOk, OnOk};
 ghost use Rattle.pgw_backend.specs.declared.backend.PgWireBackendMessage.TheVariants as backend;
-ghost use Rattle.pgw_gen.specs.Stream.{IsStream, Puts, beginning, column, complete as completion, end_of, next_number, numbers_behind, ready as readiness, row_of};
+ghost use Rattle.pgw_gen.specs.Stream.{HasEncoding, IsStream, Puts, beginning, column, complete as completion, end_of, next_number, numbers_behind, ready as readiness, row_of};
 
 use bytes::BytesMut;
 use itoa::Buffer;
@@ -11,6 +11,7 @@ use pgw_query::data::{
 };
 use pgw_query::response::{CommandComplete, ReadyForQuery, TransactionStatus};
 use pgw_startup::authentication::Authentication;
+use pgw_types::error::PgWireError;
 use pgw_types::listed::Listed;
 use pgw_types::memory::OutOfMemory;
 use pgw_types::text::Text;
@@ -36,16 +37,27 @@ fn next_number(number: u32) -> u32
 
 // Appends a message, and lets it go.
 fn put(out: &mut BytesMut, message: PgWireBackendMessage) -> Result<(), OutOfMemory>
+    requires { HasEncoding message }
     ensures { OnOk result (Puts (message ∷ []) out.old.items out.new.items) }
 {
-    let put = message.encode(out).ok().ok_or(OutOfMemory);
+    let put = message.encode(out);
     drop(message);
-    put
+    let refusal = put.err();
+    // The message has an encoding, so no other refusal comes.
+    prove!(matches!(&refusal, None | Some(PgWireError::OutOfMemory)));
+    match refusal {
+        None => Ok(()),
+        Some(error) => {
+            drop(error);
+            Err(OutOfMemory)
+        }
+    }
 }
 
 // Appends a row whose one field is the number, as it is encoded.
 fn put_row(out: &mut BytesMut, number: u32) -> Result<(), OutOfMemory>
-    ensures { OnOk result (Puts (backend.DataRow (row_of number) ∷ []) out.old.items out.new.items) }
+    ensures { OnOk result (Puts (backend.DataRow (row_of number) ∷ []) out.old.items
+        out.new.items) }
 {
     let mut buffer = Buffer::new();
     let digits = buffer.format(number).as_bytes();
@@ -61,7 +73,8 @@ fn put_row(out: &mut BytesMut, number: u32) -> Result<(), OutOfMemory>
 // Appends so many rows, whose numbers follow this one.
 fn put_rows(out: &mut BytesMut, count: u32, before: u32) -> Result<(), OutOfMemory>
     requires { before < 2 ^ 31 }
-    ensures { OnOk result (Puts (map backend.DataRow (map row_of (numbers_behind count before))) out.old.items out.new.items) }
+    ensures { OnOk result (Puts (map backend.DataRow (map row_of (numbers_behind count before)))
+        out.old.items out.new.items) }
 {
     let mut number = before;
     let mut left = count;
@@ -74,7 +87,8 @@ fn put_rows(out: &mut BytesMut, count: u32, before: u32) -> Result<(), OutOfMemo
 }
 
 fn description(alloc: Global) -> Result<PgWireBackendMessage, OutOfMemory>
-    ensures { IfOk result (λ message. message ≡ backend.RowDescription (record { fields = column ∷ [] })) }
+    ensures { IfOk result (λ message. message
+        ≡ backend.RowDescription (record { fields = column ∷ [] })) }
 {
     let mut fields = Listed::new(alloc);
     let name = Text::from_str(alloc, "n")?;

@@ -3,10 +3,11 @@ ghost use Rattle.std.specs.Prelude.{◌≡◌, ◌≤◌, ◌^◌, length, IfOk,
 ghost use Rattle.std.specs.List.{flat_map};
 ghost use Rattle.pgw_gen.specs.Summary.{Adds, AreTooMany, answer_rows, report_rows, response_rows, summary_of as summary_for};
 
-use pgw_rows::data_rows::DataRows;
+use pgw_query::data_rows::DataRows;
 use pgw_session::types::{Answer, Response, SessionReport};
-use pgw_types::memory::OutOfMemory;
 use sha2::{Digest, Sha256};
+use std::error::Error;
+use std::fmt;
 
 /// The rows of a session, told shortly.
 #[derive(Clone, Copy, Debug, PartialEq, Eq)]
@@ -17,6 +18,18 @@ pub struct GenSummary {
     pub digest: [u8; 32],
 }
 
+/// There are more rows than 64 bits can count, which no memory holds.
+#[derive(Clone, Copy, Debug)]
+pub struct TooManyRows;
+
+impl fmt::Display for TooManyRows {
+    fn fmt<W: fmt::Write>(&self, f: &mut fmt::Formatter<W>) -> fmt::Result {
+        f.write_str("more rows than can be counted")
+    }
+}
+
+impl Error for TooManyRows {}
+
 /// The rows that were added so far.
 #[derive(Drop)]
 struct Sum {
@@ -26,12 +39,12 @@ struct Sum {
 
 impl Sum {
     // Adds the rows of a result.
-    fn add_rows(&mut self, rows: &DataRows) -> Result<(), OutOfMemory>
+    fn add_rows(&mut self, rows: &DataRows) -> Result<(), TooManyRows>
         ensures adds { OnOk result (Adds rows.now self.old self.new) }
         ensures too_many { OnErr result (AreTooMany rows.now self.old) }
     {
         let Some(count) = self.rows.checked_add(rows.len() as u64) else {
-            return Err(OutOfMemory);
+            return Err(TooManyRows);
         };
         self.rows = count;
         for row in rows {
@@ -40,9 +53,10 @@ impl Sum {
         Ok(())
     }
 
-    fn add_responses(&mut self, responses: &[Response]) -> Result<(), OutOfMemory>
+    fn add_responses(&mut self, responses: &[Response]) -> Result<(), TooManyRows>
         ensures adds { OnOk result (Adds (flat_map response_rows responses.now) self.old self.new) }
-        ensures too_many { OnErr result (AreTooMany (flat_map response_rows responses.now) self.old) }
+        ensures too_many { OnErr result (AreTooMany (flat_map response_rows responses.now)
+            self.old) }
     {
         for response in responses {
             if let Response::Query(_tag, _fields, rows) = response {
@@ -52,7 +66,7 @@ impl Sum {
         Ok(())
     }
 
-    fn add_answers(&mut self, answers: &[Answer]) -> Result<(), OutOfMemory>
+    fn add_answers(&mut self, answers: &[Answer]) -> Result<(), TooManyRows>
         ensures adds { OnOk result (Adds (flat_map answer_rows answers.now) self.old self.new) }
         ensures too_many { OnErr result (AreTooMany (flat_map answer_rows answers.now) self.old) }
     {
@@ -65,9 +79,8 @@ impl Sum {
     }
 }
 
-/// The rows of a report, told shortly. A server's error instead of rows has none. It takes no memory: it fails only where
-/// there are more rows than 64 bits can count, which no memory holds.
-pub fn summary_of(report: &SessionReport) -> Result<GenSummary, OutOfMemory>
+/// The rows of a report, told shortly. A server's error instead of rows has none. It takes no memory.
+pub fn summary_of(report: &SessionReport) -> Result<GenSummary, TooManyRows>
     ensures value { IfOk result (λ summary. summary ≡ summary_for report.now) }
     ensures too_many { OnErr result (2 ^ 64 ≤ length (report_rows report.now)) }
 {

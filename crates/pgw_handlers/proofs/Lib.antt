@@ -1,1 +1,2 @@
 mod CauseLaws
+pub mod RowLaws

@@ -1,11 +1,13 @@
 -- What a handler means, and what holds of each of its calls.
 use Rattle.std.specs.Prelude.{◌≡◌, ◌≤◌, ℕ, Bool, true, Result, Ok, Err}
-use Rattle.pgw_link.specs.Tape.{Rose}
+use Rattle.pgw_types.specs.Counts.{Rose}
 use Rattle.pgw_startup.specs.declared.parameter_status.ParameterStatus.{ParameterStatus}
+use Rattle.pgw_query.specs.declared.notification.NotificationResponse.{NotificationResponse}
 use Rattle.pgw_backend.specs.declared.backend.PgWireBackendMessage.{PgWireBackendMessage as Backend}
 use Rattle.pgw_backend.specs.declared.backend.PgWireBackendMessage.TheVariants as backend
 use Rattle.pgw_backend.specs.declared.client_error.PgWireClientError.{PgWireClientError as ClientError}
 use Rattle.pgw_backend.specs.declared.client_error.PgWireClientError.TheVariants as client
+use Rattle.pgw_backend.specs.ClientError.{IsUnexpected}
 use Rattle.pgw_handlers.specs.declared.client_info.ReadyState.{ReadyState}
 use Rattle.pgw_handlers.specs.declared.client_info.ReadyState.TheVariants.{Pending, Ready}
 use Rattle.pgw_handlers.specs.Client.{Sight, with_parameter}
@@ -55,6 +57,12 @@ Refuses P before after answer = (after ≡ before) × IsRefusal P answer
 abbrev pub Keeps : {H A : Type 0} → ParameterStatus → Standing H → Standing H → Answer A → Type 0
 Keeps m before after (Ok answer) = (after ≡ standing before.handler (with_parameter m.name m.value before.sight)) × (answer ≡ Pending)
 Keeps m before after (Err e) = (after ≡ before) × (e ≡ client.OutOfMemory)
+
+-- a notification has no place
+abbrev pub Misplaces : {H A : Type 0} → NotificationResponse → Standing H → Standing H → Answer A →
+    Type 0
+Misplaces m before after answer =
+    Refuses (IsUnexpected (backend.NotificationResponse m)) before after answer
 
 -- ---- causes, told or not
 

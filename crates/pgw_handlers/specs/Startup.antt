@@ -6,7 +6,9 @@ use Rattle.pgw_startup.specs.declared.negotiate.NegotiateProtocolVersion.{Negoti
 use Rattle.pgw_startup.specs.declared.parameter_status.ParameterStatus.{ParameterStatus}
 use Rattle.pgw_startup.specs.declared.backend_key_data.BackendKeyData.{BackendKeyData}
 use Rattle.pgw_startup.specs.Negotiate.{negotiated_version}
+use Rattle.pgw_query.specs.declared.response.NoticeResponse.{NoticeResponse}
 use Rattle.pgw_query.specs.declared.response.ReadyForQuery.{ReadyForQuery}
+use Rattle.pgw_query.specs.declared.notification.NotificationResponse.{NotificationResponse}
 use Rattle.pgw_backend.specs.declared.backend.PgWireBackendMessage.{PgWireBackendMessage as Backend}
 use Rattle.pgw_backend.specs.declared.backend.PgWireBackendMessage.TheVariants as backend
 use Rattle.pgw_backend.specs.declared.client_error.PgWireClientError.{PgWireClientError as ClientError}
@@ -15,7 +17,7 @@ use Rattle.pgw_backend.specs.ClientError.{IsUnexpected}
 use Rattle.pgw_handlers.specs.declared.client_info.ReadyState.TheVariants.{Pending}
 use Rattle.pgw_handlers.specs.declared.client_info.ServerInformation.{ServerInformation}
 use Rattle.pgw_handlers.specs.Client.{with_version, with_status}
-use Rattle.pgw_handlers.specs.Handling.{Standing, standing, Answer, Passes, Refuses}
+use Rattle.pgw_handlers.specs.Handling.{Standing, standing, Answer, Refuses}
 
 -- a call of one of its functions, with its message
 pub data StartupCall : Type 0 where
@@ -23,6 +25,8 @@ pub data StartupCall : Type 0 where
   on_authentication : Authentication → StartupCall
   on_negotiate_protocol_version : NegotiateProtocolVersion → StartupCall
   on_parameter_status : ParameterStatus → StartupCall
+  on_notice : NoticeResponse → StartupCall
+  on_notification : NotificationResponse → StartupCall
   on_backend_key : BackendKeyData → StartupCall
   on_ready_for_query : ReadyForQuery → StartupCall
 
@@ -53,7 +57,9 @@ Hears M before (backend.ParameterStatus m) after answer = M before (on_parameter
 Hears M before (backend.BackendKeyData m) after answer = M before (on_backend_key m) after answer
 Hears M before (backend.ReadyForQuery m) after answer = M (standing before.handler (with_status m.status before.sight)) (on_ready_for_query m) after answer
 Hears M before (backend.ErrorResponse m) after answer = Refuses (λ e. e ≡ client.RemoteError m) before after answer
-Hears M before (backend.NoticeResponse m) after answer = Passes before after answer
+Hears M before (backend.NoticeResponse m) after answer = M before (on_notice m) after answer
+Hears M before (backend.NotificationResponse m) after answer =
+    M before (on_notification m) after answer
 Hears M before m after answer = Refuses (IsUnexpected m) before after answer
 
 abbrev pub HearsIf : {H : Type 0} → Bool → (Standing H → StartupCall → Standing H → Answer ServerInformation → Type 0) → Standing H → Backend → Standing H → Answer ServerInformation → Type 0

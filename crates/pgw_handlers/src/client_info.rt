@@ -54,7 +54,8 @@ pub trait ClientInfo: Seen {
         ensures { result.now ≡ (Self.sight self.now).client.parameters };
 
     fn set_server_parameter(&mut self, name: Text, value: Text) -> Result<(), OutOfMemory>
-        ensures set { OnOk result (Self.sight self.new ≡ with_parameter name value (Self.sight self.old)) }
+        ensures set { OnOk result (Self.sight self.new
+            ≡ with_parameter name value (Self.sight self.old)) }
         ensures kept { OnErr result (Self.sight self.new ≡ Self.sight self.old) }
         ensures own { Self.own self.new ≡ Self.own self.old }
         ensures rest { Self.rest self.new ≡ Self.rest self.old }

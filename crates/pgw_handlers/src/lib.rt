@@ -9,11 +9,13 @@ pub mod causes;
 pub mod client_info;
 pub mod extended;
 pub mod outgoing;
+pub mod responses;
 pub mod simple;
 pub mod startup;
 
 pub use crate::client_info::{ClientInfo, ReadyState, Seen, ServerInformation};
 pub use crate::extended::ExtendedQueryHandler;
 pub use crate::outgoing::Outgoing;
+pub use crate::responses::ResponseList;
 pub use crate::simple::SimpleQueryHandler;
 pub use crate::startup::StartupHandler;

@@ -13,12 +13,15 @@ pub trait Outgoing: Seen {
     /// Writes a message and flushes. A message that has no spelling leaves the client as it was, any other error
     /// unusable.
     fn send(&mut self, message: PgWireFrontendMessage) -> PgWireClientResult<()>
-        ensures sent { OnOk result (Sent (encoding message) (Self.sight self.old) (Self.sight self.new)) }
-        ensures failed { IfErr result (λ e. NotSent (encoding message) (Self.sight self.old) (Self.sight self.new) e) }
+        ensures sent { OnOk result (Sent (encoding message) (Self.sight self.old)
+            (Self.sight self.new)) }
+        ensures failed { IfErr result (λ e. NotSent (encoding message) (Self.sight self.old)
+            (Self.sight self.new) e) }
         ensures spelled { IsSpelled (encoding message) result }
         ensures client { (Self.sight self.new).client ≡ (Self.sight self.old).client }
         ensures usable { IsUsable result (Self.sight self.old).broken (Self.sight self.new).broken }
         ensures own { Self.own self.new ≡ Self.own self.old }
         ensures rest { Self.rest self.new ≡ Self.rest self.old }
-        ensures cause { HasCause (Self.faults self.old) (Self.faults self.new) (Self.sight self.new).broken result };
+        ensures cause { HasCause (Self.faults self.old) (Self.faults self.new)
+            (Self.sight self.new).broken result };
 }

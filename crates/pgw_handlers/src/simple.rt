@@ -1,8 +1,10 @@
 //! What a client asks simple queries by.
-ghost use Rattle.std.specs.Prelude.{◌≡◌, List, IfOk};
+ghost use Rattle.std.specs.Prelude.{◌≡◌, List, IfOk, OnErr};
 ghost use Rattle.pgw_startup.specs.declared.parameter_status.ParameterStatus.{ParameterStatus as TheStatus};
-ghost use Rattle.pgw_handlers.specs.Handling.{Standing, standing, Answer, pending, ready, EndsAtReady, Keeps, HasCause};
-ghost use Rattle.pgw_handlers.specs.Simple.{SimpleCall, simple_query, on_row_description, on_data_row, on_command_complete, on_empty_query, on_parameter_status, on_ready_for_query, HeardInQuery};
+ghost use Rattle.pgw_query.specs.declared.response.NoticeResponse.{NoticeResponse as TheNotice};
+ghost use Rattle.pgw_query.specs.declared.notification.NotificationResponse.{NotificationResponse as TheNotification};
+ghost use Rattle.pgw_handlers.specs.Handling.{Standing, standing, Answer, pending, ready, EndsAtReady, Keeps, Passes, Misplaces, HasCause};
+ghost use Rattle.pgw_handlers.specs.Simple.{SimpleCall, simple_query, on_row_description, on_data_row, on_command_complete, on_empty_query, on_parameter_status, on_notice, on_notification, on_ready_for_query, HeardInQuery, TakesRows};
 
 use crate::causes::misplaced;
 use crate::client_info::{ClientInfo, ReadyState};
@@ -10,9 +12,12 @@ use crate::outgoing::Outgoing;
 use pgw_backend::backend::PgWireBackendMessage;
 use pgw_backend::client_error::{PgWireClientError, PgWireClientResult};
 use pgw_query::data::{DataRow, RowDescription};
-use pgw_query::response::{CommandComplete, EmptyQueryResponse, ReadyForQuery};
+use pgw_query::notification::NotificationResponse;
+use pgw_query::response::{CommandComplete, EmptyQueryResponse, NoticeResponse, ReadyForQuery};
 use pgw_startup::parameter_status::ParameterStatus;
 use pgw_types::listed::Listed;
+use pgw_types::memory::OutOfMemory;
+use pgw_types::octets::Octets;
 use std::alloc::Global;
 
 /// Asks a simple query, and makes responses of the server's messages up to ReadyForQuery.
@@ -20,7 +25,8 @@ pub trait SimpleQueryHandler {
     type QueryResponse: Drop;
 
     /// What the handler does: a call leads from one standing to another, and gives the answer.
-    ghost means: { Standing Self → SimpleCall → Standing Self → Answer (List Self.QueryResponse) → Type 0 };
+    ghost means: { Standing Self → SimpleCall → Standing Self → Answer (List Self.QueryResponse) →
+        Type 0 };
 
     /// Asks the query.
     fn simple_query<C: ClientInfo + Outgoing>(
@@ -29,10 +35,12 @@ pub trait SimpleQueryHandler {
         client: &mut C,
         query: &str,
     ) -> PgWireClientResult<()>
-        ensures means { means (standing self.old (C.sight client.old)) (simple_query query.now) (standing self.new (C.sight client.new)) (pending result) }
+        ensures means { means (standing self.old (C.sight client.old)) (simple_query query.now)
+            (standing self.new (C.sight client.new)) (pending result) }
         ensures own { C.own client.new ≡ C.own client.old }
         ensures rest { C.rest client.new ≡ C.rest client.old }
-        ensures cause { HasCause (C.faults client.old) (C.faults client.new) (C.sight client.new).broken result };
+        ensures cause { HasCause (C.faults client.old) (C.faults client.new)
+            (C.sight client.new).broken result };
 
     /// Hears a message: hands it to its function, and sets the status that a ReadyForQuery tells before that.
     fn on_message<C: ClientInfo + Outgoing>(
@@ -41,11 +49,13 @@ pub trait SimpleQueryHandler {
         client: &mut C,
         message: PgWireBackendMessage,
     ) -> PgWireClientResult<ReadyState<Listed<Self::QueryResponse>>>
-        ensures means { HeardInQuery means (standing self.old (C.sight client.old)) message (standing self.new (C.sight client.new)) result }
+        ensures means { HeardInQuery means (standing self.old (C.sight client.old)) message
+            (standing self.new (C.sight client.new)) result }
         ensures ready { IfOk result (EndsAtReady message) }
         ensures own { C.own client.new ≡ C.own client.old }
         ensures rest { C.rest client.new ≡ C.rest client.old }
-        ensures cause { HasCause (C.faults client.old) (C.faults client.new) (C.sight client.new).broken result }
+        ensures cause { HasCause (C.faults client.old) (C.faults client.new)
+            (C.sight client.new).broken result }
     {
         match message {
             PgWireBackendMessage::RowDescription(m) => {
@@ -74,7 +84,14 @@ pub trait SimpleQueryHandler {
                 Ok(ReadyState::Ready(responses))
             }
             PgWireBackendMessage::ErrorResponse(m) => Err(PgWireClientError::RemoteError(m)),
-            PgWireBackendMessage::NoticeResponse(_) => Ok(ReadyState::Pending),
+            PgWireBackendMessage::NoticeResponse(m) => {
+                self.on_notice(alloc, client, m)?;
+                Ok(ReadyState::Pending)
+            }
+            PgWireBackendMessage::NotificationResponse(m) => {
+                self.on_notification(alloc, client, m)?;
+                Ok(ReadyState::Pending)
+            }
             other => Err(misplaced(alloc, other)),
         }
     }
@@ -85,10 +102,12 @@ pub trait SimpleQueryHandler {
         client: &mut C,
         message: RowDescription,
     ) -> PgWireClientResult<()>
-        ensures means { means (standing self.old (C.sight client.old)) (on_row_description message) (standing self.new (C.sight client.new)) (pending result) }
+        ensures means { means (standing self.old (C.sight client.old)) (on_row_description message)
+            (standing self.new (C.sight client.new)) (pending result) }
         ensures own { C.own client.new ≡ C.own client.old }
         ensures rest { C.rest client.new ≡ C.rest client.old }
-        ensures cause { HasCause (C.faults client.old) (C.faults client.new) (C.sight client.new).broken result };
+        ensures cause { HasCause (C.faults client.old) (C.faults client.new)
+            (C.sight client.new).broken result };
 
     fn on_data_row<C: ClientInfo + Outgoing>(
         &mut self,
@@ -96,10 +115,24 @@ pub trait SimpleQueryHandler {
         client: &mut C,
         message: DataRow,
     ) -> PgWireClientResult<()>
-        ensures means { means (standing self.old (C.sight client.old)) (on_data_row message) (standing self.new (C.sight client.new)) (pending result) }
+        ensures means { means (standing self.old (C.sight client.old)) (on_data_row message)
+            (standing self.new (C.sight client.new)) (pending result) }
         ensures own { C.own client.new ≡ C.own client.old }
         ensures rest { C.rest client.new ≡ C.rest client.old }
-        ensures cause { HasCause (C.faults client.old) (C.faults client.new) (C.sight client.new).broken result };
+        ensures cause { HasCause (C.faults client.old) (C.faults client.new)
+            (C.sight client.new).broken result };
+
+    /// Takes rows that stand whole at the front of some bytes, as many as it likes, and hears them as
+    /// `on_data_row` hears each; answers how many. A client calls it before it takes a message. It sees
+    /// no client and sends nothing. By its own body it takes none.
+    #[tactic(auto, using(crate::proofs::RowLaws::takes_none))]
+    fn take_rows(&mut self, bytes: &mut Octets) -> Result<usize, OutOfMemory>
+        ensures taken { IfOk result (TakesRows means self.old self.new bytes.old bytes.new) }
+        ensures err { OnErr result ((self.new ≡ self.old) × (bytes.new ≡ bytes.old)) }
+    {
+        let _ = bytes;
+        Ok(0)
+    }
 
     fn on_command_complete<C: ClientInfo + Outgoing>(
         &mut self,
@@ -107,10 +140,12 @@ pub trait SimpleQueryHandler {
         client: &mut C,
         message: CommandComplete,
     ) -> PgWireClientResult<()>
-        ensures means { means (standing self.old (C.sight client.old)) (on_command_complete message) (standing self.new (C.sight client.new)) (pending result) }
+        ensures means { means (standing self.old (C.sight client.old)) (on_command_complete message)
+            (standing self.new (C.sight client.new)) (pending result) }
         ensures own { C.own client.new ≡ C.own client.old }
         ensures rest { C.rest client.new ≡ C.rest client.old }
-        ensures cause { HasCause (C.faults client.old) (C.faults client.new) (C.sight client.new).broken result };
+        ensures cause { HasCause (C.faults client.old) (C.faults client.new)
+            (C.sight client.new).broken result };
 
     fn on_empty_query<C: ClientInfo + Outgoing>(
         &mut self,
@@ -118,10 +153,12 @@ pub trait SimpleQueryHandler {
         client: &mut C,
         message: EmptyQueryResponse,
     ) -> PgWireClientResult<()>
-        ensures means { means (standing self.old (C.sight client.old)) (on_empty_query message) (standing self.new (C.sight client.new)) (pending result) }
+        ensures means { means (standing self.old (C.sight client.old)) (on_empty_query message)
+            (standing self.new (C.sight client.new)) (pending result) }
         ensures own { C.own client.new ≡ C.own client.old }
         ensures rest { C.rest client.new ≡ C.rest client.old }
-        ensures cause { HasCause (C.faults client.old) (C.faults client.new) (C.sight client.new).broken result };
+        ensures cause { HasCause (C.faults client.old) (C.faults client.new)
+            (C.sight client.new).broken result };
 
     /// Leaves a parameter that the server reports to the client.
     fn on_parameter_status<C: ClientInfo + Outgoing>(
@@ -130,14 +167,53 @@ pub trait SimpleQueryHandler {
         client: &mut C,
         message: ParameterStatus,
     ) -> PgWireClientResult<()>
-        ensures means { means (standing self.old (C.sight client.old)) (on_parameter_status message) (standing self.new (C.sight client.new)) (pending result) }
+        ensures means { means (standing self.old (C.sight client.old)) (on_parameter_status message)
+            (standing self.new (C.sight client.new)) (pending result) }
         ensures own { C.own client.new ≡ C.own client.old }
         ensures rest { C.rest client.new ≡ C.rest client.old }
-        ensures cause { HasCause (C.faults client.old) (C.faults client.new) (C.sight client.new).broken result }
+        ensures cause { HasCause (C.faults client.old) (C.faults client.new)
+            (C.sight client.new).broken result }
     {
         let ParameterStatus { name, value } = message;
         client.set_server_parameter(name, value)?;
         Ok(())
+    }
+
+    /// Hears a notice of the server's, and does nothing with it.
+    fn on_notice<C: ClientInfo + Outgoing>(
+        &mut self,
+        alloc: Global,
+        client: &mut C,
+        message: NoticeResponse,
+    ) -> PgWireClientResult<()>
+        ensures means { means (standing self.old (C.sight client.old)) (on_notice message)
+            (standing self.new (C.sight client.new)) (pending result) }
+        ensures own { C.own client.new ≡ C.own client.old }
+        ensures rest { C.rest client.new ≡ C.rest client.old }
+        ensures cause { HasCause (C.faults client.old) (C.faults client.new)
+            (C.sight client.new).broken result }
+    {
+        drop(message);
+        Ok(())
+    }
+
+    /// Hears a notification, which a session gets that listens to a channel. It has no place here;
+    /// a handler that listens takes it by a body of its own.
+    fn on_notification<C: ClientInfo + Outgoing>(
+        &mut self,
+        alloc: Global,
+        client: &mut C,
+        message: NotificationResponse,
+    ) -> PgWireClientResult<()>
+        ensures means { means (standing self.old (C.sight client.old)) (on_notification message)
+            (standing self.new (C.sight client.new)) (pending result) }
+        ensures own { C.own client.new ≡ C.own client.old }
+        ensures rest { C.rest client.new ≡ C.rest client.old }
+        ensures cause { HasCause (C.faults client.old) (C.faults client.new)
+            (C.sight client.new).broken result }
+    {
+        let message = PgWireBackendMessage::NotificationResponse(message);
+        Err(misplaced(alloc, message))
     }
 
     /// The responses, in order.
@@ -147,11 +223,25 @@ pub trait SimpleQueryHandler {
         client: &mut C,
         message: ReadyForQuery,
     ) -> PgWireClientResult<Listed<Self::QueryResponse>>
-        ensures means { means (standing self.old (C.sight client.old)) (on_ready_for_query message) (standing self.new (C.sight client.new)) (ready result) }
+        ensures means { means (standing self.old (C.sight client.old)) (on_ready_for_query message)
+            (standing self.new (C.sight client.new)) (ready result) }
         ensures own { C.own client.new ≡ C.own client.old }
         ensures rest { C.rest client.new ≡ C.rest client.old }
-        ensures cause { HasCause (C.faults client.old) (C.faults client.new) (C.sight client.new).broken result };
+        ensures cause { HasCause (C.faults client.old) (C.faults client.new)
+            (C.sight client.new).broken result };
 
-    /// The handler may leave a parameter to the client, as its own body does.
-    ghost keeps: { (before after : Standing Self) (m : TheStatus) (answer : Answer (List Self.QueryResponse)) → Keeps m before after answer → means before (on_parameter_status m) after answer };
+    /// The handler may do as the trait's own bodies: leave a parameter to the client,
+    ghost keeps: { (before after : Standing Self) (m : TheStatus)
+        (answer : Answer (List Self.QueryResponse)) → Keeps m before after answer →
+        means before (on_parameter_status m) after answer };
+
+    /// do nothing with a notice,
+    ghost passes: { (before after : Standing Self) (m : TheNotice)
+        (answer : Answer (List Self.QueryResponse)) → Passes before after answer →
+        means before (on_notice m) after answer };
+
+    /// and have no place for a notification.
+    ghost misplaces: { (before after : Standing Self) (m : TheNotification)
+        (answer : Answer (List Self.QueryResponse)) → Misplaces m before after answer →
+        means before (on_notification m) after answer };
 }

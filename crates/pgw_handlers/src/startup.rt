@@ -2,16 +2,19 @@
 ghost use Rattle.std.specs.Prelude.{◌≡◌, Bool, IfOk};
 ghost use Rattle.pgw_startup.specs.declared.negotiate.NegotiateProtocolVersion.{NegotiateProtocolVersion as TheOffer};
 ghost use Rattle.pgw_startup.specs.declared.parameter_status.ParameterStatus.{ParameterStatus as TheStatus};
+ghost use Rattle.pgw_query.specs.declared.response.NoticeResponse.{NoticeResponse as TheNotice};
+ghost use Rattle.pgw_query.specs.declared.notification.NotificationResponse.{NotificationResponse as TheNotification};
 ghost use Rattle.pgw_handlers.specs.declared.client_info.ServerInformation.{ServerInformation as TheInformation};
-ghost use Rattle.pgw_handlers.specs.Handling.{Standing, standing, Answer, pending, ready, EndsAtReady, Keeps, HasCause};
-ghost use Rattle.pgw_handlers.specs.Startup.{StartupCall, startup, on_authentication, on_negotiate_protocol_version, on_parameter_status, on_backend_key, on_ready_for_query, Settles, HeardAtStartup};
+ghost use Rattle.pgw_handlers.specs.Handling.{Standing, standing, Answer, pending, ready, EndsAtReady, Keeps, Passes, Misplaces, HasCause};
+ghost use Rattle.pgw_handlers.specs.Startup.{StartupCall, startup, on_authentication, on_negotiate_protocol_version, on_parameter_status, on_notice, on_notification, on_backend_key, on_ready_for_query, Settles, HeardAtStartup};
 
 use crate::causes::{admitted, misplaced};
 use crate::client_info::{ClientInfo, ReadyState, ServerInformation};
 use crate::outgoing::Outgoing;
 use pgw_backend::backend::PgWireBackendMessage;
 use pgw_backend::client_error::{PgWireClientError, PgWireClientResult};
-use pgw_query::response::ReadyForQuery;
+use pgw_query::notification::NotificationResponse;
+use pgw_query::response::{NoticeResponse, ReadyForQuery};
 use pgw_startup::authentication::Authentication;
 use pgw_startup::backend_key_data::BackendKeyData;
 use pgw_startup::negotiate::{NegotiateProtocolVersion, negotiated_version};
@@ -35,10 +38,12 @@ pub trait StartupHandler {
         alloc: Global,
         client: &mut C,
     ) -> PgWireClientResult<()>
-        ensures means { means (standing self.old (C.sight client.old)) startup (standing self.new (C.sight client.new)) (pending result) }
+        ensures means { means (standing self.old (C.sight client.old)) startup
+            (standing self.new (C.sight client.new)) (pending result) }
         ensures own { C.own client.new ≡ C.own client.old }
         ensures rest { C.rest client.new ≡ C.rest client.old }
-        ensures cause { HasCause (C.faults client.old) (C.faults client.new) (C.sight client.new).broken result };
+        ensures cause { HasCause (C.faults client.old) (C.faults client.new)
+            (C.sight client.new).broken result };
 
     /// Hears a message: hands it to its function, and sets the status that a ReadyForQuery tells before that. Within a
     /// login exchange only an authentication request and an error have one.
@@ -48,11 +53,13 @@ pub trait StartupHandler {
         client: &mut C,
         message: PgWireBackendMessage,
     ) -> PgWireClientResult<ReadyState<ServerInformation>>
-        ensures means { HeardAtStartup exchanges means (standing self.old (C.sight client.old)) message (standing self.new (C.sight client.new)) result }
+        ensures means { HeardAtStartup exchanges means (standing self.old (C.sight client.old))
+            message (standing self.new (C.sight client.new)) result }
         ensures ready { IfOk result (EndsAtReady message) }
         ensures own { C.own client.new ≡ C.own client.old }
         ensures rest { C.rest client.new ≡ C.rest client.old }
-        ensures cause { HasCause (C.faults client.old) (C.faults client.new) (C.sight client.new).broken result }
+        ensures cause { HasCause (C.faults client.old) (C.faults client.new)
+            (C.sight client.new).broken result }
     {
         let message = admitted(alloc, self.in_exchange(), message)?;
         match message {
@@ -78,7 +85,14 @@ pub trait StartupHandler {
                 Ok(ReadyState::Ready(information))
             }
             PgWireBackendMessage::ErrorResponse(m) => Err(PgWireClientError::RemoteError(m)),
-            PgWireBackendMessage::NoticeResponse(_) => Ok(ReadyState::Pending),
+            PgWireBackendMessage::NoticeResponse(m) => {
+                self.on_notice(alloc, client, m)?;
+                Ok(ReadyState::Pending)
+            }
+            PgWireBackendMessage::NotificationResponse(m) => {
+                self.on_notification(alloc, client, m)?;
+                Ok(ReadyState::Pending)
+            }
             other => Err(misplaced(alloc, other)),
         }
     }
@@ -89,10 +103,12 @@ pub trait StartupHandler {
         client: &mut C,
         message: Authentication,
     ) -> PgWireClientResult<()>
-        ensures means { means (standing self.old (C.sight client.old)) (on_authentication message) (standing self.new (C.sight client.new)) (pending result) }
+        ensures means { means (standing self.old (C.sight client.old)) (on_authentication message)
+            (standing self.new (C.sight client.new)) (pending result) }
         ensures own { C.own client.new ≡ C.own client.old }
         ensures rest { C.rest client.new ≡ C.rest client.old }
-        ensures cause { HasCause (C.faults client.old) (C.faults client.new) (C.sight client.new).broken result };
+        ensures cause { HasCause (C.faults client.old) (C.faults client.new)
+            (C.sight client.new).broken result };
 
     /// Settles on the version that the server offers, where the client knows it.
     fn on_negotiate_protocol_version<C: ClientInfo + Outgoing>(
@@ -101,10 +117,13 @@ pub trait StartupHandler {
         client: &mut C,
         message: NegotiateProtocolVersion,
     ) -> PgWireClientResult<()>
-        ensures means { means (standing self.old (C.sight client.old)) (on_negotiate_protocol_version message) (standing self.new (C.sight client.new)) (pending result) }
+        ensures means { means (standing self.old (C.sight client.old))
+            (on_negotiate_protocol_version message) (standing self.new (C.sight client.new))
+            (pending result) }
         ensures own { C.own client.new ≡ C.own client.old }
         ensures rest { C.rest client.new ≡ C.rest client.old }
-        ensures cause { HasCause (C.faults client.old) (C.faults client.new) (C.sight client.new).broken result }
+        ensures cause { HasCause (C.faults client.old) (C.faults client.new)
+            (C.sight client.new).broken result }
     {
         match negotiated_version(&message) {
             Some(version) => {
@@ -125,14 +144,53 @@ pub trait StartupHandler {
         client: &mut C,
         message: ParameterStatus,
     ) -> PgWireClientResult<()>
-        ensures means { means (standing self.old (C.sight client.old)) (on_parameter_status message) (standing self.new (C.sight client.new)) (pending result) }
+        ensures means { means (standing self.old (C.sight client.old)) (on_parameter_status message)
+            (standing self.new (C.sight client.new)) (pending result) }
         ensures own { C.own client.new ≡ C.own client.old }
         ensures rest { C.rest client.new ≡ C.rest client.old }
-        ensures cause { HasCause (C.faults client.old) (C.faults client.new) (C.sight client.new).broken result }
+        ensures cause { HasCause (C.faults client.old) (C.faults client.new)
+            (C.sight client.new).broken result }
     {
         let ParameterStatus { name, value } = message;
         client.set_server_parameter(name, value)?;
         Ok(())
+    }
+
+    /// Hears a notice of the server's, and does nothing with it.
+    fn on_notice<C: ClientInfo + Outgoing>(
+        &mut self,
+        alloc: Global,
+        client: &mut C,
+        message: NoticeResponse,
+    ) -> PgWireClientResult<()>
+        ensures means { means (standing self.old (C.sight client.old)) (on_notice message)
+            (standing self.new (C.sight client.new)) (pending result) }
+        ensures own { C.own client.new ≡ C.own client.old }
+        ensures rest { C.rest client.new ≡ C.rest client.old }
+        ensures cause { HasCause (C.faults client.old) (C.faults client.new)
+            (C.sight client.new).broken result }
+    {
+        drop(message);
+        Ok(())
+    }
+
+    /// Hears a notification, which a session gets that listens to a channel. It has no place here;
+    /// a handler that listens takes it by a body of its own.
+    fn on_notification<C: ClientInfo + Outgoing>(
+        &mut self,
+        alloc: Global,
+        client: &mut C,
+        message: NotificationResponse,
+    ) -> PgWireClientResult<()>
+        ensures means { means (standing self.old (C.sight client.old)) (on_notification message)
+            (standing self.new (C.sight client.new)) (pending result) }
+        ensures own { C.own client.new ≡ C.own client.old }
+        ensures rest { C.rest client.new ≡ C.rest client.old }
+        ensures cause { HasCause (C.faults client.old) (C.faults client.new)
+            (C.sight client.new).broken result }
+    {
+        let message = PgWireBackendMessage::NotificationResponse(message);
+        Err(misplaced(alloc, message))
     }
 
     fn on_backend_key<C: ClientInfo + Outgoing>(
@@ -141,10 +199,12 @@ pub trait StartupHandler {
         client: &mut C,
         message: BackendKeyData,
     ) -> PgWireClientResult<()>
-        ensures means { means (standing self.old (C.sight client.old)) (on_backend_key message) (standing self.new (C.sight client.new)) (pending result) }
+        ensures means { means (standing self.old (C.sight client.old)) (on_backend_key message)
+            (standing self.new (C.sight client.new)) (pending result) }
         ensures own { C.own client.new ≡ C.own client.old }
         ensures rest { C.rest client.new ≡ C.rest client.old }
-        ensures cause { HasCause (C.faults client.old) (C.faults client.new) (C.sight client.new).broken result };
+        ensures cause { HasCause (C.faults client.old) (C.faults client.new)
+            (C.sight client.new).broken result };
 
     /// What the server told of itself.
     fn on_ready_for_query<C: ClientInfo + Outgoing>(
@@ -153,14 +213,29 @@ pub trait StartupHandler {
         client: &mut C,
         message: ReadyForQuery,
     ) -> PgWireClientResult<ServerInformation>
-        ensures means { means (standing self.old (C.sight client.old)) (on_ready_for_query message) (standing self.new (C.sight client.new)) (ready result) }
+        ensures means { means (standing self.old (C.sight client.old)) (on_ready_for_query message)
+            (standing self.new (C.sight client.new)) (ready result) }
         ensures own { C.own client.new ≡ C.own client.old }
         ensures rest { C.rest client.new ≡ C.rest client.old }
-        ensures cause { HasCause (C.faults client.old) (C.faults client.new) (C.sight client.new).broken result };
+        ensures cause { HasCause (C.faults client.old) (C.faults client.new)
+            (C.sight client.new).broken result };
 
-    /// The handler may settle on a version as its own body does,
-    ghost settles: { (before after : Standing Self) (m : TheOffer) (answer : Answer TheInformation) → Settles m before after answer → means before (on_negotiate_protocol_version m) after answer };
+    /// The handler may do as the trait's own bodies: settle on a version,
+    ghost settles: { (before after : Standing Self) (m : TheOffer)
+        (answer : Answer TheInformation) → Settles m before after answer →
+        means before (on_negotiate_protocol_version m) after answer };
 
-    /// and leave a parameter to the client.
-    ghost keeps: { (before after : Standing Self) (m : TheStatus) (answer : Answer TheInformation) → Keeps m before after answer → means before (on_parameter_status m) after answer };
+    /// leave a parameter to the client,
+    ghost keeps: { (before after : Standing Self) (m : TheStatus) (answer : Answer TheInformation) →
+        Keeps m before after answer → means before (on_parameter_status m) after answer };
+
+    /// do nothing with a notice,
+    ghost passes: { (before after : Standing Self) (m : TheNotice)
+        (answer : Answer TheInformation) → Passes before after answer →
+        means before (on_notice m) after answer };
+
+    /// and have no place for a notification.
+    ghost misplaces: { (before after : Standing Self) (m : TheNotification)
+        (answer : Answer TheInformation) → Misplaces m before after answer →
+        means before (on_notification m) after answer };
 }

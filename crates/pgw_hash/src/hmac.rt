@@ -43,7 +43,8 @@ impl Hmac {
 
     /// Takes in the next part of the text.
     pub fn update(&mut self, part: &[u8])
-        ensures { (key text : List ℕ) → HasTaken key text self.old → HasTaken key (text ++ part.now) self.new }
+        ensures { (key text : List ℕ) → HasTaken key text self.old →
+            HasTaken key (text ++ part.now) self.new }
     {
         self.inner.update(part);
     }
@@ -68,7 +69,8 @@ impl Hmac {
 
     /// The same of a text in two parts.
     pub(crate) fn code_of_parts(&self, first: &[u8], second: &[u8]) -> [u8; 32]
-        ensures { (key : List ℕ) → HasTaken key [] self.now → result ≡ hmac_sha256 key (first.now ++ second.now) }
+        ensures { (key : List ℕ) → HasTaken key [] self.now → result
+            ≡ hmac_sha256 key (first.now ++ second.now) }
     {
         let mut code = self.copy();
         code.update(first);

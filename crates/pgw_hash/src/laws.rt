@@ -7,7 +7,8 @@ ghost use Rattle.pgw_hash.specs.Saslprep.{prepared};
 
 /// One round gives the first term.
 pub fn one_round_is_the_first_term()
-    ensures { (password salt : List ℕ) → hi password salt 1 ≡ hmac_sha256 password (salt ++ block_number 1) }
+    ensures { (password salt : List ℕ) → hi password salt 1
+        ≡ hmac_sha256 password (salt ++ block_number 1) }
 {}
 
 /// A text of printable ASCII is prepared as it is.

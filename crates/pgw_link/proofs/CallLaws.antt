@@ -2,7 +2,7 @@
 use Rattle.std.proofs.Common.{◌≡◌, ℕ, ◌+◌, ◌<◌, ◌≤◌, List, [], ◌∷◌, Bool, true, false, ◌&&◌, ◌||◌, ◌==◌, nat_lt, nat_le, refl, ap, ◌∙◌, arith}
 use Rattle.std.specs.List.{list_any}
 use Rattle.std.proofs.lemmas.Bool.Decides.{nat_tests}
-use Rattle.pgw_link.specs.Tape.{counted}
+use Rattle.pgw_types.specs.Counts.{counted}
 use Rattle.pgw_link.specs.Calls.{is_listed, is_reached, number_of}
 
 none : (n : ℕ) → (nat_lt 0 n && nat_le n 0) ≡ false

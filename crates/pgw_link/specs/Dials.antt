@@ -1,9 +1,10 @@
 -- What a dialer tells of its dials and of its links, and what its calls do.
 use Rattle.std.specs.Prelude.{◌≡◌, ◌<◌, ◌≤◌, ℕ, List, [], ◌∷◌, ◌++◌, Bool, true, false, Result, Ok, Err}
-use Rattle.pgw_conninfo.specs.declared.address.Address.{Address}
+use Rattle.pgw_types.specs.declared.address.Address.{Address}
 use Rattle.pgw_link.specs.declared.dialer.DialError.{DialError}
 use Rattle.pgw_link.specs.declared.dialer.DialError.TheVariants as error
-use Rattle.pgw_link.specs.Tape.{Tape, Rose, new_tape}
+use Rattle.pgw_types.specs.Counts.{Rose}
+use Rattle.pgw_link.specs.Tape.{Tape, new_tape}
 
 -- the addresses that were dialled, and whether a link was made; what the links that were closed told then
 pub record DialTape : Type 0 where

@@ -1,4 +1,5 @@
 pub mod Tape
+pub mod Sending
 pub mod Foresight
 pub mod Log
 pub mod Stream

@@ -1,6 +1,6 @@
 -- What a dialer in memory tells.
 use Rattle.std.specs.Prelude.{ℕ, ◌+◌, List, [], ◌∷◌, Bool, true, false, ◌||◌}
-use Rattle.pgw_link.specs.Tape.{counted}
+use Rattle.pgw_types.specs.Counts.{counted}
 use Rattle.pgw_link.specs.Calls.{is_listed}
 use Rattle.pgw_link.specs.Dials.{DialTape}
 use Rattle.pgw_link.specs.DialLog.{dial_tape_of}

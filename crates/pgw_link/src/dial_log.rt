@@ -1,12 +1,12 @@
 //! What the calls of a dialer did, kept for proofs alone.
 ghost use Rattle.std.specs.Prelude.{◌≡◌, List, Bool};
 ghost use Rattle.std.specs.Borrow.{ftrue};
-ghost use Rattle.pgw_conninfo.specs.declared.address.Address.{Address};
+ghost use Rattle.pgw_types.specs.declared.address.Address.{Address};
 ghost use Rattle.pgw_link.specs.Tape.{Tape};
 ghost use Rattle.pgw_link.specs.Dials.{new_dials};
 
 use crate::log::Log;
-use pgw_conninfo::address::Address;
+use pgw_types::address::Address;
 use std::marker::Model;
 
 /// A history of dials and closed links. It takes no memory, and its methods do nothing at run time.

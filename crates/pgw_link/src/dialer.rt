@@ -3,7 +3,7 @@ ghost use Rattle.std.specs.Prelude.{◌≡◌, ℕ, List, Option, None, IfOk, On
 ghost use Rattle.pgw_link.specs.Dials.{DialTape, Dialled, NotDialled, CountsDial, Shut, CountsClose};
 
 use crate::link::Link;
-use pgw_conninfo::address::Address;
+use pgw_types::address::Address;
 
 /// Why a dial gave no link.
 #[derive(Clone, Copy, Debug, PartialEq, Eq, Drop)]
@@ -33,7 +33,8 @@ pub trait Dialer: Drop {
     fn dial(&mut self, address: &Address) -> Result<Self::Link, DialError>
         ensures counts { CountsDial (faults self.old) (faults self.new) result }
         ensures faultless { IfOk result (λ made. Self.Link.faults made ≡ 0) }
-        ensures dialled { IfOk result (λ made. Dialled address.now (tape self.old) (tape self.new) (Self.Link.tape made)) }
+        ensures dialled { IfOk result (λ made.
+            Dialled address.now (tape self.old) (tape self.new) (Self.Link.tape made)) }
         ensures offered { foretells → IfOk result (λ made. Self.Link.left made ≡ offer self.old) }
         ensures failed { OnErr result (NotDialled address.now (tape self.old) (tape self.new)) }
         ensures offer { foretells → OnErr result (offer self.new ≡ offer self.old) };

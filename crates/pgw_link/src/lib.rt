@@ -8,12 +8,14 @@
 pub mod calls;
 pub mod dial_log;
 pub mod dialer;
+pub mod equality;
 pub mod link;
 pub mod log;
 pub mod memory;
 pub mod memory_dialer;
 pub mod memory_stream;
 pub mod piece;
+pub mod sending;
 pub mod socket;
 pub mod socket_dialer;
 pub mod standard;

@@ -36,9 +36,11 @@ pub trait Link: Drop {
     /// nothing moves, and the end is not asked for.
     fn read(&mut self, buf: &mut [u8]) -> Result<usize, LinkFault>
         ensures bound { IfOk result (λ n. n ≤ length buf.new) }
-        ensures moved { 0 < length buf.old → IfOk result (λ n. Took (tape self.old) (tape self.new) (take n buf.new)) }
+        ensures moved { 0 < length buf.old → IfOk result
+            (λ n. Took (tape self.old) (tape self.new) (take n buf.new)) }
         ensures no_room { length buf.old ≡ 0 → OnOk result (Idle (tape self.old) (tape self.new)) }
-        ensures failed { OnErr result (Failed (tape self.old) (tape self.new) ((tape self.old).reads + 1) (tape self.old).writes) }
+        ensures failed { OnErr result (Failed (tape self.old) (tape self.new)
+            ((tape self.old).reads + 1) (tape self.old).writes) }
         ensures drawn { ReadConsumes (left self.old) (left self.new) result buf.new }
         ensures cause { HasCause (faults self.old) (faults self.new) result }
         ensures no_fault { OnOk result (faults self.new ≡ faults self.old) }
@@ -50,7 +52,8 @@ pub trait Link: Drop {
         ensures some { IfOk result (λ n. 0 < n) }
         ensures bound { IfOk result (λ n. n ≤ length piece.now) }
         ensures moved { IfOk result (λ n. Put (tape self.old) (tape self.new) (take n piece.now)) }
-        ensures failed { OnErr result (Failed (tape self.old) (tape self.new) (tape self.old).reads ((tape self.old).writes + 1)) }
+        ensures failed { OnErr result (Failed (tape self.old) (tape self.new) (tape self.old).reads
+            ((tape self.old).writes + 1)) }
         ensures poured { WriteAppends (held self.old) (held self.new) result piece.now }
         ensures left { foretells → Keeps (left self.old) (left self.new) }
         ensures cause { HasCause (faults self.old) (faults self.new) result }
@@ -60,7 +63,8 @@ pub trait Link: Drop {
     /// Makes sure that what was written is on its way.
     fn flush(&mut self) -> Result<(), LinkFault>
         ensures done { OnOk result (Flushed (tape self.old) (tape self.new)) }
-        ensures failed { OnErr result (Failed (tape self.old) (tape self.new) (tape self.old).reads (tape self.old).writes) }
+        ensures failed { OnErr result (Failed (tape self.old) (tape self.new) (tape self.old).reads
+            (tape self.old).writes) }
         ensures held { Keeps (held self.old) (held self.new) }
         ensures left { foretells → Keeps (left self.old) (left self.new) }
         ensures cause { HasCause (faults self.old) (faults self.new) result }

@@ -1,7 +1,8 @@
 //! A link in memory.
 ghost use Rattle.std.specs.Prelude.{◌≡◌, ◌<◌, ◌≤◌, ◌+◌, ◌*◌, ◌||◌, ◌⊎◌, ℕ, nat_lt, length, take, Some, IfOk, IsOk, OnOk, OnErr, is_err, true, false};
 ghost use Rattle.std.specs.Io.KnownBytes.{Keeps, ReadConsumes, WriteAppends};
-ghost use Rattle.pgw_link.specs.Tape.{new_tape, HasCause, Rose, Took, Put, Flushed, Failed, Idle};
+ghost use Rattle.pgw_types.specs.Counts.{Rose};
+ghost use Rattle.pgw_link.specs.Tape.{new_tape, HasCause, Took, Put, Flushed, Failed, Idle};
 ghost use Rattle.pgw_link.specs.Calls.{is_listed, is_reached, number_of};
 
 use crate::calls::Calls;
@@ -49,7 +50,8 @@ impl MemoryLink {
         ensures tape { memory_tape result ≡ new_tape }
         ensures left { memory_left result ≡ server }
         ensures faults { faults_of result ≡ 0 }
-        ensures making { making_of result ≡ record { server = server; cut = cut; reads = fail_reads; writes = fail_writes } }
+        ensures making { making_of result ≡ record
+            { server = server; cut = cut; reads = fail_reads; writes = fail_writes } }
     {
         MemoryLink {
             server,
@@ -67,8 +69,10 @@ impl MemoryLink {
     pub fn written(&self) -> &[u8]
         ensures value { result.now ≡ (memory_tape self.now).wrote }
         ensures taken { length (making_of self.now).server
-            ≤ length (memory_left self.now) + (making_of self.now).cut * (memory_tape self.now).reads }
-        ensures sent { length (memory_tape self.now).wrote ≤ (making_of self.now).cut * (memory_tape self.now).writes }
+            ≤ length (memory_left self.now) + (making_of self.now).cut *
+            (memory_tape self.now).reads }
+        ensures sent { length (memory_tape self.now).wrote
+            ≤ (making_of self.now).cut * (memory_tape self.now).writes }
     {
         self.written.as_slice()
     }
@@ -124,12 +128,16 @@ impl Link for MemoryLink {
     fn read(&mut self, buf: &mut [u8]) -> Result<usize, LinkFault>
         ensures bound { IfOk result (λ n. n ≤ length buf.new) }
         ensures cut { IfOk result (λ n. n ≤ self.old.cut) }
-        ensures fails { is_err result ≡ is_listed (making_of self.old).reads (memory_tape self.new).reads }
-        ensures moved { 0 < length buf.old → IfOk result (λ n. Took (memory_tape self.old) (memory_tape self.new) (take n buf.new)) }
-        ensures no_room { length buf.old ≡ 0 → OnOk result (Idle (memory_tape self.old) (memory_tape self.new)) }
+        ensures fails { is_err result ≡ is_listed (making_of self.old).reads
+            (memory_tape self.new).reads }
+        ensures moved { 0 < length buf.old → IfOk result
+            (λ n. Took (memory_tape self.old) (memory_tape self.new) (take n buf.new)) }
+        ensures no_room { length buf.old ≡ 0 →
+            OnOk result (Idle (memory_tape self.old) (memory_tape self.new)) }
         ensures failed { OnErr result (Failed (memory_tape self.old) (memory_tape self.new)
             ((memory_tape self.old).reads + 1) (memory_tape self.old).writes) }
-        ensures drawn { ReadConsumes (Some (memory_left self.old)) (Some (memory_left self.new)) result buf.new }
+        ensures drawn { ReadConsumes (Some (memory_left self.old)) (Some (memory_left self.new))
+            result buf.new }
         ensures cause { HasCause (faults_of self.old) (faults_of self.new) result }
         ensures no_fault { OnOk result (faults_of self.new ≡ faults_of self.old) }
         ensures kept { making_of self.new ≡ making_of self.old }
@@ -149,13 +157,17 @@ impl Link for MemoryLink {
         ensures some { IfOk result (λ n. 0 < n) }
         ensures bound { IfOk result (λ n. n ≤ length piece.now) }
         ensures cut { IfOk result (λ n. n ≤ self.old.cut) }
-        ensures goes { OnOk result (is_listed (making_of self.old).writes (memory_tape self.new).writes ≡ false) }
-        ensures fails { OnErr result (is_listed (making_of self.old).writes (memory_tape self.new).writes ≡ true
+        ensures goes { OnOk result (is_listed (making_of self.old).writes
+            (memory_tape self.new).writes ≡ false) }
+        ensures fails { OnErr result (is_listed (making_of self.old).writes
+            (memory_tape self.new).writes ≡ true
             ⊎ Rose self.old.wanting self.new.wanting) }
-        ensures moved { IfOk result (λ n. Put (memory_tape self.old) (memory_tape self.new) (take n piece.now)) }
+        ensures moved { IfOk result (λ n. Put (memory_tape self.old) (memory_tape self.new)
+            (take n piece.now)) }
         ensures failed { OnErr result (Failed (memory_tape self.old) (memory_tape self.new)
             (memory_tape self.old).reads ((memory_tape self.old).writes + 1)) }
-        ensures poured { WriteAppends (Some self.old.written.items) (Some self.new.written.items) result piece.now }
+        ensures poured { WriteAppends (Some self.old.written.items) (Some self.new.written.items)
+            result piece.now }
         ensures left { memory_left self.new ≡ memory_left self.old }
         ensures cause { HasCause (faults_of self.old) (faults_of self.new) result }
         ensures no_fault { OnOk result (faults_of self.new ≡ faults_of self.old) }

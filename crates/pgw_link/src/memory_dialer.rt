@@ -10,7 +10,7 @@ use crate::dial_log::{DialLog, DialNote};
 use crate::dialer::{DialError, Dialer};
 use crate::link::Link;
 use crate::memory::MemoryLink;
-use pgw_conninfo::address::Address;
+use pgw_types::address::Address;
 use pgw_types::listed::Listed;
 
 /// A dialer in memory, which hands out its links in order. Dials with the listed numbers, counted from 1, fail, and so
@@ -29,7 +29,7 @@ pub struct MemoryDialer {
 
 impl MemoryDialer {
     ghost use Rattle.std.specs.Prelude.{◌<◌, ◌≤◌, ◌∷◌, length, Some, None, IfSome, true, false};
-    ghost use Rattle.pgw_link.specs.Tape.{Rose};
+    ghost use Rattle.pgw_types.specs.Counts.{Rose};
     ghost use Rattle.pgw_link.specs.Dials.{new_dials};
     ghost use Rattle.pgw_link.specs.MemoryLinks.{IsUnused};
     ghost use Rattle.pgw_link.specs.MemoryDials.{offer_of, dial_tape, dial_faults, links_of, is_refused};
@@ -53,7 +53,8 @@ impl MemoryDialer {
 
     /// The link that was closed last.
     pub fn closed(&self) -> Option<&MemoryLink>
-        ensures some { IfSome result (λ l. last_shut (dial_tape self.now).shut ≡ Some (memory_tape l.now)) }
+        ensures some { IfSome result (λ l. last_shut (dial_tape self.now).shut
+            ≡ Some (memory_tape l.now)) }
         ensures none { result ≡ None → last_shut (dial_tape self.now).shut ≡ None }
     {
         self.shut.as_ref()
@@ -67,7 +68,8 @@ impl MemoryDialer {
         ensures listing { self.new.dials.numbers ≡ self.old.dials.numbers }
         ensures tape { dial_tape self.new ≡ dial_tape self.old }
         ensures kept { result ≡ false → dial_faults self.new ≡ dial_faults self.old }
-        ensures rose { result ≡ true → (dial_faults self.old ≤ dial_faults self.new) × Rose (dial_faults self.old) (dial_faults self.new) }
+        ensures rose { result ≡ true → (dial_faults self.old ≤ dial_faults self.new)
+            × Rose (dial_faults self.old) (dial_faults self.new) }
     {
         if self.dials.is_failing() {
             return true;
@@ -118,10 +120,14 @@ impl Dialer for MemoryDialer {
         ensures listing { self.new.dials.numbers ≡ self.old.dials.numbers }
         ensures counts { CountsDial (dial_faults self.old) (dial_faults self.new) result }
         ensures faultless { IfOk result (λ made. faults_of made ≡ 0) }
-        ensures dialled { IfOk result (λ made. Dialled address.now (dial_tape self.old) (dial_tape self.new) (memory_tape made)) }
-        ensures offered { IfOk result (λ made. Some (memory_left made) ≡ Some (offer_of (links_of self.old))) }
-        ensures failed { OnErr result (NotDialled address.now (dial_tape self.old) (dial_tape self.new)) }
-        ensures offer { OnErr result (Some (offer_of (links_of self.new)) ≡ Some (offer_of (links_of self.old))) }
+        ensures dialled { IfOk result (λ made.
+            Dialled address.now (dial_tape self.old) (dial_tape self.new) (memory_tape made)) }
+        ensures offered { IfOk result (λ made. Some (memory_left made)
+            ≡ Some (offer_of (links_of self.old))) }
+        ensures failed { OnErr result (NotDialled address.now (dial_tape self.old)
+            (dial_tape self.new)) }
+        ensures offer { OnErr result (Some (offer_of (links_of self.new))
+            ≡ Some (offer_of (links_of self.old))) }
     {
         if self.is_refusing() {
             self.log = self.log.then(&DialNote::Dialled(address, false));
@@ -132,7 +138,8 @@ impl Dialer for MemoryDialer {
     }
 
     fn close(&mut self, used: MemoryLink)
-        ensures counts { CountsClose (dial_faults self.old) (dial_faults self.new) (faults_of used) }
+        ensures counts { CountsClose (dial_faults self.old) (dial_faults self.new)
+            (faults_of used) }
         ensures shut { Shut (dial_tape self.old) (dial_tape self.new) (memory_tape used) }
         ensures links { links_of self.new ≡ links_of self.old }
         ensures listing { self.new.dials.numbers ≡ self.old.dials.numbers }

@@ -1,7 +1,8 @@
 //! A source and a sink in memory.
 ghost use Rattle.std.specs.Prelude.{◌≡◌, ◌<◌, ◌≤◌, ◌⊎◌, ℕ, Some, [], length, take, IfOk, OnOk, OnErr, is_err, true, false};
 ghost use Rattle.std.specs.Io.KnownBytes.{ReadConsumes, WriteAppends};
-ghost use Rattle.pgw_link.specs.Tape.{HasCause, Rose};
+ghost use Rattle.pgw_types.specs.Counts.{Rose};
+ghost use Rattle.pgw_link.specs.Tape.{HasCause};
 ghost use Rattle.pgw_link.specs.Calls.{is_listed, number_of};
 ghost use Rattle.pgw_link.specs.Stream.{Drew, NotDrawn, Poured, NotPoured};
 
@@ -65,11 +66,15 @@ impl Source for MemorySource {
     fn read(&mut self, buf: &mut [u8]) -> Result<usize, SourceFault>
         ensures bound { IfOk result (λ n. n ≤ length buf.new) }
         ensures cut { IfOk result (λ n. n ≤ self.old.cut) }
-        ensures fails { is_err result ≡ is_listed self.old.reads.numbers (source_tape self.new).reads }
-        ensures moved { 0 < length buf.old → IfOk result (λ n. Drew (source_tape self.old) (source_tape self.new) (take n buf.new)) }
-        ensures no_room { length buf.old ≡ 0 → OnOk result (NotDrawn (source_tape self.old) (source_tape self.new)) }
+        ensures fails { is_err result ≡ is_listed self.old.reads.numbers
+            (source_tape self.new).reads }
+        ensures moved { 0 < length buf.old → IfOk result
+            (λ n. Drew (source_tape self.old) (source_tape self.new) (take n buf.new)) }
+        ensures no_room { length buf.old ≡ 0 →
+            OnOk result (NotDrawn (source_tape self.old) (source_tape self.new)) }
         ensures failed { OnErr result (NotDrawn (source_tape self.old) (source_tape self.new)) }
-        ensures drawn { ReadConsumes (Some (source_left self.old)) (Some (source_left self.new)) result buf.new }
+        ensures drawn { ReadConsumes (Some (source_left self.old)) (Some (source_left self.new))
+            result buf.new }
         ensures cause { HasCause self.old.reads.failed self.new.reads.failed result }
         ensures no_fault { OnOk result (self.new.reads.failed ≡ self.old.reads.failed) }
         ensures kept { self.new.reads.numbers ≡ self.old.reads.numbers }
@@ -141,12 +146,16 @@ impl Sink for MemorySink {
         ensures some { IfOk result (λ n. 0 < n) }
         ensures bound { IfOk result (λ n. n ≤ length piece.now) }
         ensures cut { IfOk result (λ n. n ≤ self.old.cut) }
-        ensures goes { OnOk result (is_listed self.old.writes.numbers (sink_tape self.new).writes ≡ false) }
-        ensures fails { OnErr result (is_listed self.old.writes.numbers (sink_tape self.new).writes ≡ true
+        ensures goes { OnOk result (is_listed self.old.writes.numbers (sink_tape self.new).writes
+            ≡ false) }
+        ensures fails { OnErr result (is_listed self.old.writes.numbers (sink_tape self.new).writes
+            ≡ true
             ⊎ Rose self.old.wanting self.new.wanting) }
-        ensures moved { IfOk result (λ n. Poured (sink_tape self.old) (sink_tape self.new) (take n piece.now)) }
+        ensures moved { IfOk result (λ n. Poured (sink_tape self.old) (sink_tape self.new)
+            (take n piece.now)) }
         ensures failed { OnErr result (NotPoured (sink_tape self.old) (sink_tape self.new)) }
-        ensures poured { WriteAppends (Some self.old.written.items) (Some self.new.written.items) result piece.now }
+        ensures poured { WriteAppends (Some self.old.written.items) (Some self.new.written.items)
+            result piece.now }
         ensures cause { HasCause (sink_faults self.old) (sink_faults self.new) result }
         ensures no_fault { OnOk result (sink_faults self.new ≡ sink_faults self.old) }
         ensures kept { self.new.writes.numbers ≡ self.old.writes.numbers }

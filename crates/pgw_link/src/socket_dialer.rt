@@ -8,7 +8,7 @@ use crate::dial_log::{DialLog, DialNote};
 use crate::dialer::{DialError, Dialer};
 use crate::socket::ClientSocket;
 use crate::stream_link::StreamLink;
-use pgw_conninfo::address::{Address, HostAddr};
+use pgw_types::address::{Address, HostAddr};
 use std::io;
 use std::io::{Eprint, ErrorKind};
 use std::net::{IpAddr, Ipv4Addr, Ipv6Addr, Net, SocketAddr, TcpStream, ToSocketAddrs};
@@ -139,6 +139,10 @@ impl<R: Net<Stream = TcpStream> + Eprint + Drop> SocketDialer<R> {
                     SocketAddr::new(ip_of(*addr), *port)
                 )
             }
+            // A password's '@' that was not written %40 ends the credentials: the rest may be secret.
+            Address::Host(name, _) if name.as_str().contains('@') => eprint!(self.rt;
+                "cannot connect to a host whose name has an '@' (in a password it is written %40)"
+            ),
             Address::Host(name, port) => eprint!(self.rt;
                 "cannot connect to {}:{port}",
                 name.as_str()

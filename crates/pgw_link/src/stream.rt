@@ -30,8 +30,10 @@ pub trait Source: Drop {
     /// Moves bytes from the source into the buffer: one or more, or none at the source's end.
     fn read(&mut self, buf: &mut [u8]) -> Result<usize, SourceFault>
         ensures bound { IfOk result (λ n. n ≤ length buf.new) }
-        ensures moved { 0 < length buf.old → IfOk result (λ n. Drew (tape self.old) (tape self.new) (take n buf.new)) }
-        ensures no_room { length buf.old ≡ 0 → OnOk result (NotDrawn (tape self.old) (tape self.new)) }
+        ensures moved { 0 < length buf.old → IfOk result
+            (λ n. Drew (tape self.old) (tape self.new) (take n buf.new)) }
+        ensures no_room { length buf.old ≡ 0 →
+            OnOk result (NotDrawn (tape self.old) (tape self.new)) }
         ensures failed { OnErr result (NotDrawn (tape self.old) (tape self.new)) }
         ensures drawn { ReadConsumes (left self.old) (left self.new) result buf.new }
         ensures cause { HasCause (faults self.old) (faults self.new) result }
@@ -56,7 +58,8 @@ pub trait Sink: Drop {
         requires { 0 < length piece.now }
         ensures some { IfOk result (λ n. 0 < n) }
         ensures bound { IfOk result (λ n. n ≤ length piece.now) }
-        ensures moved { IfOk result (λ n. Poured (tape self.old) (tape self.new) (take n piece.now)) }
+        ensures moved { IfOk result (λ n. Poured (tape self.old) (tape self.new)
+            (take n piece.now)) }
         ensures failed { OnErr result (NotPoured (tape self.old) (tape self.new)) }
         ensures poured { WriteAppends (held self.old) (held self.new) result piece.now }
         ensures cause { HasCause (faults self.old) (faults self.new) result }

@@ -1,7 +1,8 @@
 //! Links over the system's streams.
 ghost use Rattle.std.specs.Prelude.{◌<◌, ◌≤◌, ◌≡◌, length, nat_lt, is_some, IfOk};
 ghost use Rattle.std.specs.Io.KnownBytes.{ReadConsumes, WriteAppends};
-ghost use Rattle.pgw_link.specs.Tape.{Rose, new_tape};
+ghost use Rattle.pgw_types.specs.Counts.{Rose};
+ghost use Rattle.pgw_link.specs.Tape.{new_tape};
 ghost use Rattle.pgw_link.specs.Log.{tape_of};
 
 use crate::link::{Link, LinkFault};

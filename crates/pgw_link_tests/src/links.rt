@@ -1,6 +1,5 @@
 ghost use Rattle.std.specs.Prelude.{◌≤◌, IfOk};
 
-use pgw_conninfo::address::Address;
 use pgw_link::dialer::{DialError, Dialer};
 use pgw_link::link::{Link, LinkFault};
 use pgw_link::memory::MemoryLink;
@@ -9,6 +8,7 @@ use pgw_link::memory_stream::{MemorySink, MemorySource};
 use pgw_link::standard::{StdSink, StdSource};
 use pgw_link::stream::{Sink, Source};
 use pgw_link::stream_link::StreamLink;
+use pgw_types::address::Address;
 use pgw_types::listed::Listed;
 use pgw_types::octets::Octets;
 use pgw_types::text::Text;

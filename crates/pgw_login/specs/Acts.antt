@@ -8,7 +8,7 @@ use Rattle.pgw_login.specs.Sending.{NotTaken}
 use Rattle.pgw_login.specs.Registered.{CanRelease, guard_of}
 use Rattle.pgw_login.specs.declared.state.LoginState.{LoginState}
 use Rattle.pgw_login.specs.declared.state.SASLState.{SASLState}
-use Rattle.pgw_login.specs.declared.state.SASLState.TheVariants.{Initial, ScramClientFirstReceived, ScramServerFirstSent, OauthStateInit, OauthStateError, Finished, Failed}
+use Rattle.pgw_login.specs.declared.state.SASLState.TheVariants.{Initial, ScramClientFirstReceived, ScramServerFirstSent, StoredServerFirstSent, OauthStateInit, OauthStateError, Finished, Failed}
 
 -- what is seen of the client, the login, and how many calls of the outbox have failed
 pub record Standing : Type 0 where
@@ -84,6 +84,7 @@ abbrev pub is_initial : SASLState → Bool
 is_initial Initial = true
 is_initial ScramClientFirstReceived = false
 is_initial (ScramServerFirstSent server) = false
+is_initial (StoredServerFirstSent server) = false
 is_initial OauthStateInit = false
 is_initial OauthStateError = false
 is_initial Finished = false

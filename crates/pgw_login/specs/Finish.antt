@@ -3,18 +3,14 @@ use Rattle.std.specs.Prelude.{◌≡◌, ◌⊎◌, ◌≤◌, ℕ, Bool, true, 
 use Rattle.std.specs.FinMap as finite
 use Rattle.pgw_types.specs.declared.error.PgWireError.{PgWireError}
 use Rattle.pgw_types.specs.declared.error.PgWireError.TheVariants.{PidsExhausted, RegistryExhausted, OutOfMemory}
-use Rattle.pgw_types.specs.declared.context.ProtocolVersion.{ProtocolVersion}
-use Rattle.pgw_types.specs.declared.context.ProtocolVersion.TheVariants.{PROTOCOL3_0}
 use Rattle.pgw_wire.specs.Pairs.{Held}
 use Rattle.pgw_wire.specs.declared.secret_key.SecretKey.{SecretKey}
 use Rattle.pgw_startup.specs.declared.authentication.Authentication.TheVariants as auth
 use Rattle.pgw_query.specs.declared.response.TransactionStatus.TheVariants.{Idle}
 use Rattle.pgw_backend.specs.declared.backend.PgWireBackendMessage.{PgWireBackendMessage as Message}
 use Rattle.pgw_backend.specs.declared.backend.PgWireBackendMessage.TheVariants as backend
-use Rattle.pgw_registry.specs.Key.{key_of}
-use Rattle.pgw_registry.specs.Numbers.{IsDistinct, NoneBelow}
 use Rattle.pgw_registry.specs.Seats.{Numbers}
-use Rattle.pgw_registry.specs.Generator.{NoNumber}
+use Rattle.pgw_registry.specs.Generator.{Generates}
 use Rattle.pgw_registry.specs.Passes.{Known}
 use Rattle.pgw_registry.specs.declared.error.PidError.{PidError}
 use Rattle.pgw_registry.specs.declared.error.PidError.TheVariants as pid
@@ -32,27 +28,13 @@ use Rattle.pgw_login.specs.declared.state.SASLState.TheVariants.{Finished}
 abbrev pub with_seat : Numbers → LoginState → LoginState
 with_seat seat s = record s { seat = seat }
 
--- all of a seat stays but its numbers and what it has seen, which is no less; in it no number stands twice, and none is
--- below the first
-abbrev pub IsSameSeat : Numbers → Numbers → Type 0
-IsSameSeat old new = (new ≡ record old { drawn = new.drawn; seen = new.seen }) × (old.seen ≤ new.seen) × IsDistinct new.drawn × NoneBelow new.begins new.drawn
-
--- the number is the seat's one more, and the key is made of the words; or there is none, at 3.0 only where all are spent
-abbrev pub IsDrawn : ProtocolVersion → List ℕ → Numbers → Numbers → Result (ℤ × SecretKey) PidError → Type 0
-IsDrawn version words old new (Ok (number, key)) =
-    (new.drawn ≡ old.drawn ++ new.seen ∷ []) × (old.begins ≤ new.seen) × (new.seen ≤ 2147483647) × (number ≡ pos new.seen) × (key ≡ key_of version words)
-IsDrawn version words old new (Err why) = NoNumber why old new × (version ≡ PROTOCOL3_0 → why ≡ pid.PidsExhausted)
-
--- a draw: what becomes of a seat, and is answered, for a version and words
-abbrev pub Drawn : ProtocolVersion → List ℕ → Numbers → Numbers → Result (ℤ × SecretKey) PidError → Type 0
-Drawn version words old new answer = IsSameSeat old new × IsDrawn version words old new answer
-
 abbrev pub pid_refusal : PidError → PgWireError
 pid_refusal pid.PidsExhausted = PidsExhausted
 pid_refusal pid.OutOfMemory = OutOfMemory
 
+-- a draw of the generator, for the client's version and the words
 abbrev pub DrawsFor : Standing → LoginState → Result (ℤ × SecretKey) PidError → Type 0
-DrawsFor before login = Drawn before.client.protocol_version before.login.words before.login.seat login.seat
+DrawsFor before login = Generates before.login.seat before.client.protocol_version before.login.words login.seat
 
 -- they are drawn and set in the client
 abbrev pub Draws : Standing → Standing → List Message → Answer → Type 0

@@ -1,14 +1,11 @@
 -- What becomes of a message that is to be sent.
-use Rattle.std.specs.Prelude.{◌≡◌, ◌⊎◌, ◌≤◌, ℕ, ◌+◌, ◌-◌, ◌^◌, min, List, ◌++◌, Result, Ok, Err}
+use Rattle.std.specs.Prelude.{◌≡◌, ◌⊎◌, ◌≤◌, ℕ, List, ◌++◌, Result, Ok, Err}
+use Rattle.pgw_types.specs.Counts.{Rose}
 use Rattle.pgw_types.specs.declared.error.PgWireError.{PgWireError}
 use Rattle.pgw_types.specs.declared.error.PgWireError.TheVariants.{IoError}
 use Rattle.pgw_wire.specs.Reading.{◌>>=◌, Refuses}
 use Rattle.pgw_backend.specs.Backend.{backend_encoding}
 use Rattle.pgw_backend.specs.declared.backend.PgWireBackendMessage.{PgWireBackendMessage as Message}
-
--- one call more has failed, of a count that stays at the greatest u64
-abbrev pub Rose : ℕ → ℕ → Type 0
-Rose before now = min (before + 1) (2 ^ 64 - 1) ≤ now
 
 -- why a message was not taken: the outbox failed, and its count of faults rose; or the message has no encoding; or memory
 -- ran out. The count never falls

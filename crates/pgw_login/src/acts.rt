@@ -10,7 +10,10 @@ use pgw_types::error::PgWireResult;
 
 /// Hands some messages on.
 pub fn feed_all<O: Outbox>(out: &mut O, messages: Vec<PgWireBackendMessage>) -> PgWireResult<()>
-    ensures { (client : Client) (login : TheState) → Did O.add (O.sent out.old) (O.sent out.new) (Sends messages.items) (standing client login (O.faults out.old)) (standing client login (O.faults out.new)) result }
+    ensures { (client : Client) (login : TheState) →
+        Did O.add (O.sent out.old) (O.sent out.new) (Sends messages.items)
+        (standing client login (O.faults out.old)) (standing client login (O.faults out.new))
+        result }
 {
     for message in messages {
         out.feed(message)?;
@@ -20,7 +23,10 @@ pub fn feed_all<O: Outbox>(out: &mut O, messages: Vec<PgWireBackendMessage>) -> 
 
 /// Sends a message on, with all that wait.
 pub fn send<O: Outbox>(out: &mut O, message: PgWireBackendMessage) -> PgWireResult<()>
-    ensures sent { (client : Client) (login : TheState) → Did O.add (O.sent out.old) (O.sent out.new) (Sends (message ∷ [])) (standing client login (O.faults out.old)) (standing client login (O.faults out.new)) result }
+    ensures sent { (client : Client) (login : TheState) →
+        Did O.add (O.sent out.old) (O.sent out.new) (Sends (message ∷ []))
+        (standing client login (O.faults out.old)) (standing client login (O.faults out.new))
+        result }
     ensures flushed { OnOk result (O.waiting out.new ≡ 0) }
 {
     out.send(message)

@@ -44,7 +44,12 @@ impl<A, P, G> CleartextPasswordAuthStartupHandler<A, P, G, NoRegistry> {
         parameter_provider: P,
         generator: G,
     ) -> CleartextPasswordAuthStartupHandler<A, P, G, NoRegistry>
-        ensures { result ≡ record { auth_source = auth_source; parameter_provider = parameter_provider; generator = generator; registry = record {} } }
+        ensures { result ≡ record {
+          auth_source = auth_source;
+          parameter_provider = parameter_provider;
+          generator = generator;
+          registry = record {};
+        } }
     {
         CleartextPasswordAuthStartupHandler {
             auth_source,
@@ -87,7 +92,9 @@ where
 
     // Whether the text is the source's.
     fn verify_text(&self, alloc: Global, login: &LoginInfo<'_>, text: &str) -> PgWireResult<()>
-        ensures { (result ≡ Err NoMemory) ⊎ ((given : Result Kept Refusal) × A.answers self.now.auth_source (login_of login.now) given × ComparedTo text.now (login_of login.now) given result) }
+        ensures { (result ≡ Err NoMemory) ⊎ ((given : Result Kept Refusal)
+            × A.answers self.now.auth_source (login_of login.now) given
+            × ComparedTo text.now (login_of login.now) given result) }
     {
         let kept = self.auth_source.get_password(alloc, login)?;
         if text.as_bytes() == kept.password() {
@@ -113,10 +120,16 @@ where
         state: &mut LoginState,
         message: PasswordMessageFamily,
     ) -> PgWireResult<()>
-        requires { G.fits self.now.generator state.old.seat × M.fits self.now.registry state.old.pass }
-        ensures fits { G.fits self.now.generator state.new.seat × M.fits self.now.registry state.new.pass }
+        requires { G.fits self.now.generator state.old.seat
+            × M.fits self.now.registry state.old.pass }
+        ensures fits { G.fits self.now.generator state.new.seat
+            × M.fits self.now.registry state.new.pass }
         ensures releasable { IsReleasable state.old → IsReleasable state.new }
-        ensures checked { Did O.add (O.sent out.old) (O.sent out.new) (Then Awaits (Then (Checks (A.answers self.now.auth_source) message) (Finishes (P.provides self.now.parameter_provider) (M.registers self.now.registry)))) (standing (C.sight client.old) state.old (O.faults out.old)) (standing (C.sight client.new) state.new (O.faults out.new)) result }
+        ensures checked { Did O.add (O.sent out.old) (O.sent out.new)
+            (Then Awaits (Then (Checks (A.answers self.now.auth_source) message)
+            (Finishes (P.provides self.now.parameter_provider) (M.registers self.now.registry))))
+            (standing (C.sight client.old) state.old (O.faults out.old))
+            (standing (C.sight client.new) state.new (O.faults out.new)) result }
         ensures flushed { OnOk result (O.waiting out.new ≡ 0) }
     {
         state.await_password()?;
@@ -141,10 +154,16 @@ where
         state: &mut LoginState,
         message: Heard,
     ) -> PgWireResult<()>
-        requires { G.fits self.now.generator state.old.seat × M.fits self.now.registry state.old.pass }
-        ensures fits { G.fits self.now.generator state.new.seat × M.fits self.now.registry state.new.pass }
+        requires { G.fits self.now.generator state.old.seat
+            × M.fits self.now.registry state.old.pass }
+        ensures fits { G.fits self.now.generator state.new.seat
+            × M.fits self.now.registry state.new.pass }
         ensures releasable { IsReleasable state.old → IsReleasable state.new }
-        ensures answered { Did O.add (O.sent out.old) (O.sent out.new) (CleartextOn (A.answers self.now.auth_source) (P.provides self.now.parameter_provider) (M.registers self.now.registry) message) (standing (C.sight client.old) state.old (O.faults out.old)) (standing (C.sight client.new) state.new (O.faults out.new)) result }
+        ensures answered { Did O.add (O.sent out.old) (O.sent out.new)
+            (CleartextOn (A.answers self.now.auth_source) (P.provides self.now.parameter_provider)
+            (M.registers self.now.registry) message)
+            (standing (C.sight client.old) state.old (O.faults out.old))
+            (standing (C.sight client.new) state.new (O.faults out.new)) result }
         ensures flushed { O.waiting out.old ≡ 0 → OnOk result (O.waiting out.new ≡ 0) }
     {
         match message {
@@ -167,7 +186,8 @@ where
 {
     ghost fits = { λ h s. G.fits h.generator s.seat × M.fits h.registry s.pass × IsReleasable s };
 
-    ghost means = { λ h. CleartextMeans (A.answers h.auth_source) (P.provides h.parameter_provider) (M.registers h.registry) };
+    ghost means = { λ h. CleartextMeans (A.answers h.auth_source) (P.provides h.parameter_provider)
+        (M.registers h.registry) };
 
     fn on_startup<C: ClientInfo, O: Outbox>(
         &self,
@@ -209,7 +229,9 @@ impl<A, P, G, M: Drop> CleartextPasswordAuthStartupHandler<A, P, G, M> {
         manager: Arc<ConnectionManager>,
         rt: R,
     ) -> CleartextPasswordAuthStartupHandler<A, P, G, Managed<R>>
-        ensures kept { (result.auth_source ≡ self.auth_source) × (result.parameter_provider ≡ self.parameter_provider) × (result.generator ≡ self.generator) }
+        ensures kept { (result.auth_source ≡ self.auth_source)
+            × (result.parameter_provider ≡ self.parameter_provider)
+            × (result.generator ≡ self.generator) }
         ensures manager { arc_value result.registry.manager ≡ arc_value manager }
     {
         let CleartextPasswordAuthStartupHandler {

@@ -64,7 +64,8 @@ pub trait ClientInfo {
         ensures { sight self.new ≡ with_version version (sight self.old) };
 
     fn pid_and_secret_key(&self) -> (i32, &SecretKey)
-        ensures { (result.0 ≡ (sight self.now).pid) × (result.1.now ≡ (sight self.now).secret_key) };
+        ensures { (result.0 ≡ (sight self.now).pid)
+            × (result.1.now ≡ (sight self.now).secret_key) };
 
     fn set_pid_and_secret_key(&mut self, pid: i32, secret_key: SecretKey)
         ensures { sight self.new ≡ with_key pid secret_key (sight self.old) };
@@ -105,7 +106,16 @@ pub struct DefaultClient<E> {
 impl<E> DefaultClient<E> {
     /// A client of which nothing is known yet.
     pub fn new(alloc: Global, host: Text, is_secure: bool, session: E) -> DefaultClient<E>
-        ensures { result ≡ record { host = host; is_secure = is_secure; protocol_version = PROTOCOL3_2; pid_secret_key = (pos 0, I32 (pos 0)); state = AwaitingSslRequest; transaction_status = Idle; metadata = map.empty; session_extensions = session } }
+        ensures { result ≡ record {
+          host = host;
+          is_secure = is_secure;
+          protocol_version = PROTOCOL3_2;
+          pid_secret_key = (pos 0, I32 (pos 0));
+          state = AwaitingSslRequest;
+          transaction_status = Idle;
+          metadata = map.empty;
+          session_extensions = session;
+        } }
     {
         DefaultClient {
             host,

@@ -43,8 +43,10 @@ pub fn draw<C: ClientInfo, G: PidSecretKeyGenerator>(
 ) -> PgWireResult<()>
     requires { G.fits generator.now state.old.seat }
     ensures fits { G.fits generator.now state.new.seat }
-    ensures pass { (state.new.pass ≡ state.old.pass) × (state.new.registered ≡ state.old.registered) }
-    ensures drawn { (faults : ℕ) → Draws (standing (C.sight client.old) state.old faults) (standing (C.sight client.new) state.new faults) [] result }
+    ensures pass { (state.new.pass ≡ state.old.pass)
+        × (state.new.registered ≡ state.old.registered) }
+    ensures drawn { (faults : ℕ) → Draws (standing (C.sight client.old) state.old faults)
+        (standing (C.sight client.new) state.new faults) [] result }
 {
     let version = client.protocol_version();
     match generator.generate(&mut state.seat, version, &state.words) {
@@ -67,7 +69,9 @@ pub fn enroll<C: ClientInfo, M: Registers>(
     ensures fits { M.fits registry.now state.new.pass }
     ensures seat { state.new.seat ≡ state.old.seat }
     ensures releasable { IsReleasable state.old → IsReleasable state.new }
-    ensures enrolled { (faults : ℕ) → Enrolls (M.registers registry.now) (standing (C.sight client.now) state.old faults) (standing (C.sight client.now) state.new faults) [] result }
+    ensures enrolled { (faults : ℕ) → Enrolls (M.registers registry.now)
+        (standing (C.sight client.now) state.old faults)
+        (standing (C.sight client.now) state.new faults) [] result }
 {
     if state.registered.is_some() {
         return Ok(());
@@ -97,7 +101,9 @@ pub fn accept<C: ClientInfo, G: PidSecretKeyGenerator, M: Registers>(
     requires { G.fits generator.now state.old.seat × M.fits registry.now state.old.pass }
     ensures fits { G.fits generator.now state.new.seat × M.fits registry.now state.new.pass }
     ensures releasable { IsReleasable state.old → IsReleasable state.new }
-    ensures accepted { (faults : ℕ) → Accepts (M.registers registry.now) (standing (C.sight client.old) state.old faults) (standing (C.sight client.new) state.new faults) [] result }
+    ensures accepted { (faults : ℕ) → Accepts (M.registers registry.now)
+        (standing (C.sight client.old) state.old faults)
+        (standing (C.sight client.new) state.new faults) [] result }
 {
     draw(client, state, generator)?;
     enroll(alloc, client, state, registry)
@@ -108,7 +114,8 @@ fn push_statuses(
     messages: &mut Vec<PgWireBackendMessage>,
     parameters: &Params,
 ) -> Result<(), OutOfMemory>
-    ensures { OnOk result (messages.new.items ≡ messages.old.items ++ map status_of (finite.entries parameters.now)) }
+    ensures { OnOk result (messages.new.items ≡ messages.old.items
+        ++ map status_of (finite.entries parameters.now)) }
 {
     for (name, value) in parameters.iter() {
         let status = ParameterStatus::new(name.duplicate()?, value.duplicate()?);
@@ -123,7 +130,9 @@ fn introduction<C: ClientInfo, P: ServerParameterProvider>(
     client: &C,
     provider: &P,
 ) -> Result<Vec<PgWireBackendMessage>, OutOfMemory>
-    ensures { IfOk result (λ messages. (parameters : Option Held) × P.provides provider.now (C.sight client.now) parameters × (messages.items ≡ introduction (C.sight client.now) parameters)) }
+    ensures { IfOk result (λ messages. (parameters : Option Held)
+        × P.provides provider.now (C.sight client.now) parameters
+        × (messages.items ≡ introduction (C.sight client.now) parameters)) }
 {
     let mut messages = Vec::new(alloc);
     messages.push(PgWireBackendMessage::Authentication(Authentication::Ok))?;
@@ -143,7 +152,10 @@ pub fn introduce<C: ClientInfo, O: Outbox, P: ServerParameterProvider>(
     out: &mut O,
     provider: &P,
 ) -> PgWireResult<()>
-    ensures { (login : TheState) → Did O.add (O.sent out.old) (O.sent out.new) (Introduces (P.provides provider.now)) (standing (C.sight client.now) login (O.faults out.old)) (standing (C.sight client.now) login (O.faults out.new)) result }
+    ensures { (login : TheState) → Did O.add (O.sent out.old) (O.sent out.new)
+        (Introduces (P.provides provider.now))
+        (standing (C.sight client.now) login (O.faults out.old))
+        (standing (C.sight client.now) login (O.faults out.new)) result }
 {
     let messages = introduction(alloc, client, provider)?;
     feed_all(out, messages)
@@ -151,7 +163,9 @@ pub fn introduce<C: ClientInfo, O: Outbox, P: ServerParameterProvider>(
 
 /// Tells the client that it may ask.
 pub fn ready<C: ClientInfo, O: Outbox>(client: &mut C, out: &mut O) -> PgWireResult<()>
-    ensures readied { (login : TheState) → Did O.add (O.sent out.old) (O.sent out.new) (Readies ready) (standing (C.sight client.old) login (O.faults out.old)) (standing (C.sight client.new) login (O.faults out.new)) result }
+    ensures readied { (login : TheState) → Did O.add (O.sent out.old) (O.sent out.new)
+        (Readies ready) (standing (C.sight client.old) login (O.faults out.old))
+        (standing (C.sight client.new) login (O.faults out.new)) result }
     ensures flushed { OnOk result (O.waiting out.new ≡ 0) }
 {
     let ready = ReadyForQuery {
@@ -170,7 +184,10 @@ pub fn finish_authentication<C: ClientInfo, O: Outbox, P: ServerParameterProvide
     out: &mut O,
     provider: &P,
 ) -> PgWireResult<()>
-    ensures finished { (login : TheState) → Did O.add (O.sent out.old) (O.sent out.new) (FinishesAuthentication (P.provides provider.now)) (standing (C.sight client.old) login (O.faults out.old)) (standing (C.sight client.new) login (O.faults out.new)) result }
+    ensures finished { (login : TheState) → Did O.add (O.sent out.old) (O.sent out.new)
+        (FinishesAuthentication (P.provides provider.now))
+        (standing (C.sight client.old) login (O.faults out.old))
+        (standing (C.sight client.new) login (O.faults out.new)) result }
     ensures flushed { OnOk result (O.waiting out.new ≡ 0) }
 {
     introduce(alloc, client, out, provider)?;
@@ -196,7 +213,10 @@ where
     requires { G.fits generator.now state.old.seat × M.fits registry.now state.old.pass }
     ensures fits { G.fits generator.now state.new.seat × M.fits registry.now state.new.pass }
     ensures releasable { IsReleasable state.old → IsReleasable state.new }
-    ensures finished { Did O.add (O.sent out.old) (O.sent out.new) (Finishes (P.provides provider.now) (M.registers registry.now)) (standing (C.sight client.old) state.old (O.faults out.old)) (standing (C.sight client.new) state.new (O.faults out.new)) result }
+    ensures finished { Did O.add (O.sent out.old) (O.sent out.new)
+        (Finishes (P.provides provider.now) (M.registers registry.now))
+        (standing (C.sight client.old) state.old (O.faults out.old))
+        (standing (C.sight client.new) state.new (O.faults out.new)) result }
     ensures flushed { OnOk result (O.waiting out.new ≡ 0) }
 {
     accept(alloc, client, state, generator, registry)?;

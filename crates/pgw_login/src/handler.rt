@@ -68,7 +68,9 @@ pub trait StartupHandler {
     ) -> PgWireResult<()>
         requires { fits self.now state.old }
         ensures fits { fits self.now state.new }
-        ensures means { Did O.add (O.sent out.old) (O.sent out.new) (means self.now message) (standing (C.sight client.old) state.old (O.faults out.old)) (standing (C.sight client.new) state.new (O.faults out.new)) result }
+        ensures means { Did O.add (O.sent out.old) (O.sent out.new) (means self.now message)
+            (standing (C.sight client.old) state.old (O.faults out.old))
+            (standing (C.sight client.new) state.new (O.faults out.new)) result }
         // Where nothing waited in the outbox before, nothing waits there behind an answer that is Ok.
         ensures flushed { O.waiting out.old ≡ 0 → OnOk result (O.waiting out.new ≡ 0) };
 }

@@ -8,6 +8,7 @@ pub mod acts;
 pub mod cancel;
 pub mod cleartext;
 pub mod client_info;
+pub mod equality;
 pub mod finish;
 pub mod handler;
 pub mod md5;

@@ -48,7 +48,12 @@ impl<A, P, G> Md5PasswordAuthStartupHandler<A, P, G, NoRegistry> {
         parameter_provider: P,
         generator: G,
     ) -> Md5PasswordAuthStartupHandler<A, P, G, NoRegistry>
-        ensures { result ≡ record { auth_source = auth_source; parameter_provider = parameter_provider; generator = generator; registry = record {} } }
+        ensures { result ≡ record {
+          auth_source = auth_source;
+          parameter_provider = parameter_provider;
+          generator = generator;
+          registry = record {};
+        } }
     {
         Md5PasswordAuthStartupHandler {
             auth_source,
@@ -113,7 +118,10 @@ where
         state: &mut LoginState,
     ) -> PgWireResult<()>
         ensures source { IsSameSource state.old state.new }
-        ensures challenged { Did O.add (O.sent out.old) (O.sent out.new) (Challenges (A.answers self.now.auth_source)) (standing (C.sight client.now) state.old (O.faults out.old)) (standing (C.sight client.now) state.new (O.faults out.new)) result }
+        ensures challenged { Did O.add (O.sent out.old) (O.sent out.new)
+            (Challenges (A.answers self.now.auth_source))
+            (standing (C.sight client.now) state.old (O.faults out.old))
+            (standing (C.sight client.now) state.new (O.faults out.new)) result }
         ensures flushed { OnOk result (O.waiting out.new ≡ 0) }
     {
         let (salt, password) = self.salted(alloc, &LoginInfo::from_client_info(client))?;
@@ -131,7 +139,10 @@ where
         startup: &Startup,
     ) -> PgWireResult<()>
         ensures source { IsSameSource state.old state.new }
-        ensures opened { Did O.add (O.sent out.old) (O.sent out.new) (Then (Opens startup.now) (Challenges (A.answers self.now.auth_source))) (standing (C.sight client.old) state.old (O.faults out.old)) (standing (C.sight client.new) state.new (O.faults out.new)) result }
+        ensures opened { Did O.add (O.sent out.old) (O.sent out.new)
+            (Then (Opens startup.now) (Challenges (A.answers self.now.auth_source)))
+            (standing (C.sight client.old) state.old (O.faults out.old))
+            (standing (C.sight client.new) state.new (O.faults out.new)) result }
         ensures flushed { OnOk result (O.waiting out.new ≡ 0) }
     {
         open_login(alloc, client, out, state, startup)?;
@@ -146,10 +157,16 @@ where
         state: &mut LoginState,
         message: PasswordMessageFamily,
     ) -> PgWireResult<()>
-        requires { G.fits self.now.generator state.old.seat × M.fits self.now.registry state.old.pass }
-        ensures fits { G.fits self.now.generator state.new.seat × M.fits self.now.registry state.new.pass }
+        requires { G.fits self.now.generator state.old.seat
+            × M.fits self.now.registry state.old.pass }
+        ensures fits { G.fits self.now.generator state.new.seat
+            × M.fits self.now.registry state.new.pass }
         ensures releasable { IsReleasable state.old → IsReleasable state.new }
-        ensures checked { Did O.add (O.sent out.old) (O.sent out.new) (Then Awaits (Then (Matches message) (Finishes (P.provides self.now.parameter_provider) (M.registers self.now.registry)))) (standing (C.sight client.old) state.old (O.faults out.old)) (standing (C.sight client.new) state.new (O.faults out.new)) result }
+        ensures checked { Did O.add (O.sent out.old) (O.sent out.new)
+            (Then Awaits (Then (Matches message)
+            (Finishes (P.provides self.now.parameter_provider) (M.registers self.now.registry))))
+            (standing (C.sight client.old) state.old (O.faults out.old))
+            (standing (C.sight client.new) state.new (O.faults out.new)) result }
         ensures flushed { OnOk result (O.waiting out.new ≡ 0) }
     {
         state.await_password()?;
@@ -179,10 +196,16 @@ where
         state: &mut LoginState,
         message: Heard,
     ) -> PgWireResult<()>
-        requires { G.fits self.now.generator state.old.seat × M.fits self.now.registry state.old.pass }
-        ensures fits { G.fits self.now.generator state.new.seat × M.fits self.now.registry state.new.pass }
+        requires { G.fits self.now.generator state.old.seat
+            × M.fits self.now.registry state.old.pass }
+        ensures fits { G.fits self.now.generator state.new.seat
+            × M.fits self.now.registry state.new.pass }
         ensures releasable { IsReleasable state.old → IsReleasable state.new }
-        ensures answered { Did O.add (O.sent out.old) (O.sent out.new) (Md5On (A.answers self.now.auth_source) (P.provides self.now.parameter_provider) (M.registers self.now.registry) message) (standing (C.sight client.old) state.old (O.faults out.old)) (standing (C.sight client.new) state.new (O.faults out.new)) result }
+        ensures answered { Did O.add (O.sent out.old) (O.sent out.new)
+            (Md5On (A.answers self.now.auth_source) (P.provides self.now.parameter_provider)
+            (M.registers self.now.registry) message)
+            (standing (C.sight client.old) state.old (O.faults out.old))
+            (standing (C.sight client.new) state.new (O.faults out.new)) result }
         ensures flushed { O.waiting out.old ≡ 0 → OnOk result (O.waiting out.new ≡ 0) }
     {
         match message {
@@ -202,7 +225,8 @@ where
 {
     ghost fits = { λ h s. G.fits h.generator s.seat × M.fits h.registry s.pass × IsReleasable s };
 
-    ghost means = { λ h. Md5Means (A.answers h.auth_source) (P.provides h.parameter_provider) (M.registers h.registry) };
+    ghost means = { λ h. Md5Means (A.answers h.auth_source) (P.provides h.parameter_provider)
+        (M.registers h.registry) };
 
     fn on_startup<C: ClientInfo, O: Outbox>(
         &self,
@@ -244,7 +268,9 @@ impl<A, P, G, M: Drop> Md5PasswordAuthStartupHandler<A, P, G, M> {
         manager: Arc<ConnectionManager>,
         rt: R,
     ) -> Md5PasswordAuthStartupHandler<A, P, G, Managed<R>>
-        ensures kept { (result.auth_source ≡ self.auth_source) × (result.parameter_provider ≡ self.parameter_provider) × (result.generator ≡ self.generator) }
+        ensures kept { (result.auth_source ≡ self.auth_source)
+            × (result.parameter_provider ≡ self.parameter_provider)
+            × (result.generator ≡ self.generator) }
         ensures manager { arc_value result.registry.manager ≡ arc_value manager }
     {
         let Md5PasswordAuthStartupHandler {

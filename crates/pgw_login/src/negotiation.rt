@@ -51,7 +51,10 @@ fn negotiation(
 
 // Tells what is to be told.
 fn tell<O: Outbox>(out: &mut O, offer: Option<PgWireBackendMessage>) -> PgWireResult<()>
-    ensures told { (client : Client) (login : TheState) → Did O.add (O.sent out.old) (O.sent out.new) (Sends (told offer)) (standing client login (O.faults out.old)) (standing client login (O.faults out.new)) result }
+    ensures told { (client : Client) (login : TheState) →
+        Did O.add (O.sent out.old) (O.sent out.new) (Sends (told offer))
+        (standing client login (O.faults out.old)) (standing client login (O.faults out.new))
+        result }
     ensures flushed { O.waiting out.old ≡ 0 → OnOk result (O.waiting out.new ≡ 0) }
 {
     match offer {
@@ -68,7 +71,10 @@ pub fn protocol_negotiation<C: ClientInfo, O: Outbox>(
     out: &mut O,
     startup: &Startup,
 ) -> PgWireResult<()>
-    ensures negotiated { (login : TheState) → Did O.add (O.sent out.old) (O.sent out.new) (Negotiates startup.now) (standing (C.sight client.old) login (O.faults out.old)) (standing (C.sight client.new) login (O.faults out.new)) result }
+    ensures negotiated { (login : TheState) →
+        Did O.add (O.sent out.old) (O.sent out.new) (Negotiates startup.now)
+        (standing (C.sight client.old) login (O.faults out.old))
+        (standing (C.sight client.new) login (O.faults out.new)) result }
     ensures flushed { O.waiting out.old ≡ 0 → OnOk result (O.waiting out.new ≡ 0) }
 {
     let (version, offer) = negotiation(alloc, startup)?;
@@ -93,7 +99,9 @@ pub fn save_startup_parameters_to_metadata<C: ClientInfo>(
     client: &mut C,
     startup: &Startup,
 ) -> Result<(), OutOfMemory>
-    ensures saved { OnOk result (C.sight client.new ≡ with_metadata (saved (C.sight client.old).metadata startup.now.parameters) (C.sight client.old)) }
+    ensures saved { OnOk result (C.sight client.new
+        ≡ with_metadata (saved (C.sight client.old).metadata startup.now.parameters)
+        (C.sight client.old)) }
     ensures refused { OnErr result (C.sight client.new ≡ C.sight client.old) }
 {
     let metadata = saved(client.metadata(), &startup.parameters)?;
@@ -110,7 +118,9 @@ pub fn begin<C: ClientInfo, O: Outbox>(
     startup: &Startup,
 ) -> PgWireResult<()>
     ensures source { IsSameSource state.old state.new }
-    ensures begun { Did O.add (O.sent out.old) (O.sent out.new) (Begins startup.now) (standing (C.sight client.old) state.old (O.faults out.old)) (standing (C.sight client.new) state.new (O.faults out.new)) result }
+    ensures begun { Did O.add (O.sent out.old) (O.sent out.new) (Begins startup.now)
+        (standing (C.sight client.old) state.old (O.faults out.old))
+        (standing (C.sight client.new) state.new (O.faults out.new)) result }
     ensures flushed { O.waiting out.old ≡ 0 → OnOk result (O.waiting out.new ≡ 0) }
 {
     state.start()?;
@@ -128,7 +138,9 @@ pub fn open_login<C: ClientInfo, O: Outbox>(
     startup: &Startup,
 ) -> PgWireResult<()>
     ensures source { IsSameSource state.old state.new }
-    ensures opened { Did O.add (O.sent out.old) (O.sent out.new) (Opens startup.now) (standing (C.sight client.old) state.old (O.faults out.old)) (standing (C.sight client.new) state.new (O.faults out.new)) result }
+    ensures opened { Did O.add (O.sent out.old) (O.sent out.new) (Opens startup.now)
+        (standing (C.sight client.old) state.old (O.faults out.old))
+        (standing (C.sight client.new) state.new (O.faults out.new)) result }
     ensures flushed { O.waiting out.old ≡ 0 → OnOk result (O.waiting out.new ≡ 0) }
 {
     begin(alloc, client, out, state, startup)?;
@@ -146,7 +158,10 @@ pub fn ask<C: ClientInfo, O: Outbox>(
     request: Authentication,
 ) -> PgWireResult<()>
     ensures source { IsSameSource state.old state.new }
-    ensures asked { Did O.add (O.sent out.old) (O.sent out.new) (Then (Opens startup.now) (Sends (PgWireBackendMessage.Authentication request ∷ []))) (standing (C.sight client.old) state.old (O.faults out.old)) (standing (C.sight client.new) state.new (O.faults out.new)) result }
+    ensures asked { Did O.add (O.sent out.old) (O.sent out.new)
+        (Then (Opens startup.now) (Sends (PgWireBackendMessage.Authentication request ∷ [])))
+        (standing (C.sight client.old) state.old (O.faults out.old))
+        (standing (C.sight client.new) state.new (O.faults out.new)) result }
     ensures flushed { OnOk result (O.waiting out.new ≡ 0) }
 {
     open_login(alloc, client, out, state, startup)?;

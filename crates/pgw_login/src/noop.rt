@@ -48,7 +48,9 @@ pub trait NoopStartupHandler {
         out: &mut O,
         message: PgWireFrontendMessage,
     ) -> PgWireResult<()>
-        ensures { (login : TheState) → Did O.add (O.sent out.old) (O.sent out.new) (posts self.now message) (standing (C.sight client.old) login (O.faults out.old)) (standing (C.sight client.new) login (O.faults out.new)) result };
+        ensures { (login : TheState) → Did O.add (O.sent out.old) (O.sent out.new)
+            (posts self.now message) (standing (C.sight client.old) login (O.faults out.old))
+            (standing (C.sight client.new) login (O.faults out.new)) result };
 }
 
 // What the client is told where nothing else is said.
@@ -57,7 +59,9 @@ fn introduce_default<C: ClientInfo, O: Outbox>(
     client: &C,
     out: &mut O,
 ) -> PgWireResult<()>
-    ensures { (login : TheState) → Did O.add (O.sent out.old) (O.sent out.new) (IntroducesBy default_provider) (standing (C.sight client.now) login (O.faults out.old)) (standing (C.sight client.now) login (O.faults out.new)) result }
+    ensures { (login : TheState) → Did O.add (O.sent out.old) (O.sent out.new)
+        (IntroducesBy default_provider) (standing (C.sight client.now) login (O.faults out.old))
+        (standing (C.sight client.now) login (O.faults out.new)) result }
 {
     let provider = DefaultServerParameterProvider::new(alloc)?;
     let told = introduce(alloc, client, out, &provider);
@@ -73,10 +77,15 @@ fn welcome<H: NoopStartupHandler, C: ClientInfo, O: Outbox>(
     state: &mut LoginState,
     startup: Startup,
 ) -> PgWireResult<()>
-    requires { H.Generator.fits (H.generator handler.now) state.old.seat × H.Registry.fits (H.registry handler.now) state.old.pass }
-    ensures fits { H.Generator.fits (H.generator handler.now) state.new.seat × H.Registry.fits (H.registry handler.now) state.new.pass }
+    requires { H.Generator.fits (H.generator handler.now) state.old.seat
+        × H.Registry.fits (H.registry handler.now) state.old.pass }
+    ensures fits { H.Generator.fits (H.generator handler.now) state.new.seat
+        × H.Registry.fits (H.registry handler.now) state.new.pass }
     ensures releasable { IsReleasable state.old → IsReleasable state.new }
-    ensures welcomed { Did O.add (O.sent out.old) (O.sent out.new) (Welcomes (H.posts handler.now) (H.Registry.registers (H.registry handler.now)) startup) (standing (C.sight client.old) state.old (O.faults out.old)) (standing (C.sight client.new) state.new (O.faults out.new)) result }
+    ensures welcomed { Did O.add (O.sent out.old) (O.sent out.new)
+        (Welcomes (H.posts handler.now) (H.Registry.registers (H.registry handler.now)) startup)
+        (standing (C.sight client.old) state.old (O.faults out.old))
+        (standing (C.sight client.new) state.new (O.faults out.new)) result }
     ensures flushed { OnOk result (O.waiting out.new ≡ 0) }
 {
     begin(alloc, client, out, state, &startup)?;
@@ -103,10 +112,15 @@ fn answer<H: NoopStartupHandler, C: ClientInfo, O: Outbox>(
     state: &mut LoginState,
     message: Heard,
 ) -> PgWireResult<()>
-    requires { H.Generator.fits (H.generator handler.now) state.old.seat × H.Registry.fits (H.registry handler.now) state.old.pass }
-    ensures fits { H.Generator.fits (H.generator handler.now) state.new.seat × H.Registry.fits (H.registry handler.now) state.new.pass }
+    requires { H.Generator.fits (H.generator handler.now) state.old.seat
+        × H.Registry.fits (H.registry handler.now) state.old.pass }
+    ensures fits { H.Generator.fits (H.generator handler.now) state.new.seat
+        × H.Registry.fits (H.registry handler.now) state.new.pass }
     ensures releasable { IsReleasable state.old → IsReleasable state.new }
-    ensures answered { Did O.add (O.sent out.old) (O.sent out.new) (NoopOn (H.posts handler.now) (H.Registry.registers (H.registry handler.now)) message) (standing (C.sight client.old) state.old (O.faults out.old)) (standing (C.sight client.new) state.new (O.faults out.new)) result }
+    ensures answered { Did O.add (O.sent out.old) (O.sent out.new)
+        (NoopOn (H.posts handler.now) (H.Registry.registers (H.registry handler.now)) message)
+        (standing (C.sight client.old) state.old (O.faults out.old))
+        (standing (C.sight client.new) state.new (O.faults out.new)) result }
     ensures flushed { O.waiting out.old ≡ 0 → OnOk result (O.waiting out.new ≡ 0) }
 {
     match message {
@@ -125,10 +139,15 @@ pub fn noop_startup<H: NoopStartupHandler, C: ClientInfo, O: Outbox>(
     state: &mut LoginState,
     message: PgWireFrontendMessage,
 ) -> PgWireResult<()>
-    requires { H.Generator.fits (H.generator handler.now) state.old.seat × H.Registry.fits (H.registry handler.now) state.old.pass }
-    ensures fits { H.Generator.fits (H.generator handler.now) state.new.seat × H.Registry.fits (H.registry handler.now) state.new.pass }
+    requires { H.Generator.fits (H.generator handler.now) state.old.seat
+        × H.Registry.fits (H.registry handler.now) state.old.pass }
+    ensures fits { H.Generator.fits (H.generator handler.now) state.new.seat
+        × H.Registry.fits (H.registry handler.now) state.new.pass }
     ensures releasable { IsReleasable state.old → IsReleasable state.new }
-    ensures means { Did O.add (O.sent out.old) (O.sent out.new) (NoopMeans (H.posts handler.now) (H.Registry.registers (H.registry handler.now)) message) (standing (C.sight client.old) state.old (O.faults out.old)) (standing (C.sight client.new) state.new (O.faults out.new)) result }
+    ensures means { Did O.add (O.sent out.old) (O.sent out.new)
+        (NoopMeans (H.posts handler.now) (H.Registry.registers (H.registry handler.now)) message)
+        (standing (C.sight client.old) state.old (O.faults out.old))
+        (standing (C.sight client.new) state.new (O.faults out.new)) result }
     ensures flushed { O.waiting out.old ≡ 0 → OnOk result (O.waiting out.new ≡ 0) }
 {
     let answer = answer(handler, alloc, client, out, state, Heard::of(message));
@@ -183,7 +202,8 @@ impl<G: PidSecretKeyGenerator> StartupHandler for NoopHandler<G> {
 
     ghost fits = { λ h s. G.fits h.generator s.seat × IsReleasable s };
 
-    ghost means = { λ h. NoopMeans (λ m. Passes) (λ before pid key after answer. NotRegistered before after answer) };
+    ghost means = { λ h. NoopMeans (λ m. Passes)
+        (λ before pid key after answer. NotRegistered before after answer) };
 
     fn on_startup<C: ClientInfo, O: Outbox>(
         &self,

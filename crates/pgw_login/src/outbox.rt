@@ -30,7 +30,8 @@ pub trait Outbox {
         ensures waits { waiting self.new ≤ waiting self.old + 1 }
         ensures calm { OnOk result (faults self.new ≡ faults self.old) }
         ensures kept { OnErr result (sent self.new ≡ sent self.old) }
-        ensures cause { IfErr result (λ e. NotTaken message (faults self.old) (faults self.new) e) };
+        ensures cause { IfErr result (λ e. NotTaken message (faults self.old) (faults self.new)
+            e) };
 
     /// Takes a message and sends it on, with all that wait.
     fn send(&mut self, message: PgWireBackendMessage) -> PgWireResult<()>
@@ -38,7 +39,8 @@ pub trait Outbox {
         ensures flushed { OnOk result (waiting self.new ≡ 0) }
         ensures calm { OnOk result (faults self.new ≡ faults self.old) }
         ensures kept { OnErr result (sent self.new ≡ sent self.old) }
-        ensures cause { IfErr result (λ e. NotTaken message (faults self.old) (faults self.new) e) };
+        ensures cause { IfErr result (λ e. NotTaken message (faults self.old) (faults self.new)
+            e) };
 }
 
 /// An outbox that writes the messages into a buffer. It never fails, and tells the bytes.

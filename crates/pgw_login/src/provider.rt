@@ -137,7 +137,8 @@ fn put_given(
     metadata: &Params,
     key: &str,
 ) -> Result<(), OutOfMemory>
-    ensures { OnOk result (held.new ≡ with_given name.now (given set.now (map.get metadata.now key.now)) held.old) }
+    ensures { OnOk result (held.new ≡ with_given name.now
+        (given set.now (map.get metadata.now key.now)) held.old) }
 {
     match given(set, metadata, key) {
         Some(value) => put(alloc, held, name, value.as_str()),

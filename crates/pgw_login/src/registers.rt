@@ -18,7 +18,8 @@ pub trait Registers {
     ghost fits: { Self → Option Known → Type 0 };
 
     /// What may become of a pass, and be answered, for a process number and key.
-    ghost registers: { Self → Option Known → ℤ → Key → Option Known → Result (Option Pair) Refusal → Type 0 };
+    ghost registers: { Self → Option Known → ℤ → Key → Option Known → Result (Option Pair) Refusal →
+        Type 0 };
 
     /// Registers a connection by its process number and key, or does not where there is no pass.
     fn register(
@@ -80,7 +81,8 @@ impl<R: Wait> Registers for Managed<R> {
 
     ghost fits = { λ m pass. IsOf (arc_value m.manager) pass };
 
-    ghost registers = { λ m before pid key after answer. RegisteredAt (arc_value m.manager) before pid key after answer };
+    ghost registers = { λ m before pid key after answer.
+        RegisteredAt (arc_value m.manager) before pid key after answer };
 
     fn register(
         &self,

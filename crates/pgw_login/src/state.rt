@@ -8,6 +8,7 @@ ghost use Rattle.pgw_login.specs.declared.state.SASLState.TheVariants.{Initial};
 use pgw_registry::generator::PidSeat;
 use pgw_registry::manager::{ConnectionGuard, ConnectionHandle, Pass};
 use pgw_scram::server::ScramServerAuthWaitingForClientFinal;
+use pgw_secrets::server::StoredScramWaiting;
 use pgw_types::boxed::Boxed;
 use pgw_types::error::{PgWireError, PgWireResult};
 use pgw_types::octets::Octets;
@@ -18,6 +19,8 @@ pub enum SASLState {
     Initial,
     ScramClientFirstReceived,
     ScramServerFirstSent(Boxed<ScramServerAuthWaitingForClientFinal>),
+    /// The same, of a stored secret.
+    StoredServerFirstSent(Boxed<StoredScramWaiting>),
     OauthStateInit,
     OauthStateError,
     Finished,
@@ -40,7 +43,17 @@ pub struct LoginState {
 impl LoginState {
     /// A login that has not begun. The nonce and the words are to be random and used for no other.
     pub fn new(nonce: [u8; 18], words: [u8; 32], seat: PidSeat, pass: Option<Pass>) -> LoginState
-        ensures { result ≡ record { nonce = nonce; words = words; seat = seat; pass = pass; started = false; sasl = Initial; kept = None; registered = None } }
+        ensures { result ≡ record {
+          nonce = nonce;
+          words = words;
+          seat = seat;
+          pass = pass;
+          started
+              = false;
+          sasl = Initial;
+          kept = None;
+          registered = None;
+        } }
     {
         LoginState {
             nonce,
@@ -84,7 +97,8 @@ impl LoginState {
     /// Begins the login, which can be done once, and not where a message of it was refused.
     pub fn start(&mut self) -> PgWireResult<()>
         ensures source { IsSameSource self.old self.new }
-        ensures started { (client : Client) (faults : ℕ) → Starts (standing client self.old faults) (standing client self.new faults) [] result }
+        ensures started { (client : Client) (faults : ℕ) →
+            Starts (standing client self.old faults) (standing client self.new faults) [] result }
     {
         match &self.sasl {
             SASLState::Initial if !self.started => {
@@ -97,7 +111,8 @@ impl LoginState {
 
     /// Whether a first password message may come. It may come once.
     pub fn await_password(&self) -> PgWireResult<()>
-        ensures { (client : Client) (faults : ℕ) → Awaits (standing client self.now faults) (standing client self.now faults) [] result }
+        ensures { (client : Client) (faults : ℕ) →
+            Awaits (standing client self.now faults) (standing client self.now faults) [] result }
     {
         match &self.sasl {
             SASLState::Initial if self.started => Ok(()),
@@ -129,7 +144,8 @@ impl LoginState {
         Option<ConnectionGuard>,
     )
         ensures drawn { (result.0 ≡ self.seat) × (result.1 ≡ self.pass) }
-        ensures registered { (result.2 ≡ handle_of self.registered) × (result.3 ≡ guard_of self.registered) }
+        ensures registered { (result.2 ≡ handle_of self.registered)
+            × (result.3 ≡ guard_of self.registered) }
         ensures releasable { IsReleasable self → CanRelease result.3 result.1 }
     {
         let LoginState {

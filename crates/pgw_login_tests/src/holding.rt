@@ -62,7 +62,8 @@ fn sent_by<H: StartupHandler, R: Abort>(
     seat: PidSeat,
     steps: &[Step<'_>],
 ) -> Result<BytesMut, OutOfMemory>
-    requires { (state : TheState) → state.seat ≡ seat → state.pass ≡ None → state.registered ≡ None → H.fits handler.now state }
+    requires { (state : TheState) → state.seat ≡ seat → state.pass ≡ None → state.registered
+        ≡ None → H.fits handler.now state }
 {
     let mut client = DefaultClient::new(alloc, Text::new(alloc), false, ());
     let mut out = Holding {

@@ -220,7 +220,8 @@ pub fn outcome_of<H: StartupHandler, R: Abort>(
     seat: PidSeat,
     steps: &[Step<'_>],
 ) -> Result<Outcome, OutOfMemory>
-    requires { (state : TheState) → state.seat ≡ seat → state.pass ≡ None → state.registered ≡ None → H.fits handler.now state }
+    requires { (state : TheState) → state.seat ≡ seat → state.pass ≡ None → state.registered
+        ≡ None → H.fits handler.now state }
 {
     let mut client = DefaultClient::new(alloc, Text::new(alloc), false, ());
     let mut out = ByteOutbox::new(alloc);

@@ -4,7 +4,7 @@ use Rattle.std.specs.List.{list_all}
 use Rattle.std.specs.Option.{option_copied}
 use Rattle.std.specs.Cmp.Lexicographic.{pointwise}
 use Rattle.std.specs.Prelude.{nat_eq}
-use Rattle.pgw_conninfo.specs.Marks.{before_mark, behind_mark, pieces_at}
+use Rattle.pgw_types.specs.Marks.{before_mark, behind_mark, pieces_at}
 use Rattle.pgw_types.specs.declared.error.OauthFault.{OauthFault}
 use Rattle.pgw_types.specs.declared.error.OauthFault.TheVariants as fault
 

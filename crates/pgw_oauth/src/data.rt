@@ -6,8 +6,8 @@ ghost use Rattle.pgw_oauth.specs.Data.{is_letter, is_value_byte, behind_byte, be
 ghost use Rattle.pgw_types.specs.declared.error.OauthFault.{OauthFault as Fault};
 ghost use Rattle.pgw_types.specs.declared.error.PgWireError.TheVariants.{OutOfMemory as NoMemory};
 
-use pgw_conninfo::marks::{cut_at, pieces_at};
 use pgw_types::error::{OauthFault, PgWireError, PgWireResult};
+use pgw_types::marks::{cut_at, pieces_at};
 use std::alloc::Global;
 
 /// What separates the pairs.
@@ -66,7 +66,8 @@ fn behind_header(bytes: &[u8]) -> Result<&[u8], OauthFault>
 // The value of `auth` once a pair is read, of the one before it.
 #[tactic(auto, unfolding(crate::specs::Data::with_pair))]
 fn with_pair<'a>(auth: Option<&'a [u8]>, pair: &'a [u8]) -> Result<Option<&'a [u8]>, OauthFault>
-    ensures ok { IfOk result (λ next. with_pair (option_copied auth.entry) pair.now ≡ Ok (option_copied next)) }
+    ensures ok { IfOk result (λ next. with_pair (option_copied auth.entry) pair.now
+        ≡ Ok (option_copied next)) }
     ensures err { IfErr result (λ e. with_pair (option_copied auth.entry) pair.now ≡ Err e) }
 {
     let (key, value) = cut_at(pair, b'=');
@@ -92,7 +93,8 @@ fn with_pair<'a>(auth: Option<&'a [u8]>, pair: &'a [u8]) -> Result<Option<&'a [u
 
 // The value of `auth` among pairs, which are read up to an empty one.
 fn auth_of<'a>(pairs: &[&'a [u8]]) -> Result<Option<&'a [u8]>, OauthFault>
-    ensures ok { IfOk result (λ auth. with_pairs None (map (λ pair. pair.now) pairs.now) ≡ Ok (option_copied auth)) }
+    ensures ok { IfOk result (λ auth. with_pairs None (map (λ pair. pair.now) pairs.now)
+        ≡ Ok (option_copied auth)) }
     ensures err { IfErr result (λ e. with_pairs None (map (λ pair. pair.now) pairs.now) ≡ Err e) }
 {
     let mut auth = None;
@@ -108,7 +110,9 @@ fn auth_of<'a>(pairs: &[&'a [u8]]) -> Result<Option<&'a [u8]>, OauthFault>
 /// The value of `auth` in the data, if there is one.
 pub fn auth_in(alloc: Global, data: &str) -> PgWireResult<Option<&[u8]>>
     ensures ok { IfOk result (λ auth. auth_in data.now ≡ Ok (option_copied auth)) }
-    ensures err { IfErr result (λ e. (e ≡ NoMemory) ⊎ ((why : Fault) × (e ≡ PgWireError.InvalidOauthMessage why) × (auth_in data.now ≡ Err why))) }
+    ensures err { IfErr result (λ e. (e ≡ NoMemory)
+        ⊎ ((why : Fault) × (e ≡ PgWireError.InvalidOauthMessage why)
+        × (auth_in data.now ≡ Err why))) }
 {
     let bytes = data.as_bytes();
     if bytes.is_empty() {

@@ -5,7 +5,6 @@ use Rattle.pgw_startup.specs.declared.startup.Startup.{Startup}
 use Rattle.pgw_backend.specs.Backend.{backend_encoding}
 use Rattle.pgw_backend.specs.declared.backend.PgWireBackendMessage.{PgWireBackendMessage as Backend}
 use Rattle.pgw_frontend.specs.declared.frontend.PgWireFrontendMessage.TheVariants as frontend
-use Rattle.pgw_scram.specs.declared.password.Password.{Password as Kept}
 use Rattle.pgw_types.specs.declared.error.PgWireError.TheVariants.{OutOfMemory}
 use Rattle.pgw_types.specs.declared.context.ProtocolVersion.TheVariants.{PROTOCOL3_0}
 use Rattle.pgw_login.specs.Client.{Client, with_version, with_metadata, with_state}
@@ -13,7 +12,16 @@ use Rattle.pgw_login.specs.declared.client_info.PgWireConnectionState.TheVariant
 use Rattle.pgw_login.specs.Acts.{Standing, Answer, Then, halts, goes, Refuses, OrNoMemory, Sets, Sends, Starts, StartsFrom, StartsAt, is_initial, with_started}
 use Rattle.pgw_login.specs.Opening.{Begins, Opens, Negotiates, Settles, negotiation, by_minor, told, saved, Saves}
 use Rattle.pgw_sasl.specs.Sasl.{Offers, sasl_request}
-use Rattle.pgw_pair.specs.Server.{Means, methods, opened}
+use Rattle.pgw_pair.specs.declared.parties.PairInput.{PairInput}
+use Rattle.pgw_pair.specs.Server.{Means, methods}
+
+-- behind the startup message
+
+abbrev opened_client : Startup → Client → Client
+opened_client s c = with_state AuthenticationInProgress (with_metadata (saved c.metadata s.parameters) (with_version PROTOCOL3_0 c))
+
+abbrev pub opened : Startup → Standing → Standing
+opened s before = record before { client = opened_client s before.client; login = with_started before.login }
 
 abbrev pub Act : Type 1
 Act = Standing → Standing → List Backend → Answer → Type 0
@@ -90,12 +98,12 @@ begun_ok s before after sent major minor new h =
       b.all ∙ nothing b.front b.back (c.all ∙ nothing c.front c.back st.1 (d.all ∙ nothing d.front d.back ve.1 sa.1)) b.two.1,
     )
 
-pub startup_ok : (stored : Kept) (count : ℕ) (s : Startup) (before after : Standing) (sent : List Backend) → s.protocol_number_major ≡ 3 → s.protocol_number_minor ≡ 0 → (before.login).started ≡ false → Means stored count (frontend.Startup s) before after sent (Ok tt)
-    → (after ≡ opened s before) × (sent ≡ sasl_request methods ∷ [])
-startup_ok stored count s before after sent major minor new h =
-    let a = then_ok (Opens s) (Offers methods) before after sent (Ok tt) h refl in
+pub startup_ok : (input : PairInput) (s : Startup) (before after : Standing) (sent : List Backend) → s.protocol_number_major ≡ 3 → s.protocol_number_minor ≡ 0 → (before.login).started ≡ false → Means input (frontend.Startup s) before after sent (Ok tt)
+    → (after ≡ opened s before) × (sent ≡ sasl_request (methods input) ∷ [])
+startup_ok input s before after sent major minor new h =
+    let a = then_ok (Opens s) (Offers (methods input)) before after sent (Ok tt) h refl in
     let o = begun_ok s before a.mid a.front major minor new a.one in
-    let f = not_refused (Sends (sasl_request methods ∷ [])) OutOfMemory a.mid after a.back a.two in
+    let f = not_refused (Sends (sasl_request (methods input) ∷ [])) OutOfMemory a.mid after a.back a.two in
     (f.0 ∙ o.0, a.all ∙ ap (λ (l : List Backend). l ++ a.back) o.1 ∙ f.1)
 
 -- ---- refusals
@@ -167,16 +175,16 @@ one_due due g before after sent e calm still is ne h =
     only_one [] x rest cut = cc
     only_one (y ∷ front) x rest cut = absurd (no_front front x rest (cc))
 
-pub startup_err : (stored : Kept) (count : ℕ) (s : Startup) (before after : Standing) (sent : List Backend) (e : PgWireError) (g : List ℕ) → s.protocol_number_major ≡ 3 → s.protocol_number_minor ≡ 0 → (before.login).started ≡ false → is_initial (before.login).sasl ≡ true → before.faults ≡ 0 → after.faults ≡ 0
-    → backend_encoding (sasl_request methods) ≡ Ok g → (e ≡ OutOfMemory → ⊥) → Means stored count (frontend.Startup s) before after sent (Err e) → ⊥
-startup_err stored count s before after sent e g major minor new fresh calm still is ne (mid, h, failed) =
+pub startup_err : (input : PairInput) (s : Startup) (before after : Standing) (sent : List Backend) (e : PgWireError) (g : List ℕ) → s.protocol_number_major ≡ 3 → s.protocol_number_minor ≡ 0 → (before.login).started ≡ false → is_initial (before.login).sasl ≡ true → before.faults ≡ 0 → after.faults ≡ 0
+    → backend_encoding (sasl_request (methods input)) ≡ Ok g → (e ≡ OutOfMemory → ⊥) → Means input (frontend.Startup s) before after sent (Err e) → ⊥
+startup_err input s before after sent e g major minor new fresh calm still is ne (mid, h, failed) =
     let quiet : mid.faults ≡ 0 = ap (λ (x : Standing). x.faults) (sym failed) ∙ still in
-    elim (then_err (Opens s) (Offers methods) before mid sent (Err e) e h refl) [
+    elim (then_err (Opens s) (Offers (methods input)) before mid sent (Err e) e h refl) [
       | inl k ↦ ne (opens_err s before mid sent e major minor new fresh k)
       | inr w ↦
           let o = begun_ok s before w.mid w.front major minor new w.one in
-          elim (or_memory (Sends (sasl_request methods ∷ [])) w.mid mid w.back e w.two) [
+          elim (or_memory (Sends (sasl_request (methods input) ∷ [])) w.mid mid w.back e w.two) [
             | inl k ↦ ne k
-            | inr k ↦ one_due (sasl_request methods) g w.mid mid w.back e (ap (λ (x : Standing). x.faults) o.0 ∙ calm) quiet is ne k
+            | inr k ↦ one_due (sasl_request (methods input)) g w.mid mid w.back e (ap (λ (x : Standing). x.faults) o.0 ∙ calm) quiet is ne k
           ]
     ]

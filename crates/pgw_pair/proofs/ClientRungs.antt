@@ -34,6 +34,7 @@ use Rattle.pgw_session.specs.declared.stage.Next.TheVariants.{Goes}
 use Rattle.pgw_session.specs.Segments.{startup_message}
 use Rattle.pgw_session.specs.Talk.{Talk, Ending, between, talk_book, talk_rules, beginning, conversation}
 use Rattle.pgw_session.proofs.ReadingLaws.{steady_by}
+use Rattle.pgw_sasl.specs.Methods.{bound_methods}
 use Rattle.pgw_sasl.specs.Sasl.{sasl_request}
 use Rattle.pgw_pair.specs.declared.parties.PairInput.{PairInput}
 use Rattle.pgw_pair.specs.Server.{methods}
@@ -57,8 +58,9 @@ on_is h = (cc, cc)
 ends_is : {S R : Type 0} {s t : R} {a b : List ℕ} → ◌≡◌ {A = Move S R} (Ends s a) (Ends t b) → (s ≡ t) × (a ≡ b)
 ends_is h = (cc, cc)
 
-methods_sound : IsSound (sasl_request methods)
-methods_sound = (ascii_utf8 (codes "SCRAM-SHA-256") refl, tt)
+methods_sound : (hash : Option (List ℕ)) → IsSound (sasl_request (codes "SCRAM-SHA-256" ∷ bound_methods hash))
+methods_sound None = (ascii_utf8 (codes "SCRAM-SHA-256") refl, tt)
+methods_sound (Some hash) = (ascii_utf8 (codes "SCRAM-SHA-256") refl, (ascii_utf8 (codes "SCRAM-SHA-256-PLUS") refl, tt))
 
 module _ (input : PairInput) where
   abbrev pub given : Input
@@ -114,7 +116,7 @@ module _ (input : PairInput) where
   replying t mid next None m = sending mid next (encodings (m ∷ []))
 
   abbrev pub asked : Backend
-  asked = sasl_request methods
+  asked = sasl_request (methods input)
 
   abbrev pub first_sent : Frontend
   first_sent = first_message login
@@ -127,9 +129,9 @@ module _ (input : PairInput) where
   abbrev pub unsent_first : Talk
   unsent_first = talking (Sent (startup_message given) ∷ Got asked ∷ []) (Challenged login)
 
-  asked_step : rules.step started asked ≡ replying started unsent_first challenged (methods_refusal given methods) first_sent
+  asked_step : rules.step started asked ≡ replying started unsent_first challenged (methods_refusal given (methods input)) first_sent
   unfolding replying
-  asked_step = go (methods_refusal given methods)
+  asked_step = go (methods_refusal given (methods input))
     where
       go : (e : Option ClientError) → moves_by (talk_book given) given started asked (unless e (Goes (Challenged login) (Some first_sent))) ≡ replying started unsent_first challenged e first_sent
       go None = refl
@@ -224,10 +226,10 @@ module _ (input : PairInput) where
   reads_at t m g version sound suits phase enc = subst (λ (v : ProtocolVersion). IsReadAs (reading_of_server v) g m) (sym version) (reads_backend PROTOCOL3_0 m g sound suits phase enc)
 
   pub takes_asked : (g : List ℕ) (count : ℕ) (rest bytes : List ℕ) (c : Course Talk Ending) → backend_encoding asked ≡ Ok g → bytes ≡ take count (g ++ rest) → LeadsClient started bytes c
-      → Replies started unsent_first challenged (methods_refusal given methods) first_sent g count rest c
+      → Replies started unsent_first challenged (methods_refusal given (methods input)) first_sent g count rest c
   takes_asked g count rest bytes c enc are leads =
-      replies_from started unsent_first challenged (methods_refusal given methods) first_sent g count rest c (methods_refusal given methods) (encodings (first_sent ∷ [])) refl refl
-      (does started asked g count rest bytes c (replying started unsent_first challenged (methods_refusal given methods) first_sent) asked_step (reads_at started asked g version_started methods_sound tt (refl, refl) enc) are leads)
+      replies_from started unsent_first challenged (methods_refusal given (methods input)) first_sent g count rest c (methods_refusal given (methods input)) (encodings (first_sent ∷ [])) refl refl
+      (does started asked g count rest bytes c (replying started unsent_first challenged (methods_refusal given (methods input)) first_sent) asked_step (reads_at started asked g version_started (methods_sound input.server_hash) tt (refl, refl) enc) are leads)
 
   pub takes_continue : (first g : List ℕ) (count : ℕ) (rest bytes : List ℕ) (c : Course Talk Ending) → backend_encoding (continue_with first) ≡ Ok g → bytes ≡ take count (g ++ rest) → LeadsClient challenged bytes c
       → Replies challenged (unsent_final first) (proving first) (first_refusal login first) (final_message login first) g count rest c

@@ -14,7 +14,6 @@ use Rattle.pgw_backend.specs.Backend.{backend_encoding}
 use Rattle.pgw_backend.specs.declared.backend.PgWireBackendMessage.{PgWireBackendMessage as Backend}
 use Rattle.pgw_backend.specs.declared.backend.PgWireBackendMessage.TheVariants as backend
 use Rattle.pgw_frontend.specs.declared.frontend.PgWireFrontendMessage.TheVariants as frontend
-use Rattle.pgw_scram.specs.declared.password.Password.{Password as Kept}
 use Rattle.pgw_scram.specs.declared.server.ScramServerAuthWaitingForClientFinal.{ScramServerAuthWaitingForClientFinal as WaitingForClientFinal}
 use Rattle.pgw_scram.specs.Server.{accepted}
 use Rattle.pgw_registry.specs.Generator.{NoNumber}
@@ -35,6 +34,7 @@ use Rattle.pgw_sasl.specs.Scram.{final_reply, and_some}
 use Rattle.pgw_sasl.specs.Turns.{stage_of, turned, entered}
 use Rattle.pgw_sasl.specs.declared.methods.Method.TheVariants.{Scram}
 use Rattle.pgw_sasl.specs.Sasl.{Replied, By, ByTurn, RespondsBy}
+use Rattle.pgw_pair.specs.declared.parties.PairInput.{PairInput}
 use Rattle.pgw_pair.specs.Server.{ScramAnswers, NoOauth, Provided, Unregistered, Means}
 use Rattle.pgw_pair.proofs.Acts.{Act, then_ok, then_err, sent_err, never_sets, ok_is_no_error, err_is, nothing}
 
@@ -52,22 +52,22 @@ is_response : (body : List ℕ) → response_of body ≡ Ok (record { payload = 
 unfolding response_of rest_at ended
 is_response body = refl
 
-module _ (stored : Kept) (count : ℕ) (login : LoginState) (waiting : WaitingForClientFinal) where
+module _ (input : PairInput) (login : LoginState) (waiting : WaitingForClientFinal) where
   turned_final : (body : List ℕ) → AwaitsFinal login waiting → turned (stage_of login.started login.sasl) (family.Raw body) ≡ Ok (Scram, family.SASLResponse (record { payload = body }))
   turned_final body awaits = rw (awaits.started, awaits.sasl, is_response body) refl
 
-  scram_final : (who : Login) (body : List ℕ) (reply : Reply) → ScramAnswers stored count who (family.SASLResponse (record { payload = body })) login.nonce (ScramServerFirstSent waiting) reply
+  scram_final : (who : Login) (body : List ℕ) (reply : Reply) → ScramAnswers input who (family.SASLResponse (record { payload = body })) login.nonce (ScramServerFirstSent waiting) reply
       → (reply ≡ Err OutOfMemory) ⊎ (reply ≡ and_some (final_reply (accepted waiting body)))
   scram_final who body reply (replied, inl none, is) = inl (is ∙ ap and_some none)
   scram_final who body reply (replied, inr on, is) = inr (is ∙ ap and_some on)
 
-  pub replied_final : (who : Login) (body : List ℕ) (reply : Reply) → AwaitsFinal login waiting → Replied (ScramAnswers stored count) NoOauth who login (family.Raw body) reply
+  pub replied_final : (who : Login) (body : List ℕ) (reply : Reply) → AwaitsFinal login waiting → Replied (ScramAnswers input) NoOauth who login (family.Raw body) reply
       → (reply ≡ Err OutOfMemory) ⊎ (reply ≡ and_some (final_reply (accepted waiting body)))
   replied_final who body reply awaits (inl none) = inl none
   replied_final who body reply awaits (inr by) =
-      let turn : By (ScramAnswers stored count) NoOauth who Scram (family.SASLResponse (record { payload = body })) login.nonce (entered Scram login.sasl) reply =
-      subst (λ r. ByTurn (ScramAnswers stored count) NoOauth who login r reply) (turned_final body awaits) by in
-      scram_final who body reply (subst (λ s. ScramAnswers stored count who (family.SASLResponse (record { payload = body })) login.nonce (entered Scram s) reply) awaits.sasl turn)
+      let turn : By (ScramAnswers input) NoOauth who Scram (family.SASLResponse (record { payload = body })) login.nonce (entered Scram login.sasl) reply =
+      subst (λ r. ByTurn (ScramAnswers input) NoOauth who login r reply) (turned_final body awaits) by in
+      scram_final who body reply (subst (λ s. ScramAnswers input who (family.SASLResponse (record { payload = body })) login.nonce (entered Scram s) reply) awaits.sasl turn)
 
 -- ---- the end of the login
 
@@ -238,11 +238,11 @@ final_unsent final before after out e new draws calm still can tells readies ne 
       ]
     ]
 
-pub final_ok : (stored : Kept) (count : ℕ) (body : List ℕ) (waiting : WaitingForClientFinal) (before after : Standing) (out : List Backend) → AwaitsFinal before.login waiting → (before.login).registered ≡ None
-    → Means stored count (frontend.PasswordMessageFamily (family.Raw body)) before after out (Ok tt)
+pub final_ok : (input : PairInput) (body : List ℕ) (waiting : WaitingForClientFinal) (before after : Standing) (out : List Backend) → AwaitsFinal before.login waiting → (before.login).registered ≡ None
+    → Means input (frontend.PasswordMessageFamily (family.Raw body)) before after out (Ok tt)
     → (final : List ℕ) × (accepted waiting body ≡ Ok final) × (d : Drawn (proved_at before)) × (after ≡ finished_at (proved_at before) d) × (out ≡ final_with final ∷ welcome (known_by (proved_at before) d))
-final_ok stored count body waiting before after out awaits new (reply, replied, responds) =
-    elim (replied_final stored count before.login waiting (login_seen before.client) body reply awaits replied) [
+final_ok input body waiting before after out awaits new (reply, replied, responds) =
+    elim (replied_final input before.login waiting (login_seen before.client) body reply awaits replied) [
       | inl none ↦ absurd (ok_is_no_error {e = OutOfMemory} refl (sym (subst (λ r. RespondsBy Provided Unregistered r before after out (Ok tt)) none responds).2))
       | inr is ↦
           let made = subst (λ r. RespondsBy Provided Unregistered r before after out (Ok tt)) is responds in
@@ -254,12 +254,12 @@ final_ok stored count body waiting before after out awaits new (reply, replied, 
           ]
     ]
 
-pub final_err : (stored : Kept) (count : ℕ) (body : List ℕ) (waiting : WaitingForClientFinal) (before after : Standing) (out : List Backend) (e : PgWireError) → AwaitsFinal before.login waiting → (before.login).registered ≡ None → CanDraw (before.login).seat
+pub final_err : (input : PairInput) (body : List ℕ) (waiting : WaitingForClientFinal) (before after : Standing) (out : List Backend) (e : PgWireError) → AwaitsFinal before.login waiting → (before.login).registered ≡ None → CanDraw (before.login).seat
     → before.faults ≡ 0 → after.faults ≡ 0 → ((final : List ℕ) → accepted waiting body ≡ Ok final → CanSend (final_with final ∷ [])) → ((d : Drawn (proved_at before)) → CanSend (introduction (known_by (proved_at before) d) (Some (default_parameters default_provider (known_by (proved_at before) d)))))
-    → CanSend (ready ∷ []) → (e ≡ OutOfMemory → ⊥) → Means stored count (frontend.PasswordMessageFamily (family.Raw body)) before after out (Err e) → (out ≡ []) × (accepted waiting body ≡ Err e)
-final_err stored count body waiting before after out e awaits new draws calm still can tells readies ne (mid, (reply, replied, responds), failed) =
+    → CanSend (ready ∷ []) → (e ≡ OutOfMemory → ⊥) → Means input (frontend.PasswordMessageFamily (family.Raw body)) before after out (Err e) → (out ≡ []) × (accepted waiting body ≡ Err e)
+final_err input body waiting before after out e awaits new draws calm still can tells readies ne (mid, (reply, replied, responds), failed) =
     let quiet : mid.faults ≡ 0 = ap (λ (x : Standing). x.faults) (sym failed) ∙ still in
-    elim (replied_final stored count before.login waiting (login_seen before.client) body reply awaits replied) [
+    elim (replied_final input before.login waiting (login_seen before.client) body reply awaits replied) [
       | inl none ↦ absurd (ne (err_is (subst (λ r. RespondsBy Provided Unregistered r before mid out (Err e)) none responds).2))
       | inr is ↦
           let made = subst (λ r. RespondsBy Provided Unregistered r before mid out (Err e)) is responds in

@@ -1,6 +1,6 @@
 -- Where two parties are, by the messages that were taken.
 use Rattle.std.proofs.Common.{◌≡◌, ◌≢◌, ◌⊎◌, inl, inr, ℕ, zero, suc, ◌+◌, ◌<◌, ◌≤◌, ◌-◌, Bool, true, false, List, [], ◌∷◌, ◌++◌, length, take, map, Option, Some, None, Result, Ok, Err, refl, sym, ap, subst, ◌∙◌, append_assoc, arith, length-append}
-use Rattle.std.specs.Prelude.{codes}
+use Rattle.std.specs.Prelude.{not, codes}
 use Rattle.std.proofs.lemmas.List.{append-nil}
 use Rattle.atomic_table.specs.Seated.{TableId}
 use Rattle.pgw_types.specs.declared.error.PgWireError.{PgWireError}
@@ -29,15 +29,18 @@ use Rattle.pgw_wire.specs.declared.framing.Framing.TheVariants.{Typed}
 use Rattle.pgw_startup.specs.Login.{authentication}
 use Rattle.pgw_startup.specs.declared.authentication.Authentication.TheVariants as auth
 use Rattle.pgw_scram.specs.Readers.{read_client_first}
-use Rattle.pgw_scram.specs.Offers.{is_bound}
-use Rattle.pgw_scram.specs.Server.{offered_to, offered_as, offered_with}
+use Rattle.pgw_scram.specs.Answers.{unless_so}
+use Rattle.pgw_scram.specs.Binding.{header, binding_text}
+use Rattle.pgw_scram.specs.Offers.{bound, is_misbound}
+use Rattle.pgw_scram.specs.declared.binding.ClientBinding.{ClientBinding}
+use Rattle.pgw_scram.specs.Server.{offered_as, offered_with, unless_misbound}
 use Rattle.pgw_scram.specs.declared.messages.ClientFirst.{ClientFirst}
 use Rattle.pgw_scram.specs.declared.password.Password.{Password as Kept}
 use Rattle.pgw_scram.specs.declared.server.ScramServerAuth.{ScramServerAuth}
 use Rattle.pgw_server.specs.Server.{Stage, Ending as ServerEnding, encodings, serving}
 use Rattle.pgw_session.specs.Events.{Event as Said, Sent, Got, sents}
 use Rattle.pgw_session.specs.Input.{Input}
-use Rattle.pgw_session.specs.Logins.{methods_refusal, first_refusal, final_refusal, expected_of, final_message}
+use Rattle.pgw_session.specs.Logins.{method_of, methods_refusal, first_refusal, final_refusal, expected_of, final_message}
 use Rattle.pgw_session.specs.Machine.{Outcome, Complete, Refused as OutcomeRefused, Unencoded, error_of}
 use Rattle.pgw_session.specs.Segments.{startup_message}
 use Rattle.pgw_session.specs.Talk.{Talk, Ending, conversation, talk_book}
@@ -46,19 +49,19 @@ use Rattle.pgw_session.proofs.Events.{encodings_append}
 use Rattle.pgw_pair.specs.declared.parties.PairInput.{PairInput}
 use Rattle.pgw_pair.specs.declared.parties.ServerEnd.{ServerEnd}
 use Rattle.pgw_pair.specs.declared.parties.ServerEnd.TheVariants as of_server
-use Rattle.pgw_pair.specs.Server.{Means, methods}
+use Rattle.pgw_pair.specs.Server.{scram_end, Means, methods}
 use Rattle.pgw_pair.specs.World.{client_input, client_login, first_stage}
-use Rattle.pgw_pair.specs.Parties.{IsFrontOf, events_in, gots, server_end, raw, Exchanged, proof_due}
+use Rattle.pgw_pair.specs.Parties.{IsFrontOf, events_in, gots, server_end, raw, Exchanged, proof_due, verifier_due, SaysVerifier, IsBoundTo, offer_made, ServerCause, declined, unoffered, unproved}
 use Rattle.pgw_pair.proofs.Meets.{behind_grows}
-use Rattle.pgw_pair.proofs.Firsts.{end_of, first_body, continue_with}
-use Rattle.pgw_pair.proofs.ServerRungs.{one_put, IsCalm, still_calm, startup_of, Declines, first_raw, stage_opened, stage_offered, heard_on, said_on, takes_none, before_final, due, stage_finished, IsAble, TakesFinal, awaits_final, refused_final, went_final, takes_final, TakesFirst, waits_first, refused_first, went_first, takes_first, TakesStartup, waits_still, went, takes_startup}
+use Rattle.pgw_pair.proofs.Firsts.{first_body, continue_with}
+use Rattle.pgw_pair.proofs.ServerRungs.{one_put, method_utf8, IsCalm, still_calm, startup_of, Declines, first_raw, stage_opened, stage_offered, heard_on, said_on, takes_none, before_final, due, stage_finished, IsAble, TakesFinal, awaits_final, refused_final, went_final, takes_final, TakesFirst, waits_first, refused_first, went_first, takes_first, TakesStartup, waits_still, went, takes_startup}
 use Rattle.pgw_pair.specs.Parties.{server_over}
-use Rattle.pgw_pair.proofs.Finals.{final_with, Drawn, known_by, proved_at}
-use Rattle.pgw_pair.proofs.Texts.{unbound_header, was_offered, was_accepted, was_refused, owed}
+use Rattle.pgw_pair.proofs.Finals.{final_with, welcome, Drawn, known_by, proved_at}
+use Rattle.pgw_pair.proofs.Bound.{login_bound, awaited}
+use Rattle.pgw_pair.proofs.Texts.{header_read, login_named, binding_read, was_offered, was_accepted, was_refused, owed, assured}
 use Rattle.pgw_pair.proofs.Readings.{initial_reads}
-use Rattle.pgw_scram.proofs.Base64Laws.{ascii_utf8}
 use Rattle.pgw_scram.specs.Base64.{base64}
-use Rattle.pgw_scram.specs.Formulas.{client_proof, proof_by, auth_message}
+use Rattle.pgw_scram.specs.Formulas.{client_proof, proof_by, server_signature, signature_by, auth_message}
 use Rattle.pgw_scram.specs.Readers.{read_client_final}
 use Rattle.pgw_scram.specs.declared.messages.ClientFinal.{ClientFinal}
 use Rattle.pgw_pair.proofs.Welcome.{puts_one, puts_join, AreGreetings, IsAtFirst, first_on, admitted, Greeted, waits_news, greeted, greets, Ready, waits_ready, is_ready, takes_ready, first_put, parts_put}
@@ -95,21 +98,19 @@ never_salted : (server : ScramServerAuth) (opening : ClientFirst) (salt : Option
 never_salted server opening None stored nonce user is = cc
 never_salted server opening (Some salt) stored nonce user is = cc
 
-never_bound : (count : ℕ) (opening : ClientFirst) (stored : Kept) (nonce user : List ℕ) (b : Bool) → is_bound opening.header ≡ b → offered_to (end_of count) opening stored nonce ≡ Err (InvalidPassword user) → ⊥
-never_bound count opening stored nonce user true e is =
-    let h : offered_to (end_of count) opening stored nonce ≡ Err (InvalidScramMessage fault.ChannelBinding) = rw e refl in
-    let both = sym h ∙ is in
-    cc
-never_bound count opening stored nonce user false e is =
-    let h : offered_to (end_of count) opening stored nonce ≡ offered_with (end_of count) opening stored.salt stored.password nonce = rw e refl in
-    never_salted (end_of count) opening stored.salt stored.password nonce user (sym h ∙ is)
+never_bound : (server : ScramServerAuth) (opening : ClientFirst) (stored : Kept) (nonce user : List ℕ) (b : Bool)
+    → unless_misbound (unless_so (not b) (InvalidScramMessage fault.ChannelBinding)) (offered_with server opening stored.salt stored.password nonce) ≡ Err (InvalidPassword user) → ⊥
+never_bound server opening stored nonce user true is = cc
+never_bound server opening stored nonce user false is = never_salted server opening stored.salt stored.password nonce user is
 
-never_offered : (count : ℕ) (text : List ℕ) (stored : Kept) (nonce user : List ℕ) → offered (end_of count) text stored nonce ≡ Err (InvalidPassword user) → ⊥
-never_offered count text stored nonce user is = go (read_client_first text) refl
+never_offered : (server : ScramServerAuth) (text : List ℕ) (stored : Kept) (nonce user : List ℕ) → offered server text stored nonce ≡ Err (InvalidPassword user) → ⊥
+never_offered server text stored nonce user is = go (read_client_first text) refl
   where
     go : (r : Result ClientFirst ScramMessageFault) → read_client_first text ≡ r → ⊥
-    go (Err why) e = let h : offered (end_of count) text stored nonce ≡ Err (InvalidScramMessage why) = ap (λ (r : Result ClientFirst ScramMessageFault). offered_as (end_of count) r stored nonce) e in let both = sym h ∙ is in cc
-    go (Ok opening) e = never_bound count opening stored nonce user (is_bound opening.header) refl (sym (ap (λ (r : Result ClientFirst ScramMessageFault). offered_as (end_of count) r stored nonce) e) ∙ is)
+    go (Err why) e = let h : offered server text stored nonce ≡ Err (InvalidScramMessage why) = ap (λ (r : Result ClientFirst ScramMessageFault). offered_as server r stored nonce) e in let both = sym h ∙ is in cc
+    go (Ok opening) e =
+        never_bound server opening stored nonce user (is_misbound server.certificate_hash opening.header)
+        (sym (ap (λ (r : Result ClientFirst ScramMessageFault). offered_as server r stored nonce) e) ∙ is)
 
 never_encoded : (first user : List ℕ) → backend_encoding (continue_with first) ≡ Err (InvalidPassword user) → ⊥
 unfolding backend_encoding framing.encoded
@@ -136,35 +137,39 @@ module _ (generator : TableId) (input : PairInput) where
   last first = client_final login first
 
   abbrev pub IsOffer : List ℕ → WaitingForClientFinal → Type 0
-  IsOffer first waiting = offered (end_of input.count) text input.stored input.server_nonce ≡ Ok (first, waiting)
+  IsOffer first waiting = offer_made input ≡ Ok (first, waiting)
 
   -- why the client is lost
   pub data ClientCause : ClientError → Type 0 where
     no_startup : (e : PgWireError) → client_encodings (startup_message given ∷ []) ≡ Err e → ClientCause (client_error.PgWireError e)
-    no_method : (e : ClientError) → methods_refusal given methods ≡ Some e → ClientCause e
+    no_method : (e : ClientError) → methods_refusal given (methods input) ≡ Some e → ClientCause e
     no_first : (e : PgWireError) → client_encodings (first_sent input ∷ []) ≡ Err e → ClientCause (client_error.PgWireError e)
     bad_first : (e : ClientError) → (first : List ℕ) → (waiting : WaitingForClientFinal) → IsOffer first waiting → first_refusal login first ≡ Some e → ClientCause e
     no_final : (e : PgWireError) → (first : List ℕ) → (waiting : WaitingForClientFinal) → IsOffer first waiting → first_refusal login first ≡ None → client_encodings (final_message login first ∷ []) ≡ Err e → ClientCause (client_error.PgWireError e)
     bad_final : (e : ClientError) → (first : List ℕ) → (waiting : WaitingForClientFinal) → (final : List ℕ) → IsOffer first waiting → first_refusal login first ≡ None → accepted waiting (last first) ≡ Ok final → final_refusal (expected_of login first) final ≡ Some e → ClientCause e
 
-  -- why the server is
-  pub data ServerCause : PgWireError → Type 0 where
-    declined : (why : PgWireError) → Declines generator input text why → ServerCause why
-    unproved : (why : PgWireError) → (first : List ℕ) → (waiting : WaitingForClientFinal) → IsOffer first waiting → first_refusal login first ≡ None → accepted waiting (last first) ≡ Err why → ServerCause why
+  -- why the server is: client-first is declined
+  declined_by : (why : PgWireError) → Declines generator input text why → ServerCause input why
+  declined_by why (inl off) = declined why off
+  declined_by why (inr (first, offer, off, bad)) = unoffered why first offer off bad
+
+  -- the client took the verifier that it awaits
+  abbrev pub Trusts : List Backend → Type 0
+  Trusts said = (head : Backend) × (first : List ℕ) × (final : List ℕ) × (more : List Backend) × (said ≡ head ∷ continue_with first ∷ final_with final ∷ more) × (final_refusal (expected_of login first) final ≡ None)
 
   -- one of them has not taken all bytes, or the server is lost
-  abbrev pub IsShort : (to_server to_client : List ℕ) (by_server by_client : ℕ) → Type 0
-  IsShort to_server to_client by_server by_client = (by_server < length to_server) ⊎ ((by_client < length to_client) ⊎ ((why : PgWireError) × ServerCause why))
+  abbrev pub IsShort : (to_server to_client : List ℕ) (by_server by_client : ℕ) (server : ServerEnd) → Type 0
+  IsShort to_server to_client by_server by_client server = (by_server < length to_server) ⊎ ((by_client < length to_client) ⊎ ((why : PgWireError) × (server ≡ of_server.Refused why) × ServerCause input why))
 
   pub data ClientAt (to_server to_client : List ℕ) (by_server by_client : ℕ) (course : Course Talk Ending) (server : ServerEnd) (events : List Said) (said : List Backend) : Type 0 where
-    waiting : (t : Talk) → (out pending : List ℕ) → course ≡ Waits t out pending → t.closed ≡ [] → IsShort to_server to_client by_server by_client → ClientAt to_server to_client by_server by_client course server events said
+    waiting : (t : Talk) → (out pending : List ℕ) → course ≡ Waits t out pending → t.closed ≡ [] → IsShort to_server to_client by_server by_client server → ClientAt to_server to_client by_server by_client course server events said
     lost : (t : Talk) → (o : Outcome) → (e : ClientError) → (out : List ℕ) → course ≡ Over (over_by t o) out → error_of o ≡ Some e → ClientCause e → ClientAt to_server to_client by_server by_client course server events said
-    won : (t : Talk) → (out : List ℕ) → course ≡ Over (over_by t Complete) out → gots events ≡ said → server ≡ of_server.Finished → ClientAt to_server to_client by_server by_client course server events said
+    won : (t : Talk) → (out : List ℕ) → course ≡ Over (over_by t Complete) out → gots events ≡ said → server ≡ of_server.Finished → Trusts said → ClientAt to_server to_client by_server by_client course server events said
 
   pub data ServerAt (server : ServerEnd) (heard : List Frontend) (said : List Backend) : Type 0 where
     waiting : server ≡ of_server.Waiting → ServerAt server heard said
-    lost : (why : PgWireError) → server ≡ of_server.Refused why → ServerCause why → ((user : List ℕ) → why ≡ InvalidPassword user → (x : Exchanged input heard said) × ((x.closing).proof ≢ proof_due x)) → ServerAt server heard said
-    finished : server ≡ of_server.Finished → (x : Exchanged input heard said) → (x.closing).proof ≡ proof_due x → ServerAt server heard said
+    lost : (why : PgWireError) → server ≡ of_server.Refused why → ServerCause input why → ((user : List ℕ) → why ≡ InvalidPassword user → (x : Exchanged input heard said) × ((x.closing).proof ≢ proof_due x)) → ServerAt server heard said
+    finished : server ≡ of_server.Finished → (x : Exchanged input heard said) → (x.closing).proof ≡ proof_due x → SaysVerifier x → ((hash own : List ℕ) → input.client_hash ≡ Some hash → input.server_hash ≡ Some own → IsBoundTo own x) → ServerAt server heard said
 
   pub record Rung (to_server to_client : List ℕ) (by_server by_client : ℕ) (course : Course Talk Ending) (server : ServerEnd) (heard : List Frontend) (said : List Backend) : Type 0 where
     pub events : List Said
@@ -195,7 +200,7 @@ module _ (generator : TableId) (input : PairInput) where
 
   -- ---- the server has asked, and took no more
 
-  at_opened : (S A : List ℕ) (k K : ℕ) (course cc : Course Talk Ending) (next : Stage) (j : ℕ) (c : Course Stage ServerEnding) → course ≡ behind S cc → sent_of cc ≡ [] → backend_encoding ask ≡ Ok A → next ≡ stage_opened generator input → IsCalm c → (on : Leads (serving (Means input.stored input.count)) next (take j (sent_of cc)) c)
+  at_opened : (S A : List ℕ) (k K : ℕ) (course cc : Course Talk Ending) (next : Stage) (j : ℕ) (c : Course Stage ServerEnding) → course ≡ behind S cc → sent_of cc ≡ [] → backend_encoding ask ≡ Ok A → next ≡ stage_opened generator input → IsCalm c → (on : Leads (serving (Means input)) next (take j (sent_of cc)) c)
       → (events : List Said) → events_in cc ≡ events → client_encodings (sents events) ≡ Ok S → IsFrontOf (startup ∷ []) (map as_read (sents events)) → IsFrontOf (gots events) (ask ∷ [])
       → ((to_client : List ℕ) (server : ServerEnd) → to_client ≡ A → ClientAt (sent_of course) to_client k K course server events (ask ∷ []))
       → Rung (sent_of course) (sent_of (behind A c)) k K course (server_end (behind A c)) (startup ∷ heard_on generator input next (take j (sent_of cc)) c on) (ask ∷ said_on generator input next (take j (sent_of cc)) c on)
@@ -220,7 +225,7 @@ module _ (generator : TableId) (input : PairInput) where
   -- ---- the server has offered, and took no more
 
   at_offered : (S A B C : List ℕ) (k K : ℕ) (course cc dd : Course Talk Ending) (first : List ℕ) (offer : WaitingForClientFinal) (next : Stage) (j : ℕ) (c : Course Stage ServerEnding) → course ≡ behind S cc → cc ≡ behind C dd → sent_of dd ≡ [] → backend_encoding ask ≡ Ok A → backend_encoding (continue_with first) ≡ Ok B → next ≡ stage_offered generator input offer → IsCalm c
-      → (on : Leads (serving (Means input.stored input.count)) next (take j (sent_of dd)) c)
+      → (on : Leads (serving (Means input)) next (take j (sent_of dd)) c)
       → (events : List Said) → events_in dd ≡ events → client_encodings (sents events) ≡ Ok (S ++ C) → IsFrontOf (startup ∷ raw (first_raw generator input text) ∷ []) (map as_read (sents events)) → IsFrontOf (gots events) (ask ∷ continue_with first ∷ [])
       → ((to_client : List ℕ) (server : ServerEnd) → to_client ≡ A ++ B → ClientAt (sent_of course) to_client k K course server events (ask ∷ continue_with first ∷ []))
       → Rung (sent_of course) (sent_of (behind A (behind B c))) k K course (server_end (behind A (behind B c))) (startup ∷ raw (first_raw generator input text) ∷ heard_on generator input next (take j (sent_of dd)) c on) (ask ∷ continue_with first ∷ said_on generator input next (take j (sent_of dd)) c on)
@@ -247,11 +252,11 @@ module _ (generator : TableId) (input : PairInput) where
   abbrev first_in : Frontend
   first_in = raw (first_raw generator input text)
 
-  exchanged_at : (first : List ℕ) (offer : WaitingForClientFinal) (C : List ℕ) (later : List Backend) (closing : ClientFinal) → IsOffer first offer → client_encodings (first_sent input ∷ []) ≡ Ok C → read_client_final (last first) ≡ Ok closing → closing.binding ≡ (offer.offer).binding
-      → (x : Exchanged input (startup ∷ first_in ∷ raw (last first) ∷ []) (ask ∷ continue_with first ∷ later)) × (x.closing ≡ closing) × (proof_due x ≡ owed offer closing)
-  unfolding client_proof
-  exchanged_at first offer C later closing off enc closes binds =
-      let o = was_offered (end_of input.count) text input.stored input.server_nonce first offer off in (
+  exchanged_at : (first : List ℕ) (offer : WaitingForClientFinal) (C : List ℕ) (later : List Backend) (closing : ClientFinal) → IsOffer first offer → client_encodings (first_sent input ∷ []) ≡ Ok C → read_client_final (last first) ≡ Ok closing
+      → (x : Exchanged input (startup ∷ first_in ∷ raw (last first) ∷ []) (ask ∷ continue_with first ∷ later)) × (x.closing ≡ closing) × (proof_due x ≡ owed offer closing) × (verifier_due x ≡ assured offer closing) × (x.later ≡ later)
+  unfolding client_proof server_signature
+  exchanged_at first offer C later closing off enc closes =
+      let o = was_offered (scram_end input) text input.stored input.server_nonce first offer off in (
         record {
           startup = startup_of input;
           first_body = first_raw generator input text;
@@ -263,28 +268,39 @@ module _ (generator : TableId) (input : PairInput) where
           later = later;
           heard_are = refl;
           said_are = refl;
-          initial = initial_reads (first_body text) C (ascii_utf8 (codes "SCRAM-SHA-256") refl) (sent_one (first_sent input) C enc);
+          initial = initial_reads (first_body input text) C (method_utf8 input) (sent_one (first_sent input) C enc) ∙ ap (λ (b : ClientBinding). Ok (record { auth_method = method_of b; payload = Some text })) (login_bound input);
           opens = o.reads;
           closes = closes;
-          unbound = unbound_header login o.opening refl o.reads;
-          binds_nothing = binds ∙ o.binding ∙ ap base64 (unbound_header login o.opening refl o.reads);
+          header_is = header_read login o.opening o.reads ∙ ap header (login_bound input);
+          binding_is = binding_read login first closing closes ∙ ap binding_text (login_bound input);
         },
         refl,
         λ i. base64 (proof_by (sym o.key i) (auth_message (sym o.bare i) (sym o.offer i) closing.without_proof)),
+        λ i. base64 (signature_by (sym o.own_key i) (auth_message (sym o.bare i) (sym o.offer i) closing.without_proof)),
+        refl,
       )
 
-  proved_by : (first : List ℕ) (offer : WaitingForClientFinal) (C : List ℕ) (later : List Backend) (final : List ℕ) → IsOffer first offer → client_encodings (first_sent input ∷ []) ≡ Ok C → accepted offer (last first) ≡ Ok final
-      → (x : Exchanged input (startup ∷ first_in ∷ raw (last first) ∷ []) (ask ∷ continue_with first ∷ later)) × ((x.closing).proof ≡ proof_due x)
-  proved_by first offer C later final off enc acc =
+  -- where both have a hash, it is bound to the server's own
+  abbrev pub IsOwn : {heard : List Frontend} {said : List Backend} → Exchanged input heard said → Type 0
+  IsOwn x = (hash own : List ℕ) → input.client_hash ≡ Some hash → input.server_hash ≡ Some own → IsBoundTo own x
+
+  proved_by : (first : List ℕ) (offer : WaitingForClientFinal) (C : List ℕ) (more : List Backend) (final : List ℕ) → IsOffer first offer → client_encodings (first_sent input ∷ []) ≡ Ok C → accepted offer (last first) ≡ Ok final
+      → (x : Exchanged input (startup ∷ first_in ∷ raw (last first) ∷ []) (ask ∷ continue_with first ∷ final_with final ∷ more)) × ((x.closing).proof ≡ proof_due x) × SaysVerifier x × IsOwn x
+  proved_by first offer C more final off enc acc =
       let a = was_accepted offer (last first) final acc in
-      let x = exchanged_at first offer C later a.0 off enc a.1 a.2 in
-      (x.0, ap (λ (c : ClientFinal). c.proof) x.1 ∙ a.3 ∙ sym x.2)
+      let o = was_offered (scram_end input) text input.stored input.server_nonce first offer off in
+      let x = exchanged_at first offer C (final_with final ∷ more) a.0 off enc a.1 in (
+        x.0,
+        ap (λ (c : ClientFinal). c.proof) x.1 ∙ a.3 ∙ sym x.2,
+        (more, x.4 ∙ ap (λ (f : List ℕ). final_with f ∷ more) (sym a.4 ∙ ap (λ (l : List ℕ). codes "v=" ++ l) (sym x.3))),
+        λ hash own client server. ap (λ (c : ClientFinal). c.binding) x.1 ∙ a.2 ∙ o.binding ∙ ap (λ (h : List ℕ). base64 (bound h input.server_hash)) (header_read login o.opening o.reads ∙ ap header (login_bound input)) ∙ awaited input hash own client server,
+      )
 
   disproved_by : (first : List ℕ) (offer : WaitingForClientFinal) (C : List ℕ) (later : List Backend) (user : List ℕ) → IsOffer first offer → client_encodings (first_sent input ∷ []) ≡ Ok C → accepted offer (last first) ≡ Err (InvalidPassword user)
       → (x : Exchanged input (startup ∷ first_in ∷ raw (last first) ∷ []) (ask ∷ continue_with first ∷ later)) × ((x.closing).proof ≢ proof_due x)
   disproved_by first offer C later user off enc acc =
       let a = was_refused offer (last first) user acc in
-      let x = exchanged_at first offer C later a.0 off enc a.1 a.2 in
+      let x = exchanged_at first offer C later a.0 off enc a.1 in
       (x.0, λ same. a.3 (sym (ap (λ (c : ClientFinal). c.proof) x.1) ∙ same ∙ x.2))
 
   -- ---- the server has finished
@@ -311,7 +327,7 @@ module _ (generator : TableId) (input : PairInput) where
   at_finished : (S A B F C D : List ℕ) (k K : ℕ) (course cc dd ee : Course Talk Ending) (first final : List ℕ) (offer : WaitingForClientFinal) (d : Drawn (proved_at (before_final generator input offer))) (next : Stage) (j : ℕ) (c : Course Stage ServerEnding)
       → course ≡ behind S cc → cc ≡ behind C dd → dd ≡ behind D ee → sent_of ee ≡ [] → backend_encoding ask ≡ Ok A → backend_encoding (continue_with first) ≡ Ok B → encodings (due generator input offer d final) ≡ Ok F
       → client_encodings (startup_message given ∷ []) ≡ Ok S → client_encodings (first_sent input ∷ []) ≡ Ok C → client_encodings (final_message login first ∷ []) ≡ Ok D
-      → IsOffer first offer → accepted offer (last first) ≡ Ok final → next ≡ stage_finished generator input offer d → IsCalm c → (on : Leads (serving (Means input.stored input.count)) next (take j (sent_of ee)) c)
+      → IsOffer first offer → accepted offer (last first) ≡ Ok final → next ≡ stage_finished generator input offer d → IsCalm c → (on : Leads (serving (Means input)) next (take j (sent_of ee)) c)
       → (events : List Said) → events_in ee ≡ events → sents events ≡ sents (proving_events first) → IsFrontOf (gots events) (ask ∷ continue_with first ∷ due generator input offer d final)
       → ((to_client : List ℕ) (server : ServerEnd) → to_client ≡ A ++ (B ++ F) → server ≡ of_server.Finished → ClientAt (sent_of course) to_client k K course server events (ask ∷ continue_with first ∷ due generator input offer d final))
       → Rung (sent_of course) (sent_of (behind A (behind B (behind F c)))) k K course (server_end (behind A (behind B (behind F c)))) (startup ∷ first_in ∷ raw (last first) ∷ heard_on generator input next (take j (sent_of ee)) c on) (ask ∷ continue_with first ∷ (due generator input offer d final ++ said_on generator input next (take j (sent_of ee)) c on))
@@ -322,7 +338,7 @@ module _ (generator : TableId) (input : PairInput) where
       let to_client : sent_of server_c ≡ A ++ (B ++ F) = behind_grows A (behind B (behind F c)) ∙ ap (λ (l : List ℕ). A ++ l) (behind_grows B (behind F c) ∙ ap (λ (l : List ℕ). B ++ l) (behind_grows F c ∙ ap (λ (x : Course Stage ServerEnding). F ++ sent_of x) n.0 ∙ append-nil F)) in
       let to_server : sent_of course ≡ S ++ (C ++ D) = ap sent_of is ∙ behind_grows S cc ∙ ap (λ (l : List ℕ). S ++ l) (ap sent_of also ∙ behind_grows C dd ∙ ap (λ (l : List ℕ). C ++ l) (ap sent_of too ∙ behind_grows D ee ∙ ap (λ (l : List ℕ). D ++ l) none ∙ append-nil D)) in
       let server : server_end server_c ≡ of_server.Finished = end_behind A (behind B (behind F c)) ∙ end_behind B (behind F c) ∙ end_behind F c ∙ ap server_end n.0 ∙ ap (λ (s : Stage). server_end (Waits s [] [])) here in
-      let proof = proved_by first offer C dues final off encC acc in
+      let proof = proved_by first offer C (welcome (known_by (proved_at (before_final generator input offer)) d)) final off encC acc in
       let puts : client_encodings (sents (proving_events first)) ≡ Ok (S ++ (C ++ D)) = sent_join (startup_message given ∷ []) (first_sent input ∷ final_message login first ∷ []) S (C ++ D) encS (sent_join (first_sent input ∷ []) (final_message login first ∷ []) C D encC encD) in
       subst (λ (h : List Frontend). Rung (sent_of course) (sent_of server_c) k K course (server_end server_c) (startup ∷ first_in ∷ raw (last first) ∷ h) (ask ∷ continue_with first ∷ (dues ++ said_on generator input next (take j (sent_of ee)) c on))) (sym n.1)
       (subst (λ (s : List Backend). Rung (sent_of course) (sent_of server_c) k K course (server_end server_c) (startup ∷ first_in ∷ raw (last first) ∷ []) (ask ∷ continue_with first ∷ s)) (sym (ap (λ (l : List Backend). dues ++ l) n.2 ∙ append-nil dues))
@@ -334,7 +350,7 @@ module _ (generator : TableId) (input : PairInput) where
         got_by_server = ([], ap (map as_read) sent);
         got_by_client = said;
         client = client (sent_of server_c) (server_end server_c) to_client server;
-        server_is = finished server proof.0 proof.1;
+        server_is = finished server proof.0 proof.1 proof.2 proof.3;
       }))
 
   -- ---- what the client makes of it
@@ -360,31 +376,31 @@ module _ (generator : TableId) (input : PairInput) where
     abbrev intro : List Backend
     intro = introduction (known_by (proved_at (before_final generator input offer)) d) (Some (default_parameters default_provider (known_by (proved_at (before_final generator input offer)) d)))
 
-    Goal : (ee : Course Talk Ending) → Leads (serving (Means input.stored input.count)) next (take j (sent_of ee)) c → Type 0
+    Goal : (ee : Course Talk Ending) → Leads (serving (Means input)) next (take j (sent_of ee)) c → Type 0
     Goal ee on = Rung (sent_of course) (sent_of (behind A (behind B (behind F c)))) k K course (server_end (behind A (behind B (behind F c)))) (startup ∷ first_in ∷ raw (last first) ∷ heard_on generator input next (take j (sent_of ee)) c on) (ask ∷ continue_with first ∷ (dues ++ said_on generator input next (take j (sent_of ee)) c on))
 
     -- within the bytes
     within : (n : ℕ) → K - length A - length B < n → n ≤ length F → (to_client : List ℕ) → to_client ≡ A ++ (B ++ F) → K < length to_client
     within n short most to_client are = omega (arith, short, most, longA, longB, ap length are, length-append A (B ++ F), length-append B F)
 
-    by_ready : (ee : Course Talk Ending) (on : Leads (serving (Means input.stored input.count)) next (take j (sent_of ee)) c) (f : Course Talk Ending) (G0 G1 G2 : List ℕ) (count : ℕ) → dd ≡ behind D ee → ee ≡ behind [] f → F ≡ G0 ++ (G1 ++ G2) → length G0 ≤ K - length A - length B → length G1 ≤ K - length A - length B - length G0 → count ≡ K - length A - length B - length G0 - length G1
-        → Ready input (admitted_events first final ++ map Got intro) G2 count f → Goal ee on
+    by_ready : (ee : Course Talk Ending) (on : Leads (serving (Means input)) next (take j (sent_of ee)) c) (f : Course Talk Ending) (G0 G1 G2 : List ℕ) (count : ℕ) → dd ≡ behind D ee → ee ≡ behind [] f → F ≡ G0 ++ (G1 ++ G2) → length G0 ≤ K - length A - length B → length G1 ≤ K - length A - length B - length G0 → count ≡ K - length A - length B - length G0 - length G1
+        → final_refusal (expected_of login first) final ≡ None → Ready input (admitted_events first final ++ map Got intro) G2 count f → Goal ee on
     unfolding Goal
-    by_ready ee on f G0 G1 G2 count too same parts long0 long1 counts (waits_ready short at) =
+    by_ready ee on f G0 G1 G2 count too same parts long0 long1 counts verified (waits_ready short at) =
         let ee_is : ee ≡ Waits (admitted input (admitted_events first final ++ map Got intro)) [] (take count G2) = same ∙ ap (behind []) at in
         at_finished S A B F C D k K course cc dd ee first final offer d next j c is also too (ap sent_of ee_is) encA encB encF encS encC encD off acc here calm on
         (admitted_events first final ++ map Got intro) (ap events_in ee_is ∙ append-nil (admitted_events first final ++ map Got intro)) (sents_more (admitted_events first final) intro) ((ready ∷ []), ap (λ (l : List Backend). ask ∷ continue_with first ∷ l) (sym (ap (λ (l : List Backend). l ++ ready ∷ []) (gots_more (Got (final_with final) ∷ []) intro))))
         (λ to_client server are ended. waiting (admitted input (admitted_events first final ++ map Got intro)) (S ++ (C ++ (D ++ []))) (take count G2)
         (is ∙ ap (behind S) (also ∙ ap (behind C) (too ∙ ap (behind D) ee_is))) refl
         (inr (inl (within (length F) (omega (arith, short, counts, long0, long1, ap length parts, length-append G0 (G1 ++ G2), length-append G1 G2)) (omega arith) to_client are))))
-    by_ready ee on f G0 G1 G2 count too same parts long0 long1 counts (is_ready long at) =
+    by_ready ee on f G0 G1 G2 count too same parts long0 long1 counts verified (is_ready long at) =
         let es = (admitted_events first final ++ map Got intro) ++ Got ready ∷ [] in
         let all : es ≡ admitted_events first final ++ map Got (intro ++ ready ∷ []) = append_assoc (admitted_events first final) (map Got intro) (Got ready ∷ []) ∙ ap (λ (l : List Said). admitted_events first final ++ l) (map_last intro) in
         let ee_is : ee ≡ Over (over_by (between (es ∷ [])) Complete) [] = same ∙ ap (behind []) at in
         let gots_are : gots es ≡ ask ∷ continue_with first ∷ dues = ap gots all ∙ gots_more (admitted_events first final) (intro ++ ready ∷ []) in
         at_finished S A B F C D k K course cc dd ee first final offer d next j c is also too (ap sent_of ee_is) encA encB encF encS encC encD off acc here calm on
         es (ap events_in ee_is ∙ ended_events es) (ap sents all ∙ sents_more (admitted_events first final) (intro ++ ready ∷ [])) ([], sym gots_are ∙ sym (append-nil (gots es)))
-        (λ to_client server are ended. won (between (es ∷ [])) (S ++ (C ++ (D ++ []))) (is ∙ ap (behind S) (also ∙ ap (behind C) (too ∙ ap (behind D) ee_is))) gots_are ended)
+        (λ to_client server are ended. won (between (es ∷ [])) (S ++ (C ++ (D ++ []))) (is ∙ ap (behind S) (also ∙ ap (behind C) (too ∙ ap (behind D) ee_is))) gots_are ended (ask, first, final, intro ++ ready ∷ [], refl, verified))
       where
         map_last : (ms : List Backend) → map Got ms ++ Got ready ∷ [] ≡ map Got (ms ++ ready ∷ [])
         map_last [] = refl
@@ -393,10 +409,10 @@ module _ (generator : TableId) (input : PairInput) where
     news_events : (front : List Backend) (pending : List ℕ) → events_in (Waits (admitted input (admitted_events first final ++ map Got front)) [] pending) ≡ admitted_events first final ++ map Got front
     news_events front pending = append-nil (admitted_events first final ++ map Got front)
 
-    by_news : (ee : Course Talk Ending) (on : Leads (serving (Means input.stored input.count)) next (take j (sent_of ee)) c) (f : Course Talk Ending) (G0 G1 G2 : List ℕ) → dd ≡ behind D ee → ee ≡ behind [] f → F ≡ G0 ++ (G1 ++ G2) → length G0 ≤ K - length A - length B → backend_encoding ready ≡ Ok G2 → AreGreetings intro
-        → Greeted input (admitted_events first final) intro G1 (K - length A - length B - length G0) (G2 ++ sent_of c) f → Goal ee on
+    by_news : (ee : Course Talk Ending) (on : Leads (serving (Means input)) next (take j (sent_of ee)) c) (f : Course Talk Ending) (G0 G1 G2 : List ℕ) → dd ≡ behind D ee → ee ≡ behind [] f → F ≡ G0 ++ (G1 ++ G2) → length G0 ≤ K - length A - length B → backend_encoding ready ≡ Ok G2 → AreGreetings intro
+        → final_refusal (expected_of login first) final ≡ None → Greeted input (admitted_events first final) intro G1 (K - length A - length B - length G0) (G2 ++ sent_of c) f → Goal ee on
     unfolding Goal
-    by_news ee on f G0 G1 G2 too same parts long0 encR all (waits_news front back are short pending at) =
+    by_news ee on f G0 G1 G2 too same parts long0 encR all verified (waits_news front back are short pending at) =
         let ee_is : ee ≡ Waits (admitted input (admitted_events first final ++ map Got front)) [] pending = same ∙ ap (behind []) at in
         let gots_are : ask ∷ continue_with first ∷ dues ≡ gots (admitted_events first final ++ map Got front) ++ (back ++ ready ∷ []) =
         ap (λ (l : List Backend). ask ∷ continue_with first ∷ final_with final ∷ (l ++ ready ∷ [])) are ∙ ap (λ (l : List Backend). ask ∷ continue_with first ∷ final_with final ∷ l) (append_assoc front back (ready ∷ []))
@@ -406,11 +422,11 @@ module _ (generator : TableId) (input : PairInput) where
         (λ to_client server are ended. waiting (admitted input (admitted_events first final ++ map Got front)) (S ++ (C ++ (D ++ []))) pending
         (is ∙ ap (behind S) (also ∙ ap (behind C) (too ∙ ap (behind D) ee_is))) refl
         (inr (inl (within (length G0 + length G1) (omega (arith, short, long0)) (omega (arith, ap length parts, length-append G0 (G1 ++ G2), length-append G1 G2)) to_client are))))
-    by_news ee on f G0 G1 G2 too same parts long0 encR all (greeted long leads) =
-        by_ready ee on f G0 G1 G2 (K - length A - length B - length G0 - length G1) too same parts long0 long refl
+    by_news ee on f G0 G1 G2 too same parts long0 encR all verified (greeted long leads) =
+        by_ready ee on f G0 G1 G2 (K - length A - length B - length G0 - length G1) too same parts long0 long refl verified
         (takes_ready input (admitted_events first final ++ map Got intro) G2 (K - length A - length B - length G0 - length G1) (sent_of c) (take (K - length A - length B - length G0 - length G1) (G2 ++ sent_of c)) f (greeted_first intro (admitted_events first final) all (admitted_first first final)) encR refl leads)
 
-    by_verifier : (ee : Course Talk Ending) (on : Leads (serving (Means input.stored input.count)) next (take j (sent_of ee)) c) (G0 G1 G2 : List ℕ) → dd ≡ behind D ee → F ≡ G0 ++ (G1 ++ G2) → encodings intro ≡ Ok G1 → backend_encoding ready ≡ Ok G2 → AreGreetings intro
+    by_verifier : (ee : Course Talk Ending) (on : Leads (serving (Means input)) next (take j (sent_of ee)) c) (G0 G1 G2 : List ℕ) → dd ≡ behind D ee → F ≡ G0 ++ (G1 ++ G2) → encodings intro ≡ Ok G1 → backend_encoding ready ≡ Ok G2 → AreGreetings intro
         → Verifies input first final G0 (K - length A - length B) (G1 ++ (G2 ++ sent_of c)) ee → Goal ee on
     unfolding Goal
     by_verifier ee on G0 G1 G2 too parts encI encR all (waits_final (short, at)) =
@@ -423,10 +439,10 @@ module _ (generator : TableId) (input : PairInput) where
         (proving_events first) (ap events_in at) refl (dues, refl)
         (λ to_client server are ended. lost (proving input first) (OutcomeRefused e) e (S ++ (C ++ (D ++ []))) (is ∙ ap (behind S) (also ∙ ap (behind C) (too ∙ ap (behind D) at))) refl (bad_final e first offer final off fine acc refused))
     by_verifier ee on G0 G1 G2 too parts encI encR all (admits verified (long, f, leads, at)) =
-        by_news ee on f G0 G1 G2 too at parts long encR all
+        by_news ee on f G0 G1 G2 too at parts long encR all verified
         (greets input intro (admitted_events first final) G1 (K - length A - length B - length G0) (G2 ++ sent_of c) (take (K - length A - length B - length G0) (G1 ++ (G2 ++ sent_of c))) f (admitted_first first final) all encI refl leads)
 
-    finishes : (ee : Course Talk Ending) (on : Leads (serving (Means input.stored input.count)) next (take j (sent_of ee)) c) → dd ≡ behind D ee → AreGreetings intro → LeadsClient input (proving input first) (take (K - length A - length B) (sent_of (behind F c))) ee → Goal ee on
+    finishes : (ee : Course Talk Ending) (on : Leads (serving (Means input)) next (take j (sent_of ee)) c) → dd ≡ behind D ee → AreGreetings intro → LeadsClient input (proving input first) (take (K - length A - length B) (sent_of (behind F c))) ee → Goal ee on
     finishes ee on too all leads =
         let p = first_put (final_with final) (intro ++ ready ∷ []) F encF in
         let q = parts_put intro (ready ∷ []) p.1 p.3 in
@@ -474,7 +490,7 @@ module _ (generator : TableId) (input : PairInput) where
         spoke = puts_join (ask ∷ []) (continue_with first ∷ []) A B (puts_one ask A encA) (puts_one (continue_with first) B encB) ∙ ap (λ (l : List ℕ). Ok (A ++ l)) (sym (append-nil B));
         got_by_server = ([], refl);
         got_by_client = ([], refl);
-        client = waiting (proving input first) (S ++ (C ++ (D ++ []))) [] (is ∙ ap (behind S) (also ∙ ap (behind C) (too ∙ ap (behind D) at))) refl (inr (inr (why, unproved why first offer off fine acc)));
+        client = waiting (proving input first) (S ++ (C ++ (D ++ []))) [] (is ∙ ap (behind S) (also ∙ ap (behind C) (too ∙ ap (behind D) at))) refl (inr (inr (why, ap server_over cause, unproved why first offer off fine acc)));
         server_is = lost why (ap server_over cause) (unproved why first offer off fine acc) (λ user named. disproved_by first offer C [] user off encC (acc ∙ ap (λ (e : PgWireError). Err e) named));
       }
   rung_final able all S A B C D k K course cc dd ee first offer next c heard said is also too encA encB encS encC encD off fine here calm longS longC longA longB leads (went_final next' F c' final d long acc here' encF on) =
@@ -491,7 +507,7 @@ module _ (generator : TableId) (input : PairInput) where
   rung_continue : (able : IsAble generator input) (all : GreetsAll) (S A B C : List ℕ) (k K : ℕ) (course cc dd : Course Talk Ending) (first : List ℕ) (offer : WaitingForClientFinal) (next : Stage) (c : Course Stage ServerEnding)
       → course ≡ behind S cc → cc ≡ behind C dd → backend_encoding ask ≡ Ok A → backend_encoding (continue_with first) ≡ Ok B → client_encodings (startup_message given ∷ []) ≡ Ok S → client_encodings (first_sent input ∷ []) ≡ Ok C
       → IsOffer first offer → next ≡ stage_offered generator input offer → IsCalm c → length S ≤ k → length C ≤ k - length S → length A ≤ K
-      → (on : Leads (serving (Means input.stored input.count)) next (take (k - length S - length C) (sent_of dd)) c)
+      → (on : Leads (serving (Means input)) next (take (k - length S - length C) (sent_of dd)) c)
       → Replies input (challenged input) (unsent_final input first) (proving input first) (first_refusal login first) (final_message login first) B (K - length A) (sent_of c) dd
       → Rung (sent_of course) (sent_of (behind A (behind B c))) k K course (server_end (behind A (behind B c))) (startup ∷ first_in ∷ heard_on generator input next (take (k - length S - length C) (sent_of dd)) c on) (ask ∷ continue_with first ∷ said_on generator input next (take (k - length S - length C) (sent_of dd)) c on)
   rung_continue able all S A B C k K course cc dd first offer next c is also encA encB encS encC off here calm longS longC longA on (waits_for (short, at)) =
@@ -516,7 +532,7 @@ module _ (generator : TableId) (input : PairInput) where
 
   -- it is not refused for a password
   never_declines : (user : List ℕ) → Declines generator input text (InvalidPassword user) → ⊥
-  never_declines user (inl off) = never_offered input.count text input.stored input.server_nonce user off
+  never_declines user (inl off) = never_offered (scram_end input) text input.stored input.server_nonce user off
   never_declines user (inr (first, offer, off, enc)) = never_encoded first user enc
 
   two_sent : (S C : List ℕ) (course cc dd : Course Talk Ending) → course ≡ behind S cc → cc ≡ behind C dd → sent_of dd ≡ [] → sent_of course ≡ S ++ C
@@ -550,8 +566,8 @@ module _ (generator : TableId) (input : PairInput) where
         spoke = puts_one ask A encA ∙ ap Ok (sym (append-nil A));
         got_by_server = ([], refl);
         got_by_client = ([], refl);
-        client = waiting (challenged input) (S ++ (C ++ [])) [] (is ∙ ap (behind S) (also ∙ ap (behind C) at)) refl (inr (inr (why, declined why decl)));
-        server_is = lost why (ap server_over cause) (declined why decl) (λ user named. absurd (never_declines user (declines_by (λ w. Declines generator input text w) named decl)));
+        client = waiting (challenged input) (S ++ (C ++ [])) [] (is ∙ ap (behind S) (also ∙ ap (behind C) at)) refl (inr (inr (why, ap server_over cause, declined_by why decl)));
+        server_is = lost why (ap server_over cause) (declined_by why decl) (λ user named. absurd (never_declines user (declines_by (λ w. Declines generator input text w) named decl)));
       }
   rung_first able all S A C k K course cc dd next c heard said is also encA encS encC here calm longS longA leads (went_first next' B c' first offer long off here' encB on) =
       let bytes : take (K - length A) (sent_of (behind B c')) ≡ take (K - length A) (B ++ sent_of c') = ap (take (K - length A)) (behind_grows B c') in
@@ -565,8 +581,8 @@ module _ (generator : TableId) (input : PairInput) where
 
   rung_asked : (able : IsAble generator input) (all : GreetsAll) (S A : List ℕ) (k K : ℕ) (course cc : Course Talk Ending) (next : Stage) (c : Course Stage ServerEnding)
       → course ≡ behind S cc → backend_encoding ask ≡ Ok A → client_encodings (startup_message given ∷ []) ≡ Ok S → next ≡ stage_opened generator input → IsCalm c → length S ≤ k
-      → (on : Leads (serving (Means input.stored input.count)) next (take (k - length S) (sent_of cc)) c)
-      → Replies input (started input) (unsent_first input) (challenged input) (methods_refusal given methods) (first_sent input) A K (sent_of c) cc
+      → (on : Leads (serving (Means input)) next (take (k - length S) (sent_of cc)) c)
+      → Replies input (started input) (unsent_first input) (challenged input) (methods_refusal given (methods input)) (first_sent input) A K (sent_of c) cc
       → Rung (sent_of course) (sent_of (behind A c)) k K course (server_end (behind A c)) (startup ∷ heard_on generator input next (take (k - length S) (sent_of cc)) c on) (ask ∷ said_on generator input next (take (k - length S) (sent_of cc)) c on)
   rung_asked able all S A k K course cc next c is encA encS here calm longS on (waits_for (short, at)) =
       at_opened S A k K course cc next (k - length S) c is (ap sent_of at) encA here calm on opening_events (ap events_in at) encS ([], refl) (ask ∷ [], refl)
@@ -581,7 +597,7 @@ module _ (generator : TableId) (input : PairInput) where
       let bytes : take (k - length S) (sent_of cc) ≡ take (k - length S) (C ++ sent_of dd) = ap (take (k - length S)) (ap sent_of also ∙ behind_grows C dd) in
       rung_first able all S A C k K course cc dd next c (heard_on generator input next (take (k - length S) (sent_of cc)) c on) (said_on generator input next (take (k - length S) (sent_of cc)) c on)
       is also encA encS encC here calm longS longA leads
-      (takes_first generator input text next C (k - length S) (sent_of dd) (take (k - length S) (sent_of cc)) c here (sent_one (first_sent input) C encC) bytes calm on)
+      (takes_first generator input text (login_named login) next C (k - length S) (sent_of dd) (take (k - length S) (sent_of cc)) c here (sent_one (first_sent input) C encC) bytes calm on)
 
   -- ---- the startup message
 
@@ -612,7 +628,7 @@ module _ (generator : TableId) (input : PairInput) where
   known_start (Err e) = inr (e, refl)
 
   unopened : (e : PgWireError) (k K : ℕ) (course : Course Talk Ending) (server : Course Stage ServerEnding) (bytes : List ℕ) → client_encodings (startup_message given ∷ []) ≡ Err e → course ≡ Over (over_by (between []) (Unencoded e)) [] → bytes ≡ take k (sent_of course) → IsCalm server
-      → (leads : Leads (serving (Means input.stored input.count)) (first_stage generator input) bytes server) → Rung (sent_of course) (sent_of server) k K course (server_end server) (heard_on generator input (first_stage generator input) bytes server leads) (said_on generator input (first_stage generator input) bytes server leads)
+      → (leads : Leads (serving (Means input)) (first_stage generator input) bytes server) → Rung (sent_of course) (sent_of server) k K course (server_end server) (heard_on generator input (first_stage generator input) bytes server leads) (said_on generator input (first_stage generator input) bytes server leads)
   unopened e k K course server bytes bad at these calm leads =
       let n = takes_none generator input (first_stage generator input) bytes server (these ∙ no_bytes k (sent_of course) (ap sent_of at)) calm leads in
       subst (λ (h : List Frontend). Rung (sent_of course) (sent_of server) k K course (server_end server) h (said_on generator input (first_stage generator input) bytes server leads)) (sym n.1)
@@ -633,7 +649,7 @@ module _ (generator : TableId) (input : PairInput) where
   Opens = (g : List ℕ) × (client_encodings (startup_message given ∷ []) ≡ Ok g)
 
   pub climb : (able : Opens → IsAble generator input) (all : Opens → GreetsAll) (k K : ℕ) (course : Course Talk Ending) (server : Course Stage ServerEnding) (bytes : List ℕ) → IsSoundFrontend startup → course ≡ conversation given (take K (sent_of server)) → bytes ≡ take k (sent_of course) → IsCalm server
-      → (leads : Leads (serving (Means input.stored input.count)) (first_stage generator input) bytes server) → Rung (sent_of course) (sent_of server) k K course (server_end server) (heard_on generator input (first_stage generator input) bytes server leads) (said_on generator input (first_stage generator input) bytes server leads)
+      → (leads : Leads (serving (Means input)) (first_stage generator input) bytes server) → Rung (sent_of course) (sent_of server) k K course (server_end server) (heard_on generator input (first_stage generator input) bytes server leads) (said_on generator input (first_stage generator input) bytes server leads)
   climb able all k K course server bytes sound are these calm leads = elim (known_start (client_encodings (startup_message given ∷ []))) [
     | inl r ↦
         let b = starts input r.0 (take K (sent_of server)) r.1 in

@@ -115,25 +115,25 @@ module _ (generator : TableId) (input : PairInput) where
       let same = same_front w.by_server w.to_server (sent_of (talk input (take (taken_then input w count) w.to_client))) grown meets.by_server in
       record {
         wrote = refl;
-        serves = subst (λ (l : List ℕ). Leads (serving (Means input.stored input.count)) (first_stage generator input) l w.server) (sym same) meets.serves;
+        serves = subst (λ (l : List ℕ). Leads (serving (Means input)) (first_stage generator input) l w.server) (sym same) meets.serves;
         served = meets.served;
         by_server = omega (arith, meets.by_server, grown_length w.to_server (sent_of (talk input (take (taken_then input w count) w.to_client))) grown);
         by_client = piece_within w.by_client w.to_client piece meets.by_client is;
       }
 
-  server_meets : (w : World) (count : ℕ) (there : Course Stage ServerEnding) → Continues (serving (Means input.stored input.count)) w.server (unless_over w.server (next count w.by_server w.to_server)) there → Meets generator input w
+  server_meets : (w : World) (count : ℕ) (there : Course Stage ServerEnding) → Continues (serving (Means input)) w.server (unless_over w.server (next count w.by_server w.to_server)) there → Meets generator input w
       → Meets generator input (record w { by_server = w.by_server + length (unless_over w.server (next count w.by_server w.to_server)); server = there; to_client = sent_of there })
   server_meets w count there goes meets =
       let piece = unless_over w.server (next count w.by_server w.to_server) in
       let is = over_piece w.server count w.by_server w.to_server in
       let taken = piece_taken w.by_server w.to_server piece meets.by_server is in
-      let on = leads_on (serving (Means input.stored input.count)) steady_at (first_stage generator input) (take w.by_server w.to_server) w.server piece there meets.serves goes in
-      let grows = goes_grows (serving (Means input.stored input.count)) w.server piece there goes in
+      let on = leads_on (serving (Means input)) steady_at (first_stage generator input) (take w.by_server w.to_server) w.server piece there meets.serves goes in
+      let grows = goes_grows (serving (Means input)) w.server piece there goes in
       let grown : Grows w.to_client (sent_of there) = (grows.0, grows.1 ∙ ap (λ (l : List ℕ). l ++ grows.0) (sym meets.served)) in
       let same = same_front w.by_client w.to_client (sent_of there) grown meets.by_client in
       record {
         wrote = meets.wrote ∙ ap (λ (l : List ℕ). sent_of (talk input l)) (sym same);
-        serves = subst (λ (l : List ℕ). Leads (serving (Means input.stored input.count)) (first_stage generator input) l there) (sym taken) on;
+        serves = subst (λ (l : List ℕ). Leads (serving (Means input)) (first_stage generator input) l there) (sym taken) on;
         served = refl;
         by_server = piece_within w.by_server w.to_server piece meets.by_server is;
         by_client = omega (arith, meets.by_client, grown_length w.to_client (sent_of there) grown);

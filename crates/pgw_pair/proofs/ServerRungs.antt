@@ -1,5 +1,5 @@
 -- What the server does with each message of the client's.
-use Rattle.std.proofs.Common.{lit<, ◌≡◌, ◌≢◌, ◌⊎◌, ℕ, ◌<◌, ◌≤◌, ◌-◌, true, List, [], ◌∷◌, ◌++◌, length, take, Some, Result, Ok, Err, refl, sym, ap, subst, ◌∙◌}
+use Rattle.std.proofs.Common.{lit<, ◌≡◌, ◌≢◌, ◌⊎◌, ℕ, ◌<◌, ◌≤◌, ◌-◌, true, List, [], ◌∷◌, ◌++◌, length, take, Option, Some, None, Result, Ok, Err, refl, sym, ap, subst, ◌∙◌}
 use Rattle.std.specs.Prelude.{codes}
 use Rattle.atomic_table.specs.Seated.{TableId}
 use Rattle.pgw_types.specs.declared.error.PgWireError.{PgWireError}
@@ -19,11 +19,15 @@ use Rattle.pgw_course.specs.Fronts.{Deed, deeds_in, TakesFront, awaits, breaks_o
 use Rattle.pgw_course.proofs.FrontLaws.{taken_from}
 use Rattle.pgw_login.specs.Acts.{Standing, standing, Answer}
 use Rattle.pgw_server.specs.Server.{Stage, Refused, Ending as ServerEnding, ended, after, Handles, encodings, bound_at, reading, serving}
+use Rattle.pgw_sasl.specs.Methods.{bound_methods}
 use Rattle.pgw_sasl.specs.Sasl.{sasl_request}
+use Rattle.pgw_scram.specs.declared.binding.ClientBinding.{ClientBinding}
+use Rattle.pgw_scram.specs.declared.binding.ClientBinding.TheVariants as binding
+use Rattle.pgw_session.specs.Logins.{method_of}
 use Rattle.pgw_session.specs.Segments.{startup_parameters}
 use Rattle.pgw_pair.specs.declared.parties.PairInput.{PairInput}
-use Rattle.pgw_pair.specs.Server.{Means, methods, opened}
-use Rattle.pgw_pair.specs.World.{client_input, unknown, first_login, first_stage}
+use Rattle.pgw_pair.specs.Server.{scram_end, Means, methods}
+use Rattle.pgw_pair.specs.World.{client_input, client_login, unknown, first_login, first_stage}
 use Rattle.pgw_pair.specs.Parties.{said_by, heard_by, raw}
 use Rattle.std.specs.Prelude.{IsUtf8}
 use Rattle.pgw_startup.specs.Password.{initial_response, initial_response_of}
@@ -36,9 +40,9 @@ use Rattle.pgw_login.specs.Acts.{with_sasl}
 use Rattle.pgw_login.specs.Finish.{introduction, ready}
 use Rattle.pgw_login.specs.Provider.{default_provider, default_parameters}
 use Rattle.pgw_login.specs.declared.state.SASLState.TheVariants.{ScramServerFirstSent}
-use Rattle.pgw_pair.proofs.Firsts.{end_of, first_body, continue_with, first_ok, first_err}
+use Rattle.pgw_pair.proofs.Firsts.{IsNamed, method, first_body, continue_with, first_ok, first_err}
 use Rattle.pgw_pair.proofs.Finals.{final_with, CanDraw, Drawn, known_by, CanSend, welcome, finished_at, proved_at, final_ok, final_err}
-use Rattle.pgw_pair.proofs.Acts.{startup_ok, startup_err}
+use Rattle.pgw_pair.proofs.Acts.{opened, startup_ok, startup_err}
 use Rattle.pgw_pair.proofs.Meets.{steady_at}
 use Rattle.pgw_pair.proofs.Readings.{reads_startup, reads_password, initial_reads}
 
@@ -104,26 +108,38 @@ still_calm out (Over e o) calm = calm
 abbrev pub startup_of : PairInput → Startup
 startup_of input = record { protocol_number_major = 3; protocol_number_minor = 0; parameters = startup_parameters (client_input input) }
 
-pub sasl_written : (g : List ℕ) × (backend_encoding (sasl_request methods) ≡ Ok g)
+methods_written : (hash : Option (List ℕ)) → (g : List ℕ) × (backend_encoding (sasl_request (codes "SCRAM-SHA-256" ∷ bound_methods hash)) ≡ Ok g)
 unfolding backend_encoding framing.encoded writing.u32 writing.text writing.refused_if
-sasl_written = (82 ∷ 0 ∷ 0 ∷ 0 ∷ 23 ∷ 0 ∷ 0 ∷ 0 ∷ 10 ∷ (codes "SCRAM-SHA-256" ++ 0 ∷ 0 ∷ []), refl)
+methods_written None = (82 ∷ 0 ∷ 0 ∷ 0 ∷ 23 ∷ 0 ∷ 0 ∷ 0 ∷ 10 ∷ (codes "SCRAM-SHA-256" ++ 0 ∷ 0 ∷ []), refl)
+methods_written (Some hash) = (82 ∷ 0 ∷ 0 ∷ 0 ∷ 42 ∷ 0 ∷ 0 ∷ 0 ∷ 10 ∷ (codes "SCRAM-SHA-256" ++ 0 ∷ (codes "SCRAM-SHA-256-PLUS" ++ 0 ∷ 0 ∷ [])), refl)
+
+pub sasl_written : (input : PairInput) → (g : List ℕ) × (backend_encoding (sasl_request (methods input)) ≡ Ok g)
+sasl_written input = methods_written input.server_hash
+
+named_utf8 : (b : ClientBinding) → IsUtf8 (method_of b)
+named_utf8 binding.None = ascii_utf8 (codes "SCRAM-SHA-256") refl
+named_utf8 binding.NotOffered = ascii_utf8 (codes "SCRAM-SHA-256") refl
+named_utf8 (binding.EndPoint hash) = ascii_utf8 (codes "SCRAM-SHA-256-PLUS") refl
+
+pub method_utf8 : (input : PairInput) → IsUtf8 (method input)
+method_utf8 input = named_utf8 (client_login input).binding
 
 module _ (generator : TableId) (input : PairInput) where
   abbrev play : Play Stage ServerEnding Frontend PgWireError
-  play = serving (Means input.stored input.count)
+  play = serving (Means input)
 
   abbrev pub heard_on : (s : Stage) (bytes : List ℕ) (c : Course Stage ServerEnding) → Leads play s bytes c → List Frontend
   heard_on s bytes c leads = heard_by play (deeds_in play s bytes c leads)
 
   abbrev pub said_on : (s : Stage) (bytes : List ℕ) (c : Course Stage ServerEnding) → Leads play s bytes c → List Backend
-  said_on s bytes c leads = said_by (Means input.stored input.count) (deeds_in play s bytes c leads)
+  said_on s bytes c leads = said_by (Means input) (deeds_in play s bytes c leads)
 
   -- behind the startup message
   abbrev pub stage_opened : Stage
   stage_opened = after (opened (startup_of input) (standing unknown (first_login generator input) 0)) true (first_stage generator input)
 
   abbrev pub asked : Backend
-  asked = sasl_request methods
+  asked = sasl_request (methods input)
 
   -- where the startup message and what follows it lead
   pub data TakesStartup (g : List ℕ) (count : ℕ) (rest : List ℕ) : Course Stage ServerEnding → List Frontend → List Backend → Type 0 where
@@ -132,15 +148,15 @@ module _ (generator : TableId) (input : PairInput) where
         → TakesStartup g count rest (behind out c) (frontend.Startup (startup_of input) ∷ heard_on next (take (count - length g) rest) c on) (asked ∷ said_on next (take (count - length g) rest) c on)
 
   startup_from : (g : List ℕ) (count : ℕ) (rest : List ℕ) (c : Course Stage ServerEnding) (ds : List (Deed play)) → IsCalm c → TakesFront play (first_stage generator input) g (frontend.Startup (startup_of input)) count rest c ds
-      → TakesStartup g count rest c (heard_by play ds) (said_by (Means input.stored input.count) ds)
+      → TakesStartup g count rest c (heard_by play ds) (said_by (Means input) ds)
   startup_from g count rest c ds calm (awaits short) = waits_still short
   startup_from g count rest c ds calm (breaks_off ending b) = absurd (calm (ap (λ (x : ServerEnding). x.cause) b))
   startup_from g count rest c ds calm (ends_by ending out long step) =
-      let r = was_refused (Means input.stored input.count) (frontend.Startup (startup_of input)) (first_stage generator input) ending out step in
-      absurd (startup_err input.stored input.count (startup_of input) (standing unknown (first_login generator input) 0) r.to step.1 r.why sasl_written.0 refl refl refl refl refl r.calm sasl_written.1 (λ e. calm (ap (λ (x : ServerEnding). x.cause) r.is ∙ ap Refused e)) r.did)
+      let r = was_refused (Means input) (frontend.Startup (startup_of input)) (first_stage generator input) ending out step in
+      absurd (startup_err input (startup_of input) (standing unknown (first_login generator input) 0) r.to step.1 r.why (sasl_written input).0 refl refl refl refl refl r.calm (sasl_written input).1 (λ e. calm (ap (λ (x : ServerEnding). x.cause) r.is ∙ ap Refused e)) r.did)
   startup_from g count rest c ds calm (goes_by next out c' long step on) =
-      let w = went_on (Means input.stored input.count) (frontend.Startup (startup_of input)) (first_stage generator input) next out step in
-      let s = startup_ok input.stored input.count (startup_of input) (standing unknown (first_login generator input) 0) w.to step.1 refl refl refl w.did in
+      let w = went_on (Means input) (frontend.Startup (startup_of input)) (first_stage generator input) next out step in
+      let s = startup_ok input (startup_of input) (standing unknown (first_login generator input) 0) w.to step.1 refl refl refl w.did in
       subst (λ (l : List Backend). TakesStartup g count rest (behind out c') (frontend.Startup (startup_of input) ∷ heard_on next (take (count - length g) rest) c' on) (l ++ said_on next (take (count - length g) rest) c' on)) (sym s.1)
       (went next out c' long (w.is ∙ ap (λ (x : Standing). after x true (first_stage generator input)) s.0) (one_put asked out (ap encodings (sym s.1) ∙ w.put)) on)
 
@@ -158,48 +174,45 @@ module _ (generator : TableId) (input : PairInput) where
 
   -- why client-first is refused
   abbrev pub Declines : List ℕ → PgWireError → Type 0
-  Declines text why = (offered (end_of input.count) text input.stored input.server_nonce ≡ Err why) ⊎ ((first : List ℕ) × (waiting : WaitingForClientFinal) × (offered (end_of input.count) text input.stored input.server_nonce ≡ Ok (first, waiting)) × (backend_encoding (continue_with first) ≡ Err why))
+  Declines text why = (offered (scram_end input) text input.stored input.server_nonce ≡ Err why) ⊎ ((first : List ℕ) × (waiting : WaitingForClientFinal) × (offered (scram_end input) text input.stored input.server_nonce ≡ Ok (first, waiting)) × (backend_encoding (continue_with first) ≡ Err why))
 
   abbrev pub first_raw : List ℕ → List ℕ
-  first_raw text = initial_response (first_body text)
+  first_raw text = initial_response (first_body input text)
 
   -- where client-first and what follows it lead
   pub data TakesFirst (text : List ℕ) (here : Stage) (g : List ℕ) (count : ℕ) (rest : List ℕ) : Course Stage ServerEnding → List Frontend → List Backend → Type 0 where
     waits_first : count < length g → TakesFirst text here g count rest (Waits here [] (take count g)) [] []
     refused_first : (ending : ServerEnding) → (why : PgWireError) → length g ≤ count → ending.cause ≡ Refused why → Declines text why → TakesFirst text here g count rest (Over ending []) (raw (first_raw text) ∷ []) []
-    went_first : (next : Stage) → (out : List ℕ) → (c : Course Stage ServerEnding) → (first : List ℕ) → (waiting : WaitingForClientFinal) → length g ≤ count → offered (end_of input.count) text input.stored input.server_nonce ≡ Ok (first, waiting)
+    went_first : (next : Stage) → (out : List ℕ) → (c : Course Stage ServerEnding) → (first : List ℕ) → (waiting : WaitingForClientFinal) → length g ≤ count → offered (scram_end input) text input.stored input.server_nonce ≡ Ok (first, waiting)
         → next ≡ stage_offered waiting → backend_encoding (continue_with first) ≡ Ok out → (on : Leads play next (take (count - length g) rest) c)
         → TakesFirst text here g count rest (behind out c) (raw (first_raw text) ∷ heard_on next (take (count - length g) rest) c on) (continue_with first ∷ said_on next (take (count - length g) rest) c on)
 
   none_put : (out : List ℕ) → encodings [] ≡ Ok out → out ≡ []
   none_put out is = cc
 
-  method_utf8 : IsUtf8 (codes "SCRAM-SHA-256")
-  method_utf8 = ascii_utf8 (codes "SCRAM-SHA-256") refl
-
-  first_from : (text : List ℕ) (here : Stage) (g : List ℕ) (count : ℕ) (rest : List ℕ) (c : Course Stage ServerEnding) (ds : List (Deed play)) → here ≡ stage_opened → initial_response_of (first_raw text) ≡ Ok (first_body text) → IsCalm c
-      → TakesFront play here g (raw (first_raw text)) count rest c ds → TakesFirst text here g count rest c (heard_by play ds) (said_by (Means input.stored input.count) ds)
-  first_from text here g count rest c ds is reads calm (awaits short) = waits_first short
-  first_from text here g count rest c ds is reads calm (breaks_off ending b) = absurd (calm (ap (λ (x : ServerEnding). x.cause) b))
-  first_from text here g count rest c ds is reads calm (ends_by ending out long step) =
-      let r = was_refused (Means input.stored input.count) (raw (first_raw text)) here ending out step in
-      let did : Means input.stored input.count (raw (first_raw text)) (standing stage_opened.client stage_opened.login 0) r.to step.1 (Err r.why) = subst (λ (s : Stage). Means input.stored input.count (raw (first_raw text)) (standing s.client s.login 0) r.to step.1 (Err r.why)) is r.did in
-      let e = first_err input.stored input.count (first_raw text) text (standing stage_opened.client stage_opened.login 0) r.to step.1 r.why (record { started = refl; sasl = refl }) reads refl r.calm (λ e. calm (ap (λ (x : ServerEnding). x.cause) r.is ∙ ap Refused e)) did in
+  first_from : (text : List ℕ) (is_named : IsNamed input text) (here : Stage) (g : List ℕ) (count : ℕ) (rest : List ℕ) (c : Course Stage ServerEnding) (ds : List (Deed play)) → here ≡ stage_opened → initial_response_of (first_raw text) ≡ Ok (first_body input text) → IsCalm c
+      → TakesFront play here g (raw (first_raw text)) count rest c ds → TakesFirst text here g count rest c (heard_by play ds) (said_by (Means input) ds)
+  first_from text is_named here g count rest c ds is reads calm (awaits short) = waits_first short
+  first_from text is_named here g count rest c ds is reads calm (breaks_off ending b) = absurd (calm (ap (λ (x : ServerEnding). x.cause) b))
+  first_from text is_named here g count rest c ds is reads calm (ends_by ending out long step) =
+      let r = was_refused (Means input) (raw (first_raw text)) here ending out step in
+      let did : Means input (raw (first_raw text)) (standing stage_opened.client stage_opened.login 0) r.to step.1 (Err r.why) = subst (λ (s : Stage). Means input (raw (first_raw text)) (standing s.client s.login 0) r.to step.1 (Err r.why)) is r.did in
+      let e = first_err input (first_raw text) text is_named (standing stage_opened.client stage_opened.login 0) r.to step.1 r.why (record { started = refl; sasl = refl }) reads refl r.calm (λ e. calm (ap (λ (x : ServerEnding). x.cause) r.is ∙ ap Refused e)) did in
       let none : out ≡ [] = none_put out (ap encodings (sym e.0) ∙ r.put) in
       subst (λ (l : List Backend). TakesFirst text here g count rest (Over ending out) (raw (first_raw text) ∷ []) (l ++ [])) (sym e.0)
       (subst (λ (o : List ℕ). TakesFirst text here g count rest (Over ending o) (raw (first_raw text) ∷ []) []) (sym none) (refused_first ending r.why long (ap (λ (x : ServerEnding). x.cause) r.is) e.1))
-  first_from text here g count rest c ds is reads calm (goes_by next out c' long step on) =
-      let w = went_on (Means input.stored input.count) (raw (first_raw text)) here next out step in
-      let did : Means input.stored input.count (raw (first_raw text)) (standing stage_opened.client stage_opened.login 0) w.to step.1 (Ok tt) = subst (λ (s : Stage). Means input.stored input.count (raw (first_raw text)) (standing s.client s.login 0) w.to step.1 (Ok tt)) is w.did in
-      let s = first_ok input.stored input.count (first_raw text) text (standing stage_opened.client stage_opened.login 0) w.to step.1 (record { started = refl; sasl = refl }) reads did in
+  first_from text is_named here g count rest c ds is reads calm (goes_by next out c' long step on) =
+      let w = went_on (Means input) (raw (first_raw text)) here next out step in
+      let did : Means input (raw (first_raw text)) (standing stage_opened.client stage_opened.login 0) w.to step.1 (Ok tt) = subst (λ (s : Stage). Means input (raw (first_raw text)) (standing s.client s.login 0) w.to step.1 (Ok tt)) is w.did in
+      let s = first_ok input (first_raw text) text is_named (standing stage_opened.client stage_opened.login 0) w.to step.1 (record { started = refl; sasl = refl }) reads did in
       subst (λ (l : List Backend). TakesFirst text here g count rest (behind out c') (raw (first_raw text) ∷ heard_on next (take (count - length g) rest) c' on) (l ++ said_on next (take (count - length g) rest) c' on)) (sym s.4)
       (went_first next out c' s.0 s.1 long s.2 (w.is ∙ (λ i. after (s.3 i) true (is i))) (one_put (continue_with s.0) out (ap encodings (sym s.4) ∙ w.put)) on)
 
-  pub takes_first : (text : List ℕ) (here : Stage) (g : List ℕ) (count : ℕ) (rest bytes : List ℕ) (c : Course Stage ServerEnding) → here ≡ stage_opened → encoding (frontend.PasswordMessageFamily (family.SASLInitialResponse (first_body text))) ≡ Ok g → bytes ≡ take count (g ++ rest) → IsCalm c
+  pub takes_first : (text : List ℕ) (is_named : IsNamed input text) (here : Stage) (g : List ℕ) (count : ℕ) (rest bytes : List ℕ) (c : Course Stage ServerEnding) → here ≡ stage_opened → encoding (frontend.PasswordMessageFamily (family.SASLInitialResponse (first_body input text))) ≡ Ok g → bytes ≡ take count (g ++ rest) → IsCalm c
       → (leads : Leads play here bytes c) → TakesFirst text here g count rest c (heard_on here bytes c leads) (said_on here bytes c leads)
-  takes_first text here g count rest bytes c is enc are calm leads =
-      first_from text here g count rest c (deeds_in play here bytes c leads) is (initial_reads (first_body text) g method_utf8 enc) calm
-      (taken_from play steady_at here g (raw (first_raw text)) count rest bytes c (reads_password here (family.SASLInitialResponse (first_body text)) g (ap (λ (s : Stage). s.started) is) (ap bound_at is) enc) are leads)
+  takes_first text is_named here g count rest bytes c is enc are calm leads =
+      first_from text is_named here g count rest c (deeds_in play here bytes c leads) is (initial_reads (first_body input text) g (method_utf8 input) enc) calm
+      (taken_from play steady_at here g (raw (first_raw text)) count rest bytes c (reads_password here (family.SASLInitialResponse (first_body input text)) g (ap (λ (s : Stage). s.started) is) (ap bound_at is) enc) are leads)
 
   -- ---- client-final
 
@@ -229,20 +242,20 @@ module _ (generator : TableId) (input : PairInput) where
         → TakesFinal waiting text here g count rest (behind out c) (raw text ∷ heard_on next (take (count - length g) rest) c on) (due waiting d final ++ said_on next (take (count - length g) rest) c on)
 
   final_from : (able : IsAble) (waiting : WaitingForClientFinal) (text : List ℕ) (here : Stage) (g : List ℕ) (count : ℕ) (rest : List ℕ) (c : Course Stage ServerEnding) (ds : List (Deed play)) → here ≡ stage_offered waiting → IsCalm c
-      → TakesFront play here g (raw text) count rest c ds → TakesFinal waiting text here g count rest c (heard_by play ds) (said_by (Means input.stored input.count) ds)
+      → TakesFront play here g (raw text) count rest c ds → TakesFinal waiting text here g count rest c (heard_by play ds) (said_by (Means input) ds)
   final_from able waiting text here g count rest c ds is calm (awaits short) = awaits_final short
   final_from able waiting text here g count rest c ds is calm (breaks_off ending b) = absurd (calm (ap (λ (x : ServerEnding). x.cause) b))
   final_from able waiting text here g count rest c ds is calm (ends_by ending out long step) =
-      let r = was_refused (Means input.stored input.count) (raw text) here ending out step in
-      let did : Means input.stored input.count (raw text) (before_final waiting) r.to step.1 (Err r.why) = subst (λ (s : Stage). Means input.stored input.count (raw text) (standing s.client s.login 0) r.to step.1 (Err r.why)) is r.did in
-      let e = final_err input.stored input.count text waiting (before_final waiting) r.to step.1 r.why (record { started = refl; sasl = refl }) refl able.draws refl r.calm (able.finals waiting text) (able.tells waiting) able.readies (λ e. calm (ap (λ (x : ServerEnding). x.cause) r.is ∙ ap Refused e)) did in
+      let r = was_refused (Means input) (raw text) here ending out step in
+      let did : Means input (raw text) (before_final waiting) r.to step.1 (Err r.why) = subst (λ (s : Stage). Means input (raw text) (standing s.client s.login 0) r.to step.1 (Err r.why)) is r.did in
+      let e = final_err input text waiting (before_final waiting) r.to step.1 r.why (record { started = refl; sasl = refl }) refl able.draws refl r.calm (able.finals waiting text) (able.tells waiting) able.readies (λ e. calm (ap (λ (x : ServerEnding). x.cause) r.is ∙ ap Refused e)) did in
       let none : out ≡ [] = none_put out (ap encodings (sym e.0) ∙ r.put) in
       subst (λ (l : List Backend). TakesFinal waiting text here g count rest (Over ending out) (raw text ∷ []) (l ++ [])) (sym e.0)
       (subst (λ (o : List ℕ). TakesFinal waiting text here g count rest (Over ending o) (raw text ∷ []) []) (sym none) (refused_final ending r.why long (ap (λ (x : ServerEnding). x.cause) r.is) e.1))
   final_from able waiting text here g count rest c ds is calm (goes_by next out c' long step on) =
-      let w = went_on (Means input.stored input.count) (raw text) here next out step in
-      let did : Means input.stored input.count (raw text) (before_final waiting) w.to step.1 (Ok tt) = subst (λ (s : Stage). Means input.stored input.count (raw text) (standing s.client s.login 0) w.to step.1 (Ok tt)) is w.did in
-      let s = final_ok input.stored input.count text waiting (before_final waiting) w.to step.1 (record { started = refl; sasl = refl }) refl did in
+      let w = went_on (Means input) (raw text) here next out step in
+      let did : Means input (raw text) (before_final waiting) w.to step.1 (Ok tt) = subst (λ (s : Stage). Means input (raw text) (standing s.client s.login 0) w.to step.1 (Ok tt)) is w.did in
+      let s = final_ok input text waiting (before_final waiting) w.to step.1 (record { started = refl; sasl = refl }) refl did in
       subst (λ (l : List Backend). TakesFinal waiting text here g count rest (behind out c') (raw text ∷ heard_on next (take (count - length g) rest) c' on) (l ++ said_on next (take (count - length g) rest) c' on)) (sym s.4)
       (went_final next out c' s.0 s.2 long s.1 (w.is ∙ (λ i. after (s.3 i) true (is i))) (ap encodings (sym s.4) ∙ w.put) on)
 

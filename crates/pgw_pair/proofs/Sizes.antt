@@ -30,11 +30,15 @@ proof_short salted message = let h = xor_short (client_key salted) (client_signa
 pub signature_short : (key message : List ℕ) → length (signature_by key message) ≤ 32
 signature_short key message = let h = hmac_length key message in omega (arith, h)
 
-pub base64_short : (bytes : List ℕ) → length bytes ≤ 32 → length (base64 bytes) ≤ 48
+-- whole groups of four
+pub base64_length : (bytes : List ℕ) → length (base64 bytes) ≡ (4 * length bytes + 2) / 3 + (3 - length bytes % 3) % 3
 unfolding base64
-base64_short bytes small =
+base64_length bytes =
     let front = encode_symbols (engine_symbols standard) bytes in
     let pad : List ℕ = replicate (padding_len (length bytes)) 61 in
     let size : length front ≡ (4 * length bytes + 2) / 3 = length-encode_symbols (engine_symbols standard) bytes in
     let padding : length pad ≡ (3 - length bytes % 3) % 3 = length-replicate (padding_len (length bytes)) 61 in
-    omega (arith, length-append front pad, size, padding, small)
+    omega (arith, length-append front pad, size, padding)
+
+pub base64_short : (bytes : List ℕ) → length bytes ≤ 32 → length (base64 bytes) ≤ 48
+base64_short bytes small = omega (arith, base64_length bytes, small)

@@ -1,6 +1,6 @@
 -- What the server's answers say of the texts.
-use Rattle.std.proofs.Common.{◌≡◌, ◌≢◌, ◌⊎◌, inl, inr, ℕ, Bool, true, false, List, ◌++◌, Option, Some, None, Result, Ok, Err, refl, sym, ap, ◌∙◌}
-use Rattle.std.specs.Prelude.{if◌then◌else◌}
+use Rattle.std.proofs.Common.{◌≡◌, ◌≢◌, ◌⊎◌, inl, inr, ℕ, Bool, true, false, List, [], ◌∷◌, ◌++◌, length, drop, Option, Some, None, Result, Ok, Err, refl, sym, ap, ◌∙◌, append_assoc, arith, length-append}
+use Rattle.std.specs.Prelude.{if◌then◌else◌, codes}
 use Rattle.std.specs.Str.{bytes_eq, is_utf8}
 use Rattle.std.proofs.lemmas.Slice.Eq.{bytes_eq-Decides}
 use Rattle.pgw_types.specs.declared.error.PgWireError.{PgWireError}
@@ -8,12 +8,26 @@ use Rattle.pgw_types.specs.declared.error.PgWireError.TheVariants.{InvalidPasswo
 use Rattle.pgw_types.specs.declared.error.ScramMessageFault.{ScramMessageFault}
 use Rattle.pgw_types.specs.declared.error.ScramMessageFault.TheVariants as fault
 use Rattle.pgw_scram.specs.Answers.{unless, unless_so, first_of}
-use Rattle.pgw_scram.specs.Base64.{base64}
-use Rattle.pgw_scram.specs.Formulas.{client_key, proof_by, signature_by}
+use Rattle.pgw_scram.specs.Base64.{base64, salt_of}
+use Rattle.pgw_scram.specs.Formulas.{client_key, server_key, client_proof, proof_by, signature_by}
 use Rattle.pgw_scram.specs.Offers.{bound, channel_refusal, exchanged, answer_refusal, answered_as, server_final}
-use Rattle.pgw_scram.specs.Binding.{header}
-use Rattle.pgw_scram.specs.Exchange.{client_first, client_first_bare}
-use Rattle.pgw_scram.specs.Readers.{cut, header_parts, or_grammar, bare_parts, client_first_parts, read_client_first, read_client_final}
+use Rattle.pgw_hash.specs.Pbkdf2.{salted_password}
+use Rattle.pgw_scram.specs.Attributes.{IsValue, behind}
+use Rattle.pgw_scram.specs.Binding.{header, binding_text}
+use Rattle.pgw_scram.specs.Exchange.{client_first, client_first_bare, without_proof, exchanged as client_exchanged, with_salt as with_salt_of, with_parts, client_final}
+use Rattle.pgw_scram.specs.Messages.{IsClientFinal}
+use Rattle.pgw_scram.specs.Readers.{cut, behind_name, header_parts, or_grammar, bare_parts, client_first_parts, read_client_first, read_server_first, read_client_final}
+use Rattle.pgw_scram.specs.declared.messages.ServerFirst.{ServerFirst}
+use Rattle.pgw_scram.proofs.AttributeLaws.{cut_of}
+use Rattle.pgw_scram.proofs.Base64Laws.{base64_utf8, base64_value}
+use Rattle.pgw_scram.proofs.ExchangeLaws.{verifier_is_read}
+use Rattle.pgw_scram.specs.Refusals.{verifier_refusal, final_refusal}
+use Rattle.pgw_types.specs.declared.scram_error.ScramClientError.{ScramClientError}
+use Rattle.pgw_types.specs.declared.scram_error.ScramClientError.TheVariants.{ScramError}
+use Rattle.pgw_types.specs.declared.scram_error.ScramFault.TheVariants as scram_fault
+use Rattle.pgw_scram.proofs.MessageLaws.{client_final_form}
+use Rattle.pgw_sasl.specs.Scram.{is_misnamed}
+use Rattle.pgw_session.specs.Logins.{method_of}
 use Rattle.pgw_scram.specs.declared.binding.ClientBinding.{ClientBinding}
 use Rattle.pgw_scram.specs.declared.binding.ClientBinding.TheVariants as binding
 use Rattle.pgw_scram.specs.declared.exchange.ClientLogin.{ClientLogin}
@@ -32,6 +46,7 @@ pub record IsKept (hash : Option (List ℕ)) (text : List ℕ) (stored : Kept) (
   pub offer : (waiting.offer).server_first ≡ first
   pub binding : (waiting.offer).binding ≡ base64 (bound opening.header hash)
   pub key : waiting.client_key ≡ client_key stored.password
+  pub own_key : waiting.server_key ≡ server_key stored.password
 
 ok_same : {A E : Type 0} {x y : A} → ◌≡◌ {A = Result A E} (Ok x) (Ok y) → x ≡ y
 ok_same h = cc
@@ -58,6 +73,7 @@ with_salt server text stored nonce first waiting opening reads (Some salt) is =
       offer = ap (λ (x : WaitingForClientFinal). (x.offer).server_first) (sym p.1) ∙ p.0;
       binding = ap (λ (x : WaitingForClientFinal). (x.offer).binding) (sym p.1);
       key = ap (λ (x : WaitingForClientFinal). x.client_key) (sym p.1);
+      own_key = ap (λ (x : WaitingForClientFinal). x.server_key) (sym p.1);
     }
 
 no_err : {A E : Type 0} {x : A} {e : E} → ◌≡◌ {A = Result A E} (Ok x) (Err e) → ⊥
@@ -76,30 +92,80 @@ was_offered server text stored nonce first waiting is = elim (known (read_client
 
 -- ---- what is bound
 
--- client-first without a binding is read with the header that says so
-named : List ℕ → Option (List ℕ × List ℕ × Option (List ℕ)) → Option ClientFirst
-named bare None = None
-named bare (Some names) = Some (record { header = header binding.None; bare = bare; user = names.0; nonce = names.1 })
+-- client-first is read with the header that the client wrote
+named : ClientBinding → List ℕ → Option (List ℕ × List ℕ × Option (List ℕ)) → Option ClientFirst
+named b bare None = None
+named b bare (Some names) = Some (record { header = header b; bare = bare; user = names.0; nonce = names.1 })
 
-parts_are : (bare : List ℕ) (o : Option (List ℕ × List ℕ × Option (List ℕ))) → bare_parts bare ≡ o → client_first_parts (header binding.None ++ bare) ≡ named bare o
-unfolding client_first_parts header_parts cut named
-parts_are bare None is = rw is refl
-parts_are bare (Some names) is = rw is refl
+parts_are : (b : ClientBinding) (bare : List ℕ) (o : Option (List ℕ × List ℕ × Option (List ℕ))) → bare_parts bare ≡ o → client_first_parts (header b ++ bare) ≡ named b bare o
+unfolding client_first_parts header_parts cut behind_name named
+parts_are binding.None bare None is = rw is refl
+parts_are binding.None bare (Some names) is = rw is refl
+parts_are binding.NotOffered bare None is = rw is refl
+parts_are binding.NotOffered bare (Some names) is = rw is refl
+parts_are (binding.EndPoint hash) bare None is = rw is refl
+parts_are (binding.EndPoint hash) bare (Some names) is = rw is refl
 
-names_none : (bare : List ℕ) (o : Option (List ℕ × List ℕ × Option (List ℕ))) (opening : ClientFirst) → or_grammar (named bare o) ≡ Ok opening → opening.header ≡ header binding.None
+header_named : (b : ClientBinding) (bare : List ℕ) (o : Option (List ℕ × List ℕ × Option (List ℕ))) (opening : ClientFirst) → or_grammar (named b bare o) ≡ Ok opening → opening.header ≡ header b
 unfolding named
-names_none bare None opening is = absurd cc
-names_none bare (Some names) opening is = ap (λ (x : ClientFirst). x.header) (sym (ok_same is))
+header_named b bare None opening is = absurd cc
+header_named b bare (Some names) opening is = ap (λ (x : ClientFirst). x.header) (sym (ok_same is))
 
-reads_none : (utf8 : Bool) (bare : List ℕ) (opening : ClientFirst) → (if utf8 then or_grammar (client_first_parts (header binding.None ++ bare)) else Err fault.NotUtf8) ≡ Ok opening → opening.header ≡ header binding.None
-reads_none false bare opening is = absurd cc
-reads_none true bare opening is = names_none bare (bare_parts bare) opening (sym (ap or_grammar (parts_are bare (bare_parts bare) refl)) ∙ is)
+header_by : (utf8 : Bool) (b : ClientBinding) (bare : List ℕ) (opening : ClientFirst) → (if utf8 then or_grammar (client_first_parts (header b ++ bare)) else Err fault.NotUtf8) ≡ Ok opening → opening.header ≡ header b
+header_by false b bare opening is = absurd cc
+header_by true b bare opening is = header_named b bare (bare_parts bare) opening (sym (ap or_grammar (parts_are b bare (bare_parts bare) refl)) ∙ is)
 
-pub unbound_header : (login : ClientLogin) (opening : ClientFirst) → login.binding ≡ binding.None → read_client_first (client_first login) ≡ Ok opening → opening.header ≡ header binding.None
+pub header_read : (login : ClientLogin) (opening : ClientFirst) → read_client_first (client_first login) ≡ Ok opening → opening.header ≡ header login.binding
 unfolding client_first
-unbound_header login opening none is =
+header_read login opening is =
     let bare = client_first_bare login.user login.nonce in
-    reads_none (is_utf8 (header binding.None ++ bare)) bare opening (sym (ap (λ (b : ClientBinding). read_client_first (header b ++ bare)) none) ∙ is)
+    header_by (is_utf8 (header login.binding ++ bare)) login.binding bare opening is
+
+-- the method of a login goes with its header
+goes_with : (b : ClientBinding) → is_misnamed (method_of b) (header b) ≡ false
+goes_with binding.None = refl
+goes_with binding.NotOffered = refl
+goes_with (binding.EndPoint hash) = refl
+
+pub login_named : (login : ClientLogin) (opening : ClientFirst) → read_client_first (client_first login) ≡ Ok opening → is_misnamed (method_of login.binding) opening.header ≡ false
+login_named login opening is = ap (is_misnamed (method_of login.binding)) (header_read login opening is) ∙ goes_with login.binding
+
+-- what stands before the first comma is one text
+before_comma : (v w x y : List ℕ) → IsValue v → IsValue w → v ++ 44 ∷ x ≡ w ++ 44 ∷ y → v ≡ w
+before_comma v w x y a b is = ap (λ (p : List ℕ × Option (List ℕ)). p.0) (sym (cut_of v (Some x) a) ∙ ap cut is ∙ cut_of w (Some y) b)
+
+-- client-final is read with the text that the client bound
+written_read : (b : ClientBinding) (nonce proof : List ℕ) (closing : ClientFinal) → IsClientFinal (without_proof b nonce ++ codes ",p=" ++ proof) closing → closing.binding ≡ binding_text b
+unfolding without_proof
+written_read b nonce proof closing form =
+    let w = form.without_proof in
+    let more : List ℕ = codes "r=" ++ (closing.nonce ++ behind w.more) in
+    let own : List ℕ = codes "r=" ++ nonce ++ codes ",p=" ++ proof in
+    let text : codes "c=" ++ (binding_text b ++ 44 ∷ own) ≡ without_proof b nonce ++ codes ",p=" ++ proof = simp append_assoc in
+    let all : codes "c=" ++ (binding_text b ++ 44 ∷ own) ≡ (codes "c=" ++ (closing.binding ++ 44 ∷ more)) ++ 44 ∷ (codes "p=" ++ closing.proof) =
+    text ∙ form.written ∙ ap (λ (l : List ℕ). l ++ 44 ∷ (codes "p=" ++ closing.proof)) w.written in
+    let cut_tail : (closing.binding ++ 44 ∷ more) ++ 44 ∷ (codes "p=" ++ closing.proof) ≡ closing.binding ++ 44 ∷ (more ++ 44 ∷ (codes "p=" ++ closing.proof)) = append_assoc closing.binding (44 ∷ more) (44 ∷ (codes "p=" ++ closing.proof)) in
+    let tail : binding_text b ++ 44 ∷ own ≡ closing.binding ++ 44 ∷ (more ++ 44 ∷ (codes "p=" ++ closing.proof)) = ap (drop 2) all ∙ cut_tail in
+    sym (before_comma (binding_text b) closing.binding own (more ++ 44 ∷ (codes "p=" ++ closing.proof)) (base64_value _) w.binding_value tail)
+
+none_read : (closing : ClientFinal) → read_client_final [] ≡ Ok closing → ⊥
+none_read closing is = go (client_final_form [] closing is)
+  where
+    go : IsClientFinal [] closing → ⊥
+    go form = omega (arith, ap length form.written, length-append closing.without_proof (44 ∷ (codes "p=" ++ closing.proof)))
+
+salted_read : (b : ClientBinding) (salt : Option (List ℕ)) (nonce : List ℕ) (proof : List ℕ → List ℕ) (closing : ClientFinal) → read_client_final (with_salt_of salt (λ s. without_proof b nonce ++ codes ",p=" ++ proof s)) ≡ Ok closing → closing.binding ≡ binding_text b
+salted_read b None nonce proof closing is = absurd (none_read closing is)
+salted_read b (Some salt) nonce proof closing is = written_read b nonce (proof salt) closing (client_final_form _ closing is)
+
+final_by : (login : ClientLogin) (first : List ℕ) (r : Result ServerFirst ScramMessageFault) (closing : ClientFinal)
+    → read_client_final (with_parts r (λ parts salt. without_proof login.binding parts.nonce ++ codes ",p=" ++ base64 (client_proof (salted_password login.password salt parts.count) (client_exchanged login first parts)))) ≡ Ok closing → closing.binding ≡ binding_text login.binding
+final_by login first (Err why) closing is = absurd (none_read closing is)
+final_by login first (Ok parts) closing is = salted_read login.binding (salt_of parts.salt) parts.nonce (λ salt. base64 (client_proof (salted_password login.password salt parts.count) (client_exchanged login first parts))) closing is
+
+pub binding_read : (login : ClientLogin) (first : List ℕ) (closing : ClientFinal) → read_client_final (client_final login first) ≡ Ok closing → closing.binding ≡ binding_text login.binding
+unfolding client_final
+binding_read login first closing is = final_by login first (read_server_first first) closing is
 
 -- ---- the proof
 
@@ -144,9 +210,22 @@ other_proof : (c : Bool) (who user out : List ℕ) → unless (unless_so c (Inva
 other_proof true who user out is = absurd cc
 other_proof false who user out is = refl
 
--- the text of server-final behind client-final
+-- the verifier, and the text of server-final, behind client-final
+abbrev pub assured : WaitingForClientFinal → ClientFinal → List ℕ
+assured waiting closing = base64 (signature_by waiting.server_key (exchanged waiting.offer closing))
+
 abbrev pub signed : WaitingForClientFinal → ClientFinal → List ℕ
 signed waiting closing = server_final (signature_by waiting.server_key (exchanged waiting.offer closing))
+
+no_mismatch : (b : Bool) → ◌≡◌ {A = Option ScramClientError} (unless_so b (ScramError scram_fault.SignatureMismatch)) None → b ≡ true
+no_mismatch true is = refl
+no_mismatch false is = absurd cc
+
+-- a client takes a verifier that it awaits alone
+pub verifier_same : (n expected : List ℕ) → final_refusal expected (codes "v=" ++ base64 n) ≡ None → expected ≡ base64 n
+verifier_same n expected is =
+    let read = verifier_is_read (base64 n) (base64_value n) (base64_utf8 n) in
+    sym ((bytes_eq-Decides (base64 n) expected).0 (no_mismatch (bytes_eq (base64 n) expected) (sym (ap (verifier_refusal expected) read) ∙ is)))
 
 pub was_accepted : (waiting : WaitingForClientFinal) (body final : List ℕ) → accepted waiting body ≡ Ok final → (closing : ClientFinal) × (read_client_final body ≡ Ok closing) × (closing.binding ≡ (waiting.offer).binding) × (closing.proof ≡ owed waiting closing) × (signed waiting closing ≡ final)
 was_accepted waiting body final is = elim (hears waiting body) [

@@ -24,8 +24,8 @@ use Rattle.pgw_login.specs.declared.state.LoginState.{LoginState}
 use Rattle.pgw_sasl.specs.Replies.{Reply}
 use Rattle.pgw_sasl.specs.Sasl.{Offers, SaslOn, RespondsBy, Ends as EndsSasl, told as replied}
 use Rattle.pgw_sasl.specs.Turns.{is_finished}
-use Rattle.pgw_scram.specs.declared.password.Password.{Password as Kept}
 use Rattle.pgw_server.specs.Server.{Stage, Ending as ServerEnding, Handles, Steps, after, moved, serving}
+use Rattle.pgw_pair.specs.declared.parties.PairInput.{PairInput}
 use Rattle.pgw_pair.specs.Server.{Means, methods, ScramAnswers, NoOauth, Provided, Unregistered}
 use Rattle.pgw_pair.proofs.Acts.{Act}
 
@@ -121,13 +121,13 @@ responds_keeps : (reply : Reply) → Keeps (RespondsBy Provided Unregistered rep
 responds_keeps (Err e) = refuses_keeps e
 responds_keeps (Ok (reply, next)) = then_keeps (Sends (replied reply)) _ (sends_keeps (replied reply)) (then_keeps (Marks (with_sasl next)) _ (marks_keeps (with_sasl next) (λ s. refl)) (ends_keeps (is_finished next)))
 
-module _ (stored : Kept) (count : ℕ) where
-  hears_keeps : (m : Heard) → Keeps (SaslOn methods (ScramAnswers stored count) NoOauth Provided Unregistered m)
-  hears_keeps (of.Startup s) = then_keeps (Opens s) (Offers methods) (opens_keeps s) (or_memory_keeps (Sends _) (sends_keeps _))
+module _ (input : PairInput) where
+  hears_keeps : (m : Heard) → Keeps (SaslOn (methods input) (ScramAnswers input) NoOauth Provided Unregistered m)
+  hears_keeps (of.Startup s) = then_keeps (Opens s) (Offers (methods input)) (opens_keeps s) (or_memory_keeps (Sends _) (sends_keeps _))
   hears_keeps (of.Password m) = λ before now sent answer h is. responds_keeps h.0 before now sent answer h.2 is
   hears_keeps of.Other = passes_keeps
 
-  means_keeps : (m : Frontend) → Keeps (Means stored count m)
+  means_keeps : (m : Frontend) → Keeps (Means input m)
   means_keeps m before after sent (Ok done) h is = hears_keeps (heard m) before after sent (Ok done) h is
   means_keeps m before after sent (Err e) h is = ap (λ (x : Standing). (x.login).registered) h.2 ∙ hears_keeps (heard m) before h.0 sent (Err e) h.1 is
 
@@ -146,10 +146,10 @@ module _ (stored : Kept) (count : ℕ) where
   moved_nowhere (Ok done) to stage out is = is
   moved_nowhere (Err e) to stage out is = is
 
-  handled_nowhere : (stage : Stage) (m : Frontend) (move : Move Stage ServerEnding) → Handles (Means stored count) stage m move → IsNowhere stage.login → move_nowhere move
+  handled_nowhere : (stage : Stage) (m : Frontend) (move : Move Stage ServerEnding) → Handles (Means input) stage m move → IsNowhere stage.login → move_nowhere move
   handled_nowhere stage m move (to, sent, answer, out, h, put, same, calm) is = subst move_nowhere (sym same) (moved_nowhere answer to stage out (means_keeps m (standing stage.client stage.login 0) to sent answer h is))
 
-  step_nowhere : (stage : Stage) (m : Frontend) (move : Move Stage ServerEnding) → Steps (Means stored count) stage m move → IsNowhere stage.login → move_nowhere move
+  step_nowhere : (stage : Stage) (m : Frontend) (move : Move Stage ServerEnding) → Steps (Means input) stage m move → IsNowhere stage.login → move_nowhere move
   unfolding move_nowhere
   step_nowhere stage (frontend.SslNegotiation n) move h is = subst move_nowhere (sym h) is
   step_nowhere stage (frontend.CancelRequest r) move h is = subst move_nowhere (sym h) is
@@ -159,7 +159,7 @@ module _ (stored : Kept) (count : ℕ) where
   behind_nowhere out (Waits s o p) is = is
   behind_nowhere out (Over e o) is = is
 
-  pub leads_nowhere : (stage : Stage) (bytes : List ℕ) (c : Course Stage ServerEnding) → IsNowhere stage.login → Leads (serving (Means stored count)) stage bytes c → IsNowhereAt c
+  pub leads_nowhere : (stage : Stage) (bytes : List ℕ) (c : Course Stage ServerEnding) → IsNowhere stage.login → Leads (serving (Means input)) stage bytes c → IsNowhereAt c
   unfolding move_nowhere
   leads_nowhere stage bytes c is (waits s bs more) = is
   leads_nowhere stage bytes c is (stops s bs why ending bad refuses) = ap (λ (x : ServerEnding). ((x.stage).login).registered) refuses ∙ is

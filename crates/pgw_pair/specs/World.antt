@@ -1,5 +1,6 @@
 -- Two parties to a login, and the bytes between them.
-use Rattle.std.specs.Prelude.{◌≡◌, ◌≤◌, ℕ, ◌+◌, pos, false, List, [], ◌∷◌, length, take, drop, Some, None, Result, Ok, Err}
+use Rattle.std.specs.Prelude.{◌≡◌, ◌≤◌, ℕ, ◌+◌, pos, false, List, [], ◌∷◌, length, take, drop}
+use Rattle.std.specs.Prelude.{Some, None, Result, Ok, Err}
 use Rattle.std.specs.FinMap as map
 use Rattle.atomic_table.specs.Seated.{TableId}
 use Rattle.pgw_types.specs.declared.context.ProtocolVersion.TheVariants.{PROTOCOL3_2}
@@ -12,7 +13,9 @@ use Rattle.pgw_course.specs.Play.{Leads, Continues}
 use Rattle.pgw_registry.specs.Generator.{unused}
 use Rattle.pgw_registry.specs.Seats.{Numbers}
 use Rattle.pgw_login.specs.Client.{Client}
-use Rattle.pgw_login.specs.declared.client_info.PgWireConnectionState.TheVariants.{AwaitingSslRequest}
+use Rattle.pgw_login.specs.declared.client_info.PgWireConnectionState.TheVariants.{
+  AwaitingSslRequest,
+}
 use Rattle.pgw_login.specs.declared.state.LoginState.{LoginState}
 use Rattle.pgw_login.specs.declared.state.SASLState.TheVariants.{Initial}
 use Rattle.pgw_server.specs.Server.{Stage, Ending as ServerEnding, begins, serving}
@@ -29,15 +32,23 @@ use Rattle.pgw_pair.specs.Server.{Means, methods}
 -- ---- the client
 
 abbrev pub client_config : PairInput → Config
-client_config input = record no_config { user = Some input.user; password = Some input.password }
+client_config input = record no_config {
+  user = Some input.user;
+  password = Some input.password;
+  certificate_hash = input.client_hash;
+}
 
 -- it asks nothing
 abbrev pub client_input : PairInput → Input
-client_input input = record { config = client_config input; requests = []; nonce = input.client_nonce }
+client_input input = record {
+  config = client_config input;
+  requests = [];
+  nonce = input.client_nonce;
+}
 
--- who logs in, by the server's methods: bound to nothing, since no hash of a certificate is given
+-- who logs in, by the methods that the server offers
 abbrev pub client_login : PairInput → ClientLogin
-client_login input = scram_login (client_input input) methods
+client_login input = scram_login (client_input input) (methods input)
 
 -- so many bytes it takes
 abbrev pub most : ℕ
@@ -50,11 +61,29 @@ talk input given = conversation (client_input input) (taken_of most given)
 -- ---- the server
 
 abbrev pub unknown : Client
-unknown = record { host = []; is_secure = false; protocol_version = PROTOCOL3_2; pid = pos 0; secret_key = I32 (pos 0); state = AwaitingSslRequest; transaction_status = Idle; metadata = map.empty }
+unknown = record {
+  host = [];
+  is_secure = false;
+  protocol_version = PROTOCOL3_2;
+  pid = pos 0;
+  secret_key = I32 (pos 0);
+  state = AwaitingSslRequest;
+  transaction_status = Idle;
+  metadata = map.empty;
+}
 
 -- a login that has not begun, by this seat
 abbrev pub login_by : Numbers → PairInput → LoginState
-login_by seat input = record { nonce = input.server_nonce; words = input.words; seat = seat; pass = None; started = false; sasl = Initial; kept = None; registered = None }
+login_by seat input = record {
+  nonce = input.server_nonce;
+  words = input.words;
+  seat = seat;
+  pass = None;
+  started = false;
+  sasl = Initial;
+  kept = None;
+  registered = None;
+}
 
 -- a login at the first seat of this generator
 abbrev pub first_login : TableId → PairInput → LoginState
@@ -65,7 +94,7 @@ first_stage generator input = begins unknown (first_login generator input)
 
 -- the bytes lead it there
 abbrev pub Serves : TableId → PairInput → List ℕ → Course Stage ServerEnding → Type 0
-Serves generator input = Leads (serving (Means input.stored input.count)) (first_stage generator input)
+Serves generator input = Leads (serving (Means input)) (first_stage generator input)
 
 -- ---- the world
 
@@ -99,15 +128,38 @@ abbrev pub unless_over : Course Stage ServerEnding → List ℕ → List ℕ
 unless_over (Waits stage out pending) piece = piece
 unless_over (Over ending out) piece = []
 
--- where the client is handed so many
-abbrev pub taken_then : PairInput → World → ℕ → ℕ
-taken_then input w count = w.by_client + length (handed (answer_to (client_input input) most (take w.by_client w.to_client)) (next count w.by_client w.to_client))
+-- what is handed to each of so many bytes
+abbrev pub to_client_next : PairInput → World → ℕ → List ℕ
+to_client_next input w count =
+    handed (answer_to (client_input input) most (take w.by_client w.to_client))
+    (next count w.by_client w.to_client)
 
--- one event. The client is a function of the bytes; where the server comes to hangs on what it draws from, and on memory.
+abbrev pub to_server_next : World → ℕ → List ℕ
+to_server_next w count = unless_over w.server (next count w.by_server w.to_server)
+
+-- how many the client has taken then
+abbrev pub taken_then : PairInput → World → ℕ → ℕ
+taken_then input w count = w.by_client + length (to_client_next input w count)
+
+-- the world where an end has taken so many
+abbrev pub client_at : PairInput → World → ℕ → World
+client_at input w taken = record w {
+  by_client = taken;
+  to_server = sent_of (talk input (take taken w.to_client));
+}
+
+abbrev pub server_at : World → ℕ → Course Stage ServerEnding → World
+server_at w taken there = record w { by_server = taken; server = there; to_client = sent_of there }
+
+-- One event. The client is a function of the bytes; where the server comes to hangs on what it
+-- draws from, and on memory.
 pub data Happens (input : PairInput) (w : World) : Event → World → Type 0 where
-  to_the_client : (count : ℕ) → Happens input w (ToClient count) (record w { by_client = taken_then input w count; to_server = sent_of (talk input (take (taken_then input w count) w.to_client)) })
-  to_the_server : (count : ℕ) → (there : Course Stage ServerEnding) → Continues (serving (Means input.stored input.count)) w.server (unless_over w.server (next count w.by_server w.to_server)) there
-      → Happens input w (ToServer count) (record w { by_server = w.by_server + length (unless_over w.server (next count w.by_server w.to_server)); server = there; to_client = sent_of there })
+  to_the_client : (count : ℕ) → Happens input w (ToClient count)
+      (client_at input w (taken_then input w count))
+  to_the_server : (count : ℕ) → (there : Course Stage ServerEnding)
+      → Continues (serving (Means input)) w.server (to_server_next w count) there
+      → Happens input w (ToServer count)
+      (server_at w (w.by_server + length (to_server_next w count)) there)
 
 -- some events, one after the other
 abbrev pub Runs : PairInput → List Event → World → World → Type 0
@@ -116,7 +168,8 @@ Runs input (e ∷ es) w end = (mid : World) × Happens input w e mid × Runs inp
 
 -- ---- what holds of each world that events lead to
 
--- Each end is a function, or a relation, of the bytes that it has taken, and these are a front of what the other wrote.
+-- Each end is a function, or a relation, of the bytes that it has taken, and these are a front of
+-- what the other wrote.
 pub record Meets (generator : TableId) (input : PairInput) (w : World) : Type 0 where
   pub wrote : w.to_server ≡ sent_of (talk input (take w.by_client w.to_client))
   pub serves : Serves generator input (take w.by_server w.to_server) w.server

@@ -18,6 +18,10 @@ pub struct PairInput {
     pub client_nonce: [u8; 18],
     pub server_nonce: [u8; 18],
     pub words: [u8; 32],
+    /// What the client takes for the hash of the server's certificate (`tls-server-end-point`).
+    pub client_hash: Option<Octets>,
+    /// The hash of the server's own certificate. Where there is one, it offers to bind a login.
+    pub server_hash: Option<Octets>,
     pub schedule: Listed<Event>,
 }
 

@@ -1,33 +1,36 @@
 -- What is printed of a session with the server that a connection text names.
-use Rattle.std.proofs.Common.{◌≡◌, ◌≢◌, ℕ, List, [], ◌∷◌, ◌++◌, codes, Some, None, Result, Ok, Err, refl, sym, ap, subst, ◌∙◌, inl, inr, arith}
+use Rattle.std.proofs.Common.{◌≡◌, ◌≢◌, ℕ, List, [], ◌∷◌, ◌++◌, Some, None, Result, Ok, Err, refl, sym, ap, subst, ◌∙◌, inl, inr, arith}
 use Rattle.std.specs.Result.{IfOk, OnOk, IsErrOf}
 use Rattle.std.proofs.lemmas.List.{append_cancel_left}
 use Rattle.pgw_types.specs.declared.memory.OutOfMemory.{OutOfMemory}
-use Rattle.pgw_conninfo.specs.declared.address.Address.{Address}
-use Rattle.pgw_conninfo.specs.declared.address.Host.{Host}
-use Rattle.pgw_conninfo.specs.declared.address.HostAddr.{HostAddr}
-use Rattle.pgw_link.specs.Tape.{Tape, Rose}
+use Rattle.pgw_types.specs.declared.address.Address.{Address}
+use Rattle.pgw_types.specs.Counts.{Rose}
+use Rattle.pgw_link.specs.Tape.{Tape}
 use Rattle.pgw_link.specs.Dials.{DialTape, Dialled, Shut, CountsClose}
+use Rattle.pgw_types.specs.declared.config_error.ConfigError.{ConfigError}
+use Rattle.pgw_types.specs.declared.config_error.ConfigError.TheVariants as config_error
+use Rattle.pgw_backend.specs.ClientError.{of_config}
 use Rattle.pgw_backend.specs.declared.client_error.PgWireClientError.{PgWireClientError}
 use Rattle.pgw_backend.specs.declared.client_error.PgWireClientError.TheVariants as client
 use Rattle.pgw_config.specs.declared.config.Config.{Config}
-use Rattle.pgw_config.specs.Address.{first_port, first_host, first_address, address_of}
+use Rattle.pgw_config.specs.Address.{address_of}
 use Rattle.pgw_config.specs.Parse.{HasOutcome, IsParsed}
-use Rattle.pgw_config.specs.Answers.{Answers, IsRefusal}
+use Rattle.pgw_config.specs.Answers.{Answers}
 use Rattle.pgw_session.specs.declared.types.SessionReport.{SessionReport}
 use Rattle.pgw_session.specs.Demands.{refused_config}
 use Rattle.pgw_session.specs.Events.{Event}
 use Rattle.pgw_session.specs.Input.{Input}
 use Rattle.pgw_session.specs.Transcript.{Completes, report_of}
 use Rattle.pgw_client.specs.Session.{Reports}
+use Rattle.pgw_prog.specs.declared.command.Command.TheVariants as command
 use Rattle.pgw_prog.specs.declared.command.Connection.{Connection}
 use Rattle.pgw_prog.specs.declared.printed.Printed.{Printed}
 use Rattle.pgw_prog.specs.Held.{Says, status_of}
-use Rattle.pgw_prog.specs.OverLink.{LinkSpan, OverLink}
-use Rattle.pgw_prog.specs.Connected.{input_for, DialSpan, DialledOnce, HeldSession, Talked, PrintsRefusal, PrintsTalk, PrintsAt, PrintsBy, Connects, CanConnect, PrintsReport}
+use Rattle.pgw_client.specs.OverLink.{LinkSpan, OverLink}
+use Rattle.pgw_prog.specs.Connected.{input_for, DialSpan, DialledOnce, NoLinkFor, HeldSession, Talked, LeavesFor, LeavesDialer, PrintsRefusal, PrintsTalk, PrintsAt, PrintsBy, Connects, CanConnect, PrintsReport}
 use Rattle.pgw_prog.specs.Printing.{report_lines, error_line, result_text}
 use Rattle.pgw_prog.proofs.OverLaws.{foretold_less, from_fresh}
-use Rattle.pgw_prog.proofs.TextLaws.{error_same, no_report}
+use Rattle.pgw_prog.proofs.TextLaws.{error_same, not_io, no_report}
 
 -- a link that was dialled and then closed
 pub once : (to : Address) (old between new : DialTape) (first after : Tape) → Dialled to old between first → Shut between new after → DialledOnce to old new after
@@ -54,13 +57,23 @@ says_report report (Ok answer) same memory = (ap report_lines same, refl)
 says_report report (Err e) same memory = absurd (memory (ap Err same))
 
 module _ (nonce : List ℕ) (dialer : DialSpan) (asked : Connection) (p : Printed) where
+  -- a dial gives a link unless it failed or memory was wanting
+  linked : (outcome : Result SessionReport PgWireClientError) → (Rose dialer.before dialer.now → ⊥) → (IsErrOf outcome client.OutOfMemory → ⊥) → NoLinkFor dialer outcome → ⊥
+  linked outcome still memory (inl (io, rose)) = still rose
+  linked outcome still memory (inr (short, same)) = memory short
+
+  -- the error of a link is that of a dial that failed
+  no_link_io : (outcome : Result SessionReport PgWireClientError) → outcome ≡ Err client.IoError → NoLinkFor dialer outcome → Rose dialer.before dialer.now
+  no_link_io outcome is (inl (io, rose)) = rose
+  no_link_io outcome is (inr (short, same)) = cc
+
   talk_reported : (input : Input) (limit : ℕ) (to : Address) (offer : List ℕ) (segments : List (List Event)) → dialer.foretells → (Rose dialer.before dialer.now → ⊥) → dialer.offer ≡ Some offer → refused_config input.config ≡ None → Completes input limit offer segments
       → (outcome : Result SessionReport PgWireClientError) → Talked input limit to dialer outcome → (IsErrOf outcome client.OutOfMemory → ⊥) → (result_text outcome ≡ report_lines (report_of input segments)) × (status_of outcome ≡ 0)
-  talk_reported input limit to offer segments t still known clear c outcome (inl none) memory = absurd (still none.rose)
+  talk_reported input limit to offer segments t still known clear c outcome (inl none) memory = absurd (linked outcome still memory none.why)
   talk_reported input limit to offer segments t still known clear c outcome (inr held) memory =
       says_report (report_of input segments) outcome (held.over.reports t clear offer (held.offered t ∙ known) segments c (λ some. still (held.counts.failed (omega (arith, some))))) memory
 
-  at_reported : (config : Config) (to : Address) (answer : Result Address PgWireClientError) (offer : List ℕ) (segments : List (List Event)) → dialer.foretells → (Rose dialer.before dialer.now → ⊥) → dialer.offer ≡ Some offer → answer ≡ Ok to
+  at_reported : (config : Config) (to : Address) (answer : Result Address ConfigError) (offer : List ℕ) (segments : List (List Event)) → dialer.foretells → (Rose dialer.before dialer.now → ⊥) → dialer.offer ≡ Some offer → answer ≡ Ok to
       → refused_config config ≡ None → Completes (input_for asked nonce config) asked.limit offer segments → PrintsAt nonce dialer asked config answer p
       → (p.text.items ≡ report_lines (report_of (input_for asked nonce config) segments)) × (p.status ≡ 0)
   at_reported config to (Ok address) offer segments t still known is clear c prints =
@@ -72,25 +85,25 @@ module _ (nonce : List ℕ) (dialer : DialSpan) (asked : Connection) (p : Printe
       → (p.text.items ≡ report_lines (report_of (input_for asked nonce can.config) segments)) × (p.status ≡ 0)
   reported offer segments can t still known connects =
       let same : connects.outcome ≡ Ok can.config = sym (connects.only (Ok can.config) can.leads.0) in
-      let prints = subst (λ (o : Result Config PgWireClientError). PrintsBy nonce dialer asked o p) same connects.prints in
+      let prints = subst (λ (o : Result Config ConfigError). PrintsBy nonce dialer asked o p) same connects.prints in
       at_reported can.config can.address (address_of can.config) offer segments t still known can.leads.1 can.clear can.completes prints
 
-  refusal_io : (e : PgWireClientError) → PrintsRefusal e p → p.text.items ≡ error_line client.IoError → ⊥
-  refusal_io e prints is = subst IsRefusal (error_same e (sym prints.2.0 ∙ is)) prints.0
+  refusal_io : (e : ConfigError) → PrintsRefusal e p → p.text.items ≡ error_line client.IoError → ⊥
+  refusal_io e prints is = not_io e (error_same (of_config e) (sym prints.1.0 ∙ is))
 
   outcome_io : (outcome : Result SessionReport PgWireClientError) → result_text outcome ≡ error_line client.IoError → outcome ≡ Err client.IoError
   outcome_io (Ok r) is = absurd (no_report r client.IoError is)
   outcome_io (Err e) is = ap Err (error_same e is)
 
   talk_io : (input : Input) (limit : ℕ) (to : Address) (outcome : Result SessionReport PgWireClientError) → Talked input limit to dialer outcome → outcome ≡ Err client.IoError → Rose dialer.before dialer.now
-  talk_io input limit to outcome (inl none) is = none.rose
+  talk_io input limit to outcome (inl none) is = no_link_io outcome is none.why
   talk_io input limit to outcome (inr held) is = let rose = held.over.cause.io is in held.counts.failed (omega (arith, rose))
 
-  at_io : (config : Config) (answer : Result Address PgWireClientError) → PrintsAt nonce dialer asked config answer p → p.text.items ≡ error_line client.IoError → Rose dialer.before dialer.now
+  at_io : (config : Config) (answer : Result Address ConfigError) → PrintsAt nonce dialer asked config answer p → p.text.items ≡ error_line client.IoError → Rose dialer.before dialer.now
   at_io config (Ok address) prints is = talk_io (input_for asked nonce config) asked.limit address prints.outcome prints.talked (outcome_io prints.outcome (sym prints.says.0 ∙ is))
   at_io config (Err e) prints is = absurd (refusal_io e prints is)
 
-  by_io : (outcome : Result Config PgWireClientError) → PrintsBy nonce dialer asked outcome p → p.text.items ≡ error_line client.IoError → Rose dialer.before dialer.now
+  by_io : (outcome : Result Config ConfigError) → PrintsBy nonce dialer asked outcome p → p.text.items ≡ error_line client.IoError → Rose dialer.before dialer.now
   by_io (Ok config) prints is = at_io config (address_of config) prints is
   by_io (Err e) prints is = absurd (refusal_io e prints is)
 
@@ -112,43 +125,42 @@ module _ (nonce : List ℕ) (dialer : DialSpan) (asked : Connection) (p : Printe
 abbrev failed : PgWireClientError → Result SessionReport PgWireClientError
 failed e = Err e
 
--- a configuration without address is refused by its key
-host_refused : (port : ℕ) (hosts : List Host) (e : PgWireClientError) → first_host port hosts ≡ Err e → IsRefusal e
-host_refused port [] e is = let same : client.InvalidConfig (codes "host") ≡ e = cc in subst IsRefusal same tt
-host_refused port (host ∷ more) e is = cc
-
-address_refused : (port : ℕ) (addrs : List HostAddr) (hosts : List Host) (e : PgWireClientError) → first_address port addrs hosts ≡ Err e → IsRefusal e
-address_refused port [] hosts e is = host_refused port hosts e is
-address_refused port (addr ∷ more) hosts e is = cc
-
 module _ (nonce : List ℕ) (dialer : DialSpan) (asked : Connection) where
+  -- what is left for the configuration of a text is left for the text
+  pub text_leaves : (config : Config) → HasOutcome asked.text (Ok config) → LeavesFor nonce asked config dialer → LeavesDialer nonce (command.Connect asked) dialer
+  text_leaves config has (inl same) = inl same
+  text_leaves config has (inr (to, is, used)) = inr (config, to, (has, is), used)
+
   pub talk_printed : (config : Config) (address : Address) (outcome : Result SessionReport PgWireClientError) (r : Result Printed OutOfMemory) → address_of config ≡ Ok address
-      → ((IsErrOf outcome client.OutOfMemory → ⊥) → Talked (input_for asked nonce config) asked.limit address dialer outcome)
+      → Talked (input_for asked nonce config) asked.limit address dialer outcome
       → IfOk r (λ p. Says p (result_text outcome) (status_of outcome)) → OnOk r (IsErrOf outcome client.OutOfMemory → ⊥)
       → IfOk r (PrintsAt nonce dialer asked config (address_of config))
   talk_printed config address outcome (Ok p) is talked says memory =
-      let prints : PrintsTalk (input_for asked nonce config) asked.limit address dialer p = record { outcome = outcome; talked = talked memory; memory = memory; says = says } in
-      subst (λ (answer : Result Address PgWireClientError). PrintsAt nonce dialer asked config answer p) (sym is) prints
+      let prints : PrintsTalk (input_for asked nonce config) asked.limit address dialer p = record { outcome = outcome; talked = talked; memory = memory; says = says } in
+      subst (λ (answer : Result Address ConfigError). PrintsAt nonce dialer asked config answer p) (sym is) prints
   talk_printed config address outcome (Err e) is talked says memory = tt
 
-  pub no_address_printed : (config : Config) (e : PgWireClientError) (r : Result Printed OutOfMemory) → (e ≢ client.OutOfMemory → address_of config ≡ Err e)
+  -- a refusal that is printed is not want of memory
+  printed_as : (why : ConfigError) (e : PgWireClientError) (p : Printed) → e ≡ of_config why → e ≢ client.OutOfMemory → Says p (error_line e) 1 → PrintsRefusal why p
+  printed_as why e p same memory says = (λ short. memory (same ∙ ap of_config short), subst (λ (x : PgWireClientError). Says p (error_line x) 1) same says)
+
+  pub no_address_printed : (config : Config) (why : ConfigError) (e : PgWireClientError) (r : Result Printed OutOfMemory) → e ≡ of_config why → Answers (Err why) (address_of config)
       → IfOk r (λ p. Says p (error_line e) 1) → OnOk r (IsErrOf (failed e) client.OutOfMemory → ⊥)
       → IfOk r (PrintsAt nonce dialer asked config (address_of config))
-  no_address_printed config e (Ok p) given says memory =
-      let other : e ≢ client.OutOfMemory = λ same. memory (ap Err same) in
-      let is = given other in
-      let prints : PrintsRefusal e p = (address_refused (first_port config.port) config.hostaddr config.host e is, other, says) in
-      subst (λ (answer : Result Address PgWireClientError). PrintsAt nonce dialer asked config answer p) (sym is) prints
-  no_address_printed config e (Err none) given says memory = tt
+  no_address_printed config why e (Ok p) same given says memory =
+      let prints = printed_as why e p same (λ short. memory (ap Err short)) says in
+      subst (λ (answer : Result Address ConfigError). PrintsAt nonce dialer asked config answer p) (sym (given prints.0)) prints
+  no_address_printed config why e (Err none) same given says memory = tt
 
-  pub text_printed : (config : Config) (r : Result Printed OutOfMemory) → HasOutcome asked.text (Ok config) → ((other : Result Config PgWireClientError) → HasOutcome asked.text other → Answers (Ok config) other)
+  pub text_printed : (config : Config) (r : Result Printed OutOfMemory) → HasOutcome asked.text (Ok config) → ((other : Result Config ConfigError) → HasOutcome asked.text other → Answers (Ok config) other)
       → IfOk r (PrintsAt nonce dialer asked config (address_of config)) → IfOk r (Connects nonce dialer asked)
   text_printed config (Ok p) has only prints = record { outcome = Ok config; has = has; only = only; prints = prints }
   text_printed config (Err e) has only prints = tt
 
-  pub refusal_printed : (e : PgWireClientError) (r : Result Printed OutOfMemory) → IsParsed asked.text (Err e) → ((other : Result Config PgWireClientError) → HasOutcome asked.text other → Answers (Err e) other) → IsRefusal e
+  pub refusal_printed : (why : ConfigError) (e : PgWireClientError) (r : Result Printed OutOfMemory) → e ≡ of_config why → IsParsed asked.text (Err why) → ((other : Result Config ConfigError) → HasOutcome asked.text other → Answers (Err why) other)
       → IfOk r (λ p. Says p (error_line e) 1) → OnOk r (e ≢ client.OutOfMemory)
       → IfOk r (Connects nonce dialer asked)
-  refusal_printed e (Ok p) parsed only refusal says memory =
-      record { outcome = Err e; has = parsed memory; only = λ other has. only other has memory; prints = (refusal, memory, says) }
-  refusal_printed e (Err none) parsed only refusal says memory = tt
+  refusal_printed why e (Ok p) same parsed only says memory =
+      let prints = printed_as why e p same memory says in
+      record { outcome = Err why; has = parsed prints.0; only = λ other has. only other has prints.0; prints = prints }
+  refusal_printed why e (Err none) same parsed only says memory = tt

@@ -18,7 +18,7 @@ use Rattle.pgw_gen.proofs.CompletionLaws.{rows_counted, stream_completes, stream
 use Rattle.pgw_types.specs.declared.memory.OutOfMemory.{OutOfMemory}
 use Rattle.pgw_prog.specs.declared.printed.Printed.{Printed}
 use Rattle.pgw_prog.specs.Held.{Says}
-use Rattle.pgw_prog.specs.OverLink.{LinkSpan}
+use Rattle.pgw_client.specs.OverLink.{LinkSpan}
 use Rattle.pgw_prog.specs.Generated.{PrintsGen, SaysGen, stream_summary, summary_text}
 use Rattle.pgw_prog.specs.GenSession.{Gives, OverLinkShortly, Told}
 
@@ -29,7 +29,7 @@ sum_of n rows = record { rows = n; digest = sha256 (payloads rows) }
 
 reports_shortly : (report : SessionReport) (outcome : Result SessionReport ClientError) (result : Result GenSummary ClientError) → Told outcome result → Reports report outcome → Gives (summary_of report) result
 reports_shortly report (Ok answer) (Ok summary) told is = told ∙ ap summary_of is
-reports_shortly report (Ok answer) (Err e) told is = told.0
+reports_shortly report (Ok answer) (Err e) told is = absurd told
 reports_shortly report (Err e) (Ok summary) told is = absurd told
 reports_shortly report (Err e) (Err f) told is = told ∙ is
 

@@ -8,10 +8,13 @@ use Rattle.pgw_link.specs.Foresight.{Foreseen}
 use Rattle.pgw_link.specs.Calls.{is_reached, number_of}
 use Rattle.pgw_link.specs.Memory.{Making}
 use Rattle.pgw_types.specs.declared.memory.OutOfMemory.{OutOfMemory}
+use Rattle.pgw_types.specs.declared.config_error.ConfigError.{ConfigError}
+use Rattle.pgw_types.specs.declared.config_error.ConfigError.TheVariants as config_error
+use Rattle.pgw_backend.specs.ClientError.{of_config}
 use Rattle.pgw_backend.specs.declared.client_error.PgWireClientError.{PgWireClientError}
 use Rattle.pgw_backend.specs.declared.client_error.PgWireClientError.TheVariants as client
 use Rattle.pgw_config.specs.declared.config.Config.{Config}
-use Rattle.pgw_config.specs.Answers.{Answers, IsRefusal}
+use Rattle.pgw_config.specs.Answers.{Answers}
 use Rattle.pgw_config.specs.Parse.{HasOutcome, IsParsed}
 use Rattle.pgw_session.specs.declared.types.SessionReport.{SessionReport}
 use Rattle.pgw_session.specs.Demands.{refused_config}
@@ -25,7 +28,7 @@ use Rattle.pgw_session.specs.Talk.{conversation, whole_talk}
 use Rattle.pgw_session.proofs.Whole.{conversation_completes}
 use Rattle.pgw_script.specs.declared.script.Script.{Script}
 use Rattle.pgw_prog.specs.Held.{Session, PrintsSession, Says, PrintsOutcome, Holds, NamesCall, IsNear, memory_span, status_of}
-use Rattle.pgw_prog.specs.OverLink.{LinkSpan, OverLink}
+use Rattle.pgw_client.specs.OverLink.{LinkSpan, OverLink}
 use Rattle.pgw_prog.specs.Printing.{session_text}
 use Rattle.pgw_prog.proofs.OverLaws.{from_fresh}
 
@@ -118,12 +121,15 @@ completed_text_printed input limit made p segments clear reads writes c prints =
     (s.over.reports tt clear made.server refl segments c (λ rose. absurd (grind (arith, nat_tests, none, rose)))) prints.memory prints.text prints.status
 
 -- what is printed of a connection text that was read, and of one that was refused
-pub held : (s : Script) (config : Config) (r : Result Printed OutOfMemory) → HasOutcome s.config (Ok config) → ((other : Result Config PgWireClientError) → HasOutcome s.config other → Answers (Ok config) other)
+pub held : (s : Script) (config : Config) (r : Result Printed OutOfMemory) → HasOutcome s.config (Ok config) → ((other : Result Config ConfigError) → HasOutcome s.config other → Answers (Ok config) other)
     → IfOk r (PrintsOutcome s (Ok config)) → IfOk r (Holds s)
 held s config (Ok p) has only prints = record { outcome = Ok config; has = has; only = only; prints = prints }
 held s config (Err e) has only prints = tt
 
-pub refused : (s : Script) (e : PgWireClientError) (r : Result Printed OutOfMemory) → IsParsed s.config (Err e) → ((other : Result Config PgWireClientError) → HasOutcome s.config other → Answers (Err e) other) → IsRefusal e
+pub refused : (s : Script) (why : ConfigError) (e : PgWireClientError) (r : Result Printed OutOfMemory) → e ≡ of_config why → IsParsed s.config (Err why) → ((other : Result Config ConfigError) → HasOutcome s.config other → Answers (Err why) other)
     → OnOk r (e ≢ client.OutOfMemory) → IfOk r (λ p. Says p (session_text [] (Err e)) 1) → IfOk r (Holds s)
-refused s e (Ok p) parsed only refusal memory says = record { outcome = Err e; has = parsed memory; only = λ other has. only other has memory; prints = (refusal, memory, says) }
-refused s e (Err none) parsed only refusal memory says = tt
+refused s why e (Ok p) same parsed only memory says =
+    let other : why ≢ config_error.OutOfMemory = λ short. memory (same ∙ ap of_config short) in
+    let told : Says p (session_text [] (Err (of_config why))) 1 = subst (λ (x : PgWireClientError). Says p (session_text [] (Err x)) 1) same says in
+    record { outcome = Err why; has = parsed other; only = λ outcome has. only outcome has other; prints = (other, told) }
+refused s why e (Err none) same parsed only memory says = tt

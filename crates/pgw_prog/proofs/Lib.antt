@@ -4,4 +4,10 @@ pub mod HeldLaws
 pub mod TextLaws
 pub mod ConnectLaws
 pub mod GenLaws
+pub mod SecretLaws
+pub mod PassfileLaws
 pub mod ProgramLaws
+pub mod PairLaws
+pub mod KindLaws
+pub mod RelayLaws
+pub mod RowCounts

@@ -14,14 +14,9 @@ use Rattle.pgw_session.specs.Talk.{conversation}
 use Rattle.pgw_session.proofs.FailureLaws.{told as bytes_told}
 use Rattle.pgw_client.specs.Session.{ErrorCause, Tells}
 use Rattle.pgw_client.specs.SessionSteps.{failed, memory}
-use Rattle.pgw_client.proofs.DemandLaws.{refused_paced}
-use Rattle.pgw_client.specs.Demands.{Refuses}
-use Rattle.pgw_prog.specs.OverLink.{LinkSpan, OverLink}
-
--- a link that stayed as it was tells what it told
-pub same_tape : {L : Type 0} (tape : L → Tape) (o : Option (List ℕ)) (outcome : Result SessionReport PgWireClientError) (old new : L) → IfSome o (λ key. Refuses key outcome × (new ≡ old)) → IfSome o (λ key. Refuses key outcome × (tape new ≡ tape old))
-same_tape tape None outcome old new h = tt
-same_tape tape (Some key) outcome old new h = (h.0, ap tape h.1)
+use Rattle.pgw_client.proofs.RefusedLaws.{refused_paced}
+use Rattle.pgw_dialogue.specs.Demands.{Refuses}
+use Rattle.pgw_client.specs.OverLink.{LinkSpan, OverLink}
 
 -- what is known to come by fewer facts is said of fewer links
 pub foretold_less : {input : Input} {limit : ℕ} {more less : Type 0} {link : LinkSpan} {outcome : Result SessionReport PgWireClientError} → (less → more) → OverLink input limit more link outcome → OverLink input limit less link outcome

@@ -1,117 +1,96 @@
 -- What the program prints of a script that completes its session.
-use Rattle.std.proofs.Common.{◌≡◌, ◌≢◌, ◌≤◌, ℕ, ◌+◌, List, [], ◌++◌, codes, Result, length, length-take, take, refl, sym, ap, subst, ◌∙◌, inl, inr, Ok, Err, arith}
-use Rattle.std.specs.Prelude.{decimal}
+use Rattle.std.proofs.Common.{◌≡◌, true, false, ◌≤◌, ℕ, ◌+◌, List, [], ◌++◌, Result, length, length-take, take, refl, sym, ap, subst, ◌∙◌, inl, inr, Ok, Err, arith}
 use Rattle.std.specs.Result.{IfOk}
-use Rattle.std.proofs.lemmas.List.{append-nil, append_cancel_left}
+use Rattle.std.proofs.lemmas.List.{append-nil, append_cancel_left, length-append}
 use Rattle.pgw_types.specs.declared.memory.OutOfMemory.{OutOfMemory}
 use Rattle.pgw_session.specs.Events.{Event}
 use Rattle.pgw_script.specs.declared.script.Script.{Script}
 use Rattle.pgw_prog.specs.declared.printed.Printed.{Printed}
-use Rattle.pgw_script.specs.Script.{read_script}
-use Rattle.pgw_script.specs.Grammar.{IsScript, IsFault}
+use Rattle.pgw_script.specs.Script.{session_form}
 use Rattle.pgw_link.specs.Memory.{Making}
-use Rattle.pgw_link.specs.Stream.{SourceTape, SinkTape}
-use Rattle.pgw_link.specs.Tape.{Rose}
-use Rattle.pgw_backend.specs.declared.client_error.PgWireClientError.{PgWireClientError}
+use Rattle.pgw_link.specs.Stream.{SinkTape}
+use Rattle.pgw_types.specs.Counts.{Rose}
+use Rattle.pgw_types.specs.declared.config_error.ConfigError.{ConfigError}
+use Rattle.pgw_backend.specs.ClientError.{of_config}
 use Rattle.pgw_backend.specs.declared.client_error.PgWireClientError.TheVariants as client
-use Rattle.pgw_config.specs.Answers.{IsRefusal}
 use Rattle.pgw_config.specs.declared.config.Config.{Config}
 use Rattle.pgw_prog.specs.Printing.{session_text}
-use Rattle.pgw_prog.specs.Pieces.{line_end}
-use Rattle.pgw_prog.specs.Held.{Says, PrintsSession, PrintsOutcome, Holds, CanComplete, NamesCall, IsNear, FailsNear, input_of, making_of, completed_text}
+use Rattle.pgw_prog.specs.Held.{PrintsSession, PrintsOutcome, Holds, CanComplete, NamesCall, IsNear, FailsNear, input_of, making_of, completed_text}
 use Rattle.pgw_prog.specs.declared.command.Command.{Command}
 use Rattle.pgw_prog.specs.declared.command.Command.TheVariants as kind
+use Rattle.pgw_prog.specs.declared.program.ScriptKind.TheVariants as scripts_of
+use Rattle.pgw_prog.specs.Command.{reads_source}
 use Rattle.pgw_prog.specs.declared.program.Stop.TheVariants as stop
 use Rattle.pgw_prog.specs.Connected.{DialSpan, LeavesDialer}
-use Rattle.pgw_prog.specs.Transfer.{SourceSpan, SinkSpan, TookFront, TookWhole, TookTooMany, WroteWhole, WroteFront}
-use Rattle.pgw_prog.specs.Program.{Answers, AnswersText, AnswersScript, Completing, CountsStop, ListsFailure, Ran}
+use Rattle.pgw_prog.specs.Transfer.{SourceSpan, SinkSpan, TookFront, TookWhole, WroteWhole, WroteFront}
+use Rattle.pgw_prog.specs.Program.{Answers, AnswersScript, Completing, CountsStop, ListsFailure, Ran}
 use Rattle.pgw_prog.proofs.ConnectLaws.{report_written, io_written}
 use Rattle.pgw_prog.proofs.GenLaws.{generates}
-use Rattle.pgw_prog.proofs.TextLaws.{io_text, not_sent, no_line}
-use Rattle.pgw_script.proofs.GrammarLaws.{scripts, faults}
+use Rattle.pgw_prog.proofs.KindLaws.{script_prints}
+use Rattle.pgw_prog.proofs.PairLaws.{pair_written}
+use Rattle.pgw_prog.proofs.RelayLaws.{relay_written}
+use Rattle.pgw_prog.proofs.PassfileLaws.{passfile_written}
+use Rattle.pgw_prog.proofs.SecretLaws.{secret_written}
+use Rattle.pgw_prog.proofs.TextLaws.{io_text, not_io, not_sent, no_line}
 use Rattle.pgw_prog.proofs.HeldLaws.{completed_text_printed}
 
--- a text is one script
-same_script : (text : List ℕ) (s t : Script) → IsScript text s → IsScript text t → s ≡ t
-same_script text s t one two =
-    let left = (scripts text s).1 one in
-    let right = (scripts text t).1 two in
-    cc
-
-no_fault : (text : List ℕ) (s : Script) (n : ℕ) → IsScript text s → IsFault text n → ⊥
-no_fault text s n one two =
-    let left = (scripts text s).1 one in
-    let right = (faults text n).1 two in
-    cc
-
 -- the one outcome is the configuration whose session completes
-outcome_completes : (s : Script) (segments : List (List Event)) (can : CanComplete s segments) (p : Printed) (outcome : Result Config PgWireClientError) → Ok can.config ≡ outcome → PrintsOutcome s outcome p → (p.text.items ≡ completed_text s segments can) × (p.status ≡ 0)
+outcome_completes : (s : Script) (segments : List (List Event)) (can : CanComplete s segments) (p : Printed) (outcome : Result Config ConfigError) → Ok can.config ≡ outcome → PrintsOutcome s outcome p → (p.text.items ≡ completed_text s segments can) × (p.status ≡ 0)
 outcome_completes s segments can p (Ok config) same prints =
     let is : config ≡ can.config = cc in
     let prints_it = subst (λ (c : Config). PrintsSession (input_of s c) s.limit (making_of s) p) is prints in
     completed_text_printed (input_of s can.config) s.limit (making_of s) p segments can.clear can.no_reads can.no_writes can.completes prints_it
 outcome_completes s segments can p (Err e) same prints = cc
 
-text_completes : (text : List ℕ) (script : Script) (segments : List (List Event)) (c : Completing text script segments) (p : Printed) → AnswersText text p → (p.text.items ≡ completed_text script segments c.can) × (p.status ≡ 0)
-text_completes text script segments c p (inl (other, is, holds)) =
-    let holds_it = subst (λ (s : Script). Holds s p) (same_script text other script is c.is_script) holds in
-    outcome_completes script segments c.can p holds_it.outcome (holds_it.only (Ok c.can.config) c.can.means) holds_it.prints
-text_completes text script segments c p (inr (n, fault, says)) = absurd (no_fault text script n c.is_script fault)
-
--- a text that was read whole is not too long, and is the one that was read
-whole_short : (old new : SourceTape) (text : List ℕ) → TookWhole old new text → TookTooMany old new → ⊥
-whole_short old new text whole many =
-    let same : text ≡ many.taken = append_cancel_left old.took text many.taken (sym whole.took ∙ many.took) in
-    let length_same = ap length same in
-    omega (arith, length_same, whole.short, many.long)
-
-pub completes : (source : SourceSpan) (text : List ℕ) (script : Script) (segments : List (List Event)) (c : Completing text script segments) (p : Printed) → TookWhole source.old source.new text → AnswersScript source p
+pub completes : (source : SourceSpan) (text : List ℕ) (script : Script) (segments : List (List Event)) (c : Completing text script segments) (p : Printed) → TookWhole source.old source.new text → AnswersScript scripts_of.Session source p
     → (p.text.items ≡ completed_text script segments c.can) × (p.status ≡ 0)
-completes source text script segments c p whole (inl long) = absurd (whole_short source.old source.new text whole long.0)
-completes source text script segments c p whole (inr (other, read, answers)) =
-    let same : other ≡ text = append_cancel_left source.old.took other text (sym read.took ∙ whole.took) in
-    text_completes text script segments c p (subst (λ (t : List ℕ). AnswersText t p) same answers)
+completes source text script segments c p whole answers =
+    let holds = script_prints session_form Holds scripts_of.Session (λ t q h. h) source text script p whole c.is_script answers in
+    outcome_completes script segments c.can p holds.outcome (holds.only (Ok c.can.config) c.can.means) holds.prints
 
-near_same : (made : Making) (taken a b : List ℕ) → length a ≡ length b → IsNear made taken a → IsNear made taken b
-near_same made taken a b same (inl reads) = inl reads
-near_same made taken a b same (inr writes) = inr (subst (λ n. NamesCall made.writes (n + 1)) same writes)
+-- a listed call is among as many calls, or more
+named_more : (numbers : List ℕ) (few most : ℕ) → few ≤ most → NamesCall numbers few → NamesCall numbers most
+named_more numbers few most more named = (named.0, named.1, named.2, named.3, (named.4.0, omega (arith, named.4.1, more)))
+
+near_whole : (made : Making) (taken whole a b : List ℕ) → length taken ≤ length whole → length a ≡ length b → IsNear made taken a → IsNear made whole b
+near_whole made taken whole a b more same (inl reads) = inl (named_more made.reads (length taken + 1) (length whole + 1) (omega (arith, more)) reads)
+near_whole made taken whole a b more same (inr writes) = inr (named_more made.writes (length a + 1) (length b + 1) (omega (arith, same)) writes)
 
 -- a refusal is no error of the link
-held_listed : (s : Script) (sent : List ℕ) (p : Printed) (outcome : Result Config PgWireClientError) → PrintsOutcome s outcome p → p.text.items ≡ session_text sent (Err client.IoError) → FailsNear s sent
+held_listed : (s : Script) (sent : List ℕ) (p : Printed) (outcome : Result Config ConfigError) → PrintsOutcome s outcome p → p.text.items ≡ session_text sent (Err client.IoError) → FailsNear s sent
 held_listed s sent p (Ok config) h is =
     let told = io_text h.after.wrote sent h.outcome (sym h.text ∙ is) in
     let known = h.session.over.foreseen tt in
     let all : s.server ≡ h.after.took ++ h.left = known.consumes ∙ ap (λ (t : List ℕ). t ++ h.left) (sym known.took) in
-    (h.after.took, h.left, all, near_same (making_of s) h.after.took h.after.wrote sent told.0 (h.session.io_near told.1))
+    let sizes = ap length all ∙ length-append h.after.took h.left in
+    near_whole (making_of s) h.after.took s.server h.after.wrote sent (omega (arith, sizes)) told.0 (h.session.io_near told.1)
 held_listed s sent p (Err e) h is =
-    let told = io_text [] sent (Err e) (sym (h.2).0 ∙ is) in
-    let io : e ≡ client.IoError = cc in
-    absurd (subst IsRefusal io h.0)
+    let told = io_text [] sent (Err (of_config e)) (sym (h.1).0 ∙ is) in
+    let both = told.1 in
+    let io : of_config e ≡ client.IoError = cc in
+    absurd (not_io e io)
 
 -- the text of a session that the link failed is that of a script that lists a call near to it
-pub listed : (source : SourceSpan) (sent : List ℕ) (p : Printed) → AnswersScript source p → p.text.items ≡ session_text sent (Err client.IoError) → ListsFailure source.old source.new sent
+pub listed : (source : SourceSpan) (sent : List ℕ) (p : Printed) → AnswersScript scripts_of.Session source p → p.text.items ≡ session_text sent (Err client.IoError) → ListsFailure source.old source.new sent
 listed source sent p (inl long) is = absurd (not_sent sent client.IoError (sym (long.1).0 ∙ is))
 listed source sent p (inr (text, whole, inl (script, in_grammar, holds))) is = (text, whole, script, in_grammar, held_listed script sent p holds.outcome holds.prints is)
 listed source sent p (inr (text, whole, inr (n, fault, says))) is = absurd (no_line sent _ client.IoError (sym says.0 ∙ is))
 
--- what is printed of a text that was read, and of one that was not
-pub answers_ok : (text : List ℕ) (s : Script) (r : Result Printed OutOfMemory) → read_script text ≡ Ok s → IfOk r (Holds s) → IfOk r (AnswersText text)
-answers_ok text s (Ok p) is h = inl (s, (scripts text s).0 is, h)
-answers_ok text s (Err e) is h = tt
-
-pub answers_fault : (text : List ℕ) (n : ℕ) (r : Result Printed OutOfMemory) → read_script text ≡ Err n → IfOk r (λ p. Says p (codes "line " ++ decimal n ++ line_end) 2) → IfOk r (AnswersText text)
-answers_fault text n (Ok p) is h = inr (n, (faults text n).0 is, h)
-answers_fault text n (Err e) is h = tt
-
 -- ---- how a run ends
 
-module _ (help version nonce : List ℕ) (command : Command) (source : SourceSpan) (sink : SinkSpan) (dialer : DialSpan) where
-  answers_at : (k : Command) (p : Printed) → command ≡ k → Answers help version nonce source dialer command p → Answers help version nonce source dialer k p
-  answers_at k p is answers = subst (λ (c : Command). Answers help version nonce source dialer c p) is answers
+module _ (help version nonce words : List ℕ) (command : Command) (source : SourceSpan) (sink : SinkSpan) (dialer : DialSpan) where
+  answers_at : (k : Command) (p : Printed) → command ≡ k → Answers help version nonce words source dialer command p → Answers help version nonce words source dialer k p
+  answers_at k p is answers = subst (λ (c : Command). Answers help version nonce words source dialer c p) is answers
+
+  -- a command of this kind reads nothing
+  unread_by : (k : Command) → command ≡ k → reads_source k ≡ false → reads_source command ≡ true → ⊥
+  unread_by k is off on =
+      let same : reads_source command ≡ reads_source k = ap (λ (c : Command). reads_source c) is in
+      cc
 
   -- the whole text was written
-  pub ran_written : (p : Printed) → Answers help version nonce source dialer command p → source.now ≡ source.before → TookFront source → (command ≢ kind.Script → source.same) → dialer.before ≤ dialer.now → LeavesDialer command dialer
-      → WroteWhole sink.old sink.new p.text.items → sink.now ≡ sink.before → Ran help version nonce command source sink dialer p.status
+  pub ran_written : (p : Printed) → Answers help version nonce words source dialer command p → source.now ≡ source.before → TookFront source → (reads_source command ≡ false → source.same) → dialer.before ≤ dialer.now → LeavesDialer nonce command dialer
+      → WroteWhole sink.old sink.new p.text.items → sink.now ≡ sink.before → Ran help version nonce words command source sink dialer p.status
   ran_written p answers read took unread later leaves whole quiet = record {
     status_in = omega (arith, p.bound);
     prints = λ low. record { printed = p; answers = answers; wrote = whole.wrote; ends = refl };
@@ -131,11 +110,15 @@ module _ (help version nonce : List ℕ) (command : Command) (source : SourceSpa
     connects = λ t still hush asked is offer known segments can. report_written nonce dialer asked p offer segments can t still known (answers_at (kind.Connect asked) p is answers) sink.old.wrote sink.new.wrote whole.wrote;
     connect_io = λ asked is one text. io_written nonce dialer asked p (answers_at (kind.Connect asked) p is answers) sink.old.wrote sink.new.wrote whole.wrote text;
     generates = λ hush rows start is. generates rows start p sink.old.wrote sink.new.wrote (answers_at (kind.Gen rows start) p is answers) whole.wrote;
+    pairs = λ hush is. pair_written source p sink.old.wrote sink.new.wrote (answers_at kind.Pair p is answers) whole.wrote;
+    relays = λ hush is. relay_written source p sink.old.wrote sink.new.wrote (answers_at kind.Relay p is answers) whole.wrote;
+    secrets = λ hush asked is. secret_written asked.password asked.count words p sink.old.wrote sink.new.wrote (answers_at (kind.Secret asked) p is answers) whole.wrote;
+    finds = λ hush asked is. passfile_written asked source p sink.old.wrote sink.new.wrote (answers_at (kind.Passfile asked) p is answers) whole.wrote;
   }
 
   -- a write failed
-  pub ran_unwritten : (p : Printed) → Answers help version nonce source dialer command p → source.now ≡ source.before → TookFront source → (command ≢ kind.Script → source.same) → dialer.before ≤ dialer.now → LeavesDialer command dialer
-      → WroteFront sink.old sink.new p.text.items → Rose sink.before sink.now → Ran help version nonce command source sink dialer 3
+  pub ran_unwritten : (p : Printed) → Answers help version nonce words source dialer command p → source.now ≡ source.before → TookFront source → (reads_source command ≡ false → source.same) → dialer.before ≤ dialer.now → LeavesDialer nonce command dialer
+      → WroteFront sink.old sink.new p.text.items → Rose sink.before sink.now → Ran help version nonce words command source sink dialer 3
   ran_unwritten p answers read took unread later leaves front rose = record {
     status_in = omega arith;
     prints = λ low. absurd (omega (arith, low));
@@ -153,11 +136,15 @@ module _ (help version nonce : List ℕ) (command : Command) (source : SourceSpa
     connects = λ t still hush asked is offer known segments can. absurd (hush rose);
     connect_io = λ asked is one text. absurd (omega (arith, one));
     generates = λ hush rows start is. absurd (hush rose);
+    pairs = λ hush is text got script of. absurd (hush rose);
+    relays = λ hush is text got script of. absurd (hush rose);
+    secrets = λ hush asked is. absurd (hush rose);
+    finds = λ hush asked is file got. absurd (hush rose);
   }
 
-  -- nothing was written, since a read for a script failed
-  pub ran_unread : command ≡ kind.Script → CountsStop stop.Source source → TookFront source → (command ≢ kind.Script → source.same) → dialer.before ≤ dialer.now → LeavesDialer command dialer
-      → sink.same → sink.new ≡ sink.old → sink.now ≡ sink.before → Ran help version nonce command source sink dialer 3
+  -- nothing was written, since a read of the source failed
+  pub ran_unread : reads_source command ≡ true → CountsStop stop.Source source → TookFront source → (reads_source command ≡ false → source.same) → dialer.before ≤ dialer.now → LeavesDialer nonce command dialer
+      → sink.same → sink.new ≡ sink.old → sink.now ≡ sink.before → Ran help version nonce words command source sink dialer 3
   ran_unread script stopped took unread later leaves same kept quiet =
       let wrote : sink.new.wrote ≡ sink.old.wrote = ap (λ (t : SinkTape). t.wrote) kept in
       let writes : sink.new.writes ≡ sink.old.writes = ap (λ (t : SinkTape). t.writes) kept in
@@ -175,14 +162,18 @@ module _ (help version nonce : List ℕ) (command : Command) (source : SourceSpa
         unread = unread;
         dials = later;
         leaves = leaves;
-        connects = λ t still hush asked is offer known segments can. absurd (let other : kind.Script ≡ kind.Connect asked = sym script ∙ is in cc);
+        connects = λ t still hush asked is offer known segments can. absurd (unread_by (kind.Connect asked) is refl script);
         connect_io = λ asked is one text. absurd (omega (arith, one));
-        generates = λ hush rows start is. absurd (let other : kind.Script ≡ kind.Gen rows start = sym script ∙ is in cc);
+        generates = λ hush rows start is. absurd (unread_by (kind.Gen rows start) is refl script);
+        pairs = λ hush is text got pair of. absurd (omega (arith, got.ended, stopped.1));
+        relays = λ hush is text got script of. absurd (omega (arith, got.ended, stopped.1));
+        secrets = λ hush asked is. absurd (unread_by (kind.Secret asked) is refl script);
+        finds = λ hush asked is file got. absurd (omega (arith, got.ended, stopped.1));
       }
 
   -- or since memory ran out
-  pub ran_short : source.now ≡ source.before → TookFront source → (command ≢ kind.Script → source.same) → dialer.before ≤ dialer.now → LeavesDialer command dialer
-      → sink.same → sink.new ≡ sink.old → sink.now ≡ sink.before → Ran help version nonce command source sink dialer 4
+  pub ran_short : source.now ≡ source.before → TookFront source → (reads_source command ≡ false → source.same) → dialer.before ≤ dialer.now → LeavesDialer nonce command dialer
+      → sink.same → sink.new ≡ sink.old → sink.now ≡ sink.before → Ran help version nonce words command source sink dialer 4
   ran_short read took unread later leaves same kept quiet =
       let wrote : sink.new.wrote ≡ sink.old.wrote = ap (λ (t : SinkTape). t.wrote) kept in
       let writes : sink.new.writes ≡ sink.old.writes = ap (λ (t : SinkTape). t.writes) kept in
@@ -203,4 +194,8 @@ module _ (help version nonce : List ℕ) (command : Command) (source : SourceSpa
         connects = λ t still hush asked is offer known segments can. inl refl;
         connect_io = λ asked is one text. absurd (omega (arith, one));
         generates = λ hush rows start is. inl refl;
+        pairs = λ hush is text got pair of. inl refl;
+        relays = λ hush is text got script of. inl refl;
+        secrets = λ hush asked is. inl refl;
+        finds = λ hush asked is file got. inl refl;
       }

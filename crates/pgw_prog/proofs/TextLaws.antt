@@ -5,6 +5,9 @@ use Rattle.std.proofs.lemmas.Bool.Decides.{nat_tests}
 use Rattle.hex.specs.Hex.{encode_with, lower_digits}
 use Rattle.pgw_types.specs.declared.context.ProtocolVersion.{ProtocolVersion}
 use Rattle.pgw_types.specs.declared.context.ProtocolVersion.TheVariants as version
+use Rattle.pgw_types.specs.declared.config_error.ConfigError.{ConfigError}
+use Rattle.pgw_types.specs.declared.config_error.ConfigError.TheVariants as config_error
+use Rattle.pgw_backend.specs.ClientError.{of_config}
 use Rattle.pgw_backend.specs.declared.client_error.PgWireClientError.{PgWireClientError}
 use Rattle.pgw_backend.specs.declared.client_error.PgWireClientError.TheVariants as client
 use Rattle.pgw_session.specs.declared.types.SessionReport.{SessionReport}
@@ -115,6 +118,13 @@ name_same client.OutOfMemory is = cc
 pub error_same : (e : PgWireClientError) → error_line e ≡ error_line client.IoError → e ≡ client.IoError
 unfolding error_line
 error_same e is = name_same e (cc)
+
+-- a refusal of a configuration is no error of the link
+pub not_io : (e : ConfigError) → of_config e ≡ client.IoError → ⊥
+not_io (config_error.InvalidConfig key) is = cc
+not_io (config_error.UnknownConfig key) is = cc
+not_io (config_error.InvalidUtf8ConfigValue bytes) is = cc
+not_io config_error.OutOfMemory is = cc
 
 -- a text that says so is that of a session that the link failed, with as many bytes sent
 pub io_text : (a b : List ℕ) (outcome : Result SessionReport PgWireClientError) → session_text a outcome ≡ session_text b (Err client.IoError) → (length a ≡ length b) × (outcome ≡ Err client.IoError)

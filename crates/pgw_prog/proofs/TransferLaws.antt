@@ -1,6 +1,6 @@
 -- Parts of a text that is read or written in pieces.
 use Rattle.std.proofs.Common.{◌≡◌, ◌<◌, ◌≤◌, ℕ, ◌+◌, ◌-◌, List, [], ◌++◌, length, take, drop, Option, Some, None, arith, ◌∙◌, ap, sym, refl, length-drop, append_assoc}
-use Rattle.std.proofs.lemmas.List.{append-nil, length-append, nil_from_length, take_all}
+use Rattle.std.proofs.lemmas.List.{append-nil, append_cancel_left, length-append, nil_from_length, take_all}
 use Rattle.std.proofs.Math.Seq.{take-add}
 use Rattle.std.specs.Io.KnownBytes.{Consumes, IsAtEnd, Keeps}
 use Rattle.pgw_link.specs.Stream.{SourceTape, SinkTape, Drew, NotDrawn, Poured}
@@ -101,3 +101,10 @@ untouched s same left = record {
   foreseen = rw left (consumes_none s.was);
   at_end = λ more. let ended = ap (λ (t : SourceTape). t.ended) same in absurd (omega (arith, more, ended));
 }
+
+-- a text that was read whole is not too long, and is the one that was read
+pub whole_short : (old new : SourceTape) (text : List ℕ) → TookWhole old new text → TookTooMany old new → ⊥
+whole_short old new text whole many =
+    let same : text ≡ many.taken = append_cancel_left old.took text many.taken (sym whole.took ∙ many.took) in
+    let length_same = ap length same in
+    omega (arith, length_same, whole.short, many.long)

@@ -3,12 +3,12 @@ use Rattle.std.specs.Prelude.{ℕ, suc, List, [], ◌∷◌, ◌++◌, length, c
 use Rattle.std.specs.Fmt.{signed_decimal}
 use Rattle.std.specs.List.{flat_map}
 use Rattle.pgw_query.specs.declared.data.DataRow.{DataRow}
-use Rattle.pgw_backend.specs.declared.tag.Tag.{Tag}
-use Rattle.pgw_backend.specs.declared.field_info.FieldInfo.{FieldInfo}
-use Rattle.pgw_backend.specs.declared.field_info.FieldFormat.{FieldFormat}
-use Rattle.pgw_backend.specs.declared.field_info.FieldFormat.TheVariants as format
-use Rattle.pgw_backend.specs.declared.pg_type.PgType.{PgType}
-use Rattle.pgw_backend.specs.declared.pg_type.PgType.TheVariants as type
+use Rattle.pgw_query.specs.declared.tag.Tag.{Tag}
+use Rattle.pgw_query.specs.declared.field_info.FieldInfo.{FieldInfo}
+use Rattle.pgw_query.specs.declared.field_info.FieldFormat.{FieldFormat}
+use Rattle.pgw_query.specs.declared.field_info.FieldFormat.TheVariants as format
+use Rattle.pgw_query.specs.declared.pg_type.PgType.{PgType}
+use Rattle.pgw_query.specs.declared.pg_type.PgType.TheVariants as type
 use Rattle.pgw_session.specs.declared.types.Response.{Response}
 use Rattle.pgw_session.specs.declared.types.Response.TheVariants as response
 use Rattle.pgw_session.specs.declared.types.ExecuteResult.{ExecuteResult}

@@ -1,5 +1,5 @@
 -- The commands, by the words of the command line.
-use Rattle.std.specs.Prelude.{ℕ, List, [], ◌∷◌, map, nat_eq, nat_le, codes, Option, Some, None, if◌then◌else◌}
+use Rattle.std.specs.Prelude.{◌≤◌, ℕ, List, [], ◌∷◌, Bool, true, false, map, nat_eq, nat_lt, nat_le, codes, Option, Some, None, if◌then◌else◌}
 use Rattle.std.specs.Cmp.Lexicographic.{pointwise}
 use Rattle.pgw_prog.specs.declared.command.Command.{Command}
 use Rattle.pgw_prog.specs.declared.command.Command.TheVariants as command
@@ -10,6 +10,8 @@ use Rattle.pgw_script.specs.Line.{number_in}
 abbrev pub command_named : List ℕ → Command
 command_named word =
     if pointwise nat_eq word (codes "script") then command.Script
+    else if pointwise nat_eq word (codes "pair") then command.Pair
+    else if pointwise nat_eq word (codes "relay") then command.Relay
     else if pointwise nat_eq word (codes "--help") then command.Help
     else if pointwise nat_eq word (codes "--version") then command.Version
     else command.Usage
@@ -44,10 +46,52 @@ gen_with _ _ = command.Usage
 unfoldable pub gen_for : List ℕ → List ℕ → List ℕ → Command
 gen_for word rows start = if pointwise nat_eq word (codes "gen") then gen_with (up_to 1000000 rows) (up_to 4294967295 start) else command.Usage
 
+-- the secret of a password, with a count of 1 or more
+abbrev pub secret_with : List ℕ → Option ℕ → Command
+secret_with password None = command.Usage
+secret_with password (Some count) =
+    if nat_lt 0 count then command.Secret (record { password = password; count = count })
+    else command.Usage
+
+-- secret PASSWORD COUNT, with a count from 1 to 4294967295; or gen
+unfoldable pub secret_for : List ℕ → List ℕ → List ℕ → Command
+secret_for word password count =
+    if pointwise nat_eq word (codes "secret") then secret_with password (up_to 4294967295 count)
+    else gen_for word password count
+
+-- a password from a file, with a port of 16 bits
+abbrev pub passfile_with : List ℕ → Option ℕ → List ℕ → List ℕ → Command
+passfile_with host None database user = command.Usage
+passfile_with host (Some port) database user =
+    command.Passfile (record { host = host; port = port; database = database; user = user })
+
+-- passfile HOST PORT DATABASE USER; or connect with two queries
+unfoldable pub passfile_for : List ℕ → List ℕ → List ℕ → List ℕ → List ℕ → Command
+passfile_for word host port database user =
+    if pointwise nat_eq word (codes "passfile")
+    then passfile_with host (up_to 65535 port) database user
+    else connect_for word host port (database ∷ user ∷ [])
+
 -- no word at all asks for a script
 unfoldable pub command_for : List (List ℕ) → Command
 command_for [] = command.Script
 command_for (word ∷ []) = command_named word
 command_for (word ∷ text ∷ []) = command.Usage
-command_for (word ∷ rows ∷ start ∷ []) = gen_for word rows start
-command_for (word ∷ text ∷ limit ∷ query ∷ more) = connect_for word text limit (query ∷ more)
+command_for (word ∷ one ∷ two ∷ []) = secret_for word one two
+command_for (word ∷ text ∷ limit ∷ query ∷ []) = connect_for word text limit (query ∷ [])
+command_for (word ∷ one ∷ two ∷ three ∷ four ∷ []) = passfile_for word one two three four
+command_for (word ∷ text ∷ limit ∷ one ∷ two ∷ three ∷ more) =
+    connect_for word text limit (one ∷ two ∷ three ∷ more)
+
+-- whether a command reads standard input
+abbrev pub reads_source : Command → Bool
+reads_source command.Script = true
+reads_source command.Pair = true
+reads_source command.Relay = true
+reads_source (command.Passfile asked) = true
+reads_source _ = false
+
+-- the count of a secret is 1 or more
+abbrev pub IsSound : Command → Type 0
+IsSound (command.Secret asked) = 1 ≤ asked.count
+IsSound _ = Unit {0}

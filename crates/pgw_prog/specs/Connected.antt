@@ -1,41 +1,39 @@
 -- The session with the server that a connection text names.
 use Rattle.std.specs.Prelude.{◌≡◌, ◌≢◌, ◌⊎◌, ℕ, List, [], ◌∷◌, ◌++◌, true, Option, None, Result, Ok, Err, IsErrOf}
-use Rattle.pgw_link.specs.Tape.{Tape, Rose, new_tape}
+use Rattle.pgw_types.specs.Counts.{Rose}
+use Rattle.pgw_link.specs.Tape.{Tape, new_tape}
 use Rattle.pgw_link.specs.Dials.{DialTape, NotDialled, CountsClose}
-use Rattle.pgw_conninfo.specs.declared.address.Address.{Address}
+use Rattle.pgw_types.specs.declared.address.Address.{Address}
+use Rattle.pgw_types.specs.declared.config_error.ConfigError.{ConfigError}
+use Rattle.pgw_types.specs.declared.config_error.ConfigError.TheVariants as config_error
+use Rattle.pgw_backend.specs.ClientError.{of_config}
 use Rattle.pgw_backend.specs.declared.client_error.PgWireClientError.{PgWireClientError}
 use Rattle.pgw_backend.specs.declared.client_error.PgWireClientError.TheVariants as client
 use Rattle.pgw_config.specs.declared.config.Config.{Config}
 use Rattle.pgw_config.specs.Address.{address_of}
-use Rattle.pgw_config.specs.Answers.{IsRefusal}
 use Rattle.pgw_config.specs.Parse.{HasOutcome}
 use Rattle.pgw_session.specs.declared.types.SessionReport.{SessionReport}
 use Rattle.pgw_session.specs.Demands.{refused_config}
 use Rattle.pgw_session.specs.Events.{Event}
-use Rattle.pgw_session.specs.Input.{Input}
+use Rattle.pgw_session.specs.Input.{Input, input_with}
 use Rattle.pgw_session.specs.Transcript.{Completes, report_of}
 use Rattle.pgw_prog.specs.declared.command.Command.{Command}
 use Rattle.pgw_prog.specs.declared.command.Command.TheVariants as command
 use Rattle.pgw_prog.specs.declared.command.Connection.{Connection}
 use Rattle.pgw_prog.specs.declared.printed.Printed.{Printed}
 use Rattle.pgw_prog.specs.Held.{Says, status_of}
-use Rattle.pgw_prog.specs.OverLink.{OverLink}
+use Rattle.pgw_client.specs.OverLink.{OverLink}
 use Rattle.pgw_prog.specs.Printing.{report_lines, error_line, result_text}
 
 -- the session that is asked for, with this configuration
 abbrev pub input_for : Connection → List ℕ → Config → Input
-input_for asked nonce config = record { config = config; requests = asked.requests; nonce = nonce }
+input_for asked nonce config = input_with config asked.requests nonce
 
 -- ---- the dialer
 
 -- the connection text is a configuration, which leads to this address
 abbrev pub LeadsTo : Connection → Config → Address → Type 0
 LeadsTo asked config address = HasOutcome asked.text (Ok config) × (address_of config ≡ Ok address)
-
--- a command dials the address of its connection text, and no other command dials
-abbrev pub Dials : Command → Address → Type 0
-Dials (command.Connect asked) address = (config : Config) × LeadsTo asked config address
-Dials _ address = ⊥
 
 -- What a dialer told before a command and behind it: its history, the bytes that its next link had to come where they are
 -- known, which is where `foretells` holds, how often it had failed. `same`: it is as it was.
@@ -65,27 +63,18 @@ pub record DialledOnce (to : Address) (old new : DialTape) (after : Tape) : Type
   pub dialled : new.dialled ≡ old.dialled ++ (to, true) ∷ []
   pub shut : new.shut ≡ old.shut ++ after ∷ []
 
--- one dial was made, which gave no link, or one that was closed again
-abbrev pub UsedOnce : Address → DialTape → DialTape → Type 0
-UsedOnce to old new = NotDialled to old new ⊎ ((after : Tape) × DialledOnce to old new after)
-
--- the dialer is as it was, or it was used once, for the address of the configuration
-abbrev pub LeavesFor : Config → DialSpan → Type 0
-LeavesFor config dialer =
-    dialer.same ⊎ ((address : Address) × (address_of config ≡ Ok address) × UsedOnce address dialer.old dialer.new)
-
--- the dialer is as it was, or it was used once, for the address that the command dials
-abbrev pub LeavesDialer : Command → DialSpan → Type 0
-LeavesDialer command dialer =
-    dialer.same ⊎ ((address : Address) × Dials command address × UsedOnce address dialer.old dialer.new)
-
 -- ---- the answer
 
--- the dial failed, and that is the answer
+-- why there is no link, which is the answer: the dial failed, or memory was wanting
+abbrev pub NoLinkFor : DialSpan → Result SessionReport PgWireClientError → Type 0
+NoLinkFor dialer outcome =
+    ((outcome ≡ Err client.IoError) × Rose dialer.before dialer.now)
+    ⊎ ((outcome ≡ Err client.OutOfMemory) × (dialer.now ≡ dialer.before))
+
+-- the dial gave no link
 pub record FoundNoLink (to : Address) (dialer : DialSpan)
     (outcome : Result SessionReport PgWireClientError) : Type 0 where
-  pub failed : outcome ≡ Err client.IoError
-  pub rose : Rose dialer.before dialer.now
+  pub why : NoLinkFor dialer outcome
   pub tape : NotDialled to dialer.old dialer.new
 
 -- A session was held over a new link of the dialer, which was closed: what the link told then, and how often it had failed.
@@ -106,11 +95,33 @@ pub record HeldSession (input : Input) (limit : ℕ) (to : Address) (dialer : Di
 abbrev pub Talked : Input → ℕ → Address → DialSpan → Result SessionReport PgWireClientError → Type 0
 Talked input limit to dialer outcome = FoundNoLink to dialer outcome ⊎ HeldSession input limit to dialer outcome
 
+-- ---- the dialer, whatever is printed
+
+-- it was used once, for the session with this configuration: the dial gave no link, or one over which that was held
+abbrev pub UsedOnce : List ℕ → Connection → Config → Address → DialSpan → Type 0
+UsedOnce nonce asked config to dialer =
+    (outcome : Result SessionReport PgWireClientError)
+    × Talked (input_for asked nonce config) asked.limit to dialer outcome
+
+-- it is as it was, or it was used once, at the address of the configuration
+abbrev pub LeavesFor : List ℕ → Connection → Config → DialSpan → Type 0
+LeavesFor nonce asked config dialer =
+    dialer.same
+    ⊎ ((to : Address) × (address_of config ≡ Ok to) × UsedOnce nonce asked config to dialer)
+
+-- it is so for the configuration of the connection text; no other command touches it
+abbrev pub LeavesDialer : List ℕ → Command → DialSpan → Type 0
+LeavesDialer nonce (command.Connect asked) dialer =
+    dialer.same
+    ⊎ ((config : Config) × (to : Address) × LeadsTo asked config to
+    × UsedOnce nonce asked config to dialer)
+LeavesDialer nonce _ dialer = dialer.same
+
 -- ---- what is printed
 
 -- a refusal, which is not want of memory
-abbrev pub PrintsRefusal : PgWireClientError → Printed → Type 0
-PrintsRefusal e p = IsRefusal e × (e ≢ client.OutOfMemory) × Says p (error_line e) 1
+abbrev pub PrintsRefusal : ConfigError → Printed → Type 0
+PrintsRefusal e p = (e ≢ config_error.OutOfMemory) × Says p (error_line (of_config e)) 1
 
 -- the answer, for which memory sufficed
 pub record PrintsTalk (input : Input) (limit : ℕ) (to : Address) (dialer : DialSpan) (p : Printed) : Type 0 where
@@ -120,20 +131,20 @@ pub record PrintsTalk (input : Input) (limit : ℕ) (to : Address) (dialer : Dia
   pub says : Says p (result_text outcome) (status_of outcome)
 
 -- what is printed at the address, or of the refusal that there is none
-abbrev pub PrintsAt : List ℕ → DialSpan → Connection → Config → Result Address PgWireClientError → Printed → Type 0
+abbrev pub PrintsAt : List ℕ → DialSpan → Connection → Config → Result Address ConfigError → Printed → Type 0
 PrintsAt nonce dialer asked config (Ok address) p = PrintsTalk (input_for asked nonce config) asked.limit address dialer p
 PrintsAt nonce dialer asked config (Err e) p = PrintsRefusal e p
 
 -- what is printed where the connection text has this outcome
-abbrev pub PrintsBy : List ℕ → DialSpan → Connection → Result Config PgWireClientError → Printed → Type 0
+abbrev pub PrintsBy : List ℕ → DialSpan → Connection → Result Config ConfigError → Printed → Type 0
 PrintsBy nonce dialer asked (Ok config) p = PrintsAt nonce dialer asked config (address_of config) p
 PrintsBy nonce dialer asked (Err e) p = PrintsRefusal e p
 
 -- what is printed is what the one outcome of the connection text gives
 pub record Connects (nonce : List ℕ) (dialer : DialSpan) (asked : Connection) (p : Printed) : Type 0 where
-  pub outcome : Result Config PgWireClientError
+  pub outcome : Result Config ConfigError
   pub has : HasOutcome asked.text outcome
-  pub only : (other : Result Config PgWireClientError) → HasOutcome asked.text other → other ≡ outcome
+  pub only : (other : Result Config ConfigError) → HasOutcome asked.text other → other ≡ outcome
   pub prints : PrintsBy nonce dialer asked outcome p
 
 -- ---- completeness

@@ -1,16 +1,16 @@
 -- A session of any size over a link: what is said of every session, with its report told shortly.
-use Rattle.std.specs.Prelude.{◌≡◌, ◌≤◌, ℕ, ◌^◌, List, length, Result, Ok, Err}
+use Rattle.std.specs.Prelude.{◌≡◌, ℕ, List, Result, Ok, Err}
 use Rattle.pgw_backend.specs.declared.client_error.PgWireClientError.{PgWireClientError as ClientError}
 use Rattle.pgw_backend.specs.declared.client_error.PgWireClientError.TheVariants as client
 use Rattle.pgw_session.specs.declared.types.SessionReport.{SessionReport}
 use Rattle.pgw_gen.specs.declared.summary.GenSummary.{GenSummary}
-use Rattle.pgw_gen.specs.Summary.{gen_input, report_rows, summary_of}
-use Rattle.pgw_prog.specs.OverLink.{LinkSpan, OverLink}
+use Rattle.pgw_gen.specs.Summary.{gen_input, summary_of}
+use Rattle.pgw_client.specs.OverLink.{LinkSpan, OverLink}
 
--- the answer of a session told shortly: the summary of its report, where its rows can be counted, or its error
+-- the answer of a session told shortly: the summary of its report, or its error
 abbrev pub Told : Result SessionReport ClientError → Result GenSummary ClientError → Type 0
 Told (Ok report) (Ok summary) = summary ≡ summary_of report
-Told (Ok report) (Err e) = (e ≡ client.OutOfMemory) × (2 ^ 64 ≤ length (report_rows report))
+Told (Ok report) (Err e) = ⊥
 Told (Err e) (Ok summary) = ⊥
 Told (Err e) (Err f) = f ≡ e
 

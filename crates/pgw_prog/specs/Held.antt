@@ -4,24 +4,28 @@ use Rattle.std.specs.List.{Any}
 use Rattle.pgw_link.specs.Tape.{Tape, new_tape}
 use Rattle.pgw_link.specs.Calls.{is_reached, number_of}
 use Rattle.pgw_link.specs.Memory.{Making}
+use Rattle.pgw_types.specs.declared.config_error.ConfigError.{ConfigError}
+use Rattle.pgw_types.specs.declared.config_error.ConfigError.TheVariants as config_error
+use Rattle.pgw_backend.specs.ClientError.{of_config}
 use Rattle.pgw_backend.specs.declared.client_error.PgWireClientError.{PgWireClientError}
 use Rattle.pgw_backend.specs.declared.client_error.PgWireClientError.TheVariants as client
 use Rattle.pgw_config.specs.declared.config.Config.{Config}
-use Rattle.pgw_config.specs.Answers.{IsRefusal}
 use Rattle.pgw_config.specs.Parse.{HasOutcome}
 use Rattle.pgw_session.specs.declared.types.SessionReport.{SessionReport}
 use Rattle.pgw_session.specs.Demands.{refused_config}
 use Rattle.pgw_session.specs.Events.{Event}
-use Rattle.pgw_session.specs.Input.{Input}
+use Rattle.pgw_session.specs.Input.{Input, input_with}
 use Rattle.pgw_session.specs.Transcript.{Completes, report_of}
-use Rattle.pgw_prog.specs.OverLink.{LinkSpan, OverLink}
+use Rattle.pgw_client.specs.OverLink.{LinkSpan, OverLink}
 use Rattle.pgw_script.specs.declared.script.Script.{Script}
 use Rattle.pgw_prog.specs.declared.printed.Printed.{Printed}
 use Rattle.pgw_prog.specs.Printing.{session_text}
 
 -- the session that the script asks for, with this configuration
 abbrev pub input_of : Script → Config → Input
-input_of s config = record { config = record config { protocol_version = s.protocol_version }; requests = s.requests; nonce = s.nonce }
+input_of s config =
+    input_with (record config { protocol_version = s.protocol_version; certificate_hash = s.certificate_hash })
+    s.requests s.nonce
 
 -- the link that the script describes
 abbrev pub making_of : Script → Making
@@ -82,15 +86,15 @@ Says p text status = (p.text.items ≡ text) × (p.status ≡ status)
 
 -- what is printed where the connection text has this outcome: the text of the session with its configuration, or the
 -- refusal, which is not want of memory, and that nothing was sent
-abbrev pub PrintsOutcome : Script → Result Config PgWireClientError → Printed → Type 0
+abbrev pub PrintsOutcome : Script → Result Config ConfigError → Printed → Type 0
 PrintsOutcome s (Ok config) p = PrintsSession (input_of s config) s.limit (making_of s) p
-PrintsOutcome s (Err e) p = IsRefusal e × (e ≢ client.OutOfMemory) × Says p (session_text [] (Err e)) 1
+PrintsOutcome s (Err e) p = (e ≢ config_error.OutOfMemory) × Says p (session_text [] (Err (of_config e))) 1
 
 -- what is printed is what the one outcome of the script's connection text gives
 pub record Holds (s : Script) (p : Printed) : Type 0 where
-  pub outcome : Result Config PgWireClientError
+  pub outcome : Result Config ConfigError
   pub has : HasOutcome s.config outcome
-  pub only : (other : Result Config PgWireClientError) → HasOutcome s.config other → other ≡ outcome
+  pub only : (other : Result Config ConfigError) → HasOutcome s.config other → other ≡ outcome
   pub prints : PrintsOutcome s outcome p
 
 -- a script whose connection text is a configuration that demands nothing that is refused, that lists no call to fail,
@@ -107,7 +111,7 @@ pub record CanComplete (s : Script) (segments : List (List Event)) : Type 0 wher
 abbrev pub completed_text : (s : Script) (segments : List (List Event)) → CanComplete s segments → List ℕ
 completed_text s segments can = session_text can.completes.sent (Ok (report_of (input_of s can.config) segments))
 
--- of the script's link a listed read is at most one more than some first bytes of the server's, or a listed write at
--- most one more than these bytes sent
+-- of the script's link a listed read is at most one more than the server's bytes, or a listed write at most one more than
+-- these bytes sent
 abbrev pub FailsNear : Script → List ℕ → Type 0
-FailsNear s sent = (taken rest : List ℕ) × (s.server ≡ taken ++ rest) × IsNear (making_of s) taken sent
+FailsNear s sent = IsNear (making_of s) s.server sent

@@ -3,10 +3,13 @@ pub mod Pieces
 pub mod ErrorNames
 pub mod Printing
 pub mod Transfer
-pub mod OverLink
 pub mod Held
 pub mod Connected
 pub mod GenSession
 pub mod Generated
 pub mod Command
+pub mod Secret
+pub mod Passfile
+pub mod Pair
+pub mod Relay
 pub mod Program

@@ -1,7 +1,7 @@
 -- Reading a whole source, and writing a whole text.
 use Rattle.std.specs.Prelude.{◌≡◌, ◌<◌, ◌≤◌, ℕ, ◌+◌, List, ◌++◌, length, take, Option}
 use Rattle.std.specs.Io.KnownBytes.{Consumes, IsAtEnd}
-use Rattle.pgw_link.specs.Tape.{Rose}
+use Rattle.pgw_types.specs.Counts.{Rose}
 use Rattle.pgw_link.specs.Stream.{SourceTape, SinkTape}
 use Rattle.pgw_prog.specs.declared.transfer.ReadFault.{ReadFault}
 use Rattle.pgw_prog.specs.declared.transfer.ReadFault.TheVariants as fault

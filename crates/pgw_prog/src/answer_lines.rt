@@ -1,17 +1,17 @@
 //! The printed lines of answers.
 ghost use Rattle.std.specs.Prelude.{◌≡◌, ◌++◌, ◌∷◌, [], OnOk, codes, decimal, ◌+◌, ◌<◌, ◌^◌};
 ghost use Rattle.std.specs.List.{flat_map};
-ghost use Rattle.pgw_rows.specs.Runs.{lent_row};
+ghost use Rattle.pgw_query.specs.Runs.{lent_row};
 ghost use Rattle.pgw_prog.specs.Pieces.{line_end, quoted};
 ghost use Rattle.pgw_prog.specs.AnswerLines.{tag_text, type_number, format_number, field_line, row_line, response_lines, item_line, name_text, oid_text, oids_text, rows_lines, executed_lines, told_lines, answer_lines, numbered};
 
 use crate::pieces::{put, put_decimal, put_hex, put_quoted, put_signed};
-use pgw_backend::field_info::{FieldFormat, FieldInfo};
-use pgw_backend::pg_type::PgType;
-use pgw_backend::tag::Tag;
 use pgw_client::{
     Answer, DataRowRef, DataRows, DescribeResponse, ExecuteResult, PrepareResponse, Response,
 };
+use pgw_query::field_info::{FieldFormat, FieldInfo};
+use pgw_query::pg_type::PgType;
+use pgw_query::tag::Tag;
 use pgw_types::memory::OutOfMemory;
 use pgw_types::text::Text;
 
@@ -177,7 +177,8 @@ fn put_name(out: &mut Vec<u8>, name: &Option<Text>) -> Result<(), OutOfMemory>
 }
 
 fn put_more_oids(out: &mut Vec<u8>, types: &[PgType]) -> Result<(), OutOfMemory>
-    ensures { OnOk result (out.new.items ≡ out.old.items ++ flat_map (λ t. codes "," ++ oid_text t) types.now) }
+    ensures { OnOk result (out.new.items ≡ out.old.items
+        ++ flat_map (λ t. codes "," ++ oid_text t) types.now) }
 {
     for datatype in types {
         put(out, b",")?;
@@ -218,7 +219,9 @@ fn put_executed(out: &mut Vec<u8>, answer: &ExecuteResult<DataRows>) -> Result<(
 }
 
 fn put_prepared(out: &mut Vec<u8>, prepared: &PrepareResponse) -> Result<(), OutOfMemory>
-    ensures { OnOk result (out.new.items ≡ out.old.items ++ (codes " prepared " ++ name_text (prepared.now).name ++ codes " " ++ oids_text (prepared.now).param_types ++ line_end)) }
+    ensures { OnOk result (out.new.items ≡ out.old.items
+        ++ (codes " prepared " ++ name_text (prepared.now).name ++ codes " "
+        ++ oids_text (prepared.now).param_types ++ line_end)) }
 {
     put(out, b" prepared ")?;
     put_name(out, &prepared.name)?;
@@ -228,7 +231,9 @@ fn put_prepared(out: &mut Vec<u8>, prepared: &PrepareResponse) -> Result<(), Out
 }
 
 fn put_described(out: &mut Vec<u8>, described: &DescribeResponse) -> Result<(), OutOfMemory>
-    ensures { OnOk result (out.new.items ≡ out.old.items ++ (codes " described " ++ oids_text (described.now).param_types ++ line_end ++ flat_map field_line (described.now).fields)) }
+    ensures { OnOk result (out.new.items ≡ out.old.items
+        ++ (codes " described " ++ oids_text (described.now).param_types ++ line_end
+        ++ flat_map field_line (described.now).fields)) }
 {
     put(out, b" described ")?;
     put_oids(out, described.param_types.as_slice())?;

@@ -2,22 +2,22 @@
 ghost use Rattle.std.specs.Prelude.{◌≡◌, ◌≢◌, ◌≤◌, IfOk, OnOk, IsErrOf};
 ghost use Rattle.pgw_backend.specs.declared.client_error.PgWireClientError.TheVariants as client;
 ghost use Rattle.pgw_prog.specs.declared.command.Command.TheVariants as kind;
-ghost use Rattle.pgw_prog.specs.Connected.{input_for, dial_span, Connects, LeavesDialer, LeavesFor, PrintsAt, Talked, UsedOnce};
+ghost use Rattle.pgw_prog.specs.Connected.{input_for, dial_span, Connects, LeavesDialer, LeavesFor, PrintsAt, Talked};
 ghost use Rattle.pgw_prog.specs.Held.{Says, status_of as status_for};
 ghost use Rattle.pgw_prog.specs.Printing.{error_line, result_text};
 ghost use Rattle.pgw_config.specs.Address.{address_of};
 
 use crate::command::Connection;
 use crate::held::status_of;
-use crate::over_link::hold_over;
 use crate::printed::Printed;
 use crate::printing::put_result;
 use crate::told::{told_of_outcome, told_of_refusal};
 use pgw_backend::client_error::{PgWireClientError, PgWireClientResult};
+use pgw_client::session::run_session;
 use pgw_config::config::Config;
-use pgw_conninfo::address::Address;
 use pgw_link::dialer::{DialError, Dialer};
 use pgw_session::types::SessionReport;
+use pgw_types::address::Address;
 use pgw_types::memory::OutOfMemory;
 use std::alloc::Global;
 
@@ -31,9 +31,7 @@ fn talk<D: Dialer>(
     nonce: &[u8; 18],
 ) -> PgWireClientResult<SessionReport>
     ensures later { D.faults dialer.old ≤ D.faults dialer.new }
-    ensures used { UsedOnce address.now (D.tape dialer.old) (D.tape dialer.new) }
-    ensures talked { (IsErrOf result client.OutOfMemory → ⊥) →
-        Talked (input_for asked.now nonce.now config.now) asked.now.limit address.now
+    ensures talked { Talked (input_for asked.now nonce.now config.now) asked.now.limit address.now
         (dial_span D.tape D.foretells D.offer D.faults dialer.old dialer.new) result }
 {
     let mut link = match dialer.dial(address) {
@@ -42,7 +40,7 @@ fn talk<D: Dialer>(
         Err(DialError::OutOfMemory) => return Err(PgWireClientError::OutOfMemory),
     };
     let requests = asked.requests.as_slice();
-    let outcome = hold_over(alloc, &mut link, config, requests, nonce, asked.limit);
+    let outcome = run_session(alloc, &mut link, config, requests, nonce, asked.limit);
     dialer.close(link);
     outcome
 }
@@ -101,7 +99,7 @@ fn connect_with<D: Dialer>(
     nonce: &[u8; 18],
 ) -> Result<Printed, OutOfMemory>
     ensures later { D.faults dialer.old ≤ D.faults dialer.new }
-    ensures leaves { LeavesFor config.now
+    ensures leaves { LeavesFor nonce.now asked.now config.now
         (dial_span D.tape D.foretells D.offer D.faults dialer.old dialer.new) }
     ensures prints { IfOk result (PrintsAt nonce.now
         (dial_span D.tape D.foretells D.offer D.faults dialer.old dialer.new)
@@ -112,7 +110,7 @@ fn connect_with<D: Dialer>(
             let outcome = talk(alloc, asked, config, &address, dialer, nonce);
             print_result(alloc, outcome)
         }
-        Err(error) => print_result(alloc, Err(error)),
+        Err(error) => print_result(alloc, Err(PgWireClientError::from(error))),
     }
 }
 
@@ -124,7 +122,7 @@ pub fn connect<D: Dialer>(
     nonce: &[u8; 18],
 ) -> Result<Printed, OutOfMemory>
     ensures later { D.faults dialer.old ≤ D.faults dialer.new }
-    ensures leaves { LeavesDialer (kind.Connect asked.now)
+    ensures leaves { LeavesDialer nonce.now (kind.Connect asked.now)
         (dial_span D.tape D.foretells D.offer D.faults dialer.old dialer.new) }
     ensures prints { IfOk result (Connects nonce.now
         (dial_span D.tape D.foretells D.offer D.faults dialer.old dialer.new) asked.now) }
@@ -135,6 +133,9 @@ pub fn connect<D: Dialer>(
             drop(config);
             printed
         }
-        Err(error) => print_refusal(alloc, asked.text.as_str(), error),
+        Err(error) => {
+            let error = PgWireClientError::from(error);
+            print_refusal(alloc, asked.text.as_str(), error)
+        }
     }
 }

@@ -1,11 +1,11 @@
 //! A session of any size over a link, its rows told shortly.
-ghost use Rattle.std.specs.Prelude.{◌≡◌, IfOk};
-ghost use Rattle.pgw_gen.specs.Summary.{gen_config, gen_query};
+ghost use Rattle.std.specs.Prelude.{◌≡◌, ◌<◌, ◌^◌, length, IfOk};
+ghost use Rattle.pgw_gen.specs.Summary.{gen_config, gen_query, report_rows};
 ghost use Rattle.pgw_prog.specs.GenSession.{OverLinkShortly, Told};
-ghost use Rattle.pgw_prog.specs.OverLink.{link_span};
+ghost use Rattle.pgw_client.specs.OverLink.{link_span};
 
-use crate::over_link::hold_over;
-use pgw_backend::client_error::{PgWireClientError, PgWireClientResult};
+use pgw_backend::client_error::PgWireClientResult;
+use pgw_client::session::run_session;
 use pgw_config::config::Config;
 use pgw_gen::summary::{GenSummary, summary_of};
 use pgw_link::link::Link;
@@ -27,15 +27,19 @@ fn request(alloc: Global) -> Result<Request, OutOfMemory>
     Request::simple(alloc, "SELECT n")
 }
 
-// The answer, with the report told shortly.
+// The answer, with the report told shortly. A session has fewer rows than 64 bits can count, as it
+// reads no more bytes than its limit.
 fn summed(outcome: PgWireClientResult<SessionReport>) -> PgWireClientResult<GenSummary>
+    requires { IfOk outcome (λ report. length (report_rows report) < 2 ^ 64) }
     ensures { Told outcome result }
 {
     match outcome {
-        Ok(report) => match summary_of(&report) {
-            Ok(summary) => Ok(summary),
-            Err(OutOfMemory) => Err(PgWireClientError::OutOfMemory),
-        },
+        Ok(report) => {
+            let Ok(summary) = summary_of(&report) else {
+                unreachable!()
+            };
+            Ok(summary)
+        }
         Err(error) => Err(error),
     }
 }
@@ -55,7 +59,7 @@ pub fn gen_session<L: Link>(
 {
     let config = config(alloc)?;
     let requests = [request(alloc)?];
-    let outcome = hold_over(alloc, link, &config, &requests, nonce, limit);
+    let outcome = run_session(alloc, link, &config, &requests, nonce, limit);
     drop(requests);
     drop(config);
     summed(outcome)

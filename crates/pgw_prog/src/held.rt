@@ -1,25 +1,27 @@
 //! The session of a script.
 ghost use Rattle.std.specs.Prelude.{◌≡◌, ◌≢◌, ◌<◌, ◌≤◌, ◌+◌, ◌*◌, ◌||◌, nat_lt, [], length, None, Ok, Err, IfOk, OnOk, IsErrOf};
 ghost use Rattle.pgw_backend.specs.declared.client_error.PgWireClientError.TheVariants as client;
-ghost use Rattle.pgw_prog.specs.Held.{input_of, InCuts, status_of as status_for, Says, PrintsSession, PrintsOutcome, Holds};
-ghost use Rattle.pgw_client.specs.Input.{input_with};
+ghost use Rattle.pgw_prog.specs.Held.{InCuts, status_of as status_for, Says, PrintsSession, PrintsOutcome, Holds};
+ghost use Rattle.pgw_session.specs.Input.{input_with};
 ghost use Rattle.pgw_link.specs.Calls.{is_reached, number_of};
 ghost use Rattle.pgw_link.specs.Memory.{memory_tape, memory_left, faults_of, making_of};
 ghost use Rattle.pgw_link.specs.Tape.{new_tape};
 ghost use Rattle.pgw_prog.specs.Printing.{session_text};
 
-use crate::over_link::hold_over;
 use crate::printed::Printed;
 use crate::printing::put_session;
 use crate::told::{told_of_outcome, told_of_refusal};
 use pgw_backend::client_error::{PgWireClientError, PgWireClientResult};
+use pgw_client::session::run_session;
 use pgw_config::config::Config;
 use pgw_link::memory::MemoryLink;
 use pgw_script::script::Script;
 use pgw_script::server_bytes::ServerBytes;
 use pgw_session::types::{Request, SessionReport};
+use pgw_types::context::ProtocolVersion;
 use pgw_types::listed::Listed;
 use pgw_types::memory::OutOfMemory;
+use pgw_types::octets::Octets;
 use pgw_types::text::Text;
 use std::alloc::Global;
 
@@ -36,11 +38,19 @@ pub fn status_of(outcome: &PgWireClientResult<SessionReport>) -> Result<u8, OutO
     }
 }
 
-/// The configuration that asks for the script's version.
-fn versioned(script: &Script, mut config: Config) -> Config
-    ensures { result ≡ (input_of script.now config).config }
+/// A configuration with a script's version and its hash of the server's certificate.
+fn configured(
+    mut config: Config,
+    version: ProtocolVersion,
+    certificate_hash: Option<Octets>,
+) -> Config
+    ensures { result ≡ record config {
+      protocol_version = version;
+      certificate_hash = certificate_hash;
+    } }
 {
-    config.protocol_version(script.protocol_version);
+    config.protocol_version(version);
+    config.certificate_hash = certificate_hash;
     config
 }
 
@@ -112,14 +122,14 @@ fn run(
     ensures { IfOk result (PrintsSession (input_with config.now requests.now nonce.now) limit
         (making_of link.old)) }
 {
-    let outcome = hold_over(alloc, link, config, requests, nonce, limit);
+    let outcome = run_session(alloc, link, config, requests, nonce, limit);
     let printed = print_outcome(alloc, link, &outcome);
     drop(outcome);
     printed
 }
 
 // The link of a script: what its server sends, and which calls fail.
-fn link_of(
+pub fn link_of(
     alloc: Global,
     server: ServerBytes,
     cut: usize,
@@ -142,8 +152,9 @@ fn hold_with(alloc: Global, script: Script, config: Config) -> Result<Printed, O
     requires { 0 < script.cut }
     ensures { IfOk result (PrintsOutcome script (Ok config)) }
 {
-    let config = versioned(&script, config);
     let Script {
+        protocol_version,
+        certificate_hash,
         nonce,
         limit,
         cut,
@@ -153,6 +164,7 @@ fn hold_with(alloc: Global, script: Script, config: Config) -> Result<Printed, O
         server,
         ..
     } = script;
+    let config = configured(config, protocol_version, certificate_hash);
     let held = match link_of(alloc, server, cut, fail_reads, fail_writes) {
         Ok(mut link) => run(
             alloc,
@@ -192,6 +204,9 @@ pub fn hold(alloc: Global, script: Script) -> Result<Printed, OutOfMemory>
 {
     match Config::parse(alloc, script.config.as_str()) {
         Ok(config) => hold_with(alloc, script, config),
-        Err(error) => print_refusal(alloc, script.config.as_str(), error),
+        Err(error) => {
+            let error = PgWireClientError::from(error);
+            print_refusal(alloc, script.config.as_str(), error)
+        }
     }
 }

@@ -1,4 +1,5 @@
-//! What the program does: sessions with a server, sessions from scripts, and sessions of any size.
+//! What the program does: sessions with a server, sessions from scripts, logins of two parties, recorded
+//! connections, and sessions of any size.
 //!
 //! To whoever runs it, `program::run_program` promises the whole text that each command prints and the status it ends
 //! with, as `specs/Program` says them in the words of the script's grammar and of `run_session`'s contract; that a fault
@@ -9,15 +10,19 @@
 mod answer_lines;
 mod command;
 mod connected;
+pub mod equality;
 mod error_names;
 pub mod gen_session;
 mod generated;
 mod held;
-mod over_link;
+mod pair;
+mod passfile;
 mod pieces;
 mod printed;
 mod printing;
 pub mod program;
+mod relay;
+mod secret;
 mod silence;
 pub mod start;
 mod told;

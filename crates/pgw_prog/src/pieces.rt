@@ -1,5 +1,5 @@
 //! The pieces of printed text.
-ghost use Rattle.std.specs.Prelude.{◌≡◌, ◌+◌, ◌*◌, ◌++◌, ◌∷◌, [], IfSome, OnOk, codes, decimal};
+ghost use Rattle.std.specs.Prelude.{◌≡◌, ◌<◌, ◌+◌, ◌*◌, ◌++◌, ◌∷◌, [], OnOk, codes, decimal};
 ghost use Rattle.std.specs.Fmt.{signed_decimal};
 ghost use Rattle.std.specs.List.{flat_map};
 ghost use Rattle.hex.specs.Hex.{encode_lower};
@@ -31,21 +31,22 @@ fn put_digits(out: &mut Vec<u8>, bytes: &[u8]) -> Result<(), OutOfMemory>
     ensures { OnOk result (out.new.items ≡ out.old.items ++ encode_lower bytes.now) }
 {
     let start = out.len();
-    let Some(end) = end_of(start, bytes.len()) else {
-        return Err(OutOfMemory);
-    };
+    let end = end_of(start, bytes.len());
     out.resize(end, 0)?;
+    // A vector holds fewer bytes than 64 bits can count, so the end is no cut-off one.
+    let whole = out.len() < usize::MAX;
+    prove!(whole);
     let written = hex::encode_to_slice(bytes, &mut out[start..]);
     let fits = written.is_ok();
     prove!(fits);
     Ok(())
 }
 
-// Where two digits for each byte end. No list is so long that there is no such place.
-fn end_of(start: usize, len: usize) -> Option<usize>
-    ensures { IfSome result (λ end. end ≡ start + 2 * len) }
+// Where two digits for each byte end, or the greatest place of all, at which no list ends.
+fn end_of(start: usize, len: usize) -> usize
+    ensures { result < 18446744073709551615 → result ≡ start + 2 * len }
 {
-    start.checked_add(len.checked_mul(2)?)
+    start.saturating_add(len.saturating_mul(2))
 }
 
 pub fn put_decimal(out: &mut Vec<u8>, number: u64) -> Result<(), OutOfMemory>

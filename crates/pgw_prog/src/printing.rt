@@ -77,7 +77,8 @@ fn put_parameter(out: &mut Vec<u8>, name: &Text, value: &Text) -> Result<(), Out
 }
 
 fn put_parameters(out: &mut Vec<u8>, parameters: &Params) -> Result<(), OutOfMemory>
-    ensures { OnOk result (out.new.items ≡ out.old.items ++ flat_map parameter_line (map.entries parameters.now)) }
+    ensures { OnOk result (out.new.items ≡ out.old.items
+        ++ flat_map parameter_line (map.entries parameters.now)) }
 {
     for (name, value) in parameters.iter() {
         put_parameter(out, name, value)?;

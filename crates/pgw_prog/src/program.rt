@@ -1,26 +1,39 @@
 //! The program: the words of the command line, the source and the sink.
-ghost use Rattle.std.specs.Prelude.{◌≡◌, ◌≢◌, ◌≤◌, ◌++◌, map, codes, decimal, string_bytes, IfOk, IfErr, OnOk};
-ghost use Rattle.pgw_prog.specs.declared.command.Command.TheVariants as kind;
+ghost use Rattle.std.specs.Prelude.{◌≡◌, ◌≤◌, true, false, map, string_bytes, IfOk, IfErr, OnOk};
 ghost use Rattle.pgw_prog.specs.declared.program.Stop.TheVariants as stop;
-ghost use Rattle.pgw_prog.specs.Command.{command_for};
+ghost use Rattle.pgw_prog.specs.Command.{command_for, reads_source, IsSound};
 ghost use Rattle.pgw_prog.specs.Connected.{dial_span, LeavesDialer};
-ghost use Rattle.pgw_prog.specs.Held.{Says};
-ghost use Rattle.pgw_prog.specs.Program.{AnswersText, AnswersScript, Answers, Appended, CountsStop, Ran};
-ghost use Rattle.pgw_prog.specs.Pieces.{line_end};
+ghost use Rattle.pgw_prog.specs.Held.{Says, Holds};
+ghost use Rattle.pgw_prog.specs.Pair.{PrintsPair};
+ghost use Rattle.pgw_prog.specs.Relay.{PrintsRelay};
+ghost use Rattle.pgw_script.specs.Script.{session_form};
+ghost use Rattle.pgw_script.specs.PairScript.{pair_form};
+ghost use Rattle.pgw_script.specs.RelayScript.{relay_form};
+ghost use Rattle.pgw_prog.specs.Program.{AnswersText, AnswersScript, Gives, Answers, Appended, CountsStop, Ran, SaysLine};
 ghost use Rattle.pgw_prog.specs.Transfer.{source_span, sink_span, TookFront};
 
 use crate::command::{Command, command_of};
 use crate::connected::connect;
 use crate::generated::generate;
 use crate::held::hold;
+use crate::pair::hold_pair;
+use crate::passfile::answer_passfile;
 use crate::pieces::{put, put_decimal};
 use crate::printed::Printed;
+use crate::relay::hold_relay;
+use crate::secret::make_secret;
 use crate::silence::Silence;
-use crate::told::{NO_MEMORY, NO_OUTPUT, NO_SCRIPT, TOO_LONG, told, told_of_line, told_of_words};
+use crate::told::{
+    NO_MEMORY, NO_OUTPUT, NO_SCRIPT, TOO_LONG, told, told_of_line, told_of_pair_line,
+    told_of_relay_line, told_of_words,
+};
 use crate::transfer::{ReadFault, read_whole, write_whole};
 use pgw_link::dialer::Dialer;
 use pgw_link::stream::{Sink, Source};
-use pgw_script::script::{ScriptFault, parse};
+use pgw_script::lines::ScriptFault;
+use pgw_script::pair_script::parse_pair;
+use pgw_script::relay_script::parse_relay;
+use pgw_script::script::parse;
 use pgw_types::memory::OutOfMemory;
 use std::alloc::Global;
 
@@ -37,10 +50,22 @@ hothummei
 hothummei script     reads a script from standard input, holds its session
                      against the server's bytes that it gives, and prints the
                      bytes sent and the report, or the error
+hothummei pair       reads a pair script from standard input, holds the login of
+                     the client and the server that it gives, and prints where
+                     both are behind its events
+hothummei relay      reads a relay script from standard input, runs a recording proxy
+                     between the client and the server that it gives, and prints
+                     what was passed on to each side, and the record
 hothummei gen ROWS START
                      makes a session of ROWS rows, at most 1000000, whose
                      numbers follow from START, holds it, and prints how many
                      rows and bytes it had, and SHA-256 of the rows
+hothummei secret PASSWORD COUNT
+                     prints what a server keeps of a password that is hashed COUNT
+                     times with a fresh salt, for logins by SCRAM-SHA-256
+hothummei passfile HOST PORT DATABASE USER
+                     reads a file of passwords from standard input, and prints in
+                     hex the password of the first line that matches, or none
 hothummei --help     prints this text
 hothummei --version  prints the version
 
@@ -60,6 +85,8 @@ HEX is hex digits. Reads and writes are counted from 1.
 
 config TEXT                      a connection text, as user=bob password=secret
 protocol 3.0                     or 3.2 or 3.9999; may be left out (3.0)
+certificate HEX                  the hash of the server's certificate, to which a
+                                 login is bound; may be left out
 nonce HEX                        36 digits: the bytes of a login's nonce
 limit N                          the most bytes to read from the server
 cut N                            the most bytes that one call moves, 1 to 65536
@@ -94,10 +121,40 @@ server 54 0000001a 0001 6100 00000000 0000 00000017 0004 ffffffff 0000
 server 44 0000000b 0001 00000001 31
 server 43 0000000d 53454c454354203100 5a 00000005 49
 
-Status: 0 the session ended well, 1 it ended with an error, or the connection
-text is refused, or no connection was made, 2 the words or the script are wrong
-(usage, line N, script too long), 3 reading or writing failed or the system gave
-no random bytes, 4 memory ran out. Of each but 0 standard error says what failed.
+A pair script has these lines, in this order, by the same rules. A user logs in by
+SCRAM-SHA-256, and an end takes what the other wrote where an event says so.
+
+user TEXT                        the user's name
+password TEXT                    the password that the client has
+stored TEXT                      the password that the server keeps a salted one of
+salt HEX                         its salt
+count N                          how often it is hashed, 1 to 4294967295
+client HEX                       36 digits: the bytes of the client's nonce
+server HEX                       36 digits: those of the server's
+words HEX                        64 digits: what the server draws besides
+client-hash HEX                  the hash of a certificate that the client knows; may
+                                 be left out
+server-hash HEX                  that of the server's own; may be left out
+to-server N, to-client N         an end takes the next N bytes, or all that there are;
+                                 any number, in any order
+
+A relay script has these lines, in this order, by the same rules. A proxy reads once a
+turn, passes on the messages that are whole, as they were spelled, and records them.
+
+cut N                            the most bytes that one call moves, 1 to 65536
+client HEX                       bytes that the client sends; any number
+server HEX                       bytes that the server sends; any number; in both spaces
+                                 may stand between the digits
+turns LETTERS                    whose bytes are read in each turn, c or s
+
+A file of passwords has lines host:port:database:user:password. In the first four a *
+alone matches everything, and a backslash stands for the byte after it.
+
+Status: 0 the session ended well, or the answer is printed, 1 the session or the proxy
+ended with an error, the connection text is refused, or no connection was made, 2 the words,
+the script or the file are wrong (usage, line N, script too long, file too long), 3
+reading or writing failed or the system gave no random bytes, 4 memory ran out. Of each
+but 0 standard error says what failed.
 ";
 
 /// Why nothing is printed.
@@ -132,7 +189,7 @@ fn says(alloc: Global, text: &[u8], status: u8, told: String) -> Result<Printed,
 
 /// What is printed of a script whose line with this number is outside the grammar.
 fn says_line(alloc: Global, number: u64, told: String) -> Result<Printed, OutOfMemory>
-    ensures { IfOk result (λ p. Says p (codes "line " ++ decimal number ++ line_end) 2) }
+    ensures { IfOk result (SaysLine number) }
 {
     let mut text = Vec::new(alloc);
     put(&mut text, b"line ")?;
@@ -145,9 +202,17 @@ fn says_line(alloc: Global, number: u64, told: String) -> Result<Printed, OutOfM
     })
 }
 
-/// Reads a script, lets its text go, and holds its session.
-fn answer_text(alloc: Global, text: Vec<u8>) -> Result<Printed, OutOfMemory>
-    ensures { IfOk result (AnswersText text.items) }
+/// A kind of scripts.
+#[derive(Clone, Copy)]
+enum ScriptKind {
+    Session,
+    Pair,
+    Relay,
+}
+
+/// Reads a session script, lets its text go, and holds its session.
+fn answer_session(alloc: Global, text: Vec<u8>) -> Result<Printed, OutOfMemory>
+    ensures { IfOk result (AnswersText session_form Holds text.items) }
 {
     match parse(alloc, &text) {
         Ok(script) => {
@@ -161,16 +226,58 @@ fn answer_text(alloc: Global, text: Vec<u8>) -> Result<Printed, OutOfMemory>
     }
 }
 
-fn answer_script<I: Source>(alloc: Global, input: &mut I) -> Result<Printed, Stop>
+/// Reads a pair script, lets its text go, and holds its login.
+fn answer_pair(alloc: Global, text: Vec<u8>) -> Result<Printed, OutOfMemory>
+    ensures { IfOk result (AnswersText pair_form PrintsPair text.items) }
+{
+    match parse_pair(alloc, &text) {
+        Ok(script) => {
+            drop(text);
+            hold_pair(alloc, script)
+        }
+        Err(ScriptFault::Line(number)) => {
+            says_line(alloc, number, told_of_pair_line(alloc, &text, number))
+        }
+        Err(ScriptFault::OutOfMemory) => Err(OutOfMemory),
+    }
+}
+
+/// Reads a relay script, lets its text go, and runs its proxy.
+fn answer_relay(alloc: Global, text: Vec<u8>) -> Result<Printed, OutOfMemory>
+    ensures { IfOk result (AnswersText relay_form PrintsRelay text.items) }
+{
+    match parse_relay(alloc, &text) {
+        Ok(script) => {
+            drop(text);
+            hold_relay(alloc, script)
+        }
+        Err(ScriptFault::Line(number)) => {
+            says_line(alloc, number, told_of_relay_line(alloc, &text, number))
+        }
+        Err(ScriptFault::OutOfMemory) => Err(OutOfMemory),
+    }
+}
+
+fn answer_text(alloc: Global, kind: ScriptKind, text: Vec<u8>) -> Result<Printed, OutOfMemory>
+    ensures { IfOk result (Gives kind text.items) }
+{
+    match kind {
+        ScriptKind::Session => answer_session(alloc, text),
+        ScriptKind::Pair => answer_pair(alloc, text),
+        ScriptKind::Relay => answer_relay(alloc, text),
+    }
+}
+
+fn answer_script<I: Source>(alloc: Global, kind: ScriptKind, input: &mut I) -> Result<Printed, Stop>
     ensures no_fault { OnOk result (I.faults input.new ≡ I.faults input.old) }
     ensures cause { IfErr result (λ e. CountsStop e
         (source_span I.tape I.left I.faults input.old input.new)) }
     ensures took { TookFront (source_span I.tape I.left I.faults input.old input.new) }
-    ensures answers { IfOk result (AnswersScript
+    ensures answers { IfOk result (AnswersScript kind
         (source_span I.tape I.left I.faults input.old input.new)) }
 {
     match read_whole(alloc, input) {
-        Ok(text) => Ok(answer_text(alloc, text)?),
+        Ok(text) => Ok(answer_text(alloc, kind, text)?),
         Err(ReadFault::TooLong) => {
             Ok(says(alloc, b"script too long\n", 2, told(alloc, TOO_LONG))?)
         }
@@ -186,24 +293,32 @@ fn answer<I: Source, D: Dialer>(
     input: &mut I,
     dialer: &mut D,
     nonce: &[u8; 18],
+    words32: &[u8; 32],
 ) -> Result<Printed, Stop>
+    requires { IsSound command }
     ensures no_fault { OnOk result (I.faults input.new ≡ I.faults input.old) }
     ensures cause { IfErr result (λ e. CountsStop e
         (source_span I.tape I.left I.faults input.old input.new)) }
     ensures took { TookFront (source_span I.tape I.left I.faults input.old input.new) }
-    ensures answers { IfOk result (Answers HELP.now VERSION.now nonce.now
+    ensures answers { IfOk result (Answers HELP.now VERSION.now nonce.now words32.now
         (source_span I.tape I.left I.faults input.old input.new)
         (dial_span D.tape D.foretells D.offer D.faults dialer.old dialer.new) command) }
     ensures later { D.faults dialer.old ≤ D.faults dialer.new }
-    ensures leaves { LeavesDialer command
+    ensures leaves { LeavesDialer nonce.now command
         (dial_span D.tape D.foretells D.offer D.faults dialer.old dialer.new) }
-    ensures unread { command ≢ kind.Script → input.new ≡ input.old }
-    ensures source { IfErr result (λ e. e ≡ stop.Source → command ≡ kind.Script) }
+    ensures unread { reads_source command ≡ false → input.new ≡ input.old }
+    ensures source { IfErr result (λ e. e ≡ stop.Source → reads_source command ≡ true) }
 {
     match command {
-        Command::Script => answer_script(alloc, input),
+        Command::Script => answer_script(alloc, ScriptKind::Session, input),
+        Command::Pair => answer_script(alloc, ScriptKind::Pair, input),
+        Command::Relay => answer_script(alloc, ScriptKind::Relay, input),
         Command::Connect(asked) => Ok(connect(alloc, &asked, dialer, nonce)?),
         Command::Gen(rows, start) => Ok(generate(alloc, rows, start, nonce)?),
+        Command::Secret(asked) => {
+            Ok(make_secret(alloc, asked.password.as_str(), asked.count, words32)?)
+        }
+        Command::Passfile(asked) => answer_passfile(alloc, &asked, input),
         Command::Help => Ok(says(alloc, HELP.as_bytes(), 0, String::new(alloc))?),
         Command::Version => Ok(says(alloc, VERSION.as_bytes(), 0, String::new(alloc))?),
         Command::Usage => Ok(says(alloc, b"usage\n", 2, told_of_words(alloc, words))?),
@@ -216,25 +331,26 @@ fn answer_words<I: Source, D: Dialer>(
     input: &mut I,
     dialer: &mut D,
     nonce: &[u8; 18],
+    words32: &[u8; 32],
 ) -> Result<Printed, Stop>
     ensures no_fault { OnOk result (I.faults input.new ≡ I.faults input.old) }
     ensures cause { IfErr result (λ e. CountsStop e
         (source_span I.tape I.left I.faults input.old input.new)) }
     ensures took { TookFront (source_span I.tape I.left I.faults input.old input.new) }
-    ensures answers { IfOk result (Answers HELP.now VERSION.now nonce.now
+    ensures answers { IfOk result (Answers HELP.now VERSION.now nonce.now words32.now
         (source_span I.tape I.left I.faults input.old input.new)
         (dial_span D.tape D.foretells D.offer D.faults dialer.old dialer.new)
         (command_for (map string_bytes words.now))) }
     ensures later { D.faults dialer.old ≤ D.faults dialer.new }
-    ensures leaves { LeavesDialer (command_for (map string_bytes words.now))
+    ensures leaves { LeavesDialer nonce.now (command_for (map string_bytes words.now))
         (dial_span D.tape D.foretells D.offer D.faults dialer.old dialer.new) }
-    ensures unread { command_for (map string_bytes words.now) ≢ kind.Script →
+    ensures unread { reads_source (command_for (map string_bytes words.now)) ≡ false →
         input.new ≡ input.old }
     ensures source { IfErr result (λ e. e ≡ stop.Source →
-        command_for (map string_bytes words.now) ≡ kind.Script) }
+        reads_source (command_for (map string_bytes words.now)) ≡ true) }
 {
     let command = command_of(alloc, words)?;
-    answer(alloc, words, command, input, dialer, nonce)
+    answer(alloc, words, command, input, dialer, nonce, words32)
 }
 
 /// Tells people a text. That a write of it fails changes nothing.
@@ -255,9 +371,10 @@ pub fn run_program_with<I: Source, O: Sink, E: Sink, D: Dialer>(
     errors: &mut E,
     dialer: &mut D,
     nonce: &[u8; 18],
-    _words32: &[u8; 32],
+    words32: &[u8; 32],
 ) -> u8
-    ensures run { Ran HELP.now VERSION.now nonce.now (command_for (map string_bytes words.now))
+    ensures run { Ran HELP.now VERSION.now nonce.now words32.now
+        (command_for (map string_bytes words.now))
         (source_span I.tape I.left I.faults input.old input.new)
         (sink_span O.tape O.faults output.old output.new)
         (dial_span D.tape D.foretells D.offer D.faults dialer.old dialer.new) result }
@@ -265,7 +382,7 @@ pub fn run_program_with<I: Source, O: Sink, E: Sink, D: Dialer>(
     ensures told { Appended (E.tape errors.old) (E.tape errors.new) }
     ensures told_faults { E.faults errors.old ≤ E.faults errors.new }
 {
-    match answer_words(alloc, words, input, dialer, nonce) {
+    match answer_words(alloc, words, input, dialer, nonce, words32) {
         Ok(printed) => match write_whole(output, &printed.text) {
             Ok(()) => {
                 tell(errors, printed.told.as_str());
@@ -291,7 +408,8 @@ pub fn run_program_with<I: Source, O: Sink, E: Sink, D: Dialer>(
 /// an error, or the connection text is refused, or no link was made, 2 the words or the script are outside their grammar,
 /// 3 the source or the sink failed, 4 memory ran out.
 ///
-/// The nonce is that of a SCRAM login of `connect`; a script has its own. The 32 bytes are for commands to come.
+/// The nonce is that of a SCRAM login of `connect`; a script has its own. The first 16 of the 32 bytes are the salt of
+/// `secret`.
 pub fn run_program<I: Source, O: Sink, D: Dialer>(
     alloc: Global,
     words: &[String],
@@ -301,7 +419,8 @@ pub fn run_program<I: Source, O: Sink, D: Dialer>(
     nonce: &[u8; 18],
     words32: &[u8; 32],
 ) -> u8
-    ensures run { Ran HELP.now VERSION.now nonce.now (command_for (map string_bytes words.now))
+    ensures run { Ran HELP.now VERSION.now nonce.now words32.now
+        (command_for (map string_bytes words.now))
         (source_span I.tape I.left I.faults input.old input.new)
         (sink_span O.tape O.faults output.old output.new)
         (dial_span D.tape D.foretells D.offer D.faults dialer.old dialer.new) result }

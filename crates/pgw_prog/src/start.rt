@@ -36,15 +36,23 @@ fn words_of(rt: &HostRuntime) -> io::Result<Vec<String>> {
     Ok(words)
 }
 
-/// Whether the command that these words ask for wants random bytes: only a session with a server does.
+/// Whether the command that these words ask for wants random bytes: only a session with a server and a new secret do.
 fn wants_random_bytes(alloc: Global, words: &[String]) -> Result<bool, OutOfMemory> {
     match command_of(alloc, words)? {
         Command::Connect(asked) => {
             drop(asked);
             Ok(true)
         }
-        Command::Help | Command::Version | Command::Script | Command::Usage => Ok(false),
-        Command::Gen(..) => Ok(false),
+        Command::Secret(asked) => {
+            drop(asked);
+            Ok(true)
+        }
+        Command::Passfile(asked) => {
+            drop(asked);
+            Ok(false)
+        }
+        Command::Help | Command::Version | Command::Usage => Ok(false),
+        Command::Script | Command::Pair | Command::Relay | Command::Gen(..) => Ok(false),
     }
 }
 

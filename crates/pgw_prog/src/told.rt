@@ -3,7 +3,8 @@
 use pgw_backend::client_error::{PgWireClientError, PgWireClientResult};
 use pgw_conninfo::part::Part;
 use pgw_conninfo::text::cut;
-use pgw_script::expected::expected_at;
+use pgw_proxy::fault::ProxyFault;
+use pgw_script::expected::{expected_at, expected_in_pair_at, expected_in_relay_at};
 use pgw_session::types::SessionReport;
 use pgw_types::memory::OutOfMemory;
 use std::alloc::{AllocError, Global};
@@ -64,11 +65,17 @@ fn words_fault(alloc: Global, words: &[String]) -> Result<String, AllocError> {
         [word, ..] if word.as_str() == "gen" => format!(in alloc;
             "gen takes ROWS, a number up to 1000000, and START, a number of 32 bits"
         ),
+        [word, ..] if word.as_str() == "secret" => format!(in alloc;
+            "secret takes PASSWORD, and COUNT, a number from 1 to 4294967295"
+        ),
+        [word, ..] if word.as_str() == "passfile" => format!(in alloc;
+            "passfile takes HOST, PORT, a number up to 65535, DATABASE and USER"
+        ),
         [word] if word.is_empty() => format!(in alloc;
             "an empty word, or one that is not UTF-8, is no command"
         ),
         [word, next, ..] => match word.as_str() {
-            "script" | "--help" | "--version" => more_fault(alloc, word, next),
+            "script" | "pair" | "relay" | "--help" | "--version" => more_fault(alloc, word, next),
             _ => no_command(alloc, word),
         },
         [word] => no_command(alloc, word),
@@ -96,13 +103,30 @@ pub fn told_of_words(alloc: Global, words: &[String]) -> String {
     )
 }
 
-/// What was expected where a script's line with this number is the first outside the grammar.
-pub fn told_of_line(alloc: Global, text: &[u8], number: u64) -> String {
-    let (expected, found) = expected_at(text, number);
+/// What was expected at a line, and what stands out in its place.
+fn told_of(alloc: Global, number: u64, expected: &str, found: &str) -> String {
     or_empty(
         alloc,
         format!(in alloc; "line {number}: expected {expected}{found}\n"),
     )
+}
+
+/// What was expected where a session script's line with this number is the first outside the grammar.
+pub fn told_of_line(alloc: Global, text: &[u8], number: u64) -> String {
+    let (expected, found) = expected_at(text, number);
+    told_of(alloc, number, expected, found)
+}
+
+/// The same of a pair script.
+pub fn told_of_pair_line(alloc: Global, text: &[u8], number: u64) -> String {
+    let (expected, found) = expected_in_pair_at(text, number);
+    told_of(alloc, number, expected, found)
+}
+
+/// The same of a relay script.
+pub fn told_of_relay_line(alloc: Global, text: &[u8], number: u64) -> String {
+    let (expected, found) = expected_in_relay_at(text, number);
+    told_of(alloc, number, expected, found)
 }
 
 /// A text without control characters but for line feeds: a server's message must not steer a terminal.
@@ -121,6 +145,14 @@ fn without_controls(alloc: Global, text: &str) -> Result<String, AllocError> {
 fn sentence(alloc: Global, error: &PgWireClientError) -> Result<String, AllocError> {
     let text = format!(in alloc; "{error}\n")?;
     without_controls(alloc, text.as_str())
+}
+
+/// Why a proxy stopped, where it did.
+pub fn told_of_fault(alloc: Global, fault: &Option<ProxyFault>) -> String {
+    match fault {
+        None => String::new(alloc),
+        Some(fault) => or_empty(alloc, format!(in alloc; "{fault}\n")),
+    }
 }
 
 /// Why a session ended, where it ended with an error.

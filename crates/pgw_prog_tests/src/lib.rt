@@ -5,6 +5,8 @@
 #[cfg(test)]
 mod nonces;
 #[cfg(test)]
+mod pairs;
+#[cfg(test)]
 mod sessions;
 #[cfg(test)]
 mod socket;

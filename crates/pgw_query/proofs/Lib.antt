@@ -1,2 +1,4 @@
 pub mod RowLaws
 pub mod RowsWritten
+pub mod RunLaws
+pub mod TagLaws

@@ -1,2 +1,5 @@
+pub mod Fields
 pub mod Rows
+pub mod Runs
 pub mod Sound
+pub mod Tags

@@ -55,7 +55,17 @@ impl FieldDescription {
         type_modifier: i32,
         format_code: i16,
     ) -> FieldDescription
-        ensures { result ≡ record { name = name; table_id = table_id; column_id = column_id; type_id = type_id; type_size = type_size; type_modifier = type_modifier; format_code = format_code } }
+        ensures { result ≡ record {
+          name = name;
+          table_id = table_id;
+          column_id = column_id;
+          type_id
+              = type_id;
+          type_size = type_size;
+          type_modifier = type_modifier;
+          format_code
+              = format_code;
+        } }
     {
         FieldDescription {
             name,
@@ -71,7 +81,8 @@ impl FieldDescription {
 
 // The size of the type, its modifier and the format.
 fn take_form(reader: &mut FieldReader<'_>) -> PgWireResult<(i16, (i32, i16))>
-    ensures { Reads result reader.new (pair_at (int_at w16) (pair_at (int_at w32) (int_at w16)) reader.old) }
+    ensures { Reads result reader.new (pair_at (int_at w16) (pair_at (int_at w32) (int_at w16))
+        reader.old) }
 {
     let type_size = reader.take_i16()?;
     let type_modifier = reader.take_i32()?;
@@ -81,7 +92,9 @@ fn take_form(reader: &mut FieldReader<'_>) -> PgWireResult<(i16, (i32, i16))>
 
 // Where the column comes from, its type and its form.
 fn take_origin(reader: &mut FieldReader<'_>) -> PgWireResult<(i32, (i16, (u32, (i16, (i32, i16)))))>
-    ensures { Reads result reader.new (pair_at (int_at w32) (pair_at (int_at w16) (pair_at (nat_at w32) (pair_at (int_at w16) (pair_at (int_at w32) (int_at w16))))) reader.old) }
+    ensures { Reads result reader.new (pair_at (int_at w32)
+        (pair_at (int_at w16) (pair_at (nat_at w32)
+        (pair_at (int_at w16) (pair_at (int_at w32) (int_at w16))))) reader.old) }
 {
     let table_id = reader.take_i32()?;
     let column_id = reader.take_i16()?;

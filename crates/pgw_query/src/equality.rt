@@ -1,16 +1,20 @@
-//! Equality of the messages of queries.
+//! Equality of the messages of queries, and of what they tell.
 ghost use Rattle.pgw_wire.specs.Equal.{IsExact};
 
 use crate::data::{DataRow, FieldDescription, RowDescription};
 use crate::description::{NoData, ParameterDescription};
+use crate::field_info::{FieldFormat, FieldInfo};
 use crate::notification::NotificationResponse;
+use crate::pg_type::PgType;
 use crate::response::{
     CommandComplete, EmptyQueryResponse, ErrorResponse, NoticeResponse, ReadyForQuery,
     TransactionStatus,
 };
+use crate::row_error::SqlFault;
 use crate::simplequery::Query;
+use crate::tag::Tag;
 
-/// Two messages are equal exactly where they are the same.
+/// Two values are equal exactly where they are the same.
 pub fn equality_is_exact()
     ensures query { IsExact ⟦<Query as PartialEq>⟧.eq }
     ensures transaction_status { IsExact ⟦<TransactionStatus as PartialEq>⟧.eq }
@@ -25,4 +29,9 @@ pub fn equality_is_exact()
     ensures parameter_description { IsExact ⟦<ParameterDescription as PartialEq>⟧.eq }
     ensures data_row { IsExact ⟦<DataRow as PartialEq>⟧.eq }
     ensures no_data { IsExact ⟦<NoData as PartialEq>⟧.eq }
+    ensures tag { IsExact ⟦<Tag as PartialEq>⟧.eq }
+    ensures pg_type { IsExact ⟦<PgType as PartialEq>⟧.eq }
+    ensures field_format { IsExact ⟦<FieldFormat as PartialEq>⟧.eq }
+    ensures field_info { IsExact ⟦<FieldInfo as PartialEq>⟧.eq }
+    ensures sql_fault { IsExact ⟦<SqlFault as PartialEq>⟧.eq }
 {}

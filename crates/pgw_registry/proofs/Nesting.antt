@@ -1,5 +1,5 @@
--- Pairs in a map of maps.
-use Rattle.std.proofs.Common.{◌≡◌, Result, Ok, Err, OnOk, OnErr, ℕ, ℤ, Bool, true, false, cond, List, [], ◌∷◌, ◌++◌, map, Option, Some, None, Ordering, Less, Equal, Greater, refl, sym, ap, ◌∙◌}
+-- Pairs in a map of one pair a number, and in a map of maps.
+use Rattle.std.proofs.Common.{◌≡◌, Result, Ok, Err, OnOk, OnErr, ℕ, ℤ, Bool, true, false, cond, not, List, [], ◌∷◌, ◌++◌, map, Option, Some, None, Ordering, Less, Equal, Greater, refl, sym, ap, ◌∙◌}
 use Rattle.std.specs.Ordering.{int_cmp, eq_by_cmp, is_eq, ordering_then, match_ordering}
 use Rattle.std.specs.Cmp.{IsTotalOrder, int_cmp_total, then_total, on_total, eq_by_cmp_equiv}
 use Rattle.std.specs.Cmp.Lexicographic.{nat_list_cmp_total}
@@ -10,8 +10,10 @@ use Rattle.std.specs.Map.{lookup, remove_entry, keys_of}
 use Rattle.std.specs.FinMap as map
 use Rattle.std.specs.FinMap.Entries.{find, put, find-put}
 use Rattle.std.proofs.lemmas.Map.Keys.{sorted_head, sorted_tail}
+use Rattle.std.specs.Bool.{Decides}
 use Rattle.pgw_registry.specs.Pairs.{bytes_cmp, pair_cmp}
-use Rattle.pgw_registry.specs.Nested.{Key, pairs_of, flat, at_key, in_number, at_pair}
+use Rattle.pgw_registry.specs.declared.pairs.One.{One}
+use Rattle.pgw_registry.specs.Nested.{Key, pairs_of, flat, at_key, in_number, at_pair, flat_firsts, in_one, at_first, is_other, first_of, both_flat, at_either}
 
 pub pair_cmp_total : IsTotalOrder pair_cmp
 pair_cmp_total = then_total (on_total (λ (p : ℤ × List ℕ). p.0) int_cmp_total) (on_total (λ (p : ℤ × List ℕ). p.1) nat_list_cmp_total)
@@ -27,9 +29,13 @@ pairs_alone x y e = by (int_cmp x.0 y.0) refl e
     by Equal t e = λ i. (map.int_cmp-IsAntisymmetric x.0 y.0 t i, bytes_alone x.1 y.1 e i)
     by Greater t e = absurd (cc)
 
-first_of : Option ℕ → Option ℕ → Option ℕ
-first_of None o = o
-first_of (Some x) o = Some x
+pair_is : (x y : ℤ × List ℕ) → eq_by_cmp pair_cmp x y ≡ true → x ≡ y
+pair_is x y t = pairs_alone x y (by (pair_cmp x y) t)
+  where
+    by : (r : Ordering) → is_eq r ≡ true → r ≡ Equal
+    by Less e = absurd (cc)
+    by Equal e = refl
+    by Greater e = absurd (cc)
 
 first_of_none : (o : Option ℕ) → first_of o None ≡ o
 unfolding first_of
@@ -60,9 +66,9 @@ found_in_number o pid n key e (k ∷ ks) =
     ]
 
 -- a number stands once
-none_later : (pid n : ℤ) (es : List (ℤ × BTreeMap Key ℕ)) → int_cmp pid n ≡ Equal → AllByRecursion (λ y. int_cmp n y ≡ Less) (keys_of es) → lookup (is_at (int_cmp pid)) es ≡ None
+none_later : {V : Type 0} (pid n : ℤ) (es : List (ℤ × V)) → int_cmp pid n ≡ Equal → AllByRecursion (λ y. int_cmp n y ≡ Less) (keys_of es) → lookup (is_at (int_cmp pid)) es ≡ None
 none_later pid n [] e later = refl
-none_later pid n (x ∷ es) e later =
+none_later {V} pid n (x ∷ es) e later =
     ap (λ (o : Ordering). cond (is_eq o) (Some x.1) (lookup (is_at (int_cmp pid)) es)) (int_cmp_total.congr pid n x.0 e ∙ later.0)
     ∙ none_later pid n es e later.1
 
@@ -200,6 +206,162 @@ at_nothing q = refl
 pub forgotten : (b : Bool) (w x : Option Held) → cond b None (cond b w x) ≡ cond b None x
 forgotten true w x = refl
 forgotten false w x = refl
+
+-- ---- the first pair of a number
+
+abbrev at_one : List (ℤ × One) → ℤ → Option One
+at_one es pid = lookup (is_at (int_cmp pid)) es
+
+one_first : (o : Ordering) (one : One) (later : Option One) (key : List ℕ) (rest : Option ℕ) → rest ≡ in_one later key → (o ≡ Equal → later ≡ None)
+    → cond (is_eq (ordering_then o (bytes_cmp key one.key.items))) (Some one.handle) rest ≡ in_one (cond (is_eq o) (Some one) later) key
+unfolding in_one
+one_first Less one later key rest same none = same
+one_first Equal one later key rest same none = ap (λ (z : Option ℕ). cond (eq_by_cmp bytes_cmp key one.key.items) (Some one.handle) z) (same ∙ ap (λ (o : Option One). in_one o key) (none refl))
+one_first Greater one later key rest same none = same
+
+-- what the flat list of first pairs finds stands first
+at_flat_firsts : (es : List (ℤ × One)) → IsStrictlySortedBy int_cmp (keys_of es) → (pid : ℤ) (key : List ℕ) → find pair_cmp (pid, key) (flat_firsts es) ≡ at_first es pid key
+unfolding flat_firsts at_first in_one
+at_flat_firsts [] sorted pid key = refl
+at_flat_firsts (e ∷ es) sorted pid key =
+    one_first (int_cmp pid e.0) e.1 (at_one es pid) key (find pair_cmp (pid, key) (flat_firsts es))
+    (at_flat_firsts es (sorted_tail int_cmp e.0 (keys_of es) sorted) pid key)
+    (λ t. none_later pid e.0 es t (sorted_head int_cmp e.0 (keys_of es) sorted))
+
+-- what both lists find, one behind the other
+pub at_both : (fs : List (ℤ × One)) (es : List (ℤ × Held)) → IsStrictlySortedBy int_cmp (keys_of fs) → IsStrictlySortedBy int_cmp (keys_of es) → (pid : ℤ) (key : List ℕ)
+    → find pair_cmp (pid, key) (both_flat fs es) ≡ at_either fs es pid key
+unfolding both_flat at_either
+at_both fs es firsts sorted pid key =
+    found_in_two (pid, key) (flat_firsts fs) (flat es)
+    ∙ ap (λ (o : Option ℕ). first_of o (find pair_cmp (pid, key) (flat es))) (at_flat_firsts fs firsts pid key)
+    ∙ ap (first_of (at_first fs pid key)) (at_flat es sorted pid key)
+
+tied : (x : List ℕ) → eq_by_cmp bytes_cmp x x ≡ true
+tied x = (eq_by_cmp_equiv nat_list_cmp_total).refl x
+
+turned : (k q : List ℕ) → eq_by_cmp bytes_cmp k q ≡ eq_by_cmp bytes_cmp q k
+turned k q = (eq_by_cmp_equiv nat_list_cmp_total).symm k q
+
+not_is : (b : Bool) → not b ≡ false → b ≡ true
+not_is true e = refl
+not_is false e = absurd (cc)
+
+is_not : (b : Bool) → not b ≡ true → b ≡ false
+is_not true e = absurd (cc)
+is_not false e = refl
+
+-- what `==` of two keys says
+pub key_tells : (b : Bool) (xs key : List ℕ) → Decides b (xs ≡ key) → b ≡ eq_by_cmp bytes_cmp key xs
+key_tells true xs key says = sym (ap (λ k. eq_by_cmp bytes_cmp k xs) (sym (says.0 refl)) ∙ tied xs)
+key_tells false xs key says = by (eq_by_cmp bytes_cmp key xs) refl
+  where
+    by : (b : Bool) → eq_by_cmp bytes_cmp key xs ≡ b → false ≡ b
+    by true t = says.1 (sym (tied_is key xs t))
+    by false t = refl
+
+pub nothing_stands : (key : List ℕ) → in_one None key ≡ None
+unfolding in_one
+nothing_stands key = refl
+
+pub none_other : (key : List ℕ) → is_other None key ≡ false
+unfolding is_other
+none_other key = refl
+
+-- where no other key stands, every key but this one has nothing
+alone : (o : Option One) (key q : List ℕ) → is_other o key ≡ false → eq_by_cmp bytes_cmp q key ≡ false → in_one o q ≡ None
+unfolding is_other in_one
+alone None key q own apart = refl
+alone (Some x) key q own apart =
+    ap (λ (k : List ℕ). cond (eq_by_cmp bytes_cmp q k) (Some x.handle) None) (sym (tied_is key x.key.items (not_is (eq_by_cmp bytes_cmp key x.key.items) own)))
+    ∙ ap (λ (b : Bool). cond b (Some x.handle) None) apart
+
+-- where another key stands, this one has nothing
+hidden : (o : Option One) (key : List ℕ) → is_other o key ≡ true → in_one o key ≡ None
+unfolding is_other in_one
+hidden None key other = absurd (cc)
+hidden (Some x) key other = ap (λ (b : Bool). cond b (Some x.handle) None) (is_not (eq_by_cmp bytes_cmp key x.key.items) other)
+
+-- a pair is put first
+pub first_put : (old new : List (ℤ × One)) (es : List (ℤ × Held)) (pid : ℤ) (one : One) → is_other (at_one old pid) one.key.items ≡ false
+    → ((p : ℤ) → at_one new p ≡ cond (is_at (int_cmp pid) p) (Some one) (at_one old p))
+    → (p : ℤ) (q : List ℕ) → at_either new es p q ≡ cond (eq_by_cmp pair_cmp (pid, one.key.items) (p, q)) (Some one.handle) (at_either old es p q)
+unfolding at_either at_first in_one first_of
+first_put old new es pid one own outer p q = ap (λ (z : Option One). first_of (in_one z q) (at_pair es p q)) (outer p) ∙ by (int_cmp pid p) refl
+  where
+    key : (b : Bool) → eq_by_cmp bytes_cmp q one.key.items ≡ b → at_one old p ≡ at_one old pid
+        → first_of (cond b (Some one.handle) None) (at_pair es p q) ≡ cond b (Some one.handle) (first_of (in_one (at_one old p) q) (at_pair es p q))
+    key true t same = refl
+    key false t same = ap (λ (z : Option ℕ). first_of z (at_pair es p q)) (sym (ap (λ (o : Option One). in_one o q) same ∙ alone (at_one old pid) one.key.items q own t))
+
+    by : (r : Ordering) → int_cmp pid p ≡ r
+        → first_of (in_one (cond (is_eq r) (Some one) (at_one old p)) q) (at_pair es p q) ≡ cond (is_eq (ordering_then r (bytes_cmp one.key.items q))) (Some one.handle) (first_of (in_one (at_one old p) q) (at_pair es p q))
+    by Less t = refl
+    by Equal t = key (eq_by_cmp bytes_cmp q one.key.items) refl (ap (at_one old) (sym (map.int_cmp-IsAntisymmetric pid p t)))
+        ∙ ap (λ (b : Bool). cond b (Some one.handle) (first_of (in_one (at_one old p) q) (at_pair es p q))) (turned q one.key.items)
+    by Greater t = refl
+
+-- a pair is written among the other keys
+pub other_put : (fs : List (ℤ × One)) (old new : List (ℤ × Held)) (pid : ℤ) (key : List ℕ) (h : ℕ) → is_other (at_one fs pid) key ≡ true
+    → ((p : ℤ) (q : List ℕ) → at_pair new p q ≡ cond (eq_by_cmp pair_cmp (pid, key) (p, q)) (Some h) (at_pair old p q))
+    → (p : ℤ) (q : List ℕ) → at_either fs new p q ≡ cond (eq_by_cmp pair_cmp (pid, key) (p, q)) (Some h) (at_either fs old p q)
+unfolding at_either at_first first_of
+other_put fs old new pid key h other written p q = ap (first_of (at_first fs p q)) (written p q) ∙ by (eq_by_cmp pair_cmp (pid, key) (p, q)) refl
+  where
+    by : (b : Bool) → eq_by_cmp pair_cmp (pid, key) (p, q) ≡ b → first_of (at_first fs p q) (cond b (Some h) (at_pair old p q)) ≡ cond b (Some h) (first_of (at_first fs p q) (at_pair old p q))
+    by true t = let same = pair_is (pid, key) (p, q) t in
+        ap (λ (o : Option ℕ). first_of o (Some h)) (ap (λ (z : ℤ × List ℕ). at_first fs z.0 z.1) (sym same) ∙ hidden (at_one fs pid) key other)
+    by false t = refl
+
+-- the other keys stay
+pub others_kept : (fs : List (ℤ × One)) (old new : List (ℤ × Held)) → ((p : ℤ) (q : List ℕ) → at_pair new p q ≡ at_pair old p q) → (p : ℤ) (q : List ℕ) → at_either fs new p q ≡ at_either fs old p q
+unfolding at_either
+others_kept fs old new same p q = ap (first_of (at_first fs p q)) (same p q)
+
+-- a pair is taken, wherever it stands
+pub either_taken : (fs gs : List (ℤ × One)) (es ds : List (ℤ × Held)) (pid : ℤ) (key : List ℕ)
+    → ((p : ℤ) (q : List ℕ) → at_first gs p q ≡ cond (eq_by_cmp pair_cmp (pid, key) (p, q)) None (at_first fs p q))
+    → ((p : ℤ) (q : List ℕ) → at_pair ds p q ≡ cond (eq_by_cmp pair_cmp (pid, key) (p, q)) None (at_pair es p q))
+    → (p : ℤ) (q : List ℕ) → at_either gs ds p q ≡ cond (eq_by_cmp pair_cmp (pid, key) (p, q)) None (at_either fs es p q)
+unfolding at_either first_of
+either_taken fs gs es ds pid key one other p q = ap (λ (o : Option ℕ). first_of o (at_pair ds p q)) (one p q) ∙ ap (first_of (cond (eq_by_cmp pair_cmp (pid, key) (p, q)) None (at_first fs p q))) (other p q) ∙ by (eq_by_cmp pair_cmp (pid, key) (p, q))
+  where
+    by : (b : Bool) → first_of (cond b None (at_first fs p q)) (cond b None (at_pair es p q)) ≡ cond b None (first_of (at_first fs p q) (at_pair es p q))
+    by true = refl
+    by false = refl
+
+-- where this key has something, no other stands
+owned : (o : Option One) (key : List ℕ) (h : ℕ) → in_one o key ≡ Some h → is_other o key ≡ false
+unfolding in_one is_other
+owned None key h e = absurd (cc)
+owned (Some x) key h e = by (eq_by_cmp bytes_cmp key x.key.items) e
+  where
+    by : (b : Bool) → cond b (Some x.handle) None ≡ Some h → not b ≡ false
+    by true e = refl
+    by false e = absurd (cc)
+
+-- a number whose pair stands first has no first pair any more
+pub first_taken : (old new : List (ℤ × One)) (pid : ℤ) (key : List ℕ) (h : ℕ) → at_first old pid key ≡ Some h → ((p : ℤ) → at_one new p ≡ cond (is_at (int_cmp pid) p) None (at_one old p))
+    → (p : ℤ) (q : List ℕ) → at_first new p q ≡ cond (eq_by_cmp pair_cmp (pid, key) (p, q)) None (at_first old p q)
+unfolding at_first in_one
+first_taken old new pid key h there outer p q = ap (λ (z : Option One). in_one z q) (outer p) ∙ by (int_cmp pid p) refl
+  where
+    rest : (b : Bool) → eq_by_cmp bytes_cmp key q ≡ b → in_one (at_one old p) q ≡ in_one (at_one old pid) q → None ≡ cond b None (in_one (at_one old p) q)
+    rest true t same = refl
+    rest false t same = sym (same ∙ alone (at_one old pid) key q (owned (at_one old pid) key h there) (turned q key ∙ t))
+
+    by : (r : Ordering) → int_cmp pid p ≡ r → in_one (cond (is_eq r) None (at_one old p)) q ≡ cond (is_eq (ordering_then r (bytes_cmp key q))) None (in_one (at_one old p) q)
+    by Less t = refl
+    by Equal t = rest (eq_by_cmp bytes_cmp key q) refl (ap (λ (n : ℤ). in_one (at_one old n) q) (sym (map.int_cmp-IsAntisymmetric pid p t)))
+    by Greater t = refl
+
+-- a pair that does not stand first is not taken there
+pub none_first : (old : List (ℤ × One)) (pid : ℤ) (key : List ℕ) → at_first old pid key ≡ None → (p : ℤ) (q : List ℕ) → at_first old p q ≡ cond (eq_by_cmp pair_cmp (pid, key) (p, q)) None (at_first old p q)
+none_first old pid key none p q = by (eq_by_cmp pair_cmp (pid, key) (p, q)) refl
+  where
+    by : (b : Bool) → eq_by_cmp pair_cmp (pid, key) (p, q) ≡ b → at_first old p q ≡ cond b None (at_first old p q)
+    by true t = ap (λ (z : ℤ × List ℕ). at_first old z.0 z.1) (sym (pair_is (pid, key) (p, q) t)) ∙ none
+    by false t = refl
 
 -- ---- what a call ensures
 

@@ -6,6 +6,12 @@ use Rattle.atomic_table.proofs.Lists.{set_else}
 use Rattle.pgw_registry.specs.declared.share.Share.{Share}
 use Rattle.pgw_registry.specs.Shares.{IsWhole, none, half, together, HasUnits, HaveUnits, AddUp, IsPart}
 
+-- a common factor is left out
+few_factor : (m n k : ℕ) → 0 < k → m * k ≤ n * k → m ≤ n
+few_factor zero n k h e = omega arith
+few_factor (suc m) zero k h e = absurd (omega arith)
+few_factor (suc m) (suc n) k h e = let t = few_factor m n k h (omega arith) in omega arith
+
 no_factor : (p k : ℕ) → 0 < k → p * k ≡ 0 → p ≡ 0
 no_factor zero k h e = refl
 no_factor (suc p) k h e = absurd (omega arith)
@@ -22,6 +28,9 @@ halved k n s u = let e = u.0 in (omega arith, omega (arith, u.1))
 pub positive_product : (a b : ℕ) → 0 < a → 0 < b → 0 < a * b
 positive_product (suc a) b h i = omega arith
 positive_product zero b h i = absurd (omega arith)
+
+more_product : (m n k w : ℕ) → k ≡ m + n → m * w ≤ k * w
+more_product m n k w e = let a = ap (λ (z : ℕ). z * w) e in omega arith
 
 put_together : (k m n : ℕ) (s t : Share) → HasUnits k m s → HasUnits k n t → HasUnits k (m + n) (together s t)
 put_together k m n s t u v = (
@@ -97,6 +106,12 @@ module _ {A : Type 0} (share_of : A → Share) where
   module _ (xs : List A) (h : AddUp share_of xs) (i : ℕ) (v : A) (at : get_elem? xs i ≡ some v) where
     pub has_whole : 0 < (share_of v).whole
     has_whole = (parted h.units h.units xs i v h.all at).units.1
+
+    -- the share is within the right
+    pub within_whole : (share_of v).parts ≤ (share_of v).whole
+    within_whole = let t = parted h.units h.units xs i v h.all at in let b = t.both in let a = t.units.0 in
+        let few : t.mine * (share_of v).whole ≤ h.units * (share_of v).whole = more_product t.mine t.rest h.units (share_of v).whole b in
+        few_factor (share_of v).parts (share_of v).whole h.units h.some (omega arith)
 
     -- the share is not changed
     pub same_share : (w : A) → share_of w ≡ share_of v → AddUp share_of (set xs i w)

@@ -15,7 +15,7 @@ use Rattle.pgw_registry.specs.declared.sight.Old.{Old}
 use Rattle.pgw_registry.specs.Sequential.{Book, nothing, next, reply_of, state_after, IsLegal}
 use Rattle.pgw_registry.specs.Numbers.{weight}
 use Rattle.pgw_registry.specs.Shares.{IsPart}
-use Rattle.pgw_registry.proofs.Shares.{together_part, same_share, divided, joined, nothing_beside}
+use Rattle.pgw_registry.proofs.Shares.{together_part, same_share, divided, joined, nothing_beside, within_whole}
 use Rattle.pgw_registry.specs.History.{Log, Begins, entry, held, turns, founder, newcomer, spent, no_old, both_of, holding, at_rest, saw, halved, named, appended, Stands, Fits, Kept, Ruled, Sat, Grown, Later, HasAll, Took, Left, Looked, Named, Appended}
 use Rattle.pgw_registry.proofs.Logs.{state_after-append, legal_snoc, begins_same, begins_none, begins_later, begins_longer, longer_first, longer_second, get_front, get_within, get_snoc, held_append, held_front, held_back, held_one, held_self, places_none, places_all, places_same, places_more, turns_set, turns_snoc, turns_has, turns_two, at_within, at_end, set_only}
 
@@ -141,7 +141,12 @@ has_all words homes views id v k at whole = places_all 0 v.numbers k.log (λ i e
         (λ (ne : j ≢ id). off (sym (ap (held e.by) ((k.each j t.0 t.1).spare (nothing_beside (λ (u : Sight). u.share) views k.shares id v at whole j t.0 ne t.1))) ∙ t.2))
 
 later_of : (words : List ℕ) (homes : Homes) (views : List Sight) (id : ℕ) (v : Sight) (k : Kept words homes views) → At views id v → Later v k.log
-later_of words homes views id v k at = (grown k.log k.owner id v.seen v.numbers (k.each id v at).now, k.legal, has_all words homes views id v k at)
+later_of words homes views id v k at = (
+  grown k.log k.owner id v.seen v.numbers (k.each id v at).now,
+  k.legal,
+  has_all words homes views id v k at,
+  within_whole (λ (u : Sight). u.share) views k.shares id v at,
+)
 
 -- the view that is changed keeps its numbers
 module _ (log : Log) (owner : Owner) (id : ℕ) (v : Sight) (f : Fits log owner id v) where

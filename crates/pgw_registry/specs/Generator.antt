@@ -1,7 +1,8 @@
 -- What a seat has after each answer.
-use Rattle.std.specs.Prelude.{◌≡◌, ◌⊎◌, ℕ, ◌<◌, ◌≤◌, ℤ, pos, false, cond, max, ◌||◌, List, [], ◌∷◌, ◌++◌, Result, Ok, Err}
+use Rattle.std.specs.Prelude.{◌≡◌, ◌⊎◌, ℕ, ◌<◌, ◌≤◌, ℤ, pos, max, List, [], ◌∷◌, ◌++◌, Result, Ok, Err}
 use Rattle.atomic_table.specs.Seated.{TableId}
 use Rattle.pgw_types.specs.declared.context.ProtocolVersion.{ProtocolVersion}
+use Rattle.pgw_types.specs.declared.context.ProtocolVersion.TheVariants.{PROTOCOL3_0}
 use Rattle.pgw_wire.specs.declared.secret_key.SecretKey.{SecretKey}
 use Rattle.pgw_registry.specs.Shares.{everything, half, together}
 use Rattle.pgw_registry.specs.Key.{key_of}
@@ -12,11 +13,11 @@ use Rattle.pgw_registry.specs.declared.error.PidError.TheVariants.{PidsExhausted
 
 -- the first seat of a generator, which has drawn nothing
 abbrev pub unused : TableId → ℕ → Numbers
-unused t begins = record { of = t; begins = begins; drawn = []; seen = 0; owes = false; share = everything }
+unused t begins = record { of = t; begins = begins; drawn = []; seen = 0; share = everything }
 
 -- a seat that was made of another
 abbrev pub cut_from : Numbers → Numbers
-cut_from v = record { of = v.of; begins = v.begins; drawn = []; seen = 0; owes = false; share = half v.share }
+cut_from v = record { of = v.of; begins = v.begins; drawn = []; seen = 0; share = half v.share }
 
 -- this number was seen, so with the whole share it is the next one after its own
 abbrev pub IsNext : Numbers → ℕ → Type 0
@@ -30,28 +31,34 @@ NoNumber OutOfMemory v w = (w.seen ≤ 2147483647) × (w.drawn ≡ v.drawn)
 
 -- a seat of the same numbers, which has seen as much
 abbrev pub Continues : Numbers → Numbers → Type 0
-Continues v w = (w.of ≡ v.of) × (w.begins ≡ v.begins) × (w.owes ≡ v.owes) × (w.share ≡ v.share) × (v.seen ≤ w.seen) × IsDistinct w.drawn × NoneBelow w.begins w.drawn
+Continues v w =
+    (w.of ≡ v.of) × (w.begins ≡ v.begins) × (w.share ≡ v.share) × (v.seen ≤ w.seen)
+    × IsDistinct w.drawn × NoneBelow w.begins w.drawn
 
 -- the number that was drawn, with the key that the words give
 abbrev pub Gives : Numbers → ProtocolVersion → List ℕ → Numbers → ℤ × SecretKey → Type 0
 Gives v version words w r =
-    (w.drawn ≡ v.drawn ++ w.seen ∷ []) × (v.begins ≤ w.seen) × (w.seen ≤ 2147483647) × IsNext v w.seen
-    × (r.0 ≡ pos w.seen) × (r.1 ≡ key_of version words)
+    (w.drawn ≡ v.drawn ++ w.seen ∷ []) × (v.begins ≤ w.seen) × (w.seen ≤ 2147483647)
+    × (r.0 ≡ pos w.seen) × (r.1 ≡ key_of version words) × IsNext v w.seen
 
--- what a call of this generator comes to
-abbrev pub Generates : Numbers → ProtocolVersion → List ℕ → Numbers → Result (ℤ × SecretKey) PidError → Type 0
-Generates v version words w (Ok r) = Continues v w × Gives v version words w r
-Generates v version words w (Err e) = Continues v w × NoNumber e v w × IsNext v w.seen
+-- what the answer says. At 3.0 memory is never wanting
+abbrev pub Tells : Numbers → ProtocolVersion → List ℕ → Numbers
+    → Result (ℤ × SecretKey) PidError → Type 0
+Tells v version words w (Ok r) = Gives v version words w r
+Tells v version words w (Err e) =
+    NoNumber e v w × (version ≡ PROTOCOL3_0 → e ≡ PidsExhausted) × IsNext v w.seen
 
--- the numbers after a seat was asked for: one more, unless the seat owed one
-abbrev pub with_seat : Numbers → ℕ → List ℕ
-with_seat v n = cond v.owes v.drawn (v.drawn ++ n ∷ [])
+-- what a call of a generator comes to
+abbrev pub Generates : Numbers → ProtocolVersion → List ℕ → Numbers
+    → Result (ℤ × SecretKey) PidError → Type 0
+Generates v version words w answer = Continues v w × Tells v version words w answer
 
--- where the numbers are spent, one that owes a seat draws none, and another at most the one seen
+-- where the numbers are spent, at most the one seen was drawn
 abbrev pub NoSeat : PidError → Numbers → Numbers → Type 0
-NoSeat PidsExhausted v w = (2147483647 < w.seen) × (w.owes ≡ v.owes) × (w.share ≡ v.share) × IsNext v w.seen × ((w.drawn ≡ v.drawn) ⊎ (w.drawn ≡ with_seat v w.seen))
+NoSeat PidsExhausted v w =
+    (2147483647 < w.seen) × (w.share ≡ v.share) × IsNext v w.seen × ((w.drawn ≡ v.drawn) ⊎ (w.drawn ≡ v.drawn ++ w.seen ∷ []))
 NoSeat OutOfMemory v w = ⊥
 
 -- the numbers of both
 abbrev pub met : Numbers → Numbers → Numbers
-met v w = record { of = v.of; begins = v.begins; drawn = v.drawn ++ w.drawn; seen = max v.seen w.seen; owes = v.owes || w.owes; share = together v.share w.share }
+met v w = record { of = v.of; begins = v.begins; drawn = v.drawn ++ w.drawn; seen = max v.seen w.seen; share = together v.share w.share }

@@ -8,7 +8,7 @@ use Rattle.pgw_registry.specs.declared.call.Entry.{Entry}
 use Rattle.pgw_registry.specs.declared.sight.Sight.{Sight}
 use Rattle.pgw_registry.specs.declared.sight.Old.{Old}
 use Rattle.pgw_registry.specs.declared.share.Share.{Share}
-use Rattle.pgw_registry.specs.Shares.{IsWhole, everything, none, half, together, AddUp}
+use Rattle.pgw_registry.specs.Shares.{IsWhole, IsWithin, everything, none, half, together, AddUp}
 use Rattle.pgw_registry.specs.Sequential.{Book, nothing, next, reply_of, state_after, IsLegal}
 use Rattle.pgw_registry.specs.Numbers.{weight}
 use Rattle.pgw_registry.specs.declared.call.Reply.{Reply}
@@ -141,7 +141,7 @@ abbrev pub HasAll : Share → List ℕ → Log → Type 0
 HasAll share numbers log = IsWhole share → length (places numbers log) ≡ length log
 
 abbrev pub Later : Sight → Log → Type 0
-Later v log = Grown v.seen v.numbers log × IsLegal log × HasAll v.share v.numbers log
+Later v log = Grown v.seen v.numbers log × IsLegal log × HasAll v.share v.numbers log × IsWithin v.share
 
 abbrev pub Took : Stp → Sat → ℕ → Sat → Type 0
 Took s m n w =

@@ -1,9 +1,10 @@
--- A map of pairs as a map by number of maps by key.
-use Rattle.std.specs.Prelude.{◌≡◌, ◌≢◌, ℕ, ℤ, List, [], ◌∷◌, ◌++◌, map, Option, None, Some, Vec}
+-- A map of pairs as a map by number of one pair, and one by number of maps by key.
+use Rattle.std.specs.Prelude.{◌≡◌, ◌≢◌, ℕ, ℤ, Bool, false, not, cond, List, [], ◌∷◌, ◌++◌, map, Option, None, Some, Vec}
 use Rattle.std.specs.declared.alloc.Global.{Global}
-use Rattle.std.specs.Ordering.{int_cmp}
+use Rattle.std.specs.Ordering.{int_cmp, eq_by_cmp}
 use Rattle.std.specs.BTreeMap.{BTreeMap, is_at}
 use Rattle.std.specs.Map.{lookup}
+use Rattle.pgw_registry.specs.declared.pairs.One.{One}
 use Rattle.pgw_registry.specs.Pairs.{bytes_cmp}
 
 abbrev pub Key : Type 0
@@ -34,3 +35,37 @@ NoneEmpty numbers = (pid : ℤ) (keys : BTreeMap Key ℕ) → lookup (is_at (int
 -- what stands at the number and the key
 unfoldable pub at_pair : List (ℤ × BTreeMap Key ℕ) → ℤ → List ℕ → Option ℕ
 at_pair numbers pid key = in_number (lookup (is_at (int_cmp pid)) numbers) key
+
+-- ---- one pair of each number
+
+unfoldable pub flat_firsts : List (ℤ × One) → List ((ℤ × List ℕ) × ℕ)
+flat_firsts [] = []
+flat_firsts (e ∷ es) = ((e.0, e.1.key.items), e.1.handle) ∷ flat_firsts es
+
+-- what stands at the key, where one key may stand
+unfoldable pub in_one : Option One → List ℕ → Option ℕ
+in_one None key = None
+in_one (Some one) key = cond (eq_by_cmp bytes_cmp key one.key.items) (Some one.handle) None
+
+unfoldable pub at_first : List (ℤ × One) → ℤ → List ℕ → Option ℕ
+at_first firsts pid key = in_one (lookup (is_at (int_cmp pid)) firsts) key
+
+-- whether a key stands there, and it is another
+unfoldable pub is_other : Option One → List ℕ → Bool
+is_other None key = false
+is_other (Some one) key = not (eq_by_cmp bytes_cmp key one.key.items)
+
+-- ---- both
+
+-- the first, or else the second
+unfoldable pub first_of : Option ℕ → Option ℕ → Option ℕ
+first_of None o = o
+first_of (Some x) o = Some x
+
+unfoldable pub both_flat : List (ℤ × One) → List (ℤ × BTreeMap Key ℕ) → List ((ℤ × List ℕ) × ℕ)
+both_flat firsts numbers = flat_firsts firsts ++ flat numbers
+
+-- what stands at the number and the key, first or among its other keys
+unfoldable pub at_either : List (ℤ × One) → List (ℤ × BTreeMap Key ℕ) → ℤ → List ℕ
+    → Option ℕ
+at_either firsts numbers pid key = first_of (at_first firsts pid key) (at_pair numbers pid key)

@@ -12,7 +12,7 @@ use Rattle.pgw_registry.specs.declared.error.RegistryError.TheVariants.{Gone, Ex
 use Rattle.pgw_registry.specs.declared.sight.Sight.{Sight}
 use Rattle.pgw_registry.specs.Sequential.{IsLegal}
 use Rattle.pgw_registry.specs.declared.share.Share.{Share}
-use Rattle.pgw_registry.specs.Shares.{IsPart, everything, half, together}
+use Rattle.pgw_registry.specs.Shares.{IsPart, IsWithin, everything, half, together}
 use Rattle.pgw_registry.specs.History.{Apart, Begins, HasAll, entry, places, held}
 
 -- whose pass it is, its number, the numbers of the calls that count as its own, its share of all calls, and the history that it has seen
@@ -27,8 +27,11 @@ pub record Known : Type 0 where
 abbrev pub mine : Known → List ℕ
 mine p = places p.numbers p.seen
 
+-- It has seen a legal history, and has a share. With the whole share, it counts each call of that history as its own
 abbrev pub IsPass : Sight → Type 0
-IsPass v = (v.turn ≡ false) × (v.named ≡ true) × (held v.own v.numbers ≡ true) × IsLegal v.seen × IsPart v.share
+IsPass v =
+    (v.turn ≡ false) × (v.named ≡ true) × (held v.own v.numbers ≡ true) × IsLegal v.seen
+    × IsPart v.share × IsWithin v.share × HasAll v.share v.numbers v.seen
 
 -- with the whole share, it counts each call of the history as its own
 abbrev pub CountsAll : Known → Type 0

@@ -1,5 +1,5 @@
 -- What contracts see of a seat.
-use Rattle.std.specs.Prelude.{◌≡◌, ℕ, ◌<◌, Bool, List, []}
+use Rattle.std.specs.Prelude.{◌≡◌, ℕ, ◌<◌, false, List, []}
 use Rattle.atomic_table.specs.Table.{Me}
 use Rattle.atomic_table.specs.Seated.{TableId}
 use Rattle.pgw_registry.specs.declared.numbers.Hand.{Hand}
@@ -8,15 +8,14 @@ use Rattle.pgw_registry.specs.Shares.{IsPart}
 use Rattle.pgw_registry.specs.Numbers.{IsDistinct, NoneBelow}
 
 -- whose seat it is, where the numbers begin, the numbers that it drew, the greatest that it has
--- loaded or drawn, the mark that it owes a seat, and its share of all numbers
+-- loaded or drawn, and its share of all numbers
 pub record Numbers : Type 0 where
   pub of : TableId
   pub begins : ℕ
   pub drawn : List ℕ
   pub seen : ℕ
-  pub owes : Bool
   pub share : Share
 
--- a seat that holds nothing but its view, whose mark is the one that it runs by
-abbrev pub IsSeated : Me (Unit {0}) Hand → Bool → Type 0
-IsSeated me owes = (me.1 ≡ []) × (0 < me.0.seats) × (owes ≡ me.0.owes) × IsDistinct me.0.drawn × NoneBelow me.0.begins me.0.drawn × IsPart me.0.share
+-- a seat that holds nothing but its view, and owes no seat
+abbrev pub IsSeated : Me (Unit {0}) Hand → Type 0
+IsSeated me = (me.1 ≡ []) × (0 < me.0.seats) × (me.0.owes ≡ false) × IsDistinct me.0.drawn × NoneBelow me.0.begins me.0.drawn × IsPart me.0.share

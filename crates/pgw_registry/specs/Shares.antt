@@ -1,5 +1,5 @@
 -- Shares of a right that many hold together, as fractions.
-use Rattle.std.specs.Prelude.{◌≡◌, ℕ, ◌+◌, ◌*◌, ◌<◌, List, [], ◌∷◌}
+use Rattle.std.specs.Prelude.{◌≡◌, ℕ, ◌+◌, ◌*◌, ◌<◌, ◌≤◌, List, [], ◌∷◌}
 use Rattle.pgw_registry.specs.declared.share.Share.{Share}
 
 abbrev pub share : ℕ → ℕ → Share
@@ -17,6 +17,10 @@ none = share 0 1
 
 abbrev pub half : Share → Share
 half s = share s.parts (s.whole + s.whole)
+
+-- it is no more than the right
+abbrev pub IsWithin : Share → Type 0
+IsWithin s = s.parts ≤ s.whole
 
 -- the sum of two
 abbrev pub together : Share → Share → Share

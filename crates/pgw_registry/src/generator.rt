@@ -7,10 +7,7 @@ ghost use Rattle.pgw_registry.specs.Numbers.{IsDistinct, NoneBelow, DrewAll, abo
 ghost use Rattle.pgw_registry.specs.Seats.{Numbers as Listing};
 ghost use Rattle.pgw_registry.specs.Key.{key_of};
 ghost use Rattle.pgw_registry.specs.Shares.{IsPart, half};
-ghost use Rattle.pgw_registry.specs.Generator.{unused, cut_from, IsNext, NoNumber, Generates, NoSeat, with_seat, met};
-ghost use Rattle.pgw_registry.specs.declared.error.PidError.{PidError as Refusal};
-ghost use Rattle.pgw_types.specs.declared.context.ProtocolVersion.{ProtocolVersion as Version};
-ghost use Rattle.pgw_wire.specs.declared.secret_key.SecretKey.{SecretKey as Key};
+ghost use Rattle.pgw_registry.specs.Generator.{unused, cut_from, IsNext, NoNumber, Generates, NoSeat, met};
 
 use crate::error::PidError;
 use crate::key::key_for;
@@ -47,7 +44,6 @@ impl Model for RandomPidSecretKeyGenerator {
 #[derive(Drop)]
 pub struct PidSeat {
     place: Place,
-    owes: bool,
 }
 
 impl Model for PidSeat {
@@ -55,18 +51,22 @@ impl Model for PidSeat {
 
     ghost Value = { Numbers };
 
-    ghost view = { λ s. record { of = s.place.table_id; begins = s.place.me.0.begins; drawn = s.place.me.0.drawn; seen = s.place.me.0.seen; owes = s.place.me.0.owes; share = s.place.me.0.share } };
+    ghost view = { λ s. record {
+      of = s.place.table_id;
+      begins = s.place.me.0.begins;
+      drawn
+          = s.place.me.0.drawn;
+      seen = s.place.me.0.seen;
+      share = s.place.me.0.share;
+    } };
 
-    ghost invariant = { λ s. IsSeated s.place.me s.owes };
+    ghost invariant = { λ s. IsSeated s.place.me };
 }
 
 /// Where process numbers and keys come from.
 pub trait PidSecretKeyGenerator {
     /// The seat comes from this generator.
     ghost fits: { Self → Listing → Type 0 };
-
-    /// What a call may answer and make of a seat, for a version and words.
-    ghost generates: { Self → Listing → Version → List ℕ → Listing → Result (ℤ × Key) Refusal → Type 0 };
 
     /// A process number that the seat has not drawn yet, and a key made of the words, which are to be
     /// random.
@@ -78,19 +78,11 @@ pub trait PidSecretKeyGenerator {
     ) -> Result<(i32, SecretKey), PidError>
         requires { fits self.now seat.old }
         ensures fits { fits self.now seat.new }
-        ensures distinct { IsDistinct seat.new.drawn }
-        ensures low { NoneBelow seat.new.begins seat.new.drawn }
-        ensures kept { (seat.new.of ≡ seat.old.of) × (seat.new.begins ≡ seat.old.begins) × (seat.new.owes ≡ seat.old.owes) × (seat.new.share ≡ seat.old.share) × (seat.old.seen ≤ seat.new.seen) }
-        ensures ok { IfOk result (λ r. (r.0 ≡ pos seat.new.seen) × (seat.old.begins ≤ seat.new.seen) × (seat.new.seen ≤ 2147483647) × (seat.new.drawn ≡ seat.old.drawn ++ seat.new.seen ∷ []) × (r.1 ≡ key_of version words.now)) }
-        ensures err { IfErr result (λ e. NoNumber e seat.old seat.new) }
-        ensures free { version ≡ PROTOCOL3_0 → IfErr result (λ e. e ≡ PidsExhausted) }
-        ensures generates { generates self.now seat.old version words.now seat.new result };
+        ensures generates { Generates seat.old version words.now seat.new result };
 }
 
 impl PidSecretKeyGenerator for RandomPidSecretKeyGenerator {
     ghost fits = { λ g s. s.of ≡ g };
-
-    ghost generates = { λ g v version words w answer. Generates v version words w answer };
 
     fn generate(
         &self,
@@ -130,33 +122,33 @@ impl RandomPidSecretKeyGenerator {
         let (word, place) = Table::of_words(alloc, &[first], &first)?;
         Ok((
             RandomPidSecretKeyGenerator { word, alloc },
-            PidSeat { place, owes: false },
+            PidSeat { place },
         ))
     }
 
-    /// A new seat, for which `from` draws one number, unless it has drawn one for a seat that was
-    /// not made. Each has half of the share that `from` had. It takes no memory.
+    /// A new seat, for which `from` draws one number. Each has half of the share that `from` had. It
+    /// takes no memory.
     pub fn seat(&self, from: &mut PidSeat) -> Result<PidSeat, PidError>
         requires { from.old.of ≡ self.now }
-        ensures kept { (from.new.of ≡ from.old.of) × (from.new.begins ≡ from.old.begins) × (from.old.seen ≤ from.new.seen) }
+        ensures kept { (from.new.of ≡ from.old.of) × (from.new.begins ≡ from.old.begins)
+            × (from.old.seen ≤ from.new.seen) }
         ensures distinct { IsDistinct from.new.drawn }
         ensures low { NoneBelow from.new.begins from.new.drawn }
-        ensures ok { IfOk result (λ s. (s ≡ cut_from from.old) × (from.new.share ≡ half from.old.share) × (from.new.owes ≡ false) × (from.new.seen ≤ 2147483647) × (from.new.drawn ≡ with_seat from.old from.new.seen)) }
+        ensures ok { IfOk result (λ s. (s ≡ cut_from from.old)
+            × (from.new.share ≡ half from.old.share) × (from.new.seen ≤ 2147483647)
+            × (from.new.drawn ≡ from.old.drawn ++ from.new.seen ∷ [])
+            × IsNext from.old from.new.seen) }
         ensures err { IfErr result (λ e. NoSeat e from.old from.new) }
     {
         if look(&self.word, &mut from.place) > MOST {
             return Err(PidError::PidsExhausted);
         }
-        if from.owes {
-            let place = cut(&self.word, &mut from.place);
-            from.owes = false;
-            return Ok(PidSeat { place, owes: false });
-        }
         if draw_for_seat(&self.word, &mut from.place) > MOST {
             return Err(PidError::PidsExhausted);
         }
-        let place = cut(&self.word, &mut from.place);
-        Ok(PidSeat { place, owes: false })
+        Ok(PidSeat {
+            place: cut(&self.word, &mut from.place),
+        })
     }
 }
 
@@ -169,61 +161,82 @@ impl PidSeat {
     ) -> Result<(), PidSeat>
         requires { (self.old.of ≡ generator.now) × (other.of ≡ generator.now) }
         ensures done { IsOk result }
-        ensures ok { IfOk result (λ _. (self.new ≡ met self.old other) × IsDistinct self.new.drawn × NoneBelow self.new.begins self.new.drawn) }
+        ensures ok { IfOk result (λ _. (self.new ≡ met self.old other) × IsDistinct self.new.drawn
+            × NoneBelow self.new.begins self.new.drawn) }
     {
-        let PidSeat { place, owes } = other;
+        let PidSeat { place } = other;
         take_in(&generator.word, &mut self.place, place);
-        self.owes = self.owes || owes;
         Ok(())
     }
 }
 
 // Loads the word.
 fn look(word: &Word, place: &mut Place) -> u64
-    requires { (word.now.shared.table_id.words ≡ 1) × (place.old.table_id ≡ word.now.shared.table_id) }
-    ensures place { (place.new.table_id ≡ place.old.table_id) × (place.new.me.1 ≡ place.old.me.1) × (place.new.me.0 ≡ saw place.old.me.0 result) }
-    ensures told { (place.old.me.0.seen ≤ result) × (result ≤ 2147483647 → above place.old.me.0.drawn ≡ 0) × DrewAll place.old.me.0.begins place.old.me.0.drawn place.old.me.0.share result }
+    requires { (word.now.shared.table_id.words ≡ 1)
+        × (place.old.table_id ≡ word.now.shared.table_id) }
+    ensures place { (place.new.table_id ≡ place.old.table_id) × (place.new.me.1 ≡ place.old.me.1)
+        × (place.new.me.0 ≡ saw place.old.me.0 result) }
+    ensures told { (place.old.me.0.seen ≤ result)
+        × (result ≤ 2147483647 → above place.old.me.0.drawn ≡ 0)
+        × DrewAll place.old.me.0.begins place.old.me.0.drawn place.old.me.0.share result }
 {
     word.shared.load::<Looks>(place, 0)
 }
 
 // Draws the number of the word.
 fn draw(word: &Word, place: &mut Place) -> u64
-    requires table { (word.now.shared.table_id.words ≡ 1) × (place.old.table_id ≡ word.now.shared.table_id) }
-    requires room { (0 < place.old.me.0.seats) × (above place.old.me.0.drawn ≡ 0) × (0 < place.old.me.0.share.parts) }
-    ensures place { (place.new.table_id ≡ place.old.table_id) × (place.new.me.1 ≡ place.old.me.1) × (place.new.me.0 ≡ drew place.old.me.0 result place.old.me.0.owes) }
-    ensures told { (place.old.me.0.seen ≤ result) × IsDistinct place.new.me.0.drawn × NoneBelow place.new.me.0.begins place.new.me.0.drawn × (place.old.me.0.begins ≤ result) × DrewAll place.old.me.0.begins place.old.me.0.drawn place.old.me.0.share result }
+    requires table { (word.now.shared.table_id.words ≡ 1)
+        × (place.old.table_id ≡ word.now.shared.table_id) }
+    requires room { (0 < place.old.me.0.seats) × (above place.old.me.0.drawn ≡ 0)
+        × (0 < place.old.me.0.share.parts) }
+    ensures place { (place.new.table_id ≡ place.old.table_id) × (place.new.me.1 ≡ place.old.me.1)
+        × (place.new.me.0 ≡ drew place.old.me.0 result place.old.me.0.owes) }
+    ensures told { (place.old.me.0.seen ≤ result) × IsDistinct place.new.me.0.drawn
+        × NoneBelow place.new.me.0.begins place.new.me.0.drawn × (place.old.me.0.begins ≤ result)
+        × DrewAll place.old.me.0.begins place.old.me.0.drawn place.old.me.0.share result }
 {
     word.shared.fetch_add::<Draws>(place, 0, 1)
 }
 
 // Draws the number of the word for a seat, and marks that the seat is owed, if it is a process number.
 fn draw_for_seat(word: &Word, place: &mut Place) -> u64
-    requires table { (word.now.shared.table_id.words ≡ 1) × (place.old.table_id ≡ word.now.shared.table_id) }
-    requires room { (0 < place.old.me.0.seats) × (above place.old.me.0.drawn ≡ 0) × (0 < place.old.me.0.share.parts) }
-    ensures place { (place.new.table_id ≡ place.old.table_id) × (place.new.me.1 ≡ place.old.me.1) × (place.new.me.0 ≡ drew place.old.me.0 result (leb result 2147483647)) }
-    ensures told { (place.old.me.0.seen ≤ result) × IsDistinct place.new.me.0.drawn × NoneBelow place.new.me.0.begins place.new.me.0.drawn × (place.old.me.0.begins ≤ result) × DrewAll place.old.me.0.begins place.old.me.0.drawn place.old.me.0.share result }
+    requires table { (word.now.shared.table_id.words ≡ 1)
+        × (place.old.table_id ≡ word.now.shared.table_id) }
+    requires room { (0 < place.old.me.0.seats) × (above place.old.me.0.drawn ≡ 0)
+        × (0 < place.old.me.0.share.parts) }
+    ensures place { (place.new.table_id ≡ place.old.table_id) × (place.new.me.1 ≡ place.old.me.1)
+        × (place.new.me.0 ≡ drew place.old.me.0 result (leb result 2147483647)) }
+    ensures told { (place.old.me.0.seen ≤ result) × IsDistinct place.new.me.0.drawn
+        × NoneBelow place.new.me.0.begins place.new.me.0.drawn × (place.old.me.0.begins ≤ result)
+        × DrewAll place.old.me.0.begins place.old.me.0.drawn place.old.me.0.share result }
 {
     word.shared.fetch_add::<DrawsForSeat>(place, 0, 1)
 }
 
 // Makes the seat that is owed.
 fn cut(word: &Word, place: &mut Place) -> Place
-    requires table { (word.now.shared.table_id.words ≡ 1) × (place.old.table_id ≡ word.now.shared.table_id) }
+    requires table { (word.now.shared.table_id.words ≡ 1)
+        × (place.old.table_id ≡ word.now.shared.table_id) }
     requires owes { place.old.me.0.owes ≡ true }
-    ensures place { (place.new.table_id ≡ place.old.table_id) × (place.new.me.1 ≡ place.old.me.1) × (place.new.me.0 ≡ settled place.old.me.0) }
-    ensures made { (result.table_id ≡ place.old.table_id) × (result.me.1 ≡ []) × (result.me.0 ≡ newcomer place.old.me.0) }
+    ensures place { (place.new.table_id ≡ place.old.table_id) × (place.new.me.1 ≡ place.old.me.1)
+        × (place.new.me.0 ≡ settled place.old.me.0) }
+    ensures made { (result.table_id ≡ place.old.table_id) × (result.me.1 ≡ [])
+        × (result.me.0 ≡ newcomer place.old.me.0) }
 {
     word.shared.split_seat::<Seats>(place)
 }
 
 // Takes the other's numbers in, and compares them.
 fn take_in(word: &Word, place: &mut Place, other: Place)
-    requires table { (word.now.shared.table_id.words ≡ 1) × (place.old.table_id ≡ word.now.shared.table_id) × (other.table_id ≡ word.now.shared.table_id) }
+    requires table { (word.now.shared.table_id.words ≡ 1)
+        × (place.old.table_id ≡ word.now.shared.table_id)
+        × (other.table_id ≡ word.now.shared.table_id) }
     requires other { other.me.1 ≡ [] }
     requires parts { IsPart place.old.me.0.share × IsPart other.me.0.share }
-    ensures place { (place.new.table_id ≡ place.old.table_id) × (place.new.me.1 ≡ place.old.me.1) × (place.new.me.0 ≡ both_of place.old.me.0 other.me.0) }
-    ensures told { IsDistinct place.new.me.0.drawn × NoneBelow place.new.me.0.begins place.new.me.0.drawn }
+    ensures place { (place.new.table_id ≡ place.old.table_id) × (place.new.me.1 ≡ place.old.me.1)
+        × (place.new.me.0 ≡ both_of place.old.me.0 other.me.0) }
+    ensures told { IsDistinct place.new.me.0.drawn
+        × NoneBelow place.new.me.0.begins place.new.me.0.drawn }
 {
     word.shared.join_seat::<Seats>(place, other);
     word.shared.load::<Compares>(place, 0);

@@ -9,6 +9,7 @@ pub mod call;
 pub mod equality;
 pub mod error;
 pub mod generator;
+mod held;
 pub mod key;
 pub mod laws;
 pub mod manager;

@@ -4,14 +4,14 @@ ghost use Rattle.std.specs.Arc.{arc_value};
 ghost use Rattle.pgw_wire.specs.Keys.{key_bytes};
 ghost use Rattle.pgw_registry.specs.Shares.{half};
 ghost use Rattle.pgw_registry.specs.declared.error.RegistryError.TheVariants.{OutOfMemory as NoMemory};
-ghost use Rattle.pgw_registry.specs.Passes.{Known, Sees, Makes, mine, Refused, Grew, OnlyFull, Struck, NotLooked, Full, first_pass, halved, Meets};
+ghost use Rattle.pgw_registry.specs.Passes.{CountsAll, Known, Sees, Makes, mine, Refused, Grew, OnlyFull, Struck, NotLooked, Full, first_pass, halved, Meets};
 ghost use Rattle.pgw_registry.specs.declared.call.Call.TheVariants.{Cancel, CancelHandle, StartQuery, NewHandle, CloseHandle, Look, Finish, Register, Release};
 ghost use Rattle.pgw_registry.specs.declared.call.Reply.TheVariants.{Canceled, Started, Handled, Done, Looked};
 
 use crate::error::{LookError, RegistryError};
+use crate::held::Held;
 use crate::pairs::copied;
-use crate::registry::Registry;
-use crate::sight::{Desk, Place};
+use crate::sight::{Asked, Desk, Place};
 use crate::turn::{commit, count, cut, enter, leave, look, take_in, take_out};
 use atomic_table::{Refused as NoTable, Table};
 use pgw_types::listed::Duplicate;
@@ -53,7 +53,14 @@ impl Model for Pass {
 
     ghost Value = { Known };
 
-    ghost view = { λ p. record { of = p.place.table_id; own = p.place.me.0.own; numbers = p.place.me.0.numbers; share = p.place.me.0.share; seen = p.place.me.0.seen } };
+    ghost view = { λ p. record {
+      of = p.place.table_id;
+      own = p.place.me.0.own;
+      numbers
+          = p.place.me.0.numbers;
+      share = p.place.me.0.share;
+      seen = p.place.me.0.seen;
+    } };
 
     ghost invariant = { λ p. (p.place.me.1 ≡ []) × IsPass p.place.me.0 };
 }
@@ -91,7 +98,7 @@ impl ConnectionManager {
         ensures { IfOk result (λ r. r.1 ≡ first_pass r.0) }
     {
         let mut slots = Vec::new(alloc);
-        slots.push(Some(Registry::new(alloc)))?;
+        slots.push(Some(Held::new(alloc)?))?;
         match Table::new(alloc, &[0, 0], slots, &()) {
             Ok((desk, place)) => Ok((ConnectionManager { desk }, Pass { place })),
             Err(NoTable { slots: _ }) => Err(OutOfMemory),
@@ -104,7 +111,8 @@ impl ConnectionManager {
         requires { from.old.of ≡ self.now }
         ensures done { IsOk result }
         ensures from { from.new ≡ halved from.old }
-        ensures made { IfOk result (λ p. (p.of ≡ self.now) × (p.seen ≡ from.old.seen) × (p.numbers ≡ p.own ∷ []) × (mine p ≡ []) × (p.share ≡ half from.old.share)) }
+        ensures made { IfOk result (λ p. (p.of ≡ self.now) × (p.seen ≡ from.old.seen)
+            × (p.numbers ≡ p.own ∷ []) × (mine p ≡ []) × (p.share ≡ half from.old.share)) }
     {
         Ok(Pass {
             place: cut(&self.desk, &mut from.place),
@@ -130,8 +138,11 @@ impl ConnectionManager {
         secret_key: SecretKey,
     ) -> Result<(ConnectionHandle, ConnectionGuard), RegistryError>
         requires { pass.old.of ≡ arc_value manager.now }
-        ensures ok { IfOk result (λ r. Makes (Register pid (key_bytes secret_key)) (Handled r.0.number) pass.old pass.new × (r.1.pid ≡ pid) × (r.1.key ≡ key_bytes secret_key) × (arc_value r.1.manager ≡ arc_value manager.now)) }
-        ensures err { IfErr result (λ e. Grew e pass.old pass.new ⊎ ((e ≡ NoMemory) × (pass.new ≡ pass.old))) }
+        ensures ok { IfOk result (λ r. Makes (Register pid (key_bytes secret_key))
+            (Handled r.0.number) pass.old pass.new × (r.1.pid ≡ pid)
+            × (r.1.key ≡ key_bytes secret_key) × (arc_value r.1.manager ≡ arc_value manager.now)) }
+        ensures err { IfErr result (λ e. Grew e pass.old pass.new
+            ⊎ ((e ≡ NoMemory) × (pass.new ≡ pass.old))) }
     {
         let key = own_bytes(alloc, &secret_key)?;
         let Ok(owner) = Arc::try_clone(manager) else {
@@ -164,7 +175,7 @@ impl ConnectionManager {
         }
         match registry.new_handle() {
             Ok(number) => {
-                commit::<Brand>(&self.desk, &mut pass.place, 0, 0, &[]);
+                commit::<Brand>(&self.desk, &mut pass.place);
                 leave(&self.desk, &mut pass.place, registry);
                 Ok(ConnectionHandle { number })
             }
@@ -185,26 +196,30 @@ impl ConnectionManager {
         secret_key: &SecretKey,
     ) -> Result<bool, RegistryError>
         requires { pass.old.of ≡ self.now }
-        ensures ok { IfOk result (λ x. Makes (Cancel pid (key_bytes secret_key.now)) (Canceled x) pass.old pass.new) }
+        ensures ok { IfOk result (λ x. Makes (Cancel pid (key_bytes secret_key.now)) (Canceled x)
+            pass.old pass.new) }
         ensures err { IfErr result (λ e. OnlyFull e pass.old pass.new) }
     {
         match secret_key {
             SecretKey::I32(n) => {
                 let key = n.cast_unsigned().to_be_bytes();
-                self.cancel_pair(rt, pass, pid, &key)
+                self.cancel_pair::<R, Brand>(rt, pass, pid, &key)
             }
-            SecretKey::Bytes(bytes) => self.cancel_pair(rt, pass, pid, bytes.as_slice()),
+            SecretKey::Bytes(bytes) => {
+                self.cancel_pair::<R, Brand>(rt, pass, pid, bytes.as_slice())
+            }
         }
     }
 
-    fn cancel_pair<R: Wait>(
+    fn cancel_pair<R: Wait, C: Asked>(
         &self,
         rt: &R,
         pass: &mut Pass,
         pid: i32,
         key: &[u8],
     ) -> Result<bool, RegistryError>
-        requires { pass.old.of ≡ self.now }
+        requires pass { pass.old.of ≡ self.now }
+        requires call { C.call ≡ Cancel pid key.now }
         ensures ok { IfOk result (λ x. Makes (Cancel pid key.now) (Canceled x) pass.old pass.new) }
         ensures err { IfErr result (λ e. OnlyFull e pass.old pass.new) }
     {
@@ -217,7 +232,7 @@ impl ConnectionManager {
         let Ok(reply) = registry.cancel(pid, key) else {
             unreachable!()
         };
-        commit::<Brand>(&self.desk, &mut pass.place, 0, pid, key);
+        commit::<C>(&self.desk, &mut pass.place);
         leave(&self.desk, &mut pass.place, registry);
         Ok(reply)
     }
@@ -233,27 +248,27 @@ impl ConnectionManager {
     ) -> Result<u64, RegistryError>
         requires { pass.old.of ≡ self.now }
         ensures ok { IfOk result (λ h. Makes (Register pid key.now) (Handled h) pass.old pass.new) }
-        ensures err { IfErr result (λ e. Grew e pass.old pass.new ⊎ ((e ≡ NoMemory) × (pass.new ≡ pass.old))) }
+        ensures err { IfErr result (λ e. Grew e pass.old pass.new
+            ⊎ ((e ≡ NoMemory) × (pass.new ≡ pass.old))) }
     {
         let given = key.duplicate()?;
         let copy = copied(alloc, key.as_slice())?;
-        self.add(rt, pass, pid, key.as_slice(), given, copy)
+        self.add::<R, Brand>(rt, pass, pid, given, copy)
     }
 
     // The number of the pair's handle. No memory that grows with the key is taken while the turn is held.
-    fn add<R: Wait>(
+    fn add<R: Wait, C: Asked>(
         &self,
         rt: &R,
         pass: &mut Pass,
         pid: i32,
-        key: &[u8],
-        given: Octets,
+        key: Octets,
         copy: Vec<u8>,
     ) -> Result<u64, RegistryError>
         requires pass { pass.old.of ≡ self.now }
-        requires given { given ≡ key.now }
-        requires copy { copy.items ≡ key.now }
-        ensures ok { IfOk result (λ h. Makes (Register pid key.now) (Handled h) pass.old pass.new) }
+        requires call { C.call ≡ Register pid key }
+        requires copy { copy.items ≡ key }
+        ensures ok { IfOk result (λ h. Makes (Register pid key) (Handled h) pass.old pass.new) }
         ensures err { IfErr result (λ e. Grew e pass.old pass.new) }
     {
         enter(rt, &self.desk, &mut pass.place);
@@ -262,9 +277,9 @@ impl ConnectionManager {
             leave(&self.desk, &mut pass.place, registry);
             return Err(RegistryError::Exhausted);
         }
-        match registry.register_copied(pid, given, copy) {
+        match registry.register_copied(pid, key, copy) {
             Ok(number) => {
-                commit::<Brand>(&self.desk, &mut pass.place, 0, pid, key);
+                commit::<C>(&self.desk, &mut pass.place);
                 leave(&self.desk, &mut pass.place, registry);
                 Ok(number)
             }
@@ -276,9 +291,11 @@ impl ConnectionManager {
     }
 
     // Removes a pair, if there is room for an event.
-    fn take_away<R: Wait>(&self, rt: &R, pass: &mut Pass, pid: i32, key: &[u8]) -> bool
-        requires { pass.old.of ≡ self.now }
-        ensures { MatchBool result (Makes (Release pid key.now) Done pass.old pass.new) (Full pass.old pass.new) }
+    fn take_away<R: Wait, C: Asked>(&self, rt: &R, pass: &mut Pass, pid: i32, key: &[u8]) -> bool
+        requires pass { pass.old.of ≡ self.now }
+        requires call { C.call ≡ Release pid key.now }
+        ensures { MatchBool result (Makes (Release pid key.now) Done pass.old pass.new)
+            (Full pass.old pass.new) }
     {
         enter(rt, &self.desk, &mut pass.place);
         let mut registry = take_out(&self.desk, &mut pass.place);
@@ -289,7 +306,149 @@ impl ConnectionManager {
         let Ok(()) = registry.release(pid, key) else {
             unreachable!()
         };
-        commit::<Brand>(&self.desk, &mut pass.place, 0, pid, key);
+        commit::<C>(&self.desk, &mut pass.place);
+        leave(&self.desk, &mut pass.place, registry);
+        true
+    }
+
+    // The number of a query on a handle.
+    fn start<R: Wait, C: Asked>(
+        &self,
+        rt: &R,
+        pass: &mut Pass,
+        handle: u64,
+    ) -> Result<u64, RegistryError>
+        requires pass { pass.old.of ≡ self.now }
+        requires call { C.call ≡ StartQuery handle }
+        ensures ok { IfOk result (λ t. Makes (StartQuery handle) (Started t) pass.old pass.new) }
+        ensures err { IfErr result (λ e. Refused e (StartQuery handle) pass.old pass.new) }
+    {
+        enter(rt, &self.desk, &mut pass.place);
+        let mut registry = take_out(&self.desk, &mut pass.place);
+        if count(&self.desk, &mut pass.place) == u64::MAX {
+            leave(&self.desk, &mut pass.place, registry);
+            return Err(RegistryError::Exhausted);
+        }
+        match registry.start_query(handle) {
+            Ok(number) => {
+                commit::<C>(&self.desk, &mut pass.place);
+                leave(&self.desk, &mut pass.place, registry);
+                Ok(number)
+            }
+            Err(RegistryError::Gone) => {
+                commit::<C>(&self.desk, &mut pass.place);
+                leave(&self.desk, &mut pass.place, registry);
+                Err(RegistryError::Gone)
+            }
+            Err(_) => {
+                leave(&self.desk, &mut pass.place, registry);
+                Err(RegistryError::OutOfMemory)
+            }
+        }
+    }
+
+    // Fires the query that is active on a handle, and tells whether there was one.
+    fn fire<R: Wait, C: Asked>(
+        &self,
+        rt: &R,
+        pass: &mut Pass,
+        handle: u64,
+    ) -> Result<bool, RegistryError>
+        requires pass { pass.old.of ≡ self.now }
+        requires call { C.call ≡ CancelHandle handle }
+        ensures ok { IfOk result (λ x. Makes (CancelHandle handle) (Canceled x) pass.old pass.new) }
+        ensures err { IfErr result (λ e. Struck e (CancelHandle handle) pass.old pass.new) }
+    {
+        enter(rt, &self.desk, &mut pass.place);
+        let mut registry = take_out(&self.desk, &mut pass.place);
+        if count(&self.desk, &mut pass.place) == u64::MAX {
+            leave(&self.desk, &mut pass.place, registry);
+            return Err(RegistryError::Exhausted);
+        }
+        match registry.cancel_handle(handle) {
+            Ok(reply) => {
+                commit::<C>(&self.desk, &mut pass.place);
+                leave(&self.desk, &mut pass.place, registry);
+                Ok(reply)
+            }
+            Err(_) => {
+                commit::<C>(&self.desk, &mut pass.place);
+                leave(&self.desk, &mut pass.place, registry);
+                Err(RegistryError::Gone)
+            }
+        }
+    }
+
+    // Gives a handle up, if there is room for an event.
+    fn give_up<R: Wait, C: Asked>(&self, rt: &R, pass: &mut Pass, handle: u64) -> bool
+        requires pass { pass.old.of ≡ self.now }
+        requires call { C.call ≡ CloseHandle handle }
+        ensures { MatchBool result (Makes (CloseHandle handle) Done pass.old pass.new)
+            (Full pass.old pass.new) }
+    {
+        enter(rt, &self.desk, &mut pass.place);
+        let mut registry = take_out(&self.desk, &mut pass.place);
+        if count(&self.desk, &mut pass.place) == u64::MAX {
+            leave(&self.desk, &mut pass.place, registry);
+            return false;
+        }
+        let Ok(()) = registry.close_handle(handle) else {
+            unreachable!()
+        };
+        commit::<C>(&self.desk, &mut pass.place);
+        leave(&self.desk, &mut pass.place, registry);
+        true
+    }
+
+    // Whether a query has fired.
+    fn look_at<R: Wait, C: Asked>(
+        &self,
+        rt: &R,
+        pass: &mut Pass,
+        query: u64,
+    ) -> Result<Option<()>, LookError>
+        requires pass { pass.old.of ≡ self.now }
+        requires call { C.call ≡ Look query }
+        ensures ok { IfOk result (λ x. Makes (Look query) (Looked x) pass.old pass.new) }
+        ensures err { IfErr result (λ e. NotLooked e (Look query) pass.old pass.new) }
+    {
+        enter(rt, &self.desk, &mut pass.place);
+        let mut registry = take_out(&self.desk, &mut pass.place);
+        if count(&self.desk, &mut pass.place) == u64::MAX {
+            leave(&self.desk, &mut pass.place, registry);
+            return Err(LookError::Exhausted);
+        }
+        match registry.look(query) {
+            Ok(reply) => {
+                commit::<C>(&self.desk, &mut pass.place);
+                leave(&self.desk, &mut pass.place, registry);
+                Ok(reply)
+            }
+            Err(_) => {
+                commit::<C>(&self.desk, &mut pass.place);
+                leave(&self.desk, &mut pass.place, registry);
+                Err(LookError::Canceled)
+            }
+        }
+    }
+
+    // Forgets a query, if there is room for an event.
+    fn forget<R: Wait, C: Asked>(&self, rt: &R, pass: &mut Pass, query: u64) -> bool
+        requires pass { pass.old.of ≡ self.now }
+        requires call { C.call ≡ Finish query }
+        ensures { MatchBool result (Makes (Finish query) Done pass.old pass.new)
+            (Full pass.old pass.new) }
+    {
+        enter(rt, &self.desk, &mut pass.place);
+        let mut registry = take_out(&self.desk, &mut pass.place);
+        if count(&self.desk, &mut pass.place) == u64::MAX {
+            leave(&self.desk, &mut pass.place, registry);
+            return false;
+        }
+        let Ok(()) = registry.finish(query) else {
+            unreachable!()
+        };
+        commit::<C>(&self.desk, &mut pass.place);
         leave(&self.desk, &mut pass.place, registry);
         true
     }
@@ -306,6 +465,14 @@ impl Pass {
         take_in(&manager.desk, &mut self.place, place);
         Ok(())
     }
+
+    /// A law of passes, for callers that were handed one: with the whole share, it counts each
+    /// call of the history that it has seen as its own. It does nothing.
+    pub fn counts_all(&self)
+        ensures { CountsAll self.now }
+    {
+        let _place = &self.place;
+    }
 }
 
 impl ConnectionHandle {
@@ -317,31 +484,12 @@ impl ConnectionHandle {
         pass: &mut Pass,
     ) -> Result<CancelToken, RegistryError>
         requires { pass.old.of ≡ manager.now }
-        ensures ok { IfOk result (λ t. Makes (StartQuery self.now.number) (Started t.number) pass.old pass.new) }
+        ensures ok { IfOk result (λ t. Makes (StartQuery self.now.number) (Started t.number)
+            pass.old pass.new) }
         ensures err { IfErr result (λ e. Refused e (StartQuery self.now.number) pass.old pass.new) }
     {
-        enter(rt, &manager.desk, &mut pass.place);
-        let mut registry = take_out(&manager.desk, &mut pass.place);
-        if count(&manager.desk, &mut pass.place) == u64::MAX {
-            leave(&manager.desk, &mut pass.place, registry);
-            return Err(RegistryError::Exhausted);
-        }
-        match registry.start_query(self.number) {
-            Ok(number) => {
-                commit::<Brand>(&manager.desk, &mut pass.place, self.number, 0, &[]);
-                leave(&manager.desk, &mut pass.place, registry);
-                Ok(CancelToken { number })
-            }
-            Err(RegistryError::Gone) => {
-                commit::<Brand>(&manager.desk, &mut pass.place, self.number, 0, &[]);
-                leave(&manager.desk, &mut pass.place, registry);
-                Err(RegistryError::Gone)
-            }
-            Err(_) => {
-                leave(&manager.desk, &mut pass.place, registry);
-                Err(RegistryError::OutOfMemory)
-            }
-        }
+        let number = manager.start::<R, Brand>(rt, pass, self.number)?;
+        Ok(CancelToken { number })
     }
 
     /// Fires the query that is active, and tells whether there was one.
@@ -352,27 +500,12 @@ impl ConnectionHandle {
         pass: &mut Pass,
     ) -> Result<bool, RegistryError>
         requires { pass.old.of ≡ manager.now }
-        ensures ok { IfOk result (λ x. Makes (CancelHandle self.now.number) (Canceled x) pass.old pass.new) }
-        ensures err { IfErr result (λ e. Struck e (CancelHandle self.now.number) pass.old pass.new) }
+        ensures ok { IfOk result (λ x. Makes (CancelHandle self.now.number) (Canceled x) pass.old
+            pass.new) }
+        ensures err { IfErr result (λ e. Struck e (CancelHandle self.now.number) pass.old
+            pass.new) }
     {
-        enter(rt, &manager.desk, &mut pass.place);
-        let mut registry = take_out(&manager.desk, &mut pass.place);
-        if count(&manager.desk, &mut pass.place) == u64::MAX {
-            leave(&manager.desk, &mut pass.place, registry);
-            return Err(RegistryError::Exhausted);
-        }
-        match registry.cancel_handle(self.number) {
-            Ok(reply) => {
-                commit::<Brand>(&manager.desk, &mut pass.place, self.number, 0, &[]);
-                leave(&manager.desk, &mut pass.place, registry);
-                Ok(reply)
-            }
-            Err(_) => {
-                commit::<Brand>(&manager.desk, &mut pass.place, self.number, 0, &[]);
-                leave(&manager.desk, &mut pass.place, registry);
-                Err(RegistryError::Gone)
-            }
-        }
+        manager.fire::<R, Brand>(rt, pass, self.number)
     }
 
     /// Gives the connection up.
@@ -386,18 +519,10 @@ impl ConnectionHandle {
         ensures ok { IfOk result (λ _. Makes (CloseHandle self.number) Done pass.old pass.new) }
         ensures err { IfErr result (λ h. (h ≡ self) × Full pass.old pass.new) }
     {
-        enter(rt, &manager.desk, &mut pass.place);
-        let mut registry = take_out(&manager.desk, &mut pass.place);
-        if count(&manager.desk, &mut pass.place) == u64::MAX {
-            leave(&manager.desk, &mut pass.place, registry);
+        if !manager.give_up::<R, Brand>(rt, pass, self.number) {
             return Err(self);
         }
-        let ConnectionHandle { number } = self;
-        let Ok(()) = registry.close_handle(number) else {
-            unreachable!()
-        };
-        commit::<Brand>(&manager.desk, &mut pass.place, number, 0, &[]);
-        leave(&manager.desk, &mut pass.place, registry);
+        let ConnectionHandle { number: _ } = self;
         Ok(())
     }
 
@@ -421,24 +546,7 @@ impl CancelToken {
         ensures ok { IfOk result (λ x. Makes (Look self.now.number) (Looked x) pass.old pass.new) }
         ensures err { IfErr result (λ e. NotLooked e (Look self.now.number) pass.old pass.new) }
     {
-        enter(rt, &manager.desk, &mut pass.place);
-        let mut registry = take_out(&manager.desk, &mut pass.place);
-        if count(&manager.desk, &mut pass.place) == u64::MAX {
-            leave(&manager.desk, &mut pass.place, registry);
-            return Err(LookError::Exhausted);
-        }
-        match registry.look(self.number) {
-            Ok(reply) => {
-                commit::<Brand>(&manager.desk, &mut pass.place, self.number, 0, &[]);
-                leave(&manager.desk, &mut pass.place, registry);
-                Ok(reply)
-            }
-            Err(_) => {
-                commit::<Brand>(&manager.desk, &mut pass.place, self.number, 0, &[]);
-                leave(&manager.desk, &mut pass.place, registry);
-                Err(LookError::Canceled)
-            }
-        }
+        manager.look_at::<R, Brand>(rt, pass, self.number)
     }
 
     /// Forgets the query.
@@ -452,18 +560,10 @@ impl CancelToken {
         ensures ok { IfOk result (λ _. Makes (Finish self.number) Done pass.old pass.new) }
         ensures err { IfErr result (λ t. (t ≡ self) × Full pass.old pass.new) }
     {
-        enter(rt, &manager.desk, &mut pass.place);
-        let mut registry = take_out(&manager.desk, &mut pass.place);
-        if count(&manager.desk, &mut pass.place) == u64::MAX {
-            leave(&manager.desk, &mut pass.place, registry);
+        if !manager.forget::<R, Brand>(rt, pass, self.number) {
             return Err(self);
         }
-        let CancelToken { number } = self;
-        let Ok(()) = registry.finish(number) else {
-            unreachable!()
-        };
-        commit::<Brand>(&manager.desk, &mut pass.place, number, 0, &[]);
-        leave(&manager.desk, &mut pass.place, registry);
+        let CancelToken { number: _ } = self;
         Ok(())
     }
 
@@ -484,7 +584,7 @@ impl ConnectionGuard {
     {
         if !self
             .manager
-            .take_away(rt, pass, self.pid, self.key.as_slice())
+            .take_away::<R, Brand>(rt, pass, self.pid, self.key.as_slice())
         {
             return Err(self);
         }

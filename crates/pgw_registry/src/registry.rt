@@ -40,9 +40,17 @@ impl Model for Registry {
 
     ghost coded = { book_code };
 
-    ghost view = { λ r. record { pairs = r.pairs; handles = r.handles; queries = r.queries; handles_made = r.handles_made; queries_made = r.queries_made; events = r.events } };
+    ghost view = { λ r. record {
+      pairs = r.pairs;
+      handles = r.handles;
+      queries = r.queries;
+      handles_made = r.handles_made;
+      queries_made = r.queries_made;
+      events = r.events;
+    } };
 
-    ghost invariant = { λ r. (r.handles_made ≤ r.events) × (r.queries_made ≤ r.events) × FewHolders r.handles r.events × NamesPairs r.pairs r.names r.handles_made };
+    ghost invariant = { λ r. (r.handles_made ≤ r.events) × (r.queries_made ≤ r.events)
+        × FewHolders r.handles r.events × NamesPairs r.pairs r.names r.handles_made };
 }
 
 // A query that waits is replaced.

@@ -1,5 +1,6 @@
 //! What a pass knows, and the steps on the two words.
 use crate::call::Entry;
+use crate::held::Held;
 use crate::registry::Registry;
 use crate::share::Share;
 use atomic_table::{Join, Play, Seat, Split, Table, TableRule};
@@ -35,7 +36,7 @@ pub struct Sight {
 /// Word 0 is the turn, word 1 the number of events. The slot has the object.
 pub struct OneHistory;
 
-impl TableRule<Option<Registry>, Sight, ()> for OneHistory {
+impl TableRule<Option<Held>, Sight, ()> for OneHistory {
     ghost use Rattle.pgw_registry.specs.History.{Ruled, founder};
 
     ghost holds = { λ _. Ruled };
@@ -43,9 +44,9 @@ impl TableRule<Option<Registry>, Sight, ()> for OneHistory {
     ghost first = { λ _. founder };
 }
 
-pub type Desk = Table<Option<Registry>, Sight, (), OneHistory, Global>;
+pub type Desk = Table<Option<Held>, Sight, (), OneHistory, Global>;
 
-pub type Place = Seat<Option<Registry>, Sight>;
+pub type Place = Seat<Option<Held>, Sight>;
 
 /// Which call is made. Each call of a program picks it.
 pub trait Asked {
@@ -62,7 +63,7 @@ impl Asked for Brand {
 
 pub struct TakesTurn;
 
-impl Play<Option<Registry>, Sight> for TakesTurn {
+impl Play<Option<Held>, Sight> for TakesTurn {
     ghost use Rattle.pgw_registry.specs.History.{Took};
 
     ghost then = { Took };
@@ -70,7 +71,7 @@ impl Play<Option<Registry>, Sight> for TakesTurn {
 
 pub struct LeavesTurn;
 
-impl Play<Option<Registry>, Sight> for LeavesTurn {
+impl Play<Option<Held>, Sight> for LeavesTurn {
     ghost use Rattle.pgw_registry.specs.History.{Left};
 
     ghost then = { Left };
@@ -78,7 +79,7 @@ impl Play<Option<Registry>, Sight> for LeavesTurn {
 
 pub struct Looks;
 
-impl Play<Option<Registry>, Sight> for Looks {
+impl Play<Option<Held>, Sight> for Looks {
     ghost use Rattle.pgw_registry.specs.History.{Looked};
 
     ghost then = { Looked };
@@ -86,7 +87,7 @@ impl Play<Option<Registry>, Sight> for Looks {
 
 pub struct Names;
 
-impl Play<Option<Registry>, Sight> for Names {
+impl Play<Option<Held>, Sight> for Names {
     ghost use Rattle.pgw_registry.specs.History.{Named};
 
     ghost then = { Named };
@@ -96,7 +97,7 @@ pub struct Appends<C> {
     of: PhantomData<C>,
 }
 
-impl<C: Asked> Play<Option<Registry>, Sight> for Appends<C> {
+impl<C: Asked> Play<Option<Held>, Sight> for Appends<C> {
     ghost use Rattle.pgw_registry.specs.History.{Appended};
 
     ghost then = { Appended C.call };

@@ -2,14 +2,13 @@
 use Rattle.std.proofs.Common.{◌≡◌, ℕ, ℤ, pos, negsuc, ◌+◌, ◌-◌, ◌<◌, ◌≤◌, ltb, false, true, List, length, take, drop, nat_abs, Some, None, Ok, refl, sym, ap, ◌∙◌, arith}
 use Rattle.std.specs.Prelude.{slice_range}
 use Rattle.std.specs.Int.{w32}
-use Rattle.std.proofs.Math.Seq.{take-length}
 use Rattle.std.proofs.lemmas.Bool.{lt-ltb, le-ltb, ltb-true}
-use Rattle.std.proofs.lemmas.List.{drop-drop, drop-take, length-drop, take-take}
+use Rattle.std.proofs.lemmas.List.{drop-drop, drop-take, take-take}
 use Rattle.std.proofs.lemmas.Int.{to_z-of_z}
 use lib.Signed.{lt_z}
 use mir.Val.{SFits, to_z, of_z}
 use Rattle.pgw_wire.specs.Reading.{int_at, octets_at}
-use Rattle.pgw_ext.specs.Kinds.{parameter_at}
+use Rattle.pgw_wire.specs.Values.{nullable_at}
 use Rattle.pgw_rows.specs.Rows.{value_at}
 
 -- a length that is not negative is a count
@@ -17,23 +16,19 @@ pub is_count : (z : ℤ) → SFits w32 z → lt_z (to_z w32 (of_z w32 z)) (pos 0
 is_count (pos n) fits h = sym (ap (λ (z : ℤ). pos (nat_abs z)) (to_z-of_z w32 (pos n) fits))
 is_count (negsuc n) fits h = let k : lt_z (negsuc n) (pos 0) ≡ false = rw (to_z-of_z w32 (negsuc n) fits) at h in absurd cc
 
--- `&row[at..]`
-pub rest_of : (row : List ℕ) (at : ℕ) → take (length row - at) (drop at row) ≡ drop at row
-rest_of row at = rw (← length-drop at row) (take-length (drop at row))
-
 -- ---- the value behind its length
 
 pub value_null : (row : List ℕ) (at : ℕ) (z : ℤ) → SFits w32 z → lt_z (to_z w32 (of_z w32 z)) (pos 0) ≡ true → int_at w32 (drop at row) ≡ Ok (z, drop 4 (drop at row)) → value_at (drop at row) ≡ Some (None, drop (at + 4) row)
-unfolding parameter_at
+unfolding nullable_at
 value_null row at (pos n) fits h e = let k : ltb n 0 ≡ true = rw (to_z-of_z w32 (pos n) fits) at h in absurd (omega (arith, ltb-true n 0 k))
 value_null row at (negsuc n) fits h e = rw (e, drop-drop) refl
 
 pub value_short : (row : List ℕ) (at n : ℕ) → int_at w32 (drop at row) ≡ Ok (pos n, drop 4 (drop at row)) → length (drop 4 (drop at row)) < n → value_at (drop at row) ≡ None
-unfolding parameter_at octets_at
+unfolding nullable_at octets_at
 value_short row at n e h = rw (e, lt-ltb _ _ h) refl
 
 pub value_whole : (row : List ℕ) (at n : ℕ) → int_at w32 (drop at row) ≡ Ok (pos n, drop 4 (drop at row)) → n ≤ length (drop 4 (drop at row)) → value_at (drop at row) ≡ Some (Some (slice_range row (at + 4) (at + 4 + n)), drop (at + 4 + n) row)
-unfolding parameter_at octets_at
+unfolding nullable_at octets_at
 value_whole row at n e h =
     let cut : take n (drop 4 (drop at row)) ≡ slice_range row (at + 4) (at + 4 + n) = rw drop-drop (ap (λ (k : ℕ). take k (drop (at + 4) row)) (omega arith)) in
     let rest : drop n (drop 4 (drop at row)) ≡ drop (at + 4 + n) row = rw (drop-drop, drop-drop) (ap (λ (k : ℕ). drop k row) (omega arith)) in

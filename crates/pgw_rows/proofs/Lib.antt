@@ -1,4 +1,4 @@
 pub mod CutLaws
 pub mod NumberLaws
-pub mod RunLaws
 pub mod UnreadLaws
+pub mod WrittenLaws

@@ -1,12 +1,15 @@
 -- Whole numbers in a text.
-use Rattle.std.proofs.Common.{◌≡◌, ℕ, zero, suc, ℤ, pos, negsuc, ◌<◌, Bool, true, false, cond, eqb, ltb, ◌&&◌, List, [], ◌∷◌, length, drop, get_or, Some, None, Result, Ok, Err, refl, ap, arith, inl, inr}
+use Rattle.std.proofs.Common.{◌≡◌, ℕ, zero, suc, ℤ, pos, negsuc, ◌<◌, ◌^◌, Bool, true, false, cond, eqb, ltb, ◌&&◌, List, [], ◌∷◌, length, drop, get_or, Some, None, Result, Ok, Err, refl, sym, ap, ◌∙◌, arith, inl, inr}
+use Rattle.std.specs.Fmt.{signed_decimal}
 use Rattle.std.specs.Result.{result_ok}
 use Rattle.std.specs.Str.{IsUtf8, IsAscii, all_ascii_digits}
 use Rattle.std.specs.Str.Parse.{AllDigits, digits_value, without_leading_sign, signed_digits_value, ParsesSigned}
 use Rattle.std.proofs.lemmas.Bool.{lt-ltb, ltb-true, eqb-true, and_parts}
+use Rattle.std.proofs.lemmas.Fmt.{parse-signed_decimal}
 use Rattle.std.proofs.lemmas.List.{get_or_past}
 use Rattle.std.proofs.lemmas.Str.{IsUtf8-from_ascii}
 use Rattle.std.proofs.lemmas.Str.Parse.{IsNumeralModel, digit_from_value, numerals_by_value, tells_all_ascii_digits}
+use lib.Signed.{mag}
 use mir.Syntax.{Width}
 use mir.Val.{SFits}
 use Rattle.pgw_wire.specs.Steps.{chosen}
@@ -79,3 +82,24 @@ not_a_number w text h =
       | inl k ↦ let p = parts_of w text k.0 in absurd (h (IsUtf8-from_ascii text (numeral_ascii text p.digits)))
       | inr k ↦ k.1
     ]
+
+-- ---- the digits of a number are read as it
+
+whole : (w : Width) (text : List ℕ) → (0 < length (without_leading_sign text)) × AllDigits 10 (without_leading_sign text) → SFits w (signed_digits_value 10 text) → numeral w text ≡ true
+whole w text h fits =
+    let some : ltb 0 (length (without_leading_sign text)) ≡ true = lt-ltb _ _ h.0 in
+    let digits : all_ascii_digits (without_leading_sign text) ≡ true = numerals.from (without_leading_sign text) h.1 in
+    let within : is_within w (signed_digits_value 10 text) ≡ true = within_is w _ fits in
+    rw (some, digits, within) refl
+
+parsed_by : (w : Width) (text : List ℕ) (b : Bool) → numeral w text ≡ b → (r : Result ℤ ℕ) × ParsesSigned w 10 text r
+parsed_by w text true e =
+    let p = parts_of w text e in
+    (Ok (signed_digits_value 10 text), (((p.some, p.digits), p.fits), refl))
+parsed_by w text false e =
+    (Err 0, λ h. let t : numeral w text ≡ true = whole w text (h.0.0, h.0.1) h.1 in absurd cc)
+
+pub digits_are_read : (w : Width) (z : ℤ) → SFits w z → mag z < 2 ^ 63 → integer_in w (signed_decimal z) ≡ Some z
+digits_are_read w z fits small =
+    let r = parsed_by w (signed_decimal z) (numeral w (signed_decimal z)) refl in
+    sym (parsed w (signed_decimal z) r.0 r.1) ∙ ap result_ok (parse-signed_decimal w z (signed_decimal z) r.0 fits small refl r.1)

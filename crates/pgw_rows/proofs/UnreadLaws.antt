@@ -5,9 +5,9 @@ use Rattle.std.specs.Vec.Iter.{into_iter_items}
 use Rattle.pgw_query.specs.declared.data.DataRow.{DataRow}
 use Rattle.pgw_rows.specs.declared.unread.Unread.{Unread}
 use Rattle.pgw_rows.specs.declared.unread.RowPlace.{RowPlace}
-use Rattle.pgw_rows.specs.Runs.{SpellsRows, row_end, row_in, rows_in, rows_of}
+use Rattle.pgw_query.specs.Runs.{SpellsRows, row_end, row_in, rows_in, rows_of}
 use Rattle.pgw_rows.specs.Unread.{IsPlace, IsUnread, row_at}
-use Rattle.pgw_rows.proofs.RunLaws.{Begins, begins}
+use Rattle.pgw_query.proofs.RunLaws.{Begins, begins}
 
 -- the first row of the run
 pub first_of : (u : Unread) → IsUnread u → 0 < u.left → Begins u.left (drop u.at u.bytes)

@@ -3,9 +3,9 @@ use Rattle.std.specs.Prelude.{◌≡◌, ℕ, ℤ, ◌+◌, ◌≤◌, ◌<◌, 
 use Rattle.std.specs.Int.{w32}
 use Rattle.std.specs.Result.{result_ok}
 use Rattle.pgw_wire.specs.Reading.{int_at}
-use Rattle.pgw_backend.specs.declared.field_info.FieldInfo.{FieldInfo}
-use Rattle.pgw_backend.specs.declared.client_error.PgWireClientError.{PgWireClientError}
-use Rattle.pgw_backend.specs.declared.client_error.PgWireClientError.TheVariants as client
+use Rattle.pgw_query.specs.declared.field_info.FieldInfo.{FieldInfo}
+use Rattle.pgw_query.specs.declared.row_error.RowError.{RowError}
+use Rattle.pgw_query.specs.declared.row_error.RowError.TheVariants as why
 use Rattle.pgw_rows.specs.declared.cut.Cut.{Cut}
 use Rattle.pgw_rows.specs.Rows.{value_at, standing_at}
 
@@ -34,8 +34,8 @@ pub record Passed (fields : List FieldInfo) (row : List ℕ) (old_passed old_at 
   pub value_is : value_at (drop old_at row) ≡ Some (value, drop new_at row)
 
 -- what passing a value over answers
-abbrev pub Passes : List FieldInfo → List ℕ → ℕ → ℕ → ℕ → ℕ → Result (Option Cut) PgWireClientError → Type 0
+abbrev pub Passes : List FieldInfo → List ℕ → ℕ → ℕ → ℕ → ℕ → Result (Option Cut) RowError → Type 0
 Passes fields row old_passed old_at new_passed new_at (Ok None) = Passed fields row old_passed old_at new_passed new_at None
 Passes fields row old_passed old_at new_passed new_at (Ok (Some cut)) = Passed fields row old_passed old_at new_passed new_at (Some (cut_of row cut)) × IsIn row cut
 Passes fields row old_passed old_at new_passed new_at (Err e) =
-    (e ≡ client.DataRowIndexOutOfBounds) × (new_passed ≡ old_passed) × (new_at ≡ old_at) × (standing_at (record { fields = fields; passed = old_passed; bytes = drop old_at row }) ≡ None)
+    (e ≡ why.DataRowIndexOutOfBounds) × (new_passed ≡ old_passed) × (new_at ≡ old_at) × (standing_at (record { fields = fields; passed = old_passed; bytes = drop old_at row }) ≡ None)

@@ -1,7 +1,7 @@
 pub mod Rows
-pub mod Runs
 pub mod Values
 pub mod Cuts
 pub mod Unread
 pub mod Lending
 pub mod Places
+pub mod Written

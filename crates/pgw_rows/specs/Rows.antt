@@ -3,15 +3,15 @@ use Rattle.std.specs.Prelude.{◌≡◌, ℕ, ◌+◌, List, [], ◌∷◌, drop
 use Rattle.std.specs.Option.{option_copied}
 use Rattle.std.specs.Result.{result_ok}
 use Rattle.std.specs.Borrow.{Bor}
-use Rattle.pgw_ext.specs.Kinds.{parameter_at}
+use Rattle.pgw_wire.specs.Values.{nullable_at}
 use Rattle.pgw_query.specs.declared.data.DataRow.{DataRow}
-use Rattle.pgw_backend.specs.declared.field_info.FieldInfo.{FieldInfo}
-use Rattle.pgw_backend.specs.declared.field_info.FieldFormat.{FieldFormat}
-use Rattle.pgw_backend.specs.declared.field_info.FieldFormat.TheVariants as formats
-use Rattle.pgw_backend.specs.declared.pg_type.PgType.{PgType}
-use Rattle.pgw_backend.specs.declared.client_error.SqlFault.{SqlFault}
-use Rattle.pgw_backend.specs.declared.client_error.PgWireClientError.{PgWireClientError}
-use Rattle.pgw_backend.specs.declared.client_error.PgWireClientError.TheVariants as client
+use Rattle.pgw_query.specs.declared.field_info.FieldInfo.{FieldInfo}
+use Rattle.pgw_query.specs.declared.field_info.FieldFormat.{FieldFormat}
+use Rattle.pgw_query.specs.declared.field_info.FieldFormat.TheVariants as formats
+use Rattle.pgw_query.specs.declared.pg_type.PgType.{PgType}
+use Rattle.pgw_query.specs.declared.row_error.SqlFault.{SqlFault}
+use Rattle.pgw_query.specs.declared.row_error.RowError.{RowError}
+use Rattle.pgw_query.specs.declared.row_error.RowError.TheVariants as why
 
 -- ---- rows
 
@@ -42,7 +42,7 @@ others_of waiting = record waiting { rows = drop 1 waiting.rows }
 
 -- a value and the bytes behind it: the Int32 number of its bytes, and the bytes; a negative number is NULL and has none
 abbrev pub value_at : List ℕ → Option (Option (List ℕ) × List ℕ)
-value_at bytes = result_ok (parameter_at bytes)
+value_at bytes = result_ok (nullable_at bytes)
 
 -- what stands at a place: its column, the value and the bytes behind it
 abbrev pub Standing : Type 0
@@ -64,10 +64,10 @@ behind place rest = record place { passed = place.passed + 1; bytes = rest }
 -- ---- answers
 
 -- a call gave what the type reads, or memory ran out where it may
-abbrev pub Gives : {A : Type 0} → Type 0 → Result A SqlFault → Result A PgWireClientError → Type 0
+abbrev pub Gives : {A : Type 0} → Type 0 → Result A SqlFault → Result A RowError → Type 0
 Gives Lacks read (Ok x) = read ≡ Ok x
-Gives Lacks read (Err (client.FromSqlError fault)) = read ≡ Err fault
-Gives Lacks read (Err client.OutOfMemory) = Lacks
+Gives Lacks read (Err (why.FromSqlError fault)) = read ≡ Err fault
+Gives Lacks read (Err why.OutOfMemory) = Lacks
 Gives Lacks read (Err e) = ⊥
 
 abbrev pub some_of : {A : Type 0} → Result A SqlFault → Result (Option A) SqlFault
@@ -75,14 +75,14 @@ some_of (Ok x) = Ok (Some x)
 some_of (Err fault) = Err fault
 
 -- where a call comes to that may be refused for want of memory, which leaves its place
-abbrev pub behind_unless : {A : Type 0} → Result A PgWireClientError → Place → List ℕ → Place
-behind_unless (Err client.OutOfMemory) place rest = place
+abbrev pub behind_unless : {A : Type 0} → Result A RowError → Place → List ℕ → Place
+behind_unless (Err why.OutOfMemory) place rest = place
 behind_unless result place rest = behind place rest
 
 -- a call answers what is read of the value at a place, and leaves the place behind it; NULL is none. Where no value
 -- stands it answers so and stays, and so it does where memory is wanting
-abbrev pub Answers : {A : Type 0} → Type 0 → (FieldInfo → List ℕ → Result A SqlFault) → Option Standing → Place → Place → Result (Option A) PgWireClientError → Type 0
-Answers Lacks read None old new result = (result ≡ Err client.DataRowIndexOutOfBounds) × (new ≡ old)
+abbrev pub Answers : {A : Type 0} → Type 0 → (FieldInfo → List ℕ → Result A SqlFault) → Option Standing → Place → Place → Result (Option A) RowError → Type 0
+Answers Lacks read None old new result = (result ≡ Err why.DataRowIndexOutOfBounds) × (new ≡ old)
 Answers Lacks read (Some (field, (None, rest))) old new result = (result ≡ Ok None) × (new ≡ behind old rest)
 Answers Lacks read (Some (field, (Some raw, rest))) old new result = Gives Lacks (some_of (read field raw)) result × (new ≡ behind_unless result old rest)
 
@@ -95,12 +95,12 @@ abbrev pub read_by : {A : Type 0} → (PgType → List ℕ → Result A SqlFault
 read_by of_binary of_text field raw = in_format field.format (of_binary field.datatype raw) (of_text field.datatype raw)
 
 -- an answer that lends bytes, as those bytes
-abbrev pub lent : Result (Option (Bor (List ℕ))) PgWireClientError → Result (Option (List ℕ)) PgWireClientError
+abbrev pub lent : Result (Option (Bor (List ℕ))) RowError → Result (Option (List ℕ)) RowError
 lent (Ok bytes) = Ok (option_copied bytes)
 lent (Err e) = Err e
 
 -- a call lends the value at a place, and leaves the place behind it; NULL is none. Where no value stands it answers so
 -- and stays
-abbrev pub Lends : Option Standing → Place → Place → Result (Option (List ℕ)) PgWireClientError → Type 0
-Lends None old new result = (result ≡ Err client.DataRowIndexOutOfBounds) × (new ≡ old)
+abbrev pub Lends : Option Standing → Place → Place → Result (Option (List ℕ)) RowError → Type 0
+Lends None old new result = (result ≡ Err why.DataRowIndexOutOfBounds) × (new ≡ old)
 Lends (Some (field, (value, rest))) old new result = (result ≡ Ok value) × (new ≡ behind old rest)

@@ -6,7 +6,7 @@ use Rattle.pgw_rows.specs.declared.unread.Unread.{Unread}
 use Rattle.pgw_rows.specs.declared.unread.RowPlace.{RowPlace}
 use Rattle.pgw_rows.specs.declared.unread.First.{First}
 use Rattle.pgw_rows.specs.declared.unread.First.TheVariants as first
-use Rattle.pgw_rows.specs.Runs.{AreLeft, rows_from}
+use Rattle.pgw_query.specs.Runs.{AreLeft, rows_from}
 
 abbrev pub unread_rows : Unread → List DataRow
 unread_rows u = rows_from u.left (drop u.at u.bytes) (into_iter_items u.runs)

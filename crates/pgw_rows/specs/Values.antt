@@ -3,13 +3,14 @@ use Rattle.std.specs.Prelude.{ℕ, ℤ, pos, negsuc, ◌^◌, List, [], ◌∷�
 use Rattle.std.specs.Int.{Width, byte_len, from_be_bytes, cast_signed}
 use mir.Val.{hbits}
 use Rattle.std.specs.Result.{result_ok}
+use Rattle.std.specs.List.{list_any}
 use Rattle.std.specs.Str.{all_ascii_digits, is_utf8}
 use Rattle.std.specs.Str.Parse.{without_leading_sign, signed_digits_value}
 use Rattle.hex.specs.Hex.{decode_of}
-use Rattle.pgw_backend.specs.declared.pg_type.PgType.{PgType}
-use Rattle.pgw_backend.specs.declared.pg_type.PgType.TheVariants as types
-use Rattle.pgw_backend.specs.declared.client_error.SqlFault.{SqlFault}
-use Rattle.pgw_backend.specs.declared.client_error.SqlFault.TheVariants as faults
+use Rattle.pgw_query.specs.declared.pg_type.PgType.{PgType}
+use Rattle.pgw_query.specs.declared.pg_type.PgType.TheVariants as types
+use Rattle.pgw_query.specs.declared.row_error.SqlFault.{SqlFault}
+use Rattle.pgw_query.specs.declared.row_error.SqlFault.TheVariants as faults
 
 -- ---- refusals
 
@@ -88,6 +89,19 @@ text_in raw = if is_utf8 raw then Some raw else None
 
 abbrev pub text_of : PgType → List ℕ → Result (List ℕ) SqlFault
 text_of ty raw = of_type (is_text ty) ty (or_bad_text (text_in raw))
+
+-- a type that no other type of a program reads, whose text form a text holds as it is, by its number in pg_type: json,
+-- real and double precision (8.1.3), date, time, timestamp without and with time zone, interval (8.5), numeric (8.1.2),
+-- uuid (8.12) and jsonb (8.14)
+abbrev pub is_written_out : ℕ → Bool
+is_written_out oid = list_any (λ number. number == oid) (114 ∷ 700 ∷ 701 ∷ 1082 ∷ 1083 ∷ 1114 ∷ 1184 ∷ 1186 ∷ 1700 ∷ 2950 ∷ 3802 ∷ [])
+
+abbrev pub has_text : PgType → Bool
+has_text (types.Other oid) = is_written_out oid
+has_text ty = is_text ty
+
+abbrev pub text_of_text : PgType → List ℕ → Result (List ℕ) SqlFault
+text_of_text ty text = of_type (has_text ty) ty (or_bad_text (text_in text))
 
 -- ---- bytea (8.4.1, bytea Hex Format): the bytes; or `\x` and two hex digits for each, in either case
 

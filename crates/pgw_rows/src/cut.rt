@@ -5,8 +5,8 @@ ghost use Rattle.pgw_rows.specs.Cuts.{HasLength, IsIn, Locates, Passes, cut_of};
 ghost use Rattle.pgw_rows.specs.Rows.{Gives, read_by};
 
 use crate::from_sql::{FromSql, FromSqlText};
-use pgw_backend::client_error::{PgWireClientError, PgWireClientResult};
-use pgw_backend::field_info::{FieldFormat, FieldInfo};
+use pgw_query::field_info::{FieldFormat, FieldInfo};
+use pgw_query::row_error::{RowError, RowResult};
 use pgw_types::octets::Octets;
 use std::alloc::Global;
 
@@ -22,7 +22,7 @@ fn length_at(bytes: &[u8]) -> Option<i32>
 }
 
 // Where the value at an index of a row ends, or none for NULL; nothing where the row ends within it.
-#[tactic(auto, unfolding(pgw_ext::specs::Kinds::parameter_at))]
+#[tactic(auto, unfolding(pgw_wire::specs::Values::nullable_at))]
 fn locate(row: &[u8], at: usize) -> Option<Option<usize>>
     requires { at ≤ length row.now }
     ensures { Locates row.now at result }
@@ -51,15 +51,15 @@ pub fn pass(
     row: &[u8],
     passed: &mut usize,
     at: &mut usize,
-) -> PgWireClientResult<Option<Cut>>
+) -> RowResult<Option<Cut>>
     requires { at.old ≤ length row.now }
     ensures { Passes fields.now row.now passed.old at.old passed.new at.new result }
 {
     if *passed >= fields.len() {
-        return Err(PgWireClientError::DataRowIndexOutOfBounds);
+        return Err(RowError::DataRowIndexOutOfBounds);
     }
     match locate(row, *at) {
-        None => Err(PgWireClientError::DataRowIndexOutOfBounds),
+        None => Err(RowError::DataRowIndexOutOfBounds),
         Some(None) => {
             *passed += 1;
             *at += 4;
@@ -92,10 +92,11 @@ pub fn read_value<T: FromSql + FromSqlText>(
     bytes: &Octets,
     end: usize,
     cut: Cut,
-) -> PgWireClientResult<T>
+) -> RowResult<T>
     requires within { end ≤ length bytes.now }
     requires in_row { IsIn (take end bytes.now) cut }
-    ensures { Gives (T.FromSql.may_lack ⊎ T.FromSqlText.may_lack) (read_by T.of_binary T.of_text field.now (cut_of (take end bytes.now) cut)) result }
+    ensures { Gives (T.FromSql.may_lack ⊎ T.FromSqlText.may_lack)
+        (read_by T.of_binary T.of_text field.now (cut_of (take end bytes.now) cut)) result }
 {
     match field.format {
         FieldFormat::Binary => T::from_row(alloc, &field.datatype, bytes, cut.from, cut.to),

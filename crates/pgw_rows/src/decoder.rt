@@ -4,9 +4,9 @@ ghost use Rattle.pgw_rows.specs.Rows.{Answers, Lends, lent, read_by, row_start, 
 
 use crate::cut::{cut_out, pass, read_value};
 use crate::from_sql::{FromSql, FromSqlText};
-use pgw_backend::client_error::{PgWireClientError, PgWireClientResult};
-use pgw_backend::field_info::FieldInfo;
 use pgw_query::data::DataRow;
+use pgw_query::field_info::FieldInfo;
+use pgw_query::row_error::{RowError, RowResult};
 use pgw_types::octets::Octets;
 use std::alloc::Global;
 
@@ -82,10 +82,7 @@ impl<'a> DataRowDecoder<'a> {
     /// value, and leaves the row as it was, as want of memory does. A value that cannot be read as
     /// this type is passed over. A `bool`, an `i16`, an `i32` and an `i64` take no memory; bytes in
     /// binary form share those of the row.
-    pub fn next_value<T: FromSql + FromSqlText>(
-        &mut self,
-        alloc: Global,
-    ) -> PgWireClientResult<Option<T>>
+    pub fn next_value<T: FromSql + FromSqlText>(&mut self, alloc: Global) -> RowResult<Option<T>>
         ensures { Answers (T.FromSql.may_lack ⊎ T.FromSqlText.may_lack)
             (read_by T.of_binary T.of_text) (standing_at (place_of self.old))
             (place_of self.old) (place_of self.new) result }
@@ -105,10 +102,10 @@ impl<'a> DataRowDecoder<'a> {
             Ok(None) => Ok(None),
             Ok(Some(cut)) => match read_value(alloc, &fields[index], bytes, end, cut) {
                 Ok(value) => Ok(Some(value)),
-                Err(PgWireClientError::OutOfMemory) => {
+                Err(RowError::OutOfMemory) => {
                     self.passed = index;
                     self.at = at;
-                    Err(PgWireClientError::OutOfMemory)
+                    Err(RowError::OutOfMemory)
                 }
                 Err(e) => Err(e),
             },
@@ -117,7 +114,7 @@ impl<'a> DataRowDecoder<'a> {
 
     /// Lends the bytes of the next value, whatever its format; NULL is none. It takes no memory,
     /// and passes the value over and answers `DataRowIndexOutOfBounds` as `next_value` does.
-    pub fn next_raw(&mut self) -> PgWireClientResult<Option<&'a [u8]>>
+    pub fn next_raw(&mut self) -> RowResult<Option<&'a [u8]>>
         ensures { Lends (standing_at (place_of self.old))
             (place_of self.old) (place_of self.new) (lent result) }
     {

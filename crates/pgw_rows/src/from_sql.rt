@@ -1,11 +1,11 @@
 //! What a value of a row can be read as.
 ghost use Rattle.std.specs.Prelude.{◌≤◌, ℕ, List, Result, length, slice_range};
-ghost use Rattle.pgw_backend.specs.declared.client_error.SqlFault.{SqlFault as TheFault};
-ghost use Rattle.pgw_backend.specs.declared.pg_type.PgType.{PgType as TheType};
+ghost use Rattle.pgw_query.specs.declared.row_error.SqlFault.{SqlFault as TheFault};
+ghost use Rattle.pgw_query.specs.declared.pg_type.PgType.{PgType as TheType};
 ghost use Rattle.pgw_rows.specs.Rows.{Gives};
 
-use pgw_backend::client_error::PgWireClientResult;
-use pgw_backend::pg_type::PgType;
+use pgw_query::pg_type::PgType;
+use pgw_query::row_error::RowResult;
 use pgw_types::octets::Octets;
 use std::alloc::Global;
 
@@ -18,17 +18,11 @@ pub trait FromSql: Sized {
     ghost may_lack: { Type 0 };
 
     /// Reads a value in binary form.
-    fn from_sql(alloc: Global, ty: &PgType, raw: &[u8]) -> PgWireClientResult<Self>
+    fn from_sql(alloc: Global, ty: &PgType, raw: &[u8]) -> RowResult<Self>
         ensures { Gives may_lack (of_binary ty.now raw.now) result };
 
     /// Reads the bytes from one place of a row to another. A value that can share them copies none.
-    fn from_row(
-        alloc: Global,
-        ty: &PgType,
-        row: &Octets,
-        from: usize,
-        to: usize,
-    ) -> PgWireClientResult<Self>
+    fn from_row(alloc: Global, ty: &PgType, row: &Octets, from: usize, to: usize) -> RowResult<Self>
         requires ordered { from ≤ to }
         requires within { to ≤ length row.now }
         ensures { Gives may_lack (of_binary ty.now (slice_range row.now from to)) result }
@@ -46,6 +40,6 @@ pub trait FromSqlText: Sized {
     ghost may_lack: { Type 0 };
 
     /// Reads a value in text form.
-    fn from_sql_text(alloc: Global, ty: &PgType, input: &[u8]) -> PgWireClientResult<Self>
+    fn from_sql_text(alloc: Global, ty: &PgType, input: &[u8]) -> RowResult<Self>
         ensures { Gives may_lack (of_text ty.now input.now) result };
 }

@@ -4,8 +4,8 @@ ghost use Rattle.std.specs.Int.{w16, w32, w64};
 ghost use Rattle.pgw_rows.specs.Values.{integer_in, integer_of_binary, integer_of_text, is_int2, is_int4, is_int8};
 
 use crate::from_sql::{FromSql, FromSqlText};
-use pgw_backend::client_error::{PgWireClientError, PgWireClientResult, SqlFault};
-use pgw_backend::pg_type::PgType;
+use pgw_query::pg_type::PgType;
+use pgw_query::row_error::{RowError, RowResult, SqlFault};
 use std::alloc::Global;
 
 fn i16_in(text: &[u8]) -> Option<i16>
@@ -40,14 +40,14 @@ impl FromSql for i16 {
 
     ghost may_lack = { ⊥ };
 
-    fn from_sql(_alloc: Global, ty: &PgType, raw: &[u8]) -> PgWireClientResult<i16> {
+    fn from_sql(_alloc: Global, ty: &PgType, raw: &[u8]) -> RowResult<i16> {
         match ty {
             PgType::Int2 => {}
-            _ => return Err(PgWireClientError::FromSqlError(SqlFault::WrongType(*ty))),
+            _ => return Err(RowError::FromSqlError(SqlFault::WrongType(*ty))),
         }
         match raw {
             [a, b] => Ok(i16::from_be_bytes([*a, *b])),
-            _ => Err(PgWireClientError::FromSqlError(SqlFault::WrongLength(raw.len()))),
+            _ => Err(RowError::FromSqlError(SqlFault::WrongLength(raw.len()))),
         }
     }
 }
@@ -57,14 +57,14 @@ impl FromSqlText for i16 {
 
     ghost may_lack = { ⊥ };
 
-    fn from_sql_text(_alloc: Global, ty: &PgType, input: &[u8]) -> PgWireClientResult<i16> {
+    fn from_sql_text(_alloc: Global, ty: &PgType, input: &[u8]) -> RowResult<i16> {
         match ty {
             PgType::Int2 => {}
-            _ => return Err(PgWireClientError::FromSqlError(SqlFault::WrongType(*ty))),
+            _ => return Err(RowError::FromSqlError(SqlFault::WrongType(*ty))),
         }
         match i16_in(input) {
             Some(value) => Ok(value),
-            None => Err(PgWireClientError::FromSqlError(SqlFault::BadText)),
+            None => Err(RowError::FromSqlError(SqlFault::BadText)),
         }
     }
 }
@@ -74,14 +74,14 @@ impl FromSql for i32 {
 
     ghost may_lack = { ⊥ };
 
-    fn from_sql(_alloc: Global, ty: &PgType, raw: &[u8]) -> PgWireClientResult<i32> {
+    fn from_sql(_alloc: Global, ty: &PgType, raw: &[u8]) -> RowResult<i32> {
         match ty {
             PgType::Int4 => {}
-            _ => return Err(PgWireClientError::FromSqlError(SqlFault::WrongType(*ty))),
+            _ => return Err(RowError::FromSqlError(SqlFault::WrongType(*ty))),
         }
         match raw {
             [a, b, c, d] => Ok(i32::from_be_bytes([*a, *b, *c, *d])),
-            _ => Err(PgWireClientError::FromSqlError(SqlFault::WrongLength(raw.len()))),
+            _ => Err(RowError::FromSqlError(SqlFault::WrongLength(raw.len()))),
         }
     }
 }
@@ -91,14 +91,14 @@ impl FromSqlText for i32 {
 
     ghost may_lack = { ⊥ };
 
-    fn from_sql_text(_alloc: Global, ty: &PgType, input: &[u8]) -> PgWireClientResult<i32> {
+    fn from_sql_text(_alloc: Global, ty: &PgType, input: &[u8]) -> RowResult<i32> {
         match ty {
             PgType::Int4 => {}
-            _ => return Err(PgWireClientError::FromSqlError(SqlFault::WrongType(*ty))),
+            _ => return Err(RowError::FromSqlError(SqlFault::WrongType(*ty))),
         }
         match i32_in(input) {
             Some(value) => Ok(value),
-            None => Err(PgWireClientError::FromSqlError(SqlFault::BadText)),
+            None => Err(RowError::FromSqlError(SqlFault::BadText)),
         }
     }
 }
@@ -108,14 +108,14 @@ impl FromSql for i64 {
 
     ghost may_lack = { ⊥ };
 
-    fn from_sql(_alloc: Global, ty: &PgType, raw: &[u8]) -> PgWireClientResult<i64> {
+    fn from_sql(_alloc: Global, ty: &PgType, raw: &[u8]) -> RowResult<i64> {
         match ty {
             PgType::Int8 => {}
-            _ => return Err(PgWireClientError::FromSqlError(SqlFault::WrongType(*ty))),
+            _ => return Err(RowError::FromSqlError(SqlFault::WrongType(*ty))),
         }
         match raw {
             [a, b, c, d, e, f, g, h] => { Ok(i64::from_be_bytes([*a, *b, *c, *d, *e, *f, *g, *h])) }
-            _ => Err(PgWireClientError::FromSqlError(SqlFault::WrongLength(raw.len()))),
+            _ => Err(RowError::FromSqlError(SqlFault::WrongLength(raw.len()))),
         }
     }
 }
@@ -125,14 +125,14 @@ impl FromSqlText for i64 {
 
     ghost may_lack = { ⊥ };
 
-    fn from_sql_text(_alloc: Global, ty: &PgType, input: &[u8]) -> PgWireClientResult<i64> {
+    fn from_sql_text(_alloc: Global, ty: &PgType, input: &[u8]) -> RowResult<i64> {
         match ty {
             PgType::Int8 => {}
-            _ => return Err(PgWireClientError::FromSqlError(SqlFault::WrongType(*ty))),
+            _ => return Err(RowError::FromSqlError(SqlFault::WrongType(*ty))),
         }
         match i64_in(input) {
             Some(value) => Ok(value),
-            None => Err(PgWireClientError::FromSqlError(SqlFault::BadText)),
+            None => Err(RowError::FromSqlError(SqlFault::BadText)),
         }
     }
 }

@@ -5,23 +5,23 @@
 #![tactic(auto)]
 
 mod cut;
-pub mod data_rows;
 pub mod decoder;
 pub mod from_sql;
 mod integers;
 pub mod laws;
 mod octets;
+pub mod parameters;
 pub mod result;
-pub mod row_iter;
-pub mod row_ref;
-mod run;
 mod text;
+pub mod to_sql;
 mod truth;
 mod unread;
 
-pub use crate::data_rows::DataRows;
 pub use crate::decoder::DataRowDecoder;
 pub use crate::from_sql::{FromSql, FromSqlText};
+pub use crate::parameters::{Parameter, Parameters};
 pub use crate::result::DataRowsReader;
-pub use crate::row_iter::DataRowsIter;
-pub use crate::row_ref::DataRowRef;
+pub use crate::to_sql::ToSql;
+pub use pgw_query::data_rows::DataRows;
+pub use pgw_query::row_iter::DataRowsIter;
+pub use pgw_query::row_ref::DataRowRef;

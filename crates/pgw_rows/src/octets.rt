@@ -5,25 +5,25 @@ ghost use Rattle.pgw_rows.specs.Values.{octets_in, octets_of_binary, octets_of_t
 
 use crate::from_sql::{FromSql, FromSqlText};
 use hex::FromHexError;
-use pgw_backend::client_error::{PgWireClientError, PgWireClientResult, SqlFault};
-use pgw_backend::pg_type::PgType;
+use pgw_query::pg_type::PgType;
+use pgw_query::row_error::{RowError, RowResult, SqlFault};
 use pgw_types::octets::Octets;
 use std::alloc::Global;
 
 // The bytes that hex digits stand for, behind `\x`.
-fn hex_in(alloc: Global, text: &[u8]) -> PgWireClientResult<Octets>
+fn hex_in(alloc: Global, text: &[u8]) -> RowResult<Octets>
     ensures { Gives (Unit {0}) (or_bad_text (octets_in text.now)) result }
 {
     let [b'\\', b'x', digits @ ..] = text else {
-        return Err(PgWireClientError::FromSqlError(SqlFault::BadText));
+        return Err(RowError::FromSqlError(SqlFault::BadText));
     };
     match hex::decode(alloc, digits) {
         Ok(bytes) => match Octets::from_slice(alloc, bytes.as_slice()) {
             Ok(octets) => Ok(octets),
-            Err(_) => Err(PgWireClientError::OutOfMemory),
+            Err(_) => Err(RowError::OutOfMemory),
         },
-        Err(FromHexError::OutOfMemory) => Err(PgWireClientError::OutOfMemory),
-        Err(_) => Err(PgWireClientError::FromSqlError(SqlFault::BadText)),
+        Err(FromHexError::OutOfMemory) => Err(RowError::OutOfMemory),
+        Err(_) => Err(RowError::FromSqlError(SqlFault::BadText)),
     }
 }
 
@@ -32,14 +32,14 @@ impl FromSql for Octets {
 
     ghost may_lack = { Unit {0} };
 
-    fn from_sql(alloc: Global, ty: &PgType, raw: &[u8]) -> PgWireClientResult<Octets> {
+    fn from_sql(alloc: Global, ty: &PgType, raw: &[u8]) -> RowResult<Octets> {
         match ty {
             PgType::Bytea => {}
-            _ => return Err(PgWireClientError::FromSqlError(SqlFault::WrongType(*ty))),
+            _ => return Err(RowError::FromSqlError(SqlFault::WrongType(*ty))),
         }
         match Octets::from_slice(alloc, raw) {
             Ok(octets) => Ok(octets),
-            Err(_) => Err(PgWireClientError::OutOfMemory),
+            Err(_) => Err(RowError::OutOfMemory),
         }
     }
 
@@ -49,14 +49,14 @@ impl FromSql for Octets {
         row: &Octets,
         from: usize,
         to: usize,
-    ) -> PgWireClientResult<Octets> {
+    ) -> RowResult<Octets> {
         match ty {
             PgType::Bytea => {}
-            _ => return Err(PgWireClientError::FromSqlError(SqlFault::WrongType(*ty))),
+            _ => return Err(RowError::FromSqlError(SqlFault::WrongType(*ty))),
         }
         match row.slice(from, to) {
             Ok(octets) => Ok(octets),
-            Err(_) => Err(PgWireClientError::OutOfMemory),
+            Err(_) => Err(RowError::OutOfMemory),
         }
     }
 }
@@ -66,10 +66,10 @@ impl FromSqlText for Octets {
 
     ghost may_lack = { Unit {0} };
 
-    fn from_sql_text(alloc: Global, ty: &PgType, input: &[u8]) -> PgWireClientResult<Octets> {
+    fn from_sql_text(alloc: Global, ty: &PgType, input: &[u8]) -> RowResult<Octets> {
         match ty {
             PgType::Bytea => hex_in(alloc, input),
-            _ => Err(PgWireClientError::FromSqlError(SqlFault::WrongType(*ty))),
+            _ => Err(RowError::FromSqlError(SqlFault::WrongType(*ty))),
         }
     }
 }

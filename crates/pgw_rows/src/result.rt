@@ -5,11 +5,11 @@ ghost use Rattle.std.specs.Borrow.{sem};
 ghost use Rattle.pgw_rows.specs.Places.{place_of};
 ghost use Rattle.pgw_rows.specs.Rows.{GivesFirst, row_start};
 
-use crate::data_rows::DataRows;
 use crate::decoder::DataRowDecoder;
 use crate::unread::{First, Unread};
-use pgw_backend::field_info::FieldInfo;
 use pgw_query::data::DataRow;
+use pgw_query::data_rows::DataRows;
+use pgw_query::field_info::FieldInfo;
 use pgw_types::listed::Listed;
 use pgw_types::memory::OutOfMemory;
 use std::alloc::Global;

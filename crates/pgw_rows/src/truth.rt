@@ -3,8 +3,8 @@ ghost use Rattle.std.specs.Prelude.{◌≡◌};
 ghost use Rattle.pgw_rows.specs.Values.{bool_of_binary, bool_of_text, bool_in};
 
 use crate::from_sql::{FromSql, FromSqlText};
-use pgw_backend::client_error::{PgWireClientError, PgWireClientResult, SqlFault};
-use pgw_backend::pg_type::PgType;
+use pgw_query::pg_type::PgType;
+use pgw_query::row_error::{RowError, RowResult, SqlFault};
 use std::alloc::Global;
 
 // What a text says, if it is one of the two.
@@ -23,13 +23,13 @@ impl FromSql for bool {
 
     ghost may_lack = { ⊥ };
 
-    fn from_sql(_alloc: Global, ty: &PgType, raw: &[u8]) -> PgWireClientResult<bool> {
+    fn from_sql(_alloc: Global, ty: &PgType, raw: &[u8]) -> RowResult<bool> {
         match ty {
             PgType::Bool => {}
-            _ => return Err(PgWireClientError::FromSqlError(SqlFault::WrongType(*ty))),
+            _ => return Err(RowError::FromSqlError(SqlFault::WrongType(*ty))),
         }
         if raw.len() != 1 {
-            return Err(PgWireClientError::FromSqlError(SqlFault::WrongLength(raw.len())));
+            return Err(RowError::FromSqlError(SqlFault::WrongLength(raw.len())));
         }
         Ok(raw[0] != 0)
     }
@@ -40,14 +40,14 @@ impl FromSqlText for bool {
 
     ghost may_lack = { ⊥ };
 
-    fn from_sql_text(_alloc: Global, ty: &PgType, input: &[u8]) -> PgWireClientResult<bool> {
+    fn from_sql_text(_alloc: Global, ty: &PgType, input: &[u8]) -> RowResult<bool> {
         match ty {
             PgType::Bool => {}
-            _ => return Err(PgWireClientError::FromSqlError(SqlFault::WrongType(*ty))),
+            _ => return Err(RowError::FromSqlError(SqlFault::WrongType(*ty))),
         }
         match truth_in(input) {
             Some(value) => Ok(value),
-            None => Err(PgWireClientError::FromSqlError(SqlFault::BadText)),
+            None => Err(RowError::FromSqlError(SqlFault::BadText)),
         }
     }
 }

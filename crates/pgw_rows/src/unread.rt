@@ -1,16 +1,16 @@
 //! Rows that wait to be read.
 ghost use Rattle.std.specs.Prelude.{◌≡◌, ◌<◌, slice_get};
 ghost use Rattle.std.specs.Option.{option_map};
-ghost use Rattle.pgw_rows.specs.Runs.{AreRuns, rows_of};
+ghost use Rattle.pgw_query.specs.Runs.{AreRuns, rows_of};
 ghost use Rattle.pgw_rows.specs.Places.{place_of};
 ghost use Rattle.pgw_rows.specs.Rows.{row_start};
 ghost use Rattle.pgw_rows.specs.Unread.{IsPlace, IsUnread, IsWithin, Opens, PassesRow, Steps, row_at, unread_rows};
 
 use crate::decoder::DataRowDecoder;
-use crate::run::{HEAD, Run, head_of};
 use bytes::Bytes;
-use pgw_backend::field_info::FieldInfo;
 use pgw_query::data::DataRow;
+use pgw_query::field_info::FieldInfo;
+use pgw_query::run::{HEAD, Run, head_of};
 use pgw_types::listed::Listed;
 use pgw_types::octets::Octets;
 use std::vec;

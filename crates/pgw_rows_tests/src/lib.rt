@@ -2,6 +2,8 @@
 #![tactic(auto)]
 
 #[cfg(test)]
+mod parameters;
+#[cfg(test)]
 mod rows;
 #[cfg(test)]
 mod shared;

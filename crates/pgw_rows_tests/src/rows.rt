@@ -1,7 +1,7 @@
 use crate::shared::{add, same, told};
-use pgw_backend::field_info::{FieldFormat, FieldInfo};
-use pgw_backend::pg_type::PgType;
 use pgw_query::data::DataRow;
+use pgw_query::field_info::{FieldFormat, FieldInfo};
+use pgw_query::pg_type::PgType;
 use pgw_rows::{DataRowDecoder, DataRows, DataRowsReader, FromSql, FromSqlText};
 use pgw_types::listed::Listed;
 use pgw_types::memory::OutOfMemory;
@@ -266,11 +266,11 @@ fn some_rows(alloc: Global) -> Result<DataRows, Fail> {
 }
 
 fn three_rows(alloc: Global) -> Result<DataRows, OutOfMemory> {
-    let mut rows = DataRows::new(alloc);
+    let mut rows = Listed::new(alloc);
     for number in [1_u8, 2, 3] {
         rows.push(row(alloc, &[0, 0, 0, 2, 0, number])?)?;
     }
-    Ok(rows)
+    DataRows::from_rows(alloc, rows)
 }
 
 fn pushed(alloc: Global) -> Result<String, OutOfMemory> {

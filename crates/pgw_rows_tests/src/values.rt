@@ -1,5 +1,5 @@
 use crate::shared::{same, told};
-use pgw_backend::pg_type::PgType;
+use pgw_query::pg_type::PgType;
 use pgw_rows::{FromSql, FromSqlText};
 use pgw_types::memory::OutOfMemory;
 use pgw_types::octets::Octets;
@@ -164,10 +164,7 @@ const TEXTS: &[(&[u8], &str)] = &[
 const NO_TEXT_TYPES: &[(PgType, &str)] = &[
     (PgType::Bytea, "Err(FromSqlError(WrongType(Bytea)))"),
     (PgType::Int4, "Err(FromSqlError(WrongType(Int4)))"),
-    (
-        PgType::Other(114),
-        "Err(FromSqlError(WrongType(Other(114))))",
-    ),
+    (PgType::Other(26), "Err(FromSqlError(WrongType(Other(26))))"),
 ];
 
 fn text_is(alloc: Global, ty: PgType, raw: &[u8], wanted: &str) -> Result<(), Fail> {
@@ -184,6 +181,28 @@ fn texts(rt: HostRuntime) -> Result<(), Fail> {
     }
     for (ty, wanted) in NO_TEXT_TYPES {
         text_is(rt.alloc(), *ty, b"a", wanted)?;
+    }
+    Ok(())
+}
+
+/// Types that a text holds the text form of, and no binary one: json, float4, float8, date, time, timestamp, timestamptz,
+/// interval, numeric, uuid, jsonb.
+const WRITTEN_OUT: &[u32] = &[
+    114, 700, 701, 1082, 1083, 1114, 1184, 1186, 1700, 2950, 3802,
+];
+
+#[test]
+fn other_texts(rt: HostRuntime) -> Result<(), Fail> {
+    for oid in WRITTEN_OUT {
+        let ty = PgType::from_oid(*oid);
+        for (raw, wanted) in TEXTS {
+            same(of_text::<Text>(rt.alloc(), ty, raw), wanted)?;
+        }
+        let wanted = told(rt.alloc(), ty)?;
+        same(
+            of_binary::<Text>(rt.alloc(), ty, b"7"),
+            format!(in rt.alloc(); "Err(FromSqlError(WrongType({wanted})))")?.as_str(),
+        )?;
     }
     Ok(())
 }

@@ -2,7 +2,7 @@ pub mod Methods
 pub mod Turns
 pub mod Replies
 pub mod Scram
+pub mod Stored
 pub mod ErrorText
 pub mod Oauth
 pub mod Sasl
-pub mod Entry

@@ -16,7 +16,7 @@ use Rattle.pgw_startup.specs.declared.password.PasswordMessageFamily.TheVariants
 use Rattle.pgw_startup.specs.declared.sasl.SASLInitialResponse.{SASLInitialResponse}
 use Rattle.pgw_startup.specs.declared.sasl.SASLResponse.{SASLResponse}
 use Rattle.pgw_login.specs.declared.state.SASLState.{SASLState}
-use Rattle.pgw_login.specs.declared.state.SASLState.TheVariants.{Initial, ScramClientFirstReceived, ScramServerFirstSent, OauthStateInit, OauthStateError, Finished, Failed}
+use Rattle.pgw_login.specs.declared.state.SASLState.TheVariants.{Initial, ScramClientFirstReceived, ScramServerFirstSent, StoredServerFirstSent, OauthStateInit, OauthStateError, Finished, Failed}
 use Rattle.pgw_sasl.specs.Replies.{Reply}
 use Rattle.pgw_sasl.specs.ErrorText.{IsErrorText}
 use Rattle.pgw_sasl.specs.declared.validator.ValidatorModuleResult.{ValidatorModuleResult}
@@ -88,6 +88,7 @@ abbrev pub OauthReplies : (List ℕ → List ℕ → List ℕ → List ℕ → R
 OauthReplies V issuer scope user message Initial reply = reply ≡ Err InvalidSASLState
 OauthReplies V issuer scope user message ScramClientFirstReceived reply = reply ≡ Err InvalidSASLState
 OauthReplies V issuer scope user message (ScramServerFirstSent server) reply = reply ≡ Err InvalidSASLState
+OauthReplies V issuer scope user message (StoredServerFirstSent server) reply = reply ≡ Err InvalidSASLState
 OauthReplies V issuer scope user message OauthStateInit reply = (reply ≡ Err OutOfMemory) ⊎ ByData V issuer scope user (data_of message) reply
 OauthReplies V issuer scope user message OauthStateError reply = (reply ≡ Err OutOfMemory) ⊎ (reply ≡ ended (as_response message))
 OauthReplies V issuer scope user message Finished reply = reply ≡ Err InvalidSASLState

@@ -22,7 +22,7 @@ use Rattle.pgw_login.specs.Login.{Login}
 use Rattle.pgw_login.specs.declared.state.SASLState.{SASLState}
 use Rattle.pgw_sasl.specs.declared.scram.ScramAuth.{ScramAuth}
 use Rattle.pgw_sasl.specs.Replies.{Reply, RefusesMethod}
-use Rattle.pgw_login.specs.declared.state.SASLState.TheVariants.{Initial, ScramClientFirstReceived, ScramServerFirstSent, OauthStateInit, OauthStateError, Finished, Failed}
+use Rattle.pgw_login.specs.declared.state.SASLState.TheVariants.{Initial, ScramClientFirstReceived, ScramServerFirstSent, StoredServerFirstSent, OauthStateInit, OauthStateError, Finished, Failed}
 
 -- ---- the method's name
 
@@ -86,10 +86,23 @@ abbrev pub ScramReplies : (Login → Result Kept PgWireError → Type 0) → Scr
 ScramReplies A server login message nonce Initial answer = answer ≡ Err InvalidSASLState
 ScramReplies A server login message nonce ScramClientFirstReceived answer = FirstReplies A server login message nonce answer
 ScramReplies A server login message nonce (ScramServerFirstSent waiting) answer = FinalReplies waiting message answer
+ScramReplies A server login message nonce (StoredServerFirstSent waiting) answer = answer ≡ Err InvalidSASLState
 ScramReplies A server login message nonce OauthStateInit answer = answer ≡ Err InvalidSASLState
 ScramReplies A server login message nonce OauthStateError answer = answer ≡ Err InvalidSASLState
 ScramReplies A server login message nonce Finished answer = answer ≡ Err InvalidSASLState
 ScramReplies A server login message nonce Failed answer = answer ≡ Err InvalidSASLState
+
+-- ---- whatever the source keeps
+
+-- what is replied for a login to a message, by the server's nonce and how far the exchange is
+abbrev pub Exchanges : Type 1
+Exchanges = Login → PasswordMessageFamily → List ℕ → SASLState
+    → Result (Authentication × SASLState) PgWireError → Type 0
+
+-- of a source of passwords
+abbrev pub by_passwords : {S : Type 0} → (S → Login → Result Kept PgWireError → Type 0) → S
+    → ScramServerAuth → Exchanges
+by_passwords A source server = ScramReplies (A source) server
 
 -- ---- if it is set
 
@@ -97,7 +110,10 @@ abbrev pub and_some : Result (Authentication × SASLState) PgWireError → Reply
 and_some (Err e) = Err e
 and_some (Ok (message, next)) = Ok (Some message, next)
 
-abbrev pub ByScram : {S : Type 0} → (S → Login → Result Kept PgWireError → Type 0) → Option (ScramAuth S) → Login → PasswordMessageFamily → List ℕ → SASLState → Reply → Type 0
-ByScram A None login message nonce state reply = RefusesMethod (codes "SCRAM") reply
-ByScram A (Some scram) login message nonce state reply =
-    (replied : Result (Authentication × SASLState) PgWireError) × ScramReplies (A scram.auth_db) scram.authenticator login message nonce state replied × (reply ≡ and_some replied)
+abbrev pub ByScram : {S : Type 0} → (S → ScramServerAuth → Exchanges) → Option (ScramAuth S) → Login
+    → PasswordMessageFamily → List ℕ → SASLState → Reply → Type 0
+ByScram R None login message nonce state reply = RefusesMethod (codes "SCRAM") reply
+ByScram R (Some scram) login message nonce state reply =
+    (replied : Result (Authentication × SASLState) PgWireError)
+    × R scram.auth_db scram.authenticator login message nonce state replied
+    × (reply ≡ and_some replied)

@@ -9,7 +9,7 @@ use Rattle.pgw_startup.specs.declared.sasl.SASLInitialResponse.{SASLInitialRespo
 use Rattle.pgw_startup.specs.declared.sasl.SASLResponse.{SASLResponse}
 use Rattle.pgw_login.specs.Acts.{is_initial}
 use Rattle.pgw_login.specs.declared.state.SASLState.{SASLState}
-use Rattle.pgw_login.specs.declared.state.SASLState.TheVariants.{Initial, ScramClientFirstReceived, ScramServerFirstSent, OauthStateInit, OauthStateError, Finished, Failed}
+use Rattle.pgw_login.specs.declared.state.SASLState.TheVariants.{Initial, ScramClientFirstReceived, ScramServerFirstSent, StoredServerFirstSent, OauthStateInit, OauthStateError, Finished, Failed}
 use Rattle.pgw_sasl.specs.declared.methods.Method.{Method}
 use Rattle.pgw_sasl.specs.declared.methods.Method.TheVariants.{Scram, OauthBearer}
 use Rattle.pgw_sasl.specs.declared.turn.Stage.{Stage}
@@ -22,6 +22,7 @@ stage_of false state = Over
 stage_of true Initial = First
 stage_of true ScramClientFirstReceived = Further Scram
 stage_of true (ScramServerFirstSent server) = Further Scram
+stage_of true (StoredServerFirstSent server) = Further Scram
 stage_of true OauthStateInit = Further OauthBearer
 stage_of true OauthStateError = Further OauthBearer
 stage_of true Finished = Over
@@ -61,6 +62,7 @@ abbrev pub is_finished : SASLState → Bool
 is_finished Initial = false
 is_finished ScramClientFirstReceived = false
 is_finished (ScramServerFirstSent server) = false
+is_finished (StoredServerFirstSent server) = false
 is_finished OauthStateInit = false
 is_finished OauthStateError = false
 is_finished Finished = true

@@ -15,7 +15,7 @@ use crate::methods::{
     Method, OAUTHBEARER_METHOD, SCRAM_SHA_256_METHOD, SCRAM_SHA_256_PLUS_METHOD, unsupported,
 };
 use crate::oauth::Oauth;
-use crate::scram::ScramAuth;
+use crate::scram::{ScramAuth, ScramSource};
 use crate::turn::{begun, is_finished, is_initial, stage_of, turned};
 use crate::validator::OauthValidator;
 use pgw_backend::backend::PgWireBackendMessage;
@@ -28,7 +28,7 @@ use pgw_login::negotiation::open_login;
 use pgw_login::outbox::Outbox;
 use pgw_login::provider::ServerParameterProvider;
 use pgw_login::registers::{Managed, NoRegistry, Registers};
-use pgw_login::source::{AuthSource, LoginInfo};
+use pgw_login::source::LoginInfo;
 use pgw_login::state::{LoginState, SASLState};
 use pgw_registry::generator::PidSecretKeyGenerator;
 use pgw_registry::manager::ConnectionManager;
@@ -55,7 +55,13 @@ pub struct SASLAuthStartupHandler<A, P, G, M> {
 impl<A, P, G> SASLAuthStartupHandler<A, P, G, NoRegistry> {
     /// No method is set.
     pub fn new(parameter_provider: P, generator: G) -> SASLAuthStartupHandler<A, P, G, NoRegistry>
-        ensures { result ≡ record { parameter_provider = parameter_provider; generator = generator; registry = record {}; scram = None; oauth = None } }
+        ensures { result ≡ record {
+          parameter_provider = parameter_provider;
+          generator = generator;
+          registry = record {};
+          scram = None;
+          oauth = None;
+        } }
     {
         SASLAuthStartupHandler {
             parameter_provider,
@@ -89,7 +95,7 @@ fn offered_methods<A>(
 }
 
 // What SCRAM replies, if it is set.
-fn reply_by_scram<A: AuthSource>(
+fn reply_by_scram<A: ScramSource>(
     alloc: Global,
     scram: &Option<ScramAuth<A>>,
     login: &LoginInfo<'_>,
@@ -97,7 +103,7 @@ fn reply_by_scram<A: AuthSource>(
     nonce: &[u8; 18],
     state: &SASLState,
 ) -> PgWireResult<(Option<Authentication>, SASLState)>
-    ensures { ByScram A.answers scram.now (login_of login.now) message nonce.now state.now result }
+    ensures { ByScram A.replies scram.now (login_of login.now) message nonce.now state.now result }
 {
     let Some(scram) = scram else {
         return Err(unsupported(alloc, "SCRAM"));
@@ -117,7 +123,8 @@ fn reply_by_oauth(
     nonce: &[u8; 18],
     state: &SASLState,
 ) -> PgWireResult<(Option<Authentication>, SASLState)>
-    ensures { ByOauth oauth.now (λ o. validates o.validator) (login_of login.now) message nonce.now state.now result }
+    ensures { ByOauth oauth.now (λ o. validates o.validator) (login_of login.now) message nonce.now
+        state.now result }
 {
     match oauth {
         Some(oauth) => oauth.process_oauth_message(alloc, login, message, state),
@@ -127,7 +134,10 @@ fn reply_by_oauth(
 
 // Sends a reply, if there is one.
 fn tell<O: Outbox>(out: &mut O, reply: Option<Authentication>) -> PgWireResult<()>
-    ensures told { (client : Client) (login : TheState) → Did O.add (O.sent out.old) (O.sent out.new) (Sends (told reply)) (standing client login (O.faults out.old)) (standing client login (O.faults out.new)) result }
+    ensures told { (client : Client) (login : TheState) →
+        Did O.add (O.sent out.old) (O.sent out.new) (Sends (told reply))
+        (standing client login (O.faults out.old)) (standing client login (O.faults out.new))
+        result }
     ensures flushed { O.waiting out.old ≡ 0 → OnOk result (O.waiting out.new ≡ 0) }
 {
     match reply {
@@ -138,13 +148,17 @@ fn tell<O: Outbox>(out: &mut O, reply: Option<Authentication>) -> PgWireResult<(
 
 impl<A, P, G, M> SASLAuthStartupHandler<A, P, G, M>
 where
-    A: AuthSource,
+    A: ScramSource,
     P: ServerParameterProvider,
     G: PidSecretKeyGenerator,
     M: Registers,
 {
     fn offer<O: Outbox>(&self, alloc: Global, out: &mut O) -> PgWireResult<()>
-        ensures offered { (client : Client) (login : TheState) → Did O.add (O.sent out.old) (O.sent out.new) (Offers (offered_methods self.now.scram self.now.oauth)) (standing client login (O.faults out.old)) (standing client login (O.faults out.new)) result }
+        ensures offered { (client : Client) (login : TheState) →
+            Did O.add (O.sent out.old) (O.sent out.new)
+            (Offers (offered_methods self.now.scram self.now.oauth))
+            (standing client login (O.faults out.old)) (standing client login (O.faults out.new))
+            result }
         ensures flushed { OnOk result (O.waiting out.new ≡ 0) }
     {
         let methods = offered_methods(alloc, &self.scram, &self.oauth)?;
@@ -161,7 +175,10 @@ where
         startup: &Startup,
     ) -> PgWireResult<()>
         ensures source { IsSameSource state.old state.new }
-        ensures opened { Did O.add (O.sent out.old) (O.sent out.new) (Then (Opens startup.now) (Offers (offered_methods self.now.scram self.now.oauth))) (standing (C.sight client.old) state.old (O.faults out.old)) (standing (C.sight client.new) state.new (O.faults out.new)) result }
+        ensures opened { Did O.add (O.sent out.old) (O.sent out.new)
+            (Then (Opens startup.now) (Offers (offered_methods self.now.scram self.now.oauth)))
+            (standing (C.sight client.old) state.old (O.faults out.old))
+            (standing (C.sight client.new) state.new (O.faults out.new)) result }
         ensures flushed { OnOk result (O.waiting out.new ≡ 0) }
     {
         open_login(alloc, client, out, state, startup)?;
@@ -178,7 +195,9 @@ where
         nonce: &[u8; 18],
         state: &SASLState,
     ) -> PgWireResult<(Option<Authentication>, SASLState)>
-        ensures { By (ByScram A.answers self.now.scram) (ByOauth self.now.oauth (λ o. validates o.validator)) (login_of login.now) method message nonce.now state.now result }
+        ensures { By (ByScram A.replies self.now.scram)
+            (ByOauth self.now.oauth (λ o. validates o.validator)) (login_of login.now) method
+            message nonce.now state.now result }
     {
         match method {
             Method::Scram => reply_by_scram(alloc, &self.scram, login, message, nonce, state),
@@ -196,7 +215,9 @@ where
         state: &LoginState,
         message: PasswordMessageFamily,
     ) -> PgWireResult<(Option<Authentication>, SASLState)>
-        ensures { Replied (ByScram A.answers self.now.scram) (ByOauth self.now.oauth (λ o. validates o.validator)) (login_of login.now) state.now message result }
+        ensures { Replied (ByScram A.replies self.now.scram)
+            (ByOauth self.now.oauth (λ o. validates o.validator)) (login_of login.now) state.now
+            message result }
     {
         let (method, message) = turned(alloc, stage_of(state), message)?;
         if is_initial(state.sasl()) {
@@ -216,10 +237,15 @@ where
         state: &mut LoginState,
         is_finished: bool,
     ) -> PgWireResult<()>
-        requires { G.fits self.now.generator state.old.seat × M.fits self.now.registry state.old.pass }
-        ensures fits { G.fits self.now.generator state.new.seat × M.fits self.now.registry state.new.pass }
+        requires { G.fits self.now.generator state.old.seat
+            × M.fits self.now.registry state.old.pass }
+        ensures fits { G.fits self.now.generator state.new.seat
+            × M.fits self.now.registry state.new.pass }
         ensures releasable { IsReleasable state.old → IsReleasable state.new }
-        ensures ended { Did O.add (O.sent out.old) (O.sent out.new) (Ends (P.provides self.now.parameter_provider) (M.registers self.now.registry) is_finished) (standing (C.sight client.old) state.old (O.faults out.old)) (standing (C.sight client.new) state.new (O.faults out.new)) result }
+        ensures ended { Did O.add (O.sent out.old) (O.sent out.new)
+            (Ends (P.provides self.now.parameter_provider) (M.registers self.now.registry)
+            is_finished) (standing (C.sight client.old) state.old (O.faults out.old))
+            (standing (C.sight client.new) state.new (O.faults out.new)) result }
         ensures flushed { O.waiting out.old ≡ 0 → OnOk result (O.waiting out.new ≡ 0) }
     {
         if !is_finished {
@@ -247,10 +273,15 @@ where
         reply: Option<Authentication>,
         next: SASLState,
     ) -> PgWireResult<()>
-        requires { G.fits self.now.generator state.old.seat × M.fits self.now.registry state.old.pass }
-        ensures fits { G.fits self.now.generator state.new.seat × M.fits self.now.registry state.new.pass }
+        requires { G.fits self.now.generator state.old.seat
+            × M.fits self.now.registry state.old.pass }
+        ensures fits { G.fits self.now.generator state.new.seat
+            × M.fits self.now.registry state.new.pass }
         ensures releasable { IsReleasable state.old → IsReleasable state.new }
-        ensures done { Did O.add (O.sent out.old) (O.sent out.new) (RespondsBy (P.provides self.now.parameter_provider) (M.registers self.now.registry) (Ok (reply, next))) (standing (C.sight client.old) state.old (O.faults out.old)) (standing (C.sight client.new) state.new (O.faults out.new)) result }
+        ensures done { Did O.add (O.sent out.old) (O.sent out.new)
+            (RespondsBy (P.provides self.now.parameter_provider) (M.registers self.now.registry)
+            (Ok (reply, next))) (standing (C.sight client.old) state.old (O.faults out.old))
+            (standing (C.sight client.new) state.new (O.faults out.new)) result }
         ensures flushed { O.waiting out.old ≡ 0 → OnOk result (O.waiting out.new ≡ 0) }
     {
         tell(out, reply)?;
@@ -267,10 +298,17 @@ where
         state: &mut LoginState,
         message: PasswordMessageFamily,
     ) -> PgWireResult<()>
-        requires { G.fits self.now.generator state.old.seat × M.fits self.now.registry state.old.pass }
-        ensures fits { G.fits self.now.generator state.new.seat × M.fits self.now.registry state.new.pass }
+        requires { G.fits self.now.generator state.old.seat
+            × M.fits self.now.registry state.old.pass }
+        ensures fits { G.fits self.now.generator state.new.seat
+            × M.fits self.now.registry state.new.pass }
         ensures releasable { IsReleasable state.old → IsReleasable state.new }
-        ensures responded { Did O.add (O.sent out.old) (O.sent out.new) (Responds (ByScram A.answers self.now.scram) (ByOauth self.now.oauth (λ o. validates o.validator)) (P.provides self.now.parameter_provider) (M.registers self.now.registry) message) (standing (C.sight client.old) state.old (O.faults out.old)) (standing (C.sight client.new) state.new (O.faults out.new)) result }
+        ensures responded { Did O.add (O.sent out.old) (O.sent out.new)
+            (Responds (ByScram A.replies self.now.scram)
+            (ByOauth self.now.oauth (λ o. validates o.validator))
+            (P.provides self.now.parameter_provider) (M.registers self.now.registry) message)
+            (standing (C.sight client.old) state.old (O.faults out.old))
+            (standing (C.sight client.new) state.new (O.faults out.new)) result }
         ensures flushed { O.waiting out.old ≡ 0 → OnOk result (O.waiting out.new ≡ 0) }
     {
         let (reply, next) = self.reply(
@@ -290,10 +328,17 @@ where
         state: &mut LoginState,
         message: Heard,
     ) -> PgWireResult<()>
-        requires { G.fits self.now.generator state.old.seat × M.fits self.now.registry state.old.pass }
-        ensures fits { G.fits self.now.generator state.new.seat × M.fits self.now.registry state.new.pass }
+        requires { G.fits self.now.generator state.old.seat
+            × M.fits self.now.registry state.old.pass }
+        ensures fits { G.fits self.now.generator state.new.seat
+            × M.fits self.now.registry state.new.pass }
         ensures releasable { IsReleasable state.old → IsReleasable state.new }
-        ensures answered { Did O.add (O.sent out.old) (O.sent out.new) (SaslOn (offered_methods self.now.scram self.now.oauth) (ByScram A.answers self.now.scram) (ByOauth self.now.oauth (λ o. validates o.validator)) (P.provides self.now.parameter_provider) (M.registers self.now.registry) message) (standing (C.sight client.old) state.old (O.faults out.old)) (standing (C.sight client.new) state.new (O.faults out.new)) result }
+        ensures answered { Did O.add (O.sent out.old) (O.sent out.new)
+            (SaslOn (offered_methods self.now.scram self.now.oauth)
+            (ByScram A.replies self.now.scram) (ByOauth self.now.oauth (λ o. validates o.validator))
+            (P.provides self.now.parameter_provider) (M.registers self.now.registry) message)
+            (standing (C.sight client.old) state.old (O.faults out.old))
+            (standing (C.sight client.new) state.new (O.faults out.new)) result }
         ensures flushed { O.waiting out.old ≡ 0 → OnOk result (O.waiting out.new ≡ 0) }
     {
         match message {
@@ -306,14 +351,16 @@ where
 
 impl<A, P, G, M> StartupHandler for SASLAuthStartupHandler<A, P, G, M>
 where
-    A: AuthSource,
+    A: ScramSource,
     P: ServerParameterProvider,
     G: PidSecretKeyGenerator,
     M: Registers,
 {
     ghost fits = { λ h s. G.fits h.generator s.seat × M.fits h.registry s.pass × IsReleasable s };
 
-    ghost means = { λ h. SaslMeans (offered_methods h.scram h.oauth) (ByScram A.answers h.scram) (ByOauth h.oauth (λ o. (OauthValidator-box o.validator).validates o.validator.value)) (P.provides h.parameter_provider) (M.registers h.registry) };
+    ghost means = { λ h. SaslMeans (offered_methods h.scram h.oauth) (ByScram A.replies h.scram)
+        (ByOauth h.oauth (λ o. (OauthValidator-box o.validator).validates o.validator.value))
+        (P.provides h.parameter_provider) (M.registers h.registry) };
 
     fn on_startup<C: ClientInfo, O: Outbox>(
         &self,
@@ -401,7 +448,9 @@ impl<A, P, G, M: Drop> SASLAuthStartupHandler<A, P, G, M> {
         manager: Arc<ConnectionManager>,
         rt: R,
     ) -> SASLAuthStartupHandler<A, P, G, Managed<R>>
-        ensures kept { (result.parameter_provider ≡ self.parameter_provider) × (result.generator ≡ self.generator) × (result.scram ≡ self.scram) × (result.oauth ≡ self.oauth) }
+        ensures kept { (result.parameter_provider ≡ self.parameter_provider)
+            × (result.generator ≡ self.generator) × (result.scram ≡ self.scram)
+            × (result.oauth ≡ self.oauth) }
         ensures manager { arc_value result.registry.manager ≡ arc_value manager }
     {
         let SASLAuthStartupHandler {

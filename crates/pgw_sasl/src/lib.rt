@@ -4,11 +4,12 @@
 //! handler is the act that its table names; after a refusal the login has failed.
 #![tactic(auto)]
 
+pub mod equality;
 pub mod error_text;
 pub mod handler;
-pub mod laws;
 pub mod methods;
 pub mod oauth;
 pub mod scram;
+pub mod stored;
 pub mod turn;
 pub mod validator;

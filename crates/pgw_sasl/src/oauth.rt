@@ -38,7 +38,12 @@ pub struct Oauth {
 
 impl Oauth {
     pub fn new(issuer: Text, scope: Text, validator: Box<dyn OauthValidator>) -> Oauth
-        ensures { result ≡ record { issuer = issuer; scope = scope; validator = validator; skip_usermap = false } }
+        ensures { result ≡ record {
+          issuer = issuer;
+          scope = scope;
+          validator = validator;
+          skip_usermap = false;
+        } }
     {
         Oauth {
             issuer,
@@ -67,7 +72,8 @@ impl Oauth {
 
     // Whether the token gives the user access.
     fn judge(&self, alloc: Global, token: &str, user: Option<&str>) -> PgWireResult<()>
-        ensures { Judged (validates self.now.validator) self.now.issuer self.now.scope token.now (option_copied user.entry) result }
+        ensures { Judged (validates self.now.validator) self.now.issuer self.now.scope token.now
+            (option_copied user.entry) result }
     {
         let Some(user) = user else {
             return Err(PgWireError::UserNameRequired);
@@ -96,7 +102,8 @@ impl Oauth {
         user: Option<&str>,
         text: &str,
     ) -> PgWireResult<(Option<Authentication>, SASLState)>
-        ensures { (result ≡ Err NoMemory) ⊎ ByToken (validates self.now.validator) self.now.issuer self.now.scope (option_copied user.entry) (token_of text.now) result }
+        ensures { (result ≡ Err NoMemory) ⊎ ByToken (validates self.now.validator) self.now.issuer
+            self.now.scope (option_copied user.entry) (token_of text.now) result }
     {
         match token_of(alloc, text)? {
             Some(token) => match self.judge(alloc, token, user) {
@@ -117,7 +124,8 @@ impl Oauth {
         user: Option<&str>,
         message: PasswordMessageFamily,
     ) -> PgWireResult<(Option<Authentication>, SASLState)>
-        ensures { (result ≡ Err NoMemory) ⊎ ByData (validates self.now.validator) self.now.issuer self.now.scope (option_copied user.entry) (data_of message) result }
+        ensures { (result ≡ Err NoMemory) ⊎ ByData (validates self.now.validator) self.now.issuer
+            self.now.scope (option_copied user.entry) (data_of message) result }
     {
         match data_of(alloc, message)? {
             Some(payload) => {
@@ -143,7 +151,8 @@ impl Oauth {
         message: PasswordMessageFamily,
         state: &SASLState,
     ) -> PgWireResult<(Option<Authentication>, SASLState)>
-        ensures { OauthReplies (validates self.now.validator) self.now.issuer self.now.scope (login_of login.now).user message state.now result }
+        ensures { OauthReplies (validates self.now.validator) self.now.issuer self.now.scope
+            (login_of login.now).user message state.now result }
     {
         match state {
             SASLState::OauthStateInit => self.reply_to_data(alloc, login.user(), message),

@@ -32,6 +32,7 @@ pub fn stage_of(state: &LoginState) -> Stage
         SASLState::Initial => Stage::First,
         SASLState::ScramClientFirstReceived => Stage::Further(Method::Scram),
         SASLState::ScramServerFirstSent(_) => Stage::Further(Method::Scram),
+        SASLState::StoredServerFirstSent(_) => Stage::Further(Method::Scram),
         SASLState::OauthStateInit => Stage::Further(Method::OauthBearer),
         SASLState::OauthStateError => Stage::Further(Method::OauthBearer),
         SASLState::Finished => Stage::Over,

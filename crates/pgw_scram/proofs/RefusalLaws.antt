@@ -4,9 +4,9 @@ use Rattle.std.specs.Result.{IsErrAnd}
 use Rattle.pgw_types.specs.declared.error.PgWireError.{PgWireError}
 use Rattle.pgw_types.specs.declared.error.PgWireError.TheVariants as wire
 use Rattle.pgw_types.specs.declared.error.ScramMessageFault.{ScramMessageFault}
-use Rattle.pgw_backend.specs.declared.client_error.PgWireClientError.{PgWireClientError}
-use Rattle.pgw_backend.specs.declared.client_error.PgWireClientError.TheVariants as client
-use Rattle.pgw_backend.specs.ClientError.{of_wire}
+use Rattle.pgw_types.specs.declared.scram_error.ScramClientError.{ScramClientError}
+use Rattle.pgw_types.specs.declared.scram_error.ScramClientError.TheVariants as client
+use Rattle.pgw_types.specs.ScramErrors.{of_wire}
 use Rattle.pgw_hash.specs.Pbkdf2.{salted_password}
 use Rattle.pgw_scram.specs.declared.messages.ServerFirst.{ServerFirst}
 use Rattle.pgw_scram.specs.declared.exchange.ClientLogin.{ClientLogin}
@@ -24,7 +24,7 @@ pub read_is : {A : Type 0} (reading : Result A ScramMessageFault) (parts : A) �
 read_is (Ok found) parts e = cc
 read_is (Err why) parts e = cc
 
-refused_by : {A B : Type 0} (reading : Result B ScramMessageFault) (refusal : Option PgWireClientError) (x : A) (e : PgWireError) (d : PgWireClientError) → ((why : ScramMessageFault) → reading ≡ Err why → refusal ≡ Some (client.PgWireError (wire.InvalidScramMessage why)))
+refused_by : {A B : Type 0} (reading : Result B ScramMessageFault) (refusal : Option ScramClientError) (x : A) (e : PgWireError) (d : ScramClientError) → ((why : ScramMessageFault) → reading ≡ Err why → refusal ≡ Some (client.PgWireError (wire.InvalidScramMessage why)))
     → answer_of reading ≡ Err e → d ≡ client.PgWireError e → unless refusal x ≡ Err d
 refused_by (Ok parts) refusal x e d refuses read is = cc
 refused_by (Err why) refusal x e d refuses read is =
@@ -32,7 +32,7 @@ refused_by (Err why) refusal x e d refuses read is =
     rw (refuses why refl, is, ← same) refl
 
 -- a message that is not read is refused so
-pub refused : {A B : Type 0} (reading : Result B ScramMessageFault) (refusal : Option PgWireClientError) (x : A) (e : PgWireError) (r : Result A PgWireClientError) → ((why : ScramMessageFault) → reading ≡ Err why → refusal ≡ Some (client.PgWireError (wire.InvalidScramMessage why)))
+pub refused : {A B : Type 0} (reading : Result B ScramMessageFault) (refusal : Option ScramClientError) (x : A) (e : PgWireError) (r : Result A ScramClientError) → ((why : ScramMessageFault) → reading ≡ Err why → refusal ≡ Some (client.PgWireError (wire.InvalidScramMessage why)))
     → (e ≢ wire.OutOfMemory → answer_of reading ≡ Err e) → IsErrAnd r (λ d. d ≡ of_wire e) → AnswersClient r (unless refusal x)
 unfolding of_wire
 refused reading refusal x e (Ok y) refuses read is = absurd is
@@ -46,11 +46,11 @@ pub replied_is : (login : ClientLogin) (first salt : List ℕ) (parts : ServerFi
 unfolding client_final signature
 replied_is login first salt parts reply read begins is_salt message text = rw (read, begins, is_salt, ← message, ← text) refl
 
-same_refusal : {A B : Type 0} (refusal : Option PgWireClientError) (x : A) (y : B) (e : PgWireClientError) → unless refusal x ≡ Err e → unless refusal y ≡ Err e
+same_refusal : {A B : Type 0} (refusal : Option ScramClientError) (x : A) (y : B) (e : ScramClientError) → unless refusal x ≡ Err e → unless refusal y ≡ Err e
 same_refusal None x y e is = cc
 same_refusal (Some d) x y e is = cc
 
 -- a refusal that is passed on
-pub passed_on : {A B : Type 0} (refusal : Option PgWireClientError) (x : A) (y : B) (e : PgWireClientError) (r : Result B PgWireClientError) → (e ≢ client.OutOfMemory → unless refusal x ≡ Err e) → IsErrAnd r (λ d. d ≡ e) → AnswersClient r (unless refusal y)
+pub passed_on : {A B : Type 0} (refusal : Option ScramClientError) (x : A) (y : B) (e : ScramClientError) (r : Result B ScramClientError) → (e ≢ client.OutOfMemory → unless refusal x ≡ Err e) → IsErrAnd r (λ d. d ≡ e) → AnswersClient r (unless refusal y)
 passed_on refusal x y e (Ok z) is same = absurd same
 passed_on refusal x y e (Err d) is same = λ other. rw same (same_refusal refusal x y e (is (rw same at other)))

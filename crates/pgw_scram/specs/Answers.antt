@@ -3,8 +3,8 @@ use Rattle.std.specs.Prelude.{◌≡◌, ◌≢◌, Bool, true, false, Option, S
 use Rattle.pgw_types.specs.declared.error.PgWireError.{PgWireError}
 use Rattle.pgw_types.specs.declared.error.PgWireError.TheVariants.{InvalidScramMessage, OutOfMemory}
 use Rattle.pgw_types.specs.declared.error.ScramMessageFault.{ScramMessageFault}
-use Rattle.pgw_backend.specs.declared.client_error.PgWireClientError.{PgWireClientError}
-use Rattle.pgw_backend.specs.declared.client_error.PgWireClientError.TheVariants as client
+use Rattle.pgw_types.specs.declared.scram_error.ScramClientError.{ScramClientError}
+use Rattle.pgw_types.specs.declared.scram_error.ScramClientError.TheVariants as client
 
 -- the answer is this value or this refusal, or memory ran out
 abbrev pub Answers : {A : Type 0} → Result A PgWireError → Result A PgWireError → Type 0
@@ -12,7 +12,7 @@ Answers (Ok x) answer = answer ≡ Ok x
 Answers (Err e) answer = e ≢ OutOfMemory → answer ≡ Err e
 
 -- the same of a client
-abbrev pub AnswersClient : {A : Type 0} → Result A PgWireClientError → Result A PgWireClientError → Type 0
+abbrev pub AnswersClient : {A : Type 0} → Result A ScramClientError → Result A ScramClientError → Type 0
 AnswersClient (Ok x) answer = answer ≡ Ok x
 AnswersClient (Err e) answer = e ≢ client.OutOfMemory → answer ≡ Err e
 

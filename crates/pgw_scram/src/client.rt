@@ -8,10 +8,10 @@ use crate::binding::ClientBinding;
 use crate::exchange::{ClientLogin, client_final, client_first};
 use crate::messages::{ServerFinalIn, read_server_final};
 use crate::nonce::random_nonce;
-use pgw_backend::client_error::{PgWireClientError, PgWireClientResult, ScramFault};
 use pgw_hash::saslprep::saslprep;
 use pgw_types::error::PgWireError;
 use pgw_types::listed::Duplicate;
+use pgw_types::scram_error::{ScramClientError, ScramClientResult, ScramFault};
 use pgw_types::text::Text;
 use std::alloc::Global;
 
@@ -38,7 +38,12 @@ pub struct ScramClientAuthWaitingForServerFinal {
 impl ScramClientAuth {
     /// A client that binds its login to nothing.
     pub fn new(username: Text, password: Text) -> ScramClientAuth
-        ensures { result ≡ record { username = username; password = password; binding = ClientBinding.None } }
+        ensures { result ≡ record {
+          username = username;
+          password = password;
+          binding =
+              ClientBinding.None;
+        } }
     {
         ScramClientAuth {
             username,
@@ -59,11 +64,11 @@ impl ScramClientAuth {
         &self,
         alloc: Global,
         nonce: &[u8; 18],
-    ) -> PgWireClientResult<(Text, ScramClientAuthWaitingForServerFirst)>
+    ) -> ScramClientResult<(Text, ScramClientAuthWaitingForServerFirst)>
         ensures { AnswersClient result (began self.now nonce.now) }
     {
         let Some(user) = saslprep(alloc, self.username.as_str())? else {
-            return Err(PgWireClientError::InvalidConfig(Text::from_str(alloc, "user")?));
+            return Err(ScramClientError::InvalidConfig(Text::from_str(alloc, "user")?));
         };
         let login = ClientLogin {
             binding: self.binding.duplicate()?,
@@ -83,7 +88,7 @@ impl ScramClientAuthWaitingForServerFirst {
         &self,
         alloc: Global,
         message: &[u8],
-    ) -> PgWireClientResult<(Text, ScramClientAuthWaitingForServerFinal)>
+    ) -> ScramClientResult<(Text, ScramClientAuthWaitingForServerFinal)>
         ensures { AnswersClient result (proved self.now message.now) }
     {
         let reply = client_final(alloc, &self.login, message)?;
@@ -96,21 +101,21 @@ impl ScramClientAuthWaitingForServerFirst {
 impl ScramClientAuthWaitingForServerFinal {
     /// Accepts the server's last message. In this order: `InvalidScramMessage`; `ServerError` with the
     /// server's words; `SignatureMismatch`. Only a server's error takes memory.
-    pub fn verify_server_final(&self, alloc: Global, message: &[u8]) -> PgWireClientResult<()>
+    pub fn verify_server_final(&self, alloc: Global, message: &[u8]) -> ScramClientResult<()>
         ensures value { AnswersClient result (verified self.now message.now) }
         ensures right { final_refusal self.now.signature message.now ≡ None → result ≡ Ok tt }
     {
         match read_server_final(message) {
-            Err(why) => Err(PgWireClientError::PgWireError(PgWireError::InvalidScramMessage(why))),
+            Err(why) => Err(ScramClientError::PgWireError(PgWireError::InvalidScramMessage(why))),
             Ok(ServerFinalIn::Failed(text)) => {
                 let text = Text::from_str(alloc, text)?;
-                Err(PgWireClientError::ScramError(ScramFault::ServerError(text)))
+                Err(ScramClientError::ScramError(ScramFault::ServerError(text)))
             }
             Ok(ServerFinalIn::Signature(text)) => {
                 if text.as_bytes() == self.signature.as_slice() {
                     Ok(())
                 } else {
-                    Err(PgWireClientError::ScramError(ScramFault::SignatureMismatch))
+                    Err(ScramClientError::ScramError(ScramFault::SignatureMismatch))
                 }
             }
         }

@@ -16,7 +16,9 @@ pub(crate) struct AuthMessage<'a> {
 impl AuthMessage<'_> {
     /// Its code under a key.
     pub(crate) fn code(&self, key: &[u8]) -> [u8; 32]
-        ensures { result ≡ hmac_sha256 key.now (auth_message self.now.client_first_bare.now self.now.server_first.now self.now.without_proof.now) }
+        ensures { result ≡ hmac_sha256 key.now
+            (auth_message self.now.client_first_bare.now self.now.server_first.now
+            self.now.without_proof.now) }
     {
         let mut code = Hmac::new(key);
         code.update(self.client_first_bare);

@@ -13,9 +13,9 @@ use crate::binding::ClientBinding;
 use crate::encoding::decode_salt;
 use crate::messages::ServerFirst;
 use crate::proof::{client_proof, server_signature};
-use pgw_backend::client_error::{PgWireClientError, PgWireClientResult, ScramFault};
 use pgw_hash::pbkdf2::gen_salted_password;
 use pgw_types::memory::OutOfMemory;
+use pgw_types::scram_error::{ScramClientError, ScramClientResult, ScramFault};
 use pgw_types::text::Text;
 use std::alloc::Global;
 use std::str;
@@ -77,8 +77,14 @@ fn reply(
     server_first: &[u8],
     server_nonce: &str,
 ) -> Result<ClientReply, OutOfMemory>
-    ensures message { IfOk result (λ r. r.message ≡ without_proof login.now.binding server_nonce.now ++ codes ",p=" ++ base64 (client_proof salted.now (auth_message (client_first_bare login.now.user login.now.nonce) server_first.now (without_proof login.now.binding server_nonce.now)))) }
-    ensures signature { IfOk result (λ r. r.signature ≡ base64 (server_signature salted.now (auth_message (client_first_bare login.now.user login.now.nonce) server_first.now (without_proof login.now.binding server_nonce.now)))) }
+    ensures message { IfOk result (λ r. r.message ≡ without_proof login.now.binding server_nonce.now
+        ++ codes ",p=" ++ base64 (client_proof salted.now
+        (auth_message (client_first_bare login.now.user login.now.nonce) server_first.now
+        (without_proof login.now.binding server_nonce.now)))) }
+    ensures signature { IfOk result (λ r. r.signature
+        ≡ base64 (server_signature salted.now
+        (auth_message (client_first_bare login.now.user login.now.nonce) server_first.now
+        (without_proof login.now.binding server_nonce.now)))) }
 {
     let bare = client_first_bare(alloc, login.user.as_str(), login.nonce.as_str())?;
     let without = without_proof(alloc, &login.binding, server_nonce)?;
@@ -112,7 +118,7 @@ pub fn client_final(
     alloc: Global,
     login: &ClientLogin,
     server_first: &[u8],
-) -> PgWireClientResult<ClientReply>
+) -> ScramClientResult<ClientReply>
     ensures { AnswersClient result (replied login.now server_first.now) }
 {
     let parts = ServerFirst::read(alloc, server_first)?;
@@ -125,15 +131,15 @@ fn reply_to(
     login: &ClientLogin,
     server_first: &[u8],
     parts: &ServerFirst,
-) -> PgWireClientResult<ClientReply>
+) -> ScramClientResult<ClientReply>
     requires { read_server_first server_first.now ≡ Ok parts.now }
     ensures { AnswersClient result (replied login.now server_first.now) }
 {
     if !begins_with(parts.nonce.as_str(), login.nonce.as_str()) {
-        return Err(PgWireClientError::ScramError(ScramFault::NonceMismatch));
+        return Err(ScramClientError::ScramError(ScramFault::NonceMismatch));
     }
     let Some(salt) = decode_salt(alloc, parts.salt.as_str().as_bytes())? else {
-        return Err(PgWireClientError::ScramError(ScramFault::SaltNotBase64));
+        return Err(ScramClientError::ScramError(ScramFault::SaltNotBase64));
     };
     let salted = gen_salted_password(alloc, login.password.as_str(), &salt, parts.count)?;
     Ok(reply(alloc, &salted, login, server_first, parts.nonce.as_str())?)

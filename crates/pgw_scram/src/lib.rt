@@ -9,6 +9,7 @@ pub mod binding;
 pub mod client;
 mod code;
 mod encoding;
+pub mod equality;
 pub mod exchange;
 pub mod laws;
 pub mod messages;

@@ -88,7 +88,8 @@ fn binding_of(
     header: &str,
     certificate_hash: Option<&[u8]>,
 ) -> Result<Text, OutOfMemory>
-    ensures { IfOk result (λ text. text ≡ base64 (bound header.now (option_copied certificate_hash.entry))) }
+    ensures { IfOk result (λ text. text ≡ base64
+        (bound header.now (option_copied certificate_hash.entry))) }
 {
     match certificate_hash {
         Some(hash) if names_end_point(header) => encode_joined(alloc, header.as_bytes(), hash),
@@ -122,7 +123,8 @@ impl Offer {
         count: u32,
         own: &[u8; 18],
     ) -> Result<Offer, OutOfMemory>
-        ensures { IfOk result (λ offer. offer ≡ offer_of parts (option_copied certificate_hash.entry) salt.now count own.now) }
+        ensures { IfOk result (λ offer. offer
+            ≡ offer_of parts (option_copied certificate_hash.entry) salt.now count own.now) }
     {
         let nonce = whole_nonce(alloc, parts.nonce.as_str(), own)?;
         let server_first = server_first(alloc, nonce.as_str(), salt, count)?;

@@ -31,7 +31,8 @@ pub fn client_signature(
     server_first: &[u8],
     without_proof: &[u8],
 ) -> [u8; 32]
-    ensures { result ≡ client_signature stored_key.now (auth_message client_first_bare.now server_first.now without_proof.now) }
+    ensures { result ≡ client_signature stored_key.now
+        (auth_message client_first_bare.now server_first.now without_proof.now) }
 {
     AuthMessage {
         client_first_bare,
@@ -48,7 +49,8 @@ pub fn proof_by(
     server_first: &[u8],
     without_proof: &[u8],
 ) -> [u8; 44]
-    ensures { result ≡ base64 (proof_by client_key.now (auth_message client_first_bare.now server_first.now without_proof.now)) }
+    ensures { result ≡ base64 (proof_by client_key.now
+        (auth_message client_first_bare.now server_first.now without_proof.now)) }
 {
     let stored_key = Sha256::digest(client_key);
     let mut proof = *client_key;
@@ -67,7 +69,8 @@ pub fn client_proof(
     server_first: &[u8],
     without_proof: &[u8],
 ) -> [u8; 44]
-    ensures { result ≡ base64 (client_proof salted.now (auth_message client_first_bare.now server_first.now without_proof.now)) }
+    ensures { result ≡ base64 (client_proof salted.now
+        (auth_message client_first_bare.now server_first.now without_proof.now)) }
 {
     proof_by(
         &client_key(salted),
@@ -84,7 +87,8 @@ pub fn signature_by(
     server_first: &[u8],
     without_proof: &[u8],
 ) -> [u8; 44]
-    ensures { result ≡ base64 (signature_by server_key.now (auth_message client_first_bare.now server_first.now without_proof.now)) }
+    ensures { result ≡ base64 (signature_by server_key.now
+        (auth_message client_first_bare.now server_first.now without_proof.now)) }
 {
     let message = AuthMessage {
         client_first_bare,
@@ -102,7 +106,8 @@ pub fn server_signature(
     server_first: &[u8],
     without_proof: &[u8],
 ) -> [u8; 44]
-    ensures { result ≡ base64 (server_signature salted.now (auth_message client_first_bare.now server_first.now without_proof.now)) }
+    ensures { result ≡ base64 (server_signature salted.now
+        (auth_message client_first_bare.now server_first.now without_proof.now)) }
 {
     signature_by(
         &server_key(salted),

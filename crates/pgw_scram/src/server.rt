@@ -59,7 +59,8 @@ impl ScramServerAuth {
         alloc: Global,
         hash: &[u8],
     ) -> Result<(), OutOfMemory>
-        ensures set { OnOk result (self.new ≡ record self.old { certificate_hash = Some hash.now }) }
+        ensures set { OnOk result (self.new ≡ record self.old
+            { certificate_hash = Some hash.now }) }
         ensures refused { OnErr result (self.new ≡ self.old) }
     {
         self.certificate_hash = Some(Octets::from_slice(alloc, hash)?);
@@ -126,7 +127,8 @@ impl ScramServerAuth {
         salted: &[u8],
         own: &[u8; 18],
     ) -> Result<ScramServerAuthWaitingForClientFinal, OutOfMemory>
-        ensures { IfOk result (λ server. server ≡ waiting self.now parts salt.now salted.now own.now) }
+        ensures { IfOk result (λ server. server
+            ≡ waiting self.now parts salt.now salted.now own.now) }
     {
         let offer = Offer::new(
             alloc,
@@ -155,8 +157,8 @@ impl ScramServerAuthWaitingForClientFinal {
         self.accept(alloc, &parts)
     }
 
-    // The server's last message, of the parts of the client's.
-    fn accept(&self, alloc: Global, parts: &ClientFinal) -> PgWireResult<Text>
+    /// The server's last message (server-final), of the parts of the client's, or that its proof is another.
+    pub fn accept(&self, alloc: Global, parts: &ClientFinal) -> PgWireResult<Text>
         ensures { Answers result (accepted_as self.now (Ok parts.now)) }
     {
         let bare = self.offer.bare.as_str().as_bytes();

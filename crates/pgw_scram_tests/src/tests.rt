@@ -1,6 +1,5 @@
 //! Vectors of the public documents, and what each end refuses.
 use crate::shared::{same, same_bytes, same_reply, same_text, sent, told};
-use pgw_backend::client_error::PgWireClientResult;
 use pgw_hash::pbkdf2::gen_salted_password;
 use pgw_scram::binding::ClientBinding;
 use pgw_scram::client::{
@@ -16,6 +15,7 @@ use pgw_types::error::{PgWireError, PgWireResult};
 use pgw_types::listed::Duplicate;
 use pgw_types::memory::OutOfMemory;
 use pgw_types::octets::Octets;
+use pgw_types::scram_error::ScramClientResult;
 use pgw_types::text::Text;
 use std::alloc::Global;
 use std::test::Fail;
@@ -107,7 +107,7 @@ fn replied(
     password: &str,
     nonce: &str,
     first: &[u8],
-) -> PgWireClientResult<(Text, [u8; 44])> {
+) -> ScramClientResult<(Text, [u8; 44])> {
     let login = login(alloc, "user", password, nonce)?;
     let reply = client_final(alloc, &login, first);
     drop(login);
@@ -244,7 +244,7 @@ fn begun(
     alloc: Global,
     user: &str,
     password: &str,
-) -> PgWireClientResult<(Text, ScramClientAuthWaitingForServerFirst)> {
+) -> ScramClientResult<(Text, ScramClientAuthWaitingForServerFirst)> {
     let user = Text::from_str(alloc, user)?;
     let password = Text::from_str(alloc, password)?;
     ScramClientAuth::new(user, password).build_client_first(alloc, &[0; 18])
@@ -303,7 +303,7 @@ fn ended(
     user: &str,
     password: &str,
     offer: &[u8],
-) -> PgWireClientResult<(Text, ScramClientAuthWaitingForServerFinal)> {
+) -> ScramClientResult<(Text, ScramClientAuthWaitingForServerFinal)> {
     let begun = begun(alloc, user, password)?;
     begun.1.build_client_final(alloc, offer)
 }
@@ -388,7 +388,7 @@ fn binding(alloc: Global, kind: Kind) -> Result<ClientBinding, OutOfMemory> {
 fn begun_with(
     alloc: Global,
     kind: Kind,
-) -> PgWireClientResult<(Text, ScramClientAuthWaitingForServerFirst)> {
+) -> ScramClientResult<(Text, ScramClientAuthWaitingForServerFirst)> {
     let binding = binding(alloc, kind)?;
     let copy = binding.duplicate();
     drop(binding);
@@ -403,7 +403,7 @@ fn begun_with(
 fn ended_with(
     alloc: Global,
     kind: Kind,
-) -> PgWireClientResult<(Text, ScramClientAuthWaitingForServerFinal)> {
+) -> ScramClientResult<(Text, ScramClientAuthWaitingForServerFinal)> {
     let begun = begun_with(alloc, kind)?;
     let offer = b"r=AAAAAAAAAAAAAAAAAAAAAAAA,s=YmFy,i=1";
     let ended = begun.1.build_client_final(alloc, offer);
@@ -439,7 +439,7 @@ const VERDICTS: &[(&[u8], &str)] = &[
     (b"TcWD", "Err(PgWireError(InvalidScramMessage(Grammar)))"),
 ];
 
-fn verified(alloc: Global, message: &[u8]) -> PgWireClientResult<()> {
+fn verified(alloc: Global, message: &[u8]) -> ScramClientResult<()> {
     let ended = ended(alloc, USER, PASSWORD, OFFER.as_bytes())?;
     ended.1.verify_server_final(alloc, message)
 }

@@ -5,3 +5,4 @@ pub mod GrammarLaws
 pub mod SignedLaws
 pub mod HexLaws
 pub mod ServerLaws
+pub mod RelayLaws

@@ -3,9 +3,7 @@ use Rattle.std.proofs.Common.{◌≡◌, ℕ, suc, ◌+◌, ◌<◌, ◌≤◌, 
 use Rattle.std.specs.List.{slice_split, position_or_len}
 use Rattle.std.proofs.lemmas.List.Splits.{slice_split_first}
 use Rattle.std.proofs.lemmas.Bool.Decides.{nat_tests}
-use Rattle.pgw_script.specs.declared.script.Place.{Place}
-use Rattle.pgw_script.specs.declared.script.Script.{Script}
-use Rattle.pgw_script.specs.Script.{lines_of, but_empty_end, may_end, read_lines}
+use Rattle.pgw_script.specs.Form.{Form, lines_of, but_empty_end, read_lines}
 
 abbrev feed : ℕ → Bool
 feed b = b == 10
@@ -65,5 +63,5 @@ unfolding lines_of
 no_lines [] h = refl
 no_lines (x ∷ xs) h = absurd (omega (arith, h))
 
-pub at_end : (p : Place) (s : Script) (n : ℕ) (rest : List ℕ) (t : Bool) → length rest ≤ 0 → t ≡ may_end p → read_lines p s n (lines_of rest) ≡ (if t then Ok s else Err (n + 1))
-at_end p s n rest t h e = rw (no_lines rest h, e) refl
+pub at_end : {L P S : Type 0} (form : Form L P S) (p : P) (s : S) (n : ℕ) (rest : List ℕ) (t : Bool) → length rest ≤ 0 → t ≡ form.may_end p → read_lines form p s n (lines_of rest) ≡ (if t then Ok s else Err (n + 1))
+at_end form p s n rest t h e = rw (no_lines rest h, e) refl

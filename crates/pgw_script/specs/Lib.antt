@@ -1,5 +1,10 @@
+pub mod Form
 pub mod Line
 pub mod Script
 pub mod Grammar
 pub mod RequestLine
 pub mod ServerBytes
+pub mod PairLine
+pub mod PairScript
+pub mod RelayLine
+pub mod RelayScript

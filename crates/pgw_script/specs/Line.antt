@@ -1,15 +1,15 @@
 -- The lines of a session script: what each says. A line is a word, a space and a value.
-use Rattle.std.specs.Prelude.{ℕ, ◌<◌, ◌^◌, List, not, ◌==◌, ◌&&◌, nat_lt, nat_le, nat_eq, length, take, drop, codes, Option, Some, None, if◌then◌else◌}
+use Rattle.std.specs.Prelude.{ℕ, ◌<◌, ◌^◌, List, not, ◌==◌, ◌&&◌, nat_lt, nat_le, nat_eq, length, codes, Option, Some, None, if◌then◌else◌}
 use Rattle.std.specs.List.{filter}
 use Rattle.std.specs.Result.{result_ok}
 use Rattle.std.specs.Cmp.Lexicographic.{pointwise}
-use Rattle.std.specs.Str.{is_utf8, all_ascii_digits}
+use Rattle.std.specs.Str.{all_ascii_digits}
 use Rattle.std.specs.Str.Parse.{without_leading_plus, digits_value}
 use Rattle.hex.specs.Hex.{decode_of, decode_sized}
 use Rattle.pgw_types.specs.declared.context.ProtocolVersion.{ProtocolVersion}
 use Rattle.pgw_types.specs.declared.context.ProtocolVersion.TheVariants as version
-use Rattle.pgw_conninfo.specs.Marks.{behind_word}
-use Rattle.pgw_script.specs.RequestLine.{text_in, behind_or, request_in}
+use Rattle.pgw_types.specs.Marks.{behind_word}
+use Rattle.pgw_script.specs.RequestLine.{text_in, hex_in, behind_or, request_in}
 use Rattle.pgw_script.specs.declared.line.Line.{Line}
 use Rattle.pgw_script.specs.declared.line.Line.TheVariants as line
 
@@ -17,7 +17,9 @@ use Rattle.pgw_script.specs.declared.line.Line.TheVariants as line
 unfoldable pub number_in : List ℕ → Option ℕ
 number_in bytes =
     let digits = without_leading_plus bytes in
-    if not (length digits == 0) && all_ascii_digits digits && nat_lt (digits_value 10 digits) (2 ^ 64) then Some (digits_value 10 digits) else None
+    if not (length digits == 0) && all_ascii_digits digits
+    && nat_lt (digits_value 10 digits) (2 ^ 64)
+    then Some (digits_value 10 digits) else None
 
 -- a line's kind, and its value
 abbrev pub known : {A : Type 0} → (A → Line) → Option A → Option Line
@@ -52,19 +54,29 @@ unfoldable pub later_line_of : List ℕ → Option Line
 later_line_of bytes =
     behind_or (behind_word (codes "fail read ") bytes) (λ v. known line.FailRead (number_in v))
     (behind_or (behind_word (codes "fail write ") bytes) (λ v. known line.FailWrite (number_in v))
-    (behind_or (behind_word (codes "server ") bytes) (λ v. known line.Server (bytes_in v)) (known line.Request (request_in bytes))))
+    (behind_or (behind_word (codes "server ") bytes) (λ v. known line.Server (bytes_in v))
+    (known line.Request (request_in bytes))))
 
--- protocol .., nonce .., limit N, cut N, or a later line
+-- limit N, cut N, or a later line
+unfoldable pub bound_of : List ℕ → Option Line
+bound_of bytes =
+    behind_or (behind_word (codes "limit ") bytes) (λ v. known line.Limit (number_in v))
+    (behind_or (behind_word (codes "cut ") bytes) (λ v. known line.Cut (cut_in v))
+    (later_line_of bytes))
+
+-- protocol .., certificate HEX, nonce .., or a later line
 unfoldable pub setting_of : List ℕ → Option Line
 setting_of bytes =
     behind_or (behind_word (codes "protocol ") bytes) (λ v. known line.Protocol (version_in v))
+    (behind_or (behind_word (codes "certificate ") bytes) (λ v. known line.Certificate (hex_in v))
     (behind_or (behind_word (codes "nonce ") bytes) (λ v. known line.Nonce (nonce_in v))
-    (behind_or (behind_word (codes "limit ") bytes) (λ v. known line.Limit (number_in v))
-    (behind_or (behind_word (codes "cut ") bytes) (λ v. known line.Cut (cut_in v)) (later_line_of bytes))))
+    (bound_of bytes)))
 
 -- config TEXT, or another line
 unfoldable pub line_of : List ℕ → Option Line
-line_of bytes = behind_or (behind_word (codes "config ") bytes) (λ v. known line.Config (text_in v)) (setting_of bytes)
+line_of bytes =
+    behind_or (behind_word (codes "config ") bytes) (λ v. known line.Config (text_in v))
+    (setting_of bytes)
 
 -- a cut lets a call move a byte
 abbrev pub Moves : Line → Type 0

@@ -1,5 +1,5 @@
 -- The requests of a session script: a word and values, each behind a single space. SQL is all that is left.
-use Rattle.std.specs.Prelude.{ℕ, ℤ, ◌<◌, ◌-◌, ◌^◌, List, [], not, ◌==◌, ◌&&◌, nat_lt, nat_eq, length, codes, Option, Some, None, if◌then◌else◌}
+use Rattle.std.specs.Prelude.{ℕ, ℤ, ◌-◌, ◌^◌, List, [], ◌==◌, ◌&&◌, nat_lt, nat_eq, length, codes, Option, Some, None, if◌then◌else◌}
 use Rattle.std.specs.List.{list_all}
 use Rattle.std.specs.Char.{is_digit}
 use Rattle.std.specs.Result.{result_ok}
@@ -8,7 +8,7 @@ use Rattle.std.specs.Str.{is_utf8}
 use Rattle.std.specs.Str.Parse.{without_leading_sign, signed_digits_value}
 use Rattle.hex.specs.Hex.{decode_of}
 use Rattle.pgw_types.specs.Numbers.{number_in}
-use Rattle.pgw_conninfo.specs.Marks.{before_mark, behind_mark, behind_word, pieces_at}
+use Rattle.pgw_types.specs.Marks.{before_mark, behind_mark, behind_word, pieces_at}
 use Rattle.pgw_config.specs.Numbers.{reach}
 use Rattle.pgw_config.specs.Pieces.{all_read}
 use Rattle.pgw_session.specs.declared.types.Request.{Request}
@@ -26,7 +26,8 @@ value_by (Some rest) front = Some (front, rest)
 abbrev pub next_value : List ℕ → Option (List ℕ × List ℕ)
 next_value text = value_by (behind_mark 32 text) (before_mark 32 text)
 
-abbrev pub then_value : {A : Type 0} → Option (List ℕ × List ℕ) → (List ℕ → List ℕ → Option A) → Option A
+abbrev pub then_value : {A : Type 0}
+    → Option (List ℕ × List ℕ) → (List ℕ → List ℕ → Option A) → Option A
 then_value None go = None
 then_value (Some v) go = go v.0 v.1
 
@@ -54,15 +55,23 @@ name_in bytes = if pointwise nat_eq bytes (codes "-") then Some None else made S
 unfoldable pub signed_in : ℕ → List ℕ → Option ℤ
 signed_in bits bytes =
     let digits = without_leading_sign bytes in
-    if nat_lt 0 (length digits) && (list_all (λ c. is_digit c 10) digits && nat_lt (reach (signed_digits_value 10 bytes)) (2 ^ (bits - 1))) then Some (signed_digits_value 10 bytes) else None
+    if nat_lt 0 (length digits) && (list_all (λ c. is_digit c 10) digits
+    && nat_lt (reach (signed_digits_value 10 bytes)) (2 ^ (bits - 1)))
+    then Some (signed_digits_value 10 bytes) else None
+
+-- hex digits, two for each byte
+unfoldable pub hex_in : List ℕ → Option (List ℕ)
+hex_in digits = result_ok (decode_of digits)
 
 -- a parameter is null, or x and hex digits
 abbrev pub hex_by : Option (List ℕ) → Option (List ℕ)
 hex_by None = None
-hex_by (Some digits) = result_ok (decode_of digits)
+hex_by (Some digits) = hex_in digits
 
 unfoldable pub parameter_in : List ℕ → Option (Option (List ℕ))
-parameter_in bytes = if pointwise nat_eq bytes (codes "null") then Some None else made Some (hex_by (behind_word (codes "x") bytes))
+parameter_in bytes =
+    if pointwise nat_eq bytes (codes "null") then Some None
+    else made Some (hex_by (behind_word (codes "x") bytes))
 
 -- a number in text
 abbrev pub read_in : {A : Type 0} → (List ℕ → Option A) → Option (List ℕ) → Option A
@@ -80,7 +89,8 @@ rows_in bytes = read_in (signed_in 32) (text_in bytes)
 
 -- elements with commas between them, or a hyphen for none
 abbrev pub list_in : {A : Type 0} → (List ℕ → Option A) → List ℕ → Option (List A)
-list_in read bytes = if pointwise nat_eq bytes (codes "-") then Some [] else all_read read (pieces_at 44 bytes)
+list_in read bytes =
+    if pointwise nat_eq bytes (codes "-") then Some [] else all_read read (pieces_at 44 bytes)
 
 -- types, parameters and formats
 unfoldable pub oids_in : List ℕ → Option (List ℕ)
@@ -95,21 +105,28 @@ formats_in bytes = list_in format_in bytes
 -- ---- requests
 
 -- NAME OIDS SQL
-abbrev pub prepare_by : Option (Option (List ℕ)) → Option (List ℕ) → Option (List ℕ) → Option Request
+abbrev pub prepare_by :
+    Option (Option (List ℕ)) → Option (List ℕ) → Option (List ℕ) → Option Request
 prepare_by (Some name) (Some oids) (Some sql) = Some (request.Prepare name sql oids)
 prepare_by _ _ _ = None
 
 unfoldable pub prepare_in : List ℕ → Option Request
-prepare_in text = then_value (next_value text) (λ name rest. then_value (next_value rest) (λ oids sql. prepare_by (name_in name) (oids_in oids) (text_in sql)))
+prepare_in text =
+    then_value (next_value text) (λ name rest. then_value (next_value rest) (λ oids sql.
+    prepare_by (name_in name) (oids_in oids) (text_in sql)))
 
 -- PORTAL STATEMENT PARAMS FORMATS
-abbrev pub bind_by : Option (Option (List ℕ)) → Option (Option (List ℕ)) → Option (List (Option (List ℕ))) → Option (List ℤ) → Option Request
-bind_by (Some portal) (Some statement) (Some parameters) (Some formats) = Some (request.Bind portal statement parameters formats)
+abbrev pub bind_by :
+    Option (Option (List ℕ)) → Option (Option (List ℕ)) → Option (List (Option (List ℕ)))
+    → Option (List ℤ) → Option Request
+bind_by (Some portal) (Some statement) (Some parameters) (Some formats) =
+    Some (request.Bind portal statement parameters formats)
 bind_by _ _ _ _ = None
 
 unfoldable pub bind_in : List ℕ → Option Request
 bind_in text =
-    then_value (next_value text) (λ portal rest. then_value (next_value rest) (λ statement more. then_value (next_value more) (λ parameters formats.
+    then_value (next_value text) (λ portal rest. then_value (next_value rest) (λ statement more.
+    then_value (next_value more) (λ parameters formats.
     bind_by (name_in portal) (name_in statement) (parameters_in parameters) (formats_in formats))))
 
 -- PORTAL ROWS
@@ -118,7 +135,8 @@ execute_by (Some portal) (Some rows) = Some (request.Execute portal rows)
 execute_by _ _ = None
 
 unfoldable pub execute_in : List ℕ → Option Request
-execute_in text = then_value (next_value text) (λ portal rows. execute_by (name_in portal) (rows_in rows))
+execute_in text =
+    then_value (next_value text) (λ portal rows. execute_by (name_in portal) (rows_in rows))
 
 -- s NAME for a statement, p NAME for a portal
 abbrev pub target_by : List ℕ → Option (Option (List ℕ)) → Option Target
@@ -131,12 +149,15 @@ unfoldable pub target_in : List ℕ → Option Target
 target_in text = then_value (next_value text) (λ kind name. target_by kind (name_in name))
 
 -- OIDS PARAMS SQL
-abbrev pub query_by : Option (List ℕ) → Option (List (Option (List ℕ))) → Option (List ℕ) → Option Request
+abbrev pub query_by :
+    Option (List ℕ) → Option (List (Option (List ℕ))) → Option (List ℕ) → Option Request
 query_by (Some oids) (Some parameters) (Some sql) = Some (request.Query sql oids parameters)
 query_by _ _ _ = None
 
 unfoldable pub query_in : List ℕ → Option Request
-query_in text = then_value (next_value text) (λ oids rest. then_value (next_value rest) (λ parameters sql. query_by (oids_in oids) (parameters_in parameters) (text_in sql)))
+query_in text =
+    then_value (next_value text) (λ oids rest. then_value (next_value rest) (λ parameters sql.
+    query_by (oids_in oids) (parameters_in parameters) (text_in sql)))
 
 -- what the words say, the first that stands there
 abbrev pub behind_or : {A : Type 0} → Option (List ℕ) → (List ℕ → Option A) → Option A → Option A
@@ -156,4 +177,5 @@ unfoldable pub request_in : List ℕ → Option Request
 request_in line =
     behind_or (behind_word (codes "simple ") line) (λ sql. made request.Simple (text_in sql))
     (behind_or (behind_word (codes "describe ") line) (λ v. made request.Describe (target_in v))
-    (behind_or (behind_word (codes "close ") line) (λ v. made request.Close (target_in v)) (extended_in line)))
+    (behind_or (behind_word (codes "close ") line) (λ v. made request.Close (target_in v))
+    (extended_in line)))

@@ -1,29 +1,19 @@
 -- Session scripts: which lines may follow one another, and what they say together.
-use Rattle.std.specs.Prelude.{◌≡◌, ℕ, ◌+◌, List, [], ◌∷◌, ◌++◌, Bool, true, false, ◌==◌, Option, Some, None, Result, Ok, Err, if◌then◌else◌}
-use Rattle.std.specs.List.{slice_split}
+use Rattle.std.specs.Prelude.{ℕ, List, [], ◌∷◌, ◌++◌, Bool, true, false, Some, None}
 use Rattle.pgw_types.specs.declared.context.ProtocolVersion.TheVariants as version
 use Rattle.pgw_script.specs.declared.line.Line.{Line}
 use Rattle.pgw_script.specs.declared.line.Line.TheVariants as line
 use Rattle.pgw_script.specs.declared.script.Script.{Script}
 use Rattle.pgw_script.specs.declared.script.Place.{Place}
 use Rattle.pgw_script.specs.declared.script.Place.TheVariants as place
-use Rattle.pgw_script.specs.declared.script.ScriptFault.{ScriptFault}
-use Rattle.pgw_script.specs.declared.script.ScriptFault.TheVariants as fault
+use Rattle.pgw_script.specs.Form.{Form}
+use Rattle.pgw_script.specs.Grammar.{IsScriptIn, IsFaultIn}
 use Rattle.pgw_script.specs.Line.{line_of}
-
--- the lines of a text: each ends with a line feed, which the last may lack
-abbrev pub but_empty_end : List (List ℕ) → List (List ℕ)
-but_empty_end [] = []
-but_empty_end ([] ∷ []) = []
-but_empty_end ((b ∷ bs) ∷ []) = (b ∷ bs) ∷ []
-but_empty_end (l ∷ m ∷ more) = l ∷ but_empty_end (m ∷ more)
-
-unfoldable pub lines_of : List ℕ → List (List ℕ)
-lines_of text = but_empty_end (slice_split (λ b. b == 10) text)
 
 abbrev pub place_of : Line → Place
 place_of (line.Config text) = place.Config
 place_of (line.Protocol v) = place.Protocol
+place_of (line.Certificate hash) = place.Certificate
 place_of (line.Nonce n) = place.Nonce
 place_of (line.Limit n) = place.Limit
 place_of (line.Cut n) = place.Cut
@@ -36,8 +26,11 @@ place_of (line.Server bs) = place.Server
 abbrev pub may_follow : Place → Place → Bool
 may_follow place.Start place.Config = true
 may_follow place.Config place.Protocol = true
+may_follow place.Config place.Certificate = true
 may_follow place.Config place.Nonce = true
+may_follow place.Protocol place.Certificate = true
 may_follow place.Protocol place.Nonce = true
+may_follow place.Certificate place.Nonce = true
 may_follow place.Nonce place.Limit = true
 may_follow place.Limit place.Cut = true
 may_follow place.Cut place.Fail = true
@@ -63,6 +56,7 @@ abbrev pub first_script : Script
 first_script = record {
   config = [];
   protocol_version = version.PROTOCOL3_0;
+  certificate_hash = None;
   nonce = 0 ∷ 0 ∷ 0 ∷ 0 ∷ 0 ∷ 0 ∷ 0 ∷ 0 ∷ 0 ∷ 0 ∷ 0 ∷ 0 ∷ 0 ∷ 0 ∷ 0 ∷ 0 ∷ 0 ∷ 0 ∷ [];
   limit = 0;
   cut = 1;
@@ -76,6 +70,7 @@ first_script = record {
 abbrev pub with_line : Script → Line → Script
 with_line s (line.Config text) = record s { config = text }
 with_line s (line.Protocol v) = record s { protocol_version = v }
+with_line s (line.Certificate hash) = record s { certificate_hash = Some hash }
 with_line s (line.Nonce n) = record s { nonce = n }
 with_line s (line.Limit n) = record s { limit = n }
 with_line s (line.Cut n) = record s { cut = n }
@@ -84,26 +79,21 @@ with_line s (line.FailWrite n) = record s { fail_writes = s.fail_writes ++ n ∷
 with_line s (line.Request q) = record s { requests = s.requests ++ q ∷ [] }
 with_line s (line.Server bs) = record s { server = s.server ++ bs }
 
--- the place and the script behind a line that may stand there
-abbrev pub step : Place → Script → Option Line → Option (Place × Script)
-step p s None = None
-step p s (Some l) = if may_follow p (place_of l) then Some (place_of l, with_line s l) else None
+abbrev pub session_form : Form Line Place Script
+session_form = record {
+  line_of = line_of;
+  place_of = place_of;
+  may_follow = may_follow;
+  may_end = may_end;
+  start = place.Start;
+  first = first_script;
+  with_line = with_line;
+}
 
-abbrev pub going_on : Option (Place × Script) → (Place → Script → Result Script ℕ) → ℕ → Result Script ℕ
-going_on None rest n = Err n
-going_on (Some next) rest n = rest next.0 next.1
+-- the text is a session script that says this
+abbrev pub IsScript : List ℕ → Script → Type 0
+IsScript text script = IsScriptIn session_form text script
 
--- what the lines say from a place on, where n lines stood before; or the number of the first that may not stand there,
--- one more than all where they end too early
-abbrev pub read_lines : Place → Script → ℕ → List (List ℕ) → Result Script ℕ
-read_lines p s n [] = if may_end p then Ok s else Err (n + 1)
-read_lines p s n (l ∷ ls) = going_on (step p s (line_of l)) (λ q t. read_lines q t (n + 1) ls) (n + 1)
-
-unfoldable pub read_script : List ℕ → Result Script ℕ
-read_script text = read_lines place.Start first_script 0 (lines_of text)
-
--- the answer, but for want of memory
-abbrev pub Reads : Result Script ScriptFault → Result Script ℕ → Type 0
-Reads (Ok s) r = r ≡ Ok s
-Reads (Err (fault.Line n)) r = r ≡ Err n
-Reads (Err fault.OutOfMemory) r = Unit {0}
+-- the line n is the first of the text that is outside the grammar of session scripts
+abbrev pub IsFault : List ℕ → ℕ → Type 0
+IsFault text n = IsFaultIn session_form text n

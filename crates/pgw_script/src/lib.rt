@@ -1,14 +1,21 @@
-//! Session scripts: what a text of them says.
+//! Scripts: what a text of them says.
 //!
-//! To the crate that runs them it promises the whole reading: `script::parse` answers each text's one script, or the
-//! number of its first line outside the grammar, which `specs/Grammar` tells as a relation; `grammar::grammar_is_read` is
-//! the law that both agree. `expected::expected_at` has the words for what was expected at that line.
+//! To the crate that runs them it promises the whole reading: `script::parse` answers each text's one session script,
+//! `pair_script::parse_pair` its one pair script, `relay_script::parse_relay` its one relay script, or the number of its first line outside the grammar, which
+//! `specs/Grammar` tells as a relation over a kind of scripts (`specs/Form`); `grammar::grammar_is_read` is the law that
+//! both agree. `expected::expected_at` has the words for what was expected at that line.
 #![tactic(auto)]
 
+pub mod equality;
 pub mod expected;
 pub mod grammar;
 mod line;
+pub mod lines;
 pub mod number;
+mod pair_line;
+pub mod pair_script;
+mod relay_line;
+pub mod relay_script;
 mod request_line;
 pub mod script;
 pub mod server_bytes;

@@ -1,14 +1,14 @@
 //! The lines of a session script.
 ghost use Rattle.std.specs.Prelude.{◌≡◌, ◌<◌, ◌&&◌, IfOk, IfSome, nat_le};
-ghost use Rattle.pgw_script.specs.Line.{version_in, nonce_in, cut_in, bytes_in, later_line_of, setting_of, line_of, Moves};
+ghost use Rattle.pgw_script.specs.Line.{version_in, nonce_in, cut_in, bytes_in, later_line_of, bound_of, setting_of, line_of, Moves};
 
 use crate::number::read_number;
-use crate::request_line::{read_request, read_text};
+use crate::request_line::{read_hex, read_request, read_text};
 use crate::server_bytes::ServerBytes;
 use hex::FromHex;
-use pgw_conninfo::marks::behind_word;
 use pgw_session::types::Request;
 use pgw_types::context::ProtocolVersion;
+use pgw_types::marks::behind_word;
 use pgw_types::memory::OutOfMemory;
 use pgw_types::octets::Octets;
 use pgw_types::text::Text;
@@ -20,6 +20,8 @@ pub enum Line {
     /// A connection text.
     Config(Text),
     Protocol(ProtocolVersion),
+    /// The hash of the server's certificate.
+    Certificate(Octets),
     Nonce([u8; 18]),
     Limit(u64),
     Cut(usize),
@@ -44,15 +46,17 @@ fn read_version(value: &[u8]) -> Option<ProtocolVersion>
     }
 }
 
+/// The bytes of 36 hex digits.
 #[tactic(auto, unfolding(crate::specs::Line::nonce_in))]
-fn read_nonce(value: &[u8]) -> Option<[u8; 18]>
+pub fn read_nonce(value: &[u8]) -> Option<[u8; 18]>
     ensures { result ≡ nonce_in value.now }
 {
     <[u8; 18] as FromHex>::from_hex(value).ok()
 }
 
+/// A number from 1 to 65536.
 #[tactic(auto, unfolding(crate::specs::Line::cut_in))]
-fn read_cut(value: &[u8]) -> Option<usize>
+pub fn read_cut(value: &[u8]) -> Option<usize>
     ensures value { result ≡ cut_in value.now }
     ensures moves { IfSome result (λ n. 0 < n) }
 {
@@ -68,7 +72,8 @@ fn is_cut(number: u64) -> bool
     1 <= number && number <= 65536
 }
 
-fn read_bytes(alloc: Global, value: &[u8]) -> Result<Option<Octets>, OutOfMemory>
+/// The bytes of hex digits, among which spaces may stand.
+pub fn read_bytes(alloc: Global, value: &[u8]) -> Result<Option<Octets>, OutOfMemory>
     ensures { IfOk result (λ o. o ≡ bytes_in value.now) }
 {
     let mut bytes = ServerBytes::new(alloc);
@@ -97,6 +102,21 @@ fn read_later_line(alloc: Global, line: &[u8]) -> Result<Option<Line>, OutOfMemo
     Ok(read_request(alloc, line)?.map(Line::Request))
 }
 
+/// What a line says, where it is a bound or one of the later kinds.
+#[tactic(auto, unfolding(crate::specs::Line::bound_of))]
+fn read_bound(alloc: Global, line: &[u8]) -> Result<Option<Line>, OutOfMemory>
+    ensures value { IfOk result (λ o. o ≡ bound_of line.now) }
+    ensures moves { IfOk result (λ o. IfSome o Moves) }
+{
+    if let Some(value) = behind_word(b"limit ", line) {
+        return Ok(read_number(value).map(Line::Limit));
+    }
+    if let Some(value) = behind_word(b"cut ", line) {
+        return Ok(read_cut(value).map(Line::Cut));
+    }
+    read_later_line(alloc, line)
+}
+
 /// What a line says, where it is a setting or one of the later kinds.
 #[tactic(auto, unfolding(crate::specs::Line::setting_of))]
 fn read_setting(alloc: Global, line: &[u8]) -> Result<Option<Line>, OutOfMemory>
@@ -106,16 +126,13 @@ fn read_setting(alloc: Global, line: &[u8]) -> Result<Option<Line>, OutOfMemory>
     if let Some(value) = behind_word(b"protocol ", line) {
         return Ok(read_version(value).map(Line::Protocol));
     }
+    if let Some(value) = behind_word(b"certificate ", line) {
+        return Ok(read_hex(alloc, value)?.map(Line::Certificate));
+    }
     if let Some(value) = behind_word(b"nonce ", line) {
         return Ok(read_nonce(value).map(Line::Nonce));
     }
-    if let Some(value) = behind_word(b"limit ", line) {
-        return Ok(read_number(value).map(Line::Limit));
-    }
-    if let Some(value) = behind_word(b"cut ", line) {
-        return Ok(read_cut(value).map(Line::Cut));
-    }
-    read_later_line(alloc, line)
+    read_bound(alloc, line)
 }
 
 /// What a line says, where it is in the grammar.

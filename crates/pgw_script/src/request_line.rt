@@ -3,13 +3,13 @@ ghost use Rattle.std.specs.Prelude.{◌≡◌, map, IfOk};
 ghost use Rattle.std.specs.Option.{option_copied};
 ghost use Rattle.pgw_types.specs.Numbers.{number_in};
 ghost use Rattle.pgw_config.specs.Pieces.{pushed, all_read};
-ghost use Rattle.pgw_conninfo.specs.Marks.{before_mark, behind_mark, pieces_at as pieces_between};
-ghost use Rattle.pgw_script.specs.RequestLine.{text_in, word_in, name_in, signed_in, oid_in, format_in, rows_in, parameter_in, oids_in, parameters_in, formats_in, prepare_in, bind_in, execute_in, target_in, query_in, extended_in, request_in};
+ghost use Rattle.pgw_types.specs.Marks.{before_mark, behind_mark, pieces_at as pieces_between};
+ghost use Rattle.pgw_script.specs.RequestLine.{text_in, hex_in, word_in, name_in, signed_in, oid_in, format_in, rows_in, parameter_in, oids_in, parameters_in, formats_in, prepare_in, bind_in, execute_in, target_in, query_in, extended_in, request_in};
 
 use hex::FromHexError;
-use pgw_conninfo::marks::{behind_word, cut_at, pieces_at};
 use pgw_session::types::{Request, Target};
 use pgw_types::listed::Listed;
+use pgw_types::marks::{behind_word, cut_at, pieces_at};
 use pgw_types::memory::OutOfMemory;
 use pgw_types::octets::Octets;
 use pgw_types::text::Text;
@@ -103,6 +103,18 @@ fn read_rows(value: &[u8]) -> Option<i32>
     }
 }
 
+/// The bytes of hex digits, two for each byte.
+#[tactic(auto, unfolding(crate::specs::RequestLine::hex_in))]
+pub fn read_hex(alloc: Global, digits: &[u8]) -> Result<Option<Octets>, OutOfMemory>
+    ensures { IfOk result (λ o. o ≡ hex_in digits.now) }
+{
+    match hex::decode(alloc, digits) {
+        Ok(bytes) => Ok(Some(Octets::from_slice(alloc, &bytes)?)),
+        Err(FromHexError::OutOfMemory) => Err(OutOfMemory),
+        Err(_) => Ok(None),
+    }
+}
+
 #[tactic(auto, unfolding(crate::specs::RequestLine::parameter_in))]
 fn read_parameter(alloc: Global, value: &[u8]) -> Result<Option<Option<Octets>>, OutOfMemory>
     ensures { IfOk result (λ o. o ≡ parameter_in value.now) }
@@ -113,15 +125,11 @@ fn read_parameter(alloc: Global, value: &[u8]) -> Result<Option<Option<Octets>>,
     let Some(digits) = behind_word(b"x", value) else {
         return Ok(None);
     };
-    match hex::decode(alloc, digits) {
-        Ok(bytes) => Ok(Some(Some(Octets::from_slice(alloc, &bytes)?))),
-        Err(FromHexError::OutOfMemory) => Err(OutOfMemory),
-        Err(_) => Ok(None),
-    }
+    Ok(read_hex(alloc, digits)?.map(Some))
 }
 
 /// A list with one element more, if there are both.
-fn with_next<T: Drop>(
+pub(crate) fn with_next<T: Drop>(
     all: Option<Listed<T>>,
     next: Option<T>,
 ) -> Result<Option<Listed<T>>, OutOfMemory>
@@ -182,7 +190,8 @@ fn all_parameters(
     alloc: Global,
     pieces: &[&[u8]],
 ) -> Result<Option<Listed<Option<Octets>>>, OutOfMemory>
-    ensures { IfOk result (λ all. all ≡ all_read parameter_in (map (λ piece. piece.now) pieces.now)) }
+    ensures { IfOk result (λ all. all ≡ all_read parameter_in
+        (map (λ piece. piece.now) pieces.now)) }
 {
     let mut all = Some(Listed::new(alloc));
     for piece in pieces {

@@ -1,16 +1,18 @@
 //! Session scripts.
-ghost use Rattle.std.specs.Prelude.{◌≡◌, ◌<◌, ◌∷◌, ◌==◌, Some, None, length, OnOk, IfOk, IfSome, position, if◌then◌else◌};
+ghost use Rattle.std.specs.Prelude.{◌≡◌, ◌<◌, Some, None, OnOk, IfOk, if◌then◌else◌};
+ghost use Rattle.pgw_script.specs.Form.{step, read_script, Reads};
 ghost use Rattle.pgw_script.specs.Line.{Moves, bytes_in, known, line_of};
-ghost use Rattle.pgw_script.specs.Script.{first_script, with_line, place_of as place_for, may_follow as follows, may_end as ends, lines_of, step, read_script, Reads};
+ghost use Rattle.pgw_script.specs.Script.{session_form, first_script, with_line, place_of as place_for, may_follow as follows, may_end as ends};
 
 use crate::line::{Line, read_line};
+use crate::lines::{Draft, ScriptFault, read_whole};
 use crate::server_bytes::ServerBytes;
-use memchr::memchr;
-use pgw_conninfo::marks::behind_word;
 use pgw_session::types::Request;
 use pgw_types::context::ProtocolVersion;
 use pgw_types::listed::Listed;
+use pgw_types::marks::behind_word;
 use pgw_types::memory::OutOfMemory;
+use pgw_types::octets::Octets;
 use pgw_types::text::Text;
 use std::alloc::Global;
 
@@ -20,6 +22,8 @@ pub struct Script {
     /// The connection text.
     pub config: Text,
     pub protocol_version: ProtocolVersion,
+    /// The hash of the server's certificate, where one is known.
+    pub certificate_hash: Option<Octets>,
     pub nonce: [u8; 18],
     pub limit: u64,
     pub cut: usize,
@@ -30,36 +34,19 @@ pub struct Script {
     pub server: ServerBytes,
 }
 
-/// Why a text is no script.
-#[derive(Clone, Copy, Debug, PartialEq, Eq)]
-pub enum ScriptFault {
-    /// The number of the first line outside the grammar.
-    Line(u64),
-    OutOfMemory,
-}
-
 /// The kind of the line that was read last.
 #[derive(Clone, Copy, Debug, PartialEq, Eq)]
 pub enum Place {
     Start,
     Config,
     Protocol,
+    Certificate,
     Nonce,
     Limit,
     Cut,
     Fail,
     Request,
     Server,
-}
-
-impl From<OutOfMemory> for ScriptFault {
-    ghost use Rattle.pgw_script.specs.declared.script.ScriptFault.TheVariants.{OutOfMemory as NoMemory};
-
-    ghost from_gives = { λ _ e. e ≡ NoMemory };
-
-    fn from(_e: OutOfMemory) -> ScriptFault {
-        ScriptFault::OutOfMemory
-    }
 }
 
 impl Script {
@@ -69,6 +56,7 @@ impl Script {
         Script {
             config: Text::new(alloc),
             protocol_version: ProtocolVersion::PROTOCOL3_0,
+            certificate_hash: None,
             nonce: [0; 18],
             limit: 0,
             cut: 1,
@@ -85,6 +73,7 @@ impl Script {
         match line {
             Line::Config(text) => self.config = text,
             Line::Protocol(version) => self.protocol_version = version,
+            Line::Certificate(hash) => self.certificate_hash = Some(hash),
             Line::Nonce(nonce) => self.nonce = nonce,
             Line::Limit(limit) => self.limit = limit,
             Line::Cut(cut) => self.cut = cut,
@@ -103,6 +92,7 @@ fn place_of(line: &Line) -> Place
     match line {
         Line::Config(_) => Place::Config,
         Line::Protocol(_) => Place::Protocol,
+        Line::Certificate(_) => Place::Certificate,
         Line::Nonce(_) => Place::Nonce,
         Line::Limit(_) => Place::Limit,
         Line::Cut(_) => Place::Cut,
@@ -119,8 +109,9 @@ pub fn may_follow(before: Place, next: Place) -> bool
 {
     match before {
         Place::Start => matches!(next, Place::Config),
-        Place::Config => matches!(next, Place::Protocol | Place::Nonce),
-        Place::Protocol => matches!(next, Place::Nonce),
+        Place::Config => { matches!(next, Place::Protocol | Place::Certificate | Place::Nonce) }
+        Place::Protocol => matches!(next, Place::Certificate | Place::Nonce),
+        Place::Certificate => matches!(next, Place::Nonce),
         Place::Nonce => matches!(next, Place::Limit),
         Place::Limit => matches!(next, Place::Cut),
         Place::Cut | Place::Fail => matches!(next, Place::Fail | Place::Request | Place::Server),
@@ -138,18 +129,20 @@ fn may_end(place: Place) -> bool
     )
 }
 
-/// A script as far as its lines were read.
+/// A session script as far as its lines were read.
 #[derive(Drop)]
-struct Draft {
+pub struct ScriptDraft {
     place: Place,
     script: Script,
 }
 
-impl Draft {
+impl ScriptDraft {
     /// Takes a line, where it may stand here.
     fn take(&mut self, line: Line) -> Result<bool, OutOfMemory>
-        ensures step { IfOk result (λ went. step self.old.place self.old.script (Some line) ≡ (if went then Some (self.new.place, self.new.script) else None)) }
-        ensures moves { OnOk result (0 < self.old.script.cut → Moves line → 0 < self.new.script.cut) }
+        ensures step { IfOk result (λ went. step session_form self.old.place self.old.script
+            (Some line) ≡ (if went then Some (self.new.place, self.new.script) else None)) }
+        ensures moves { OnOk result (0 < self.old.script.cut → Moves line →
+            0 < self.new.script.cut) }
     {
         let next = place_of(&line);
         if !may_follow(self.place, next) {
@@ -162,7 +155,9 @@ impl Draft {
 
     // Takes a line of the server's bytes, where it may stand here and is in the grammar.
     fn take_server(&mut self, digits: &[u8]) -> Result<bool, OutOfMemory>
-        ensures step { IfOk result (λ went. step self.old.place self.old.script (known Line.Server (bytes_in digits.now)) ≡ (if went then Some (self.new.place, self.new.script) else None)) }
+        ensures step { IfOk result (λ went. step session_form self.old.place self.old.script
+            (known Line.Server (bytes_in digits.now))
+            ≡ (if went then Some (self.new.place, self.new.script) else None)) }
         ensures moves { OnOk result (0 < self.old.script.cut → 0 < self.new.script.cut) }
     {
         if !may_follow(self.place, Place::Server) {
@@ -174,12 +169,36 @@ impl Draft {
         self.place = Place::Server;
         Ok(true)
     }
+}
 
-    /// Reads a line and takes it, where it is in the grammar and may stand here.
-    fn read(&mut self, alloc: Global, line: &[u8]) -> Result<bool, OutOfMemory>
-        ensures step { IfOk result (λ went. step self.old.place self.old.script (line_of line.now) ≡ (if went then Some (self.new.place, self.new.script) else None)) }
-        ensures moves { OnOk result (0 < self.old.script.cut → 0 < self.new.script.cut) }
-    {
+impl Draft for ScriptDraft {
+    ghost use Rattle.std.specs.Prelude.{◌<◌};
+    ghost use Rattle.pgw_script.specs.declared.line.Line.{Line as TheLine};
+    ghost use Rattle.pgw_script.specs.declared.script.Place.{Place as ThePlace};
+    ghost use Rattle.pgw_script.specs.Script.{session_form};
+
+    type Script = Script;
+
+    ghost Line = { TheLine };
+
+    ghost Place = { ThePlace };
+
+    ghost form = { session_form };
+
+    ghost place = { λ draft. draft.place };
+
+    ghost script = { λ draft. draft.script };
+
+    ghost Holds = { λ script. 0 < script.cut };
+
+    fn new(alloc: Global) -> ScriptDraft {
+        ScriptDraft {
+            place: Place::Start,
+            script: Script::new(alloc),
+        }
+    }
+
+    fn read(&mut self, alloc: Global, line: &[u8]) -> Result<bool, OutOfMemory> {
         if let Some(digits) = behind_word(b"server ", line) {
             return self.take_server(digits);
         }
@@ -188,54 +207,20 @@ impl Draft {
             None => Ok(false),
         }
     }
-}
 
-/// The place of the first line feed.
-fn line_end(text: &[u8]) -> Option<usize>
-    ensures place { result ≡ position (λ b. b == 10) text.now }
-    ensures bound { IfSome result (λ end. end < length text.now) }
-{
-    memchr(b'\n', text)
-}
+    fn may_end(&self) -> bool {
+        may_end(self.place)
+    }
 
-/// The first line of a text, and what stands behind it.
-fn first_line(text: &[u8]) -> (&[u8], &[u8])
-    requires { 0 < length text.now }
-    ensures lines { lines_of text.now ≡ result.0.now ∷ lines_of result.1.now }
-    ensures less { length result.1.now < length text.now }
-{
-    match line_end(text) {
-        None => (text, b""),
-        Some(end) => {
-            let (line, _) = text.split_at(end);
-            let (_, behind) = text.split_at(end + 1);
-            (line, behind)
-        }
+    fn finish(self) -> Script {
+        self.script
     }
 }
 
-/// Reads a whole script.
+/// Reads a whole session script.
 pub fn parse(alloc: Global, text: &[u8]) -> Result<Script, ScriptFault>
-    ensures exact { Reads result (read_script text.now) }
+    ensures exact { Reads result (read_script session_form text.now) }
     ensures moves { IfOk result (λ s. 0 < s.cut) }
 {
-    let mut draft = Draft {
-        place: Place::Start,
-        script: Script::new(alloc),
-    };
-    let mut number = 0u64;
-    let mut rest = text;
-    while rest.len() > 0 {
-        let (line, behind) = first_line(rest);
-        number += 1;
-        if !draft.read(alloc, line)? {
-            return Err(ScriptFault::Line(number));
-        }
-        rest = behind;
-    }
-    if may_end(draft.place) {
-        Ok(draft.script)
-    } else {
-        Err(ScriptFault::Line(number + 1))
-    }
+    read_whole::<ScriptDraft>(alloc, text)
 }

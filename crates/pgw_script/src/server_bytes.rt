@@ -40,7 +40,9 @@ fn digit_of(byte: u8) -> Option<u8>
 // The first byte that is no space, and what stands behind it.
 #[inline]
 fn next_digit(text: &[u8]) -> Option<(u8, &[u8])>
-    ensures { MatchOption result (digits text.now ≡ []) (λ next. (digits text.now ≡ next.0 ∷ digits next.1.now) × (length next.1.now < length text.now)) }
+    ensures { MatchOption result (digits text.now ≡ [])
+        (λ next. (digits text.now ≡ next.0 ∷ digits next.1.now)
+        × (length next.1.now < length text.now)) }
 {
     match text {
         [first, behind @ ..] if *first != b' ' => Some((*first, behind)),
@@ -49,7 +51,9 @@ fn next_digit(text: &[u8]) -> Option<(u8, &[u8])>
 }
 
 fn behind_spaces(text: &[u8]) -> Option<(u8, &[u8])>
-    ensures { MatchOption result (digits text.now ≡ []) (λ next. (digits text.now ≡ next.0 ∷ digits next.1.now) × (length next.1.now < length text.now)) }
+    ensures { MatchOption result (digits text.now ≡ [])
+        (λ next. (digits text.now ≡ next.0 ∷ digits next.1.now)
+        × (length next.1.now < length text.now)) }
 {
     for at in 0..text.len() {
         let byte = text[at];

@@ -61,7 +61,8 @@ impl<H: StartupHandler> ServerCore<H> {
         ensures fits { H.fits result.handler result.login }
         // It goes on.
         ensures going { result.over ≡ false }
-        ensures kept { (result.handler ≡ handler) × (result.client ≡ client) × (result.login ≡ state) × (result.bound ≡ None) }
+        ensures kept { (result.handler ≡ handler) × (result.client ≡ client)
+            × (result.login ≡ state) × (result.bound ≡ None) }
         // It stands for no bytes given and none put out.
         ensures stands { Stands (H.means handler) (begins (seen client) state) result [] [] }
     {
@@ -81,8 +82,10 @@ impl<H: StartupHandler> ServerCore<H> {
         requires { H.fits handler state }
         ensures fits { H.fits result.handler result.login }
         ensures going { result.over ≡ false }
-        ensures kept { (result.handler ≡ handler) × (result.client ≡ client) × (result.login ≡ state) × (result.bound ≡ Some bound) }
-        ensures stands { Stands (H.means handler) (begins_within (Some bound) (seen client) state) result [] [] }
+        ensures kept { (result.handler ≡ handler) × (result.client ≡ client)
+            × (result.login ≡ state) × (result.bound ≡ Some bound) }
+        ensures stands { Stands (H.means handler) (begins_within (Some bound) (seen client) state)
+            result [] [] }
     {
         ServerCore::begin(alloc, handler, client, state, Some(bound))
     }
@@ -97,8 +100,10 @@ impl<H: StartupHandler> ServerCore<H> {
         requires { H.fits handler state }
         ensures fits { H.fits result.handler result.login }
         ensures going { result.over ≡ false }
-        ensures kept { (result.handler ≡ handler) × (result.client ≡ client) × (result.login ≡ state) × (result.bound ≡ bound) }
-        ensures stands { Stands (H.means handler) (begins_within bound (seen client) state) result [] [] }
+        ensures kept { (result.handler ≡ handler) × (result.client ≡ client)
+            × (result.login ≡ state) × (result.bound ≡ bound) }
+        ensures stands { Stands (H.means handler) (begins_within bound (seen client) state) result
+            [] [] }
     {
         ServerCore {
             handler,
@@ -124,19 +129,29 @@ impl<H: StartupHandler> ServerCore<H> {
         ensures fits { H.fits self.new.handler self.new.login }
         ensures kept { (self.new.handler ≡ self.old.handler) × (self.new.bound ≡ self.old.bound) }
         // For all bytes given and put out that it stood for, it stands for them with the piece and what is appended.
-        ensures stands { (begin : Stage) (given put : List ℕ) → Stands (H.means self.old.handler) begin self.old given put →
-            (more : List ℕ) × (out.new.items ≡ out.old.items ++ more) × Stands (H.means self.old.handler) begin self.new (given ++ piece.now) (put ++ more) }
+        ensures stands { (begin : Stage) (given put : List ℕ) →
+            Stands (H.means self.old.handler) begin self.old given put →
+            (more : List ℕ) × (out.new.items ≡ out.old.items ++ more)
+            × Stands (H.means self.old.handler) begin self.new (given ++ piece.now) (put ++ more) }
         // From wherever it was, the piece leads to where it is.
-        ensures continues { (course : Course Stage Ending) (put : List ℕ) → IsAt self.old put course → WentOn (H.means self.old.handler) self.old self.new put piece.now out.old.items out.new.items course result }
+        ensures continues { (course : Course Stage Ending) (put : List ℕ) →
+            IsAt self.old put course → WentOn (H.means self.old.handler) self.old self.new put
+            piece.now out.old.items out.new.items course result }
         // What it answers is what that place tells,
-        ensures answers { self.old.over ≡ false → (begin : Stage) (given put : List ℕ) → Stands (H.means self.old.handler) begin self.old given put →
-            (more : List ℕ) × (out.new.items ≡ out.old.items ++ more) × Arrives (H.means self.old.handler) begin self.new (given ++ piece.now) (put ++ more) result }
+        ensures answers { self.old.over ≡ false → (begin : Stage) (given put : List ℕ) →
+            Stands (H.means self.old.handler) begin self.old given put →
+            (more : List ℕ) × (out.new.items ≡ out.old.items ++ more)
+            × Arrives (H.means self.old.handler) begin self.new (given ++ piece.now) (put ++ more)
+            result }
         // but behind an end it looks at nothing.
-        ensures over { self.old.over ≡ true → (self.new ≡ self.old) × (out.new.items ≡ out.old.items) × (result ≡ Err PgWireError.InvalidSASLState) }
+        ensures over { self.old.over ≡ true → (self.new ≡ self.old)
+            × (out.new.items ≡ out.old.items) × (result ≡ Err PgWireError.InvalidSASLState) }
         // Where it waits, nothing whole stands at the front of what waits in it.
-        ensures more { self.new.over ≡ false → reading (stage_of self.new) self.new.inbox.items ≡ More }
+        ensures more { self.new.over ≡ false → reading (stage_of self.new) self.new.inbox.items
+            ≡ More }
         // Under a bound, until the client may ask, no more waits than the bound says, or 10000 bytes.
-        ensures little { (bound : ℕ) → self.new.bound ≡ Some bound → self.new.over ≡ false → self.new.client.state ≢ ReadyForQuery → length self.new.inbox.items ≤ max 10000 bound }
+        ensures little { (bound : ℕ) → self.new.bound ≡ Some bound → self.new.over ≡ false →
+            self.new.client.state ≢ ReadyForQuery → length self.new.inbox.items ≤ max 10000 bound }
     {
         if self.over {
             return Err(PgWireError::InvalidSASLState);
@@ -171,8 +186,11 @@ impl<H: StartupHandler> ServerCore<H> {
     ) -> PgWireResult<ServerPhase>
         requires { H.fits self.old.handler self.old.login }
         ensures fits { H.fits self.new.handler self.new.login }
-        ensures kept { (self.new.handler ≡ self.old.handler) × (self.new.over ≡ self.old.over) × (self.new.bound ≡ self.old.bound) }
-        ensures comes { Comes (H.means self.old.handler) (stage_of self.old) (self.old.inbox.items ++ piece.now) (stage_of self.new) self.new.inbox.items out.old.items out.new.items result }
+        ensures kept { (self.new.handler ≡ self.old.handler) × (self.new.over ≡ self.old.over)
+            × (self.new.bound ≡ self.old.bound) }
+        ensures comes { Comes (H.means self.old.handler) (stage_of self.old)
+            (self.old.inbox.items ++ piece.now) (stage_of self.new) self.new.inbox.items
+            out.old.items out.new.items result }
     {
         match self.inbox.extend_from_slice(piece) {
             Ok(()) => self.serve(alloc, out),
@@ -184,8 +202,10 @@ impl<H: StartupHandler> ServerCore<H> {
     fn serve(&mut self, alloc: Global, out: &mut BytesMut) -> PgWireResult<ServerPhase>
         requires { H.fits self.old.handler self.old.login }
         ensures fits { H.fits self.new.handler self.new.login }
-        ensures kept { (self.new.handler ≡ self.old.handler) × (self.new.over ≡ self.old.over) × (self.new.bound ≡ self.old.bound) }
-        ensures comes { Comes (H.means self.old.handler) (stage_of self.old) self.old.inbox.items (stage_of self.new) self.new.inbox.items out.old.items out.new.items result }
+        ensures kept { (self.new.handler ≡ self.old.handler) × (self.new.over ≡ self.old.over)
+            × (self.new.bound ≡ self.old.bound) }
+        ensures comes { Comes (H.means self.old.handler) (stage_of self.old) self.old.inbox.items
+            (stage_of self.new) self.new.inbox.items out.old.items out.new.items result }
     {
         let buffer = replace(out, BytesMut::new(alloc));
         let mut outbox = ByteOutbox { buffer };
@@ -199,8 +219,11 @@ impl<H: StartupHandler> ServerCore<H> {
     fn take_all(&mut self, alloc: Global, out: &mut ByteOutbox) -> PgWireResult<ServerPhase>
         requires { H.fits self.old.handler self.old.login }
         ensures fits { H.fits self.new.handler self.new.login }
-        ensures kept { (self.new.handler ≡ self.old.handler) × (self.new.over ≡ self.old.over) × (self.new.bound ≡ self.old.bound) }
-        ensures comes { Comes (H.means self.old.handler) (stage_of self.old) self.old.inbox.items (stage_of self.new) self.new.inbox.items out.old.buffer.items out.new.buffer.items result }
+        ensures kept { (self.new.handler ≡ self.old.handler) × (self.new.over ≡ self.old.over)
+            × (self.new.bound ≡ self.old.bound) }
+        ensures comes { Comes (H.means self.old.handler) (stage_of self.old) self.old.inbox.items
+            (stage_of self.new) self.new.inbox.items out.old.buffer.items out.new.buffer.items
+            result }
     {
         'messages: loop {
             match self.advance(alloc, out) {
@@ -215,8 +238,11 @@ impl<H: StartupHandler> ServerCore<H> {
     fn advance(&mut self, alloc: Global, out: &mut ByteOutbox) -> PgWireResult<Option<ServerPhase>>
         requires { H.fits self.old.handler self.old.login }
         ensures fits { H.fits self.new.handler self.new.login }
-        ensures kept { (self.new.handler ≡ self.old.handler) × (self.new.over ≡ self.old.over) × (self.new.bound ≡ self.old.bound) }
-        ensures advanced { Advanced (H.means self.old.handler) (stage_of self.old) self.old.inbox.items (stage_of self.new) self.new.inbox.items out.old.buffer.items out.new.buffer.items result }
+        ensures kept { (self.new.handler ≡ self.old.handler) × (self.new.over ≡ self.old.over)
+            × (self.new.bound ≡ self.old.bound) }
+        ensures advanced { Advanced (H.means self.old.handler) (stage_of self.old)
+            self.old.inbox.items (stage_of self.new) self.new.inbox.items out.old.buffer.items
+            out.new.buffer.items result }
     {
         let version = self.client.protocol_version;
         let bound = self.bound();
@@ -260,8 +286,10 @@ impl<H: StartupHandler> ServerCore<H> {
     ) -> PgWireResult<Option<CancelRequest>>
         requires { H.fits self.old.handler self.old.login }
         ensures fits { H.fits self.new.handler self.new.login }
-        ensures kept { (self.new.handler ≡ self.old.handler) × (self.new.over ≡ self.old.over) × (self.new.inbox ≡ self.old.inbox) × (self.new.bound ≡ self.old.bound) }
-        ensures stepped { DidStep (H.means self.old.handler) message (stage_of self.old) (stage_of self.new) out.old.buffer.items out.new.buffer.items result }
+        ensures kept { (self.new.handler ≡ self.old.handler) × (self.new.over ≡ self.old.over)
+            × (self.new.inbox ≡ self.old.inbox) × (self.new.bound ≡ self.old.bound) }
+        ensures stepped { DidStep (H.means self.old.handler) message (stage_of self.old)
+            (stage_of self.new) out.old.buffer.items out.new.buffer.items result }
     {
         match message {
             PgWireFrontendMessage::SslNegotiation(_) => match refuse_encryption(&mut out.buffer) {
@@ -285,8 +313,10 @@ impl<H: StartupHandler> ServerCore<H> {
     ) -> PgWireResult<()>
         requires { H.fits self.old.handler self.old.login }
         ensures fits { H.fits self.new.handler self.new.login }
-        ensures kept { (self.new.handler ≡ self.old.handler) × (self.new.over ≡ self.old.over) × (self.new.inbox ≡ self.old.inbox) × (self.new.bound ≡ self.old.bound) }
-        ensures heard { DidHear (H.means self.old.handler) message (stage_of self.old) (stage_of self.new) out.old.buffer.items out.new.buffer.items result }
+        ensures kept { (self.new.handler ≡ self.old.handler) × (self.new.over ≡ self.old.over)
+            × (self.new.inbox ≡ self.old.inbox) × (self.new.bound ≡ self.old.bound) }
+        ensures heard { DidHear (H.means self.old.handler) message (stage_of self.old)
+            (stage_of self.new) out.old.buffer.items out.new.buffer.items result }
     {
         let client = &mut self.client;
         let login = &mut self.login;
@@ -315,7 +345,8 @@ fn is_end(answer: &PgWireResult<ServerPhase>) -> bool
 // Answers a request for encryption.
 fn refuse_encryption(out: &mut BytesMut) -> PgWireResult<()>
     ensures ok { OnOk result (out.new.items ≡ out.old.items ++ 78 ∷ []) }
-    ensures err { IfErr result (λ e. (e ≡ PgWireError.OutOfMemory) × (out.new.items ≡ out.old.items)) }
+    ensures err { IfErr result (λ e. (e ≡ PgWireError.OutOfMemory)
+        × (out.new.items ≡ out.old.items)) }
 {
     match out.extend_from_slice(&[SslResponse::BYTE_REFUSE]) {
         Ok(()) => Ok(()),

@@ -35,8 +35,10 @@ fn header_of(bytes: &[u8]) -> &[u8]
 
 // What a header alone is refused for, if it is.
 fn header_refusal(alloc: Global, header: &[u8], version: ProtocolVersion) -> Option<PgWireError>
-    ensures none { IsNone result → (found : Option (TheMessage × List ℕ)) × (frontend_front (phase false false version) header.now ≡ Ok found) }
-    ensures some { IfSome result (λ e. Refuses e (frontend_front (phase false false version) header.now)) }
+    ensures none { IsNone result → (found : Option (TheMessage × List ℕ))
+        × (frontend_front (phase false false version) header.now ≡ Ok found) }
+    ensures some { IfSome result (λ e. Refuses e
+        (frontend_front (phase false false version) header.now)) }
 {
     let mut buffer = BytesMut::new(alloc);
     match buffer.extend_from_slice(header) {
@@ -47,8 +49,10 @@ fn header_refusal(alloc: Global, header: &[u8], version: ProtocolVersion) -> Opt
 
 // What stands at the front is refused for, if it is.
 fn refusal_of(alloc: Global, buffer: &mut BytesMut, version: ProtocolVersion) -> Option<PgWireError>
-    ensures none { IsNone result → (found : Option (TheMessage × List ℕ)) × (frontend_front (phase false false version) buffer.old.items ≡ Ok found) }
-    ensures some { IfSome result (λ e. Refuses e (frontend_front (phase false false version) buffer.old.items)) }
+    ensures none { IsNone result → (found : Option (TheMessage × List ℕ))
+        × (frontend_front (phase false false version) buffer.old.items ≡ Ok found) }
+    ensures some { IfSome result (λ e. Refuses e
+        (frontend_front (phase false false version) buffer.old.items)) }
 {
     match PgWireFrontendMessage::decode(alloc, buffer, &phase(false, false, version)) {
         Ok(found) => {
@@ -67,7 +71,8 @@ fn next_within(
     bound: u32,
     version: ProtocolVersion,
 ) -> PgWireResult<Option<PgWireFrontendMessage>>
-    ensures { Decodes result inbox.old.items inbox.new.items (typed_within (Some bound) version inbox.old.items) }
+    ensures { Decodes result inbox.old.items inbox.new.items
+        (typed_within (Some bound) version inbox.old.items) }
 {
     match frame_of(Framing::Typed(0), bound as usize, inbox.as_slice()) {
         Ok(_) => PgWireFrontendMessage::decode(alloc, inbox, &phase(false, false, version)),
@@ -87,7 +92,8 @@ pub fn next_message(
     bound: Option<u32>,
     version: ProtocolVersion,
 ) -> PgWireResult<Option<PgWireFrontendMessage>>
-    ensures { Decodes result inbox.old.items inbox.new.items (client_front started bound version inbox.old.items) }
+    ensures { Decodes result inbox.old.items inbox.new.items
+        (client_front started bound version inbox.old.items) }
 {
     if started {
         return match bound {

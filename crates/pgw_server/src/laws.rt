@@ -34,26 +34,32 @@ pub fn a_server_reads_steadily()
 /// changes nothing.
 pub fn pieces_join<H: StartupHandler>()
     // Bytes and a piece lead to a place just where the bytes lead to one from which the piece leads there.
-    ensures one { (handler : H) (begin : Stage) (given piece : List ℕ) (there : Course Stage Ending) →
+    ensures one { (handler : H) (begin : Stage) (given piece : List ℕ)
+        (there : Course Stage Ending) →
         Leads (serving (H.means handler)) begin (given ++ piece) there
         ↔ ((course : Course Stage Ending) × Leads (serving (H.means handler)) begin given course
         × Continues (serving (H.means handler)) course piece there) }
     // One piece after the other leads to the places to which they lead together, and to no other.
-    ensures all { (handler : H) (begin : Stage) (piece : List ℕ) (pieces : List (List ℕ)) (there : Course Stage Ending) →
+    ensures all { (handler : H) (begin : Stage) (piece : List ℕ) (pieces : List (List ℕ))
+        (there : Course Stage Ending) →
         LeadOn (H.means handler) (Waits begin [] []) (piece ∷ pieces) there
         ↔ Leads (serving (H.means handler)) begin (concat (piece ∷ pieces)) there }
 {}
 
 /// Once the client may ask, it may ask until a message is refused, where its handler keeps it so.
 pub fn a_finished_login_stays<H: StartupHandler>()
-    ensures { (handler : H) (begin : Stage) (bytes : List ℕ) (course : Course Stage Ending) → KeepsReady (H.means handler) → IsReady begin.client begin.login →
+    ensures { (handler : H) (begin : Stage) (bytes : List ℕ) (course : Course Stage Ending) →
+        KeepsReady (H.means handler) → IsReady begin.client begin.login →
         Leads (serving (H.means handler)) begin bytes course → StaysReady course }
 {}
 
 /// The handlers for a password, and the one for none, keep it so.
 pub fn handlers_keep_a_finished_login<A: AuthSource, P: ServerParameterProvider, M: Registers>()
-    ensures cleartext { (source : A) (provider : P) (registry : M) → KeepsReady (CleartextMeans (A.answers source) (P.provides provider) (M.registers registry)) }
-    ensures md5 { (source : A) (provider : P) (registry : M) → KeepsReady (Md5Means (A.answers source) (P.provides provider) (M.registers registry)) }
+    ensures cleartext { (source : A) (provider : P) (registry : M) →
+        KeepsReady (CleartextMeans (A.answers source) (P.provides provider)
+        (M.registers registry)) }
+    ensures md5 { (source : A) (provider : P) (registry : M) →
+        KeepsReady (Md5Means (A.answers source) (P.provides provider) (M.registers registry)) }
     ensures noop { (registry : M) → KeepsReady (NoopMeans (λ m. Passes) (M.registers registry)) }
 {}
 
@@ -80,12 +86,16 @@ pub fn handlers_let_in_behind_a_password<A: AuthSource, P: ServerParameterProvid
 /// its header, before any byte of its body has come; and little waits.
 pub fn a_bound_holds_until_the_login()
     // It is refused with the bound and the length that it says,
-    ensures long { (stage : Stage) (bound : ℕ) (bytes : List ℕ) (found : Option (Message × List ℕ)) →
-        IsBounded stage bound → stage.started ≡ true → 5 ≤ length bytes → bound < stated_length 1 bytes →
-        header_front stage bytes ≡ Ok found → reading stage bytes ≡ Bad (MessageTooLarge bound (stated_length 1 bytes)) }
+    ensures long { (stage : Stage) (bound : ℕ) (bytes : List ℕ)
+        (found : Option (Message × List ℕ)) →
+        IsBounded stage bound → stage.started ≡ true → 5 ≤ length bytes → bound
+        < stated_length 1 bytes →
+        header_front stage bytes ≡ Ok found → reading stage bytes
+        ≡ Bad (MessageTooLarge bound (stated_length 1 bytes)) }
     // unless its header alone is refused for something else.
     ensures header { (stage : Stage) (bound : ℕ) (bytes : List ℕ) (why : PgWireError) →
-        IsBounded stage bound → stage.started ≡ true → header_front stage bytes ≡ Err why → reading stage bytes ≡ Bad why }
+        IsBounded stage bound → stage.started ≡ true → header_front stage bytes ≡ Err why →
+        reading stage bytes ≡ Bad why }
     // What waits has no more bytes than the bound says, or 10000.
     ensures little { (stage : Stage) (bound : ℕ) (bytes : List ℕ) →
         IsBounded stage bound → reading stage bytes ≡ More → length bytes ≤ max 10000 bound }
@@ -94,7 +104,9 @@ pub fn a_bound_holds_until_the_login()
 /// Where a handler registers nothing, a login that is registered nowhere stays so, also at an end, and its pass is the one
 /// that it was made with: behind `finish` there is no handle and no guard, and the pass can be let go or used again.
 pub fn a_login_without_a_registry_keeps_its_pass<A: AuthSource, P: ServerParameterProvider>()
-    ensures cleartext { (source : A) (provider : P) → StaysUnregistered (CleartextMeans (A.answers source) (P.provides provider) Nowhere) }
-    ensures md5 { (source : A) (provider : P) → StaysUnregistered (Md5Means (A.answers source) (P.provides provider) Nowhere) }
+    ensures cleartext { (source : A) (provider : P) →
+        StaysUnregistered (CleartextMeans (A.answers source) (P.provides provider) Nowhere) }
+    ensures md5 { (source : A) (provider : P) →
+        StaysUnregistered (Md5Means (A.answers source) (P.provides provider) Nowhere) }
     ensures noop { StaysUnregistered (NoopMeans (λ m. Passes) Nowhere) }
 {}

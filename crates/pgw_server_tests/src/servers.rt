@@ -3,10 +3,15 @@
 use crate::support::{NoParameters, OnePassword, Said, hear};
 use pgw_login::cleartext::CleartextPasswordAuthStartupHandler;
 use pgw_login::md5::Md5PasswordAuthStartupHandler;
+use pgw_login::source::{LoginInfo, SecretSource};
 use pgw_registry::generator::RandomPidSecretKeyGenerator;
 use pgw_sasl::handler::SASLAuthStartupHandler;
 use pgw_sasl::scram::ScramAuth;
+use pgw_sasl::stored::Secrets;
+use pgw_secrets::secret::StoredSecret;
+use pgw_types::error::PgWireResult;
 use pgw_types::memory::OutOfMemory;
+use pgw_types::octets::Octets;
 use std::alloc::Global;
 use std::process::Abort;
 
@@ -18,6 +23,8 @@ pub enum Asks {
     CleartextWithin(u32),
     Md5,
     Scram,
+    // the same over a stored secret
+    Stored,
 }
 
 /// What a server for SCRAM keeps.
@@ -70,6 +77,38 @@ fn scram<R: Abort>(rt: &R, alloc: Global, bytes: &[u8], cut: usize) -> Result<Sa
     hear(rt, alloc, handler, seat, None, bytes, cut)
 }
 
+// Keeps the secret of `pencil`, for whoever asks: StoredKey and ServerKey as Python's hashlib and hmac tell them, of the
+// same salt and count.
+#[derive(Drop)]
+struct PencilSecret;
+
+const STORED_KEY: [u8; 32] =
+    *b"\xd2\xcdU47f;k\xc2\x1e\xa0\0I9ky\x1ed0\xa4\xa3\x9czNx\x92zZ\xbb'\nD";
+
+const SERVER_KEY: [u8; 32] =
+    *b"Q\x0ePv\xbdqJ(}\xca5<\xe5\x99\xe8:\xd2;l\x7fb\xb7\xba\xf2\xb0\xdd\xabHs7\xb4o";
+
+impl SecretSource for PencilSecret {
+    ghost secrets = { λ s login answer. Unit {0} };
+
+    fn get_secret(&self, alloc: Global, _login: &LoginInfo<'_>) -> PgWireResult<StoredSecret> {
+        Ok(StoredSecret {
+            count: 12,
+            salt: Octets::from_slice(alloc, b"bar")?,
+            stored_key: STORED_KEY,
+            server_key: SERVER_KEY,
+        })
+    }
+}
+
+// A server that asks for the same by SCRAM-SHA-256, and keeps a secret in place of a password.
+fn stored<R: Abort>(rt: &R, alloc: Global, bytes: &[u8], cut: usize) -> Result<Said, OutOfMemory> {
+    let (generator, seat) = RandomPidSecretKeyGenerator::new(alloc)?;
+    let scram = ScramAuth::new(Secrets::new(PencilSecret));
+    let handler = SASLAuthStartupHandler::new(NoParameters, generator).with_scram(scram);
+    hear(rt, alloc, handler, seat, None, bytes, cut)
+}
+
 /// What a server says to a client's bytes, so many at a time.
 pub fn server_says<R: Abort>(
     rt: &R,
@@ -83,6 +122,7 @@ pub fn server_says<R: Abort>(
         Asks::CleartextWithin(bound) => cleartext(rt, alloc, Some(bound), bytes, cut),
         Asks::Md5 => md5(rt, alloc, bytes, cut),
         Asks::Scram => scram(rt, alloc, bytes, cut),
+        Asks::Stored => stored(rt, alloc, bytes, cut),
     }
 }
 

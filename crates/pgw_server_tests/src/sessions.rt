@@ -124,6 +124,11 @@ const SESSIONS: &[(Asks, &str, &[u8])] = &[
         "user=bob password=pencil",
         b"\0\0\0\x12\0\x03\0\0user\0bob\0\0p\0\0\0\x39SCRAM-SHA-256\0\0\0\0\x23n,,n=bob,r=AAAAAAAAAAAAAAAAAAAAAAAAp\0\0\0\x6cc=biws,r=AAAAAAAAAAAAAAAAAAAAAAAABwcHBwcHBwcHBwcHBwcHBwcH,p=n1VgT25XHwVm6sZ2+FOk/xU9ha8fQMg8oIejHRXoAqY=",
     ),
+    (
+        Asks::Stored,
+        "user=bob password=pencil",
+        b"\0\0\0\x12\0\x03\0\0user\0bob\0\0p\0\0\0\x39SCRAM-SHA-256\0\0\0\0\x23n,,n=bob,r=AAAAAAAAAAAAAAAAAAAAAAAAp\0\0\0\x6cc=biws,r=AAAAAAAAAAAAAAAAAAAAAAAABwcHBwcHBwcHBwcHBwcHBwcH,p=n1VgT25XHwVm6sZ2+FOk/xU9ha8fQMg8oIejHRXoAqY=",
+    ),
 ];
 
 #[test]

@@ -139,7 +139,8 @@ fn core_of<H: StartupHandler>(
     seat: PidSeat,
     bound: Option<u32>,
 ) -> ServerCore<H>
-    requires { (state : TheState) → state.seat ≡ seat → state.pass ≡ None → state.registered ≡ None → H.fits handler state }
+    requires { (state : TheState) → state.seat ≡ seat → state.pass ≡ None → state.registered
+        ≡ None → H.fits handler state }
     ensures { H.fits result.handler result.login }
 {
     let client = DefaultClient::new(alloc, Text::new(alloc), false, ());
@@ -160,7 +161,8 @@ pub fn hear<H: StartupHandler + Drop, R: Abort>(
     bytes: &[u8],
     cut: usize,
 ) -> Result<Said, OutOfMemory>
-    requires { (state : TheState) → state.seat ≡ seat → state.pass ≡ None → state.registered ≡ None → H.fits handler state }
+    requires { (state : TheState) → state.seat ≡ seat → state.pass ≡ None → state.registered
+        ≡ None → H.fits handler state }
 {
     let mut core = core_of(alloc, handler, seat, bound);
     let mut out = BytesMut::new(alloc);

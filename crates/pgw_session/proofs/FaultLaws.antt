@@ -1,7 +1,6 @@
 -- With which refusals a session may end.
 use Rattle.std.proofs.Common.{ℕ, List, [], ◌∷◌, Option, Some, None, Result, Ok, Err, Bool, true, false, cond, refl, subst}
-use Rattle.std.specs.Prelude.{nat_lt, get_or, is_some, codes}
-use Rattle.std.specs.List.{list_any}
+use Rattle.std.specs.Prelude.{nat_lt, get_or, is_some, option_map, codes}
 use Rattle.std.specs.Str.{bytes_eq, is_utf8}
 use Rattle.pgw_types.specs.declared.error.PgWireError.{PgWireError}
 use Rattle.pgw_types.specs.declared.error.PgWireError.TheVariants.{MessageTooLarge}
@@ -27,7 +26,10 @@ use Rattle.pgw_scram.specs.declared.messages.ServerFinal.{ServerFinal}
 use Rattle.pgw_scram.specs.declared.messages.ServerFinal.TheVariants.{Signature, Failed}
 use Rattle.pgw_hash.specs.Saslprep.{prepared}
 use Rattle.pgw_scram.specs.Base64.{nonce_text, salt_of}
-use Rattle.pgw_backend.specs.declared.client_error.ScramFault.TheVariants as scram_fault
+use Rattle.pgw_types.specs.declared.scram_error.ScramClientError.{ScramClientError}
+use Rattle.pgw_types.specs.declared.scram_error.ScramClientError.TheVariants as scram
+use Rattle.pgw_types.specs.declared.scram_error.ScramFault.TheVariants as scram_fault
+use Rattle.pgw_backend.specs.ClientError.{of_scram}
 use Rattle.pgw_scram.specs.Readers.{read_server_first, read_server_final}
 use Rattle.pgw_session.specs.declared.types.Request.{Request as TheRequest}
 use Rattle.pgw_session.specs.declared.types.Request.TheVariants as request
@@ -147,31 +149,40 @@ abbrev StartupIf : Option ClientError → Type 0
 StartupIf None = Unit {0}
 StartupIf (Some e) = IsStartupError e
 
-unless_startup : (b : Bool) (e : ClientError) → IsStartupError e → StartupIf (unless_so b e)
-unless_startup true e is = tt
-unless_startup false e is = is
-
 first_startup : (b : Bool) (e : ClientError) (rest : Option ClientError) → IsStartupError e → StartupIf rest → StartupIf (first_of (unless_so b e) rest)
 first_startup true e rest is more = more
 first_startup false e rest is more = is
 
+-- the same of what a client of SCRAM refuses
+abbrev ScramIf : Option ScramClientError → Type 0
+ScramIf refusal = StartupIf (option_map of_scram refusal)
+
+unless_scram : (b : Bool) (e : ScramClientError) → IsStartupError (of_scram e) → ScramIf (unless_so b e)
+unless_scram true e is = tt
+unless_scram false e is = is
+
+first_scram : (b : Bool) (e : ScramClientError) (rest : Option ScramClientError) → IsStartupError (of_scram e) → ScramIf rest → ScramIf (first_of (unless_so b e) rest)
+first_scram true e rest is more = more
+first_scram false e rest is more = is
+
 methods_startup : (input : Input) (methods : List (List ℕ)) → StartupIf (methods_refusal input methods)
 methods_startup input methods =
-    let form = unless_so (is_some (prepared (user_of input))) (client.InvalidConfig (codes "user")) in
+    let has_form = is_some (prepared (user_of input)) in
+    let form = option_map of_scram (unless_so has_form (scram.InvalidConfig (codes "user"))) in
     first_startup (takes_method input methods) (client.UnsupportedSASLAuthMethods methods)
     (first_of (unless_so (is_utf8 (password_of input)) (client.ScramError scram_fault.PasswordNotUtf8)) form) tt
-    (first_startup (is_utf8 (password_of input)) (client.ScramError scram_fault.PasswordNotUtf8) form tt (unless_startup (is_some (prepared (user_of input))) (client.InvalidConfig (codes "user")) refl))
+    (first_startup (is_utf8 (password_of input)) (client.ScramError scram_fault.PasswordNotUtf8) form tt (unless_scram has_form (scram.InvalidConfig (codes "user")) refl))
 
-parts_startup : (nonce : List ℕ) (r : Result ServerFirst ScramMessageFault) → StartupIf (parts_refusal nonce r)
+parts_startup : (nonce : List ℕ) (r : Result ServerFirst ScramMessageFault) → ScramIf (parts_refusal nonce r)
 parts_startup nonce (Err why) = tt
 parts_startup nonce (Ok parts) =
-    first_startup (begins_with parts.nonce nonce) (client.ScramError scram_fault.NonceMismatch) (unless_so (is_some (salt_of parts.salt)) (client.ScramError scram_fault.SaltNotBase64)) tt
-    (unless_startup (is_some (salt_of parts.salt)) (client.ScramError scram_fault.SaltNotBase64) tt)
+    first_scram (begins_with parts.nonce nonce) (scram.ScramError scram_fault.NonceMismatch) (unless_so (is_some (salt_of parts.salt)) (scram.ScramError scram_fault.SaltNotBase64)) tt
+    (unless_scram (is_some (salt_of parts.salt)) (scram.ScramError scram_fault.SaltNotBase64) tt)
 
-proof_startup : (expected : List ℕ) (r : Result ServerFinal ScramMessageFault) → StartupIf (verifier_refusal expected r)
+proof_startup : (expected : List ℕ) (r : Result ServerFinal ScramMessageFault) → ScramIf (verifier_refusal expected r)
 proof_startup expected (Err why) = tt
 proof_startup expected (Ok (Failed text)) = tt
-proof_startup expected (Ok (Signature text)) = unless_startup (bytes_eq text expected) (client.ScramError scram_fault.SignatureMismatch) tt
+proof_startup expected (Ok (Signature text)) = unless_scram (bytes_eq text expected) (scram.ScramError scram_fault.SignatureMismatch) tt
 
 refusal_startup : (input : Input) (p : Place) (m : Backend) → StartupIf (refusal_at input p m)
 refusal_startup input p (backend.ErrorResponse e) = tt

@@ -1,5 +1,6 @@
 -- The table and the grammar of segments are one.
-use Rattle.std.proofs.Common.{◌≡◌, ℕ, Bool, true, false, not, List, [], ◌∷◌, ◌++◌, map, fold, Option, Some, None, refl, sym, ap, ◌∙◌, subst}
+use Rattle.std.proofs.Common.{◌≡◌, ◌⊎◌, ℕ, Bool, true, false, not, List, [], ◌∷◌, ◌++◌, map, fold, Option, Some, None, inl, inr, refl, sym, ap, ◌∙◌, subst}
+use Rattle.std.proofs.lemmas.List.{map-append}
 use Rattle.std.proofs.lemmas.List.Sums.{fold-append}
 use Rattle.pgw_startup.specs.declared.authentication.Authentication.TheVariants as authentication
 use Rattle.pgw_backend.specs.declared.backend.PgWireBackendMessage.{PgWireBackendMessage as Backend}
@@ -22,12 +23,13 @@ use Rattle.pgw_scram.specs.Base64.{nonce_text}
 use Rattle.pgw_scram.specs.declared.exchange.ClientLogin.{ClientLogin}
 use Rattle.pgw_session.specs.Input.{Input}
 use Rattle.pgw_session.specs.Events.{Event, Sent, Got}
-use Rattle.pgw_session.specs.Logins.{Login, Unasked, Cleartext, Md5, Scram, login_events, IsAccepted, cleartext_message, md5_message, scram_login, first_message, final_message, methods_refusal, first_refusal, expected_of, final_refusal}
+use Rattle.pgw_session.specs.Transcript.{IsEarly}
+use Rattle.pgw_session.specs.Logins.{Login, Unasked, Cleartext, Md5, Scram, login_events, must_bind, IsAccepted, cleartext_message, md5_message, scram_login, first_message, final_message, methods_refusal, first_refusal, expected_of, final_refusal}
 use Rattle.pgw_session.specs.declared.stage.Role.{Role}
 use Rattle.pgw_session.specs.declared.stage.Role.TheVariants.{Taken, Closing, Completing, Failing, Misplaced}
 use Rattle.pgw_session.specs.Requests.{sends_of, passes_over, role}
-use Rattle.pgw_session.specs.Segments.{IsStartupSegment, AreAll, IsUpToReady, is_ready, is_other, is_news, IsPassedOver, IsGreeting, AreTaken, IsEnd, IsAnswer, IsSimple, sends}
-use Rattle.pgw_session.specs.Table.{after, news_or, by_login, by_welcome, by_first, by_final, by_role, by_ready, unless, misplaced, stage_for}
+use Rattle.pgw_session.specs.Segments.{IsStartupSegment, AreAll, IsUpToReady, is_ready, is_other, is_news, is_early, IsBegun, startup_message, IsPassedOver, IsGreeting, AreTaken, IsEnd, IsAnswer, IsSimple, sends}
+use Rattle.pgw_session.specs.Table.{after, news_or, by_login, unless_bound, by_welcome, by_first, by_final, by_role, by_ready, unless, misplaced, stage_for}
 use Rattle.pgw_session.specs.Failures.{Place, Before, AtFirst, AtFinal, Behind, place_at, place_of, refusal_at}
 use Rattle.pgw_session.proofs.LoginTexts.{some_first, some_final}
 
@@ -86,32 +88,49 @@ welcome_by : (input : Input) (m : Backend) (es : List Event) (b : Bool) → IsUp
 welcome_by input m es true r = (es, refl, r)
 welcome_by input m es false r = subst (λ x. RestBy input (by_welcome x) es) (sym r.1) r.2
 
+-- where no login must be bound, all news are early
+early_open : (m : Backend) → is_early false m ≡ is_news m
+early_open (backend.Authentication authentication.Ok) = refl
+early_open (backend.Authentication a) = refl
+early_open m = refl
+
+-- what is early is news
+pub early_news : (b : Bool) (m : Backend) → is_early b m ≡ true → is_news m ≡ true
+early_news b (backend.Authentication authentication.Ok) is = refl
+early_news b (backend.Authentication a) is = is
+early_news b m is = is
+
 -- as long as nothing was asked, news are still news
-unasked_by : (input : Input) (m : Backend) (es : List Event) (b : Bool) → IsUpFrom is_news m es b → RestBy input (news_or b Starting (by_login input m)) es
-unasked_by input m es true r = (es, refl, record { news = []; login = Unasked; rest = es; are = refl; all = tt; accepted = tt; ends = r })
-unasked_by input m es false r = subst (λ x. RestBy input (by_login input x) es) (sym r.1) r.2
+unasked_by : (input : Input) (m : Backend) (es : List Event) (b : Bool) → must_bind input ≡ false → IsUpFrom is_news m es b → RestBy input (news_or b Starting (by_login input m)) es
+unasked_by input m es true free r = (es, refl, record { news = []; login = Unasked; rest = es; are = refl; all = tt; accepted = free; ends = r })
+unasked_by input m es false free r = subst (λ x. RestBy input (by_login input x) es) (sym r.1) (subst (λ b. RestBy input (unless_bound b Closes) es) (sym free) r.2)
 
 unless_by : (input : Input) (o : Option ClientError) (n : Next) (es : List Event) → o ≡ None → RestBy input n es → RestBy input (unless o n) es
 unless_by input o n es none r = subst (λ x. RestBy input (unless x n) es) (sym none) r
 
+unless_free : (input : Input) (n : Next) (es : List Event) → must_bind input ≡ false → RestBy input n es → RestBy input (unless_bound (must_bind input) n) es
+unless_free input n es free r = subst (λ b. RestBy input (unless_bound b n) es) (sym free) r
+
 greeting_by : (input : Input) (m : Backend) (es : List Event) → IsGreeting input (Got m ∷ es) → RestBy input (after input Starting m) es
 greeting_by input m es g = go g.news g.login g.are g.all g.accepted
   where
-    go : (news : List Backend) (login : Login) → Got m ∷ es ≡ map Got news ++ (login_events input login ++ g.rest) → AreAll is_news news → IsAccepted input login → RestBy input (after input Starting m) es
+    go : (news : List Backend) (login : Login) → Got m ∷ es ≡ map Got news ++ (login_events input login ++ g.rest) → AreAll (is_early (must_bind input)) news → IsAccepted input login → RestBy input (after input Starting m) es
     go (x ∷ news) login are all accepted =
         let same : x ≡ m = cc in
         let rest : es ≡ map Got news ++ (login_events input login ++ g.rest) = cc in
-        subst (λ b. RestBy input (news_or b Starting (by_login input m)) es) (sym all.0 ∙ ap is_news same)
+        subst (λ b. RestBy input (news_or b Starting (by_login input m)) es) (sym all.0 ∙ ap (is_early (must_bind input)) same)
         (es, refl, record { news = news; login = login; rest = g.rest; are = rest; all = all.1; accepted = accepted; ends = g.ends })
-    go [] Unasked are all accepted = unasked_by input m es (is_news m) (up_from is_news m es (λ r. refl) (subst (IsUpToReady is_news) (sym are) g.ends))
+    go [] Unasked are all accepted =
+        subst (λ b. RestBy input (news_or b Starting (by_login input m)) es) (sym (ap (λ b. is_early b m) accepted ∙ early_open m))
+        (unasked_by input m es (is_news m) accepted (up_from is_news m es (λ r. refl) (subst (IsUpToReady is_news) (sym are) g.ends)))
     go [] Cleartext are all accepted =
         let same : m ≡ backend.Authentication authentication.CleartextPassword = cc in
         let rest : es ≡ Sent _ ∷ g.rest = cc in
-        subst (λ x. RestBy input (after input Starting x) es) (sym same) (g.rest, rest, g.ends)
+        subst (λ x. RestBy input (after input Starting x) es) (sym same) (unless_free input (Goes Admitted (Some (cleartext_message input))) es accepted (g.rest, rest, g.ends))
     go [] (Md5 salt) are all accepted =
         let same : m ≡ backend.Authentication (authentication.MD5Password salt) = cc in
         let rest : es ≡ Sent _ ∷ g.rest = cc in
-        subst (λ x. RestBy input (after input Starting x) es) (sym same) (g.rest, rest, g.ends)
+        subst (λ x. RestBy input (after input Starting x) es) (sym same) (unless_free input (Goes Admitted (Some (md5_message input salt))) es accepted (g.rest, rest, g.ends))
     go [] (Scram methods first final) are all accepted =
         let same : m ≡ backend.Authentication (authentication.SASL methods) = cc in
         let rest : es ≡ Sent _ ∷ Got (backend.Authentication (authentication.SASLContinue first)) ∷ Sent (final_message (scram_login input methods) first) ∷ Got (backend.Authentication (authentication.SASLFinal final)) ∷ g.rest = cc in
@@ -171,15 +190,21 @@ by_welcomed : (input : Input) (m : Backend) (es : List Event) → RestBy input (
 by_welcomed input (backend.ReadyForQuery ready) es r = up_last is_news ready es r
 by_welcomed input m es r = absurd r
 
-news_by : (input : Input) (s : Stage) (m : Backend) (es : List Event) (b : Bool) (n : Next) → is_news m ≡ b → (is_news m ≡ true → Rest input s es → Rest input s (Got m ∷ es)) → (RestBy input n es → Rest input s (Got m ∷ es)) → RestBy input (news_or b s n) es → Rest input s (Got m ∷ es)
-news_by input s m es true n is f g r = f is (subst (Rest input s) (sym r.1) r.2)
-news_by input s m es false n is f g r = g r
+news_by : (input : Input) (s : Stage) (m : Backend) (es : List Event) (now b : Bool) (n : Next) → now ≡ b → (now ≡ true → Rest input s es → Rest input s (Got m ∷ es)) → (RestBy input n es → Rest input s (Got m ∷ es)) → RestBy input (news_or b s n) es → Rest input s (Got m ∷ es)
+news_by input s m es now true n is f g r = f is (subst (Rest input s) (sym r.1) r.2)
+news_by input s m es now false n is f g r = g r
+
+if_free : (input : Input) (b : Bool) (n : Next) (es : List Event) → RestBy input (unless_bound b n) es → (b ≡ false) × RestBy input n es
+if_free input true n es r = absurd r
+if_free input false n es r = (refl, r)
 
 asked_by : (input : Input) (m : Backend) (es : List Event) → RestBy input (by_login input m) es → IsGreeting input (Got m ∷ es)
 asked_by input (backend.Authentication authentication.CleartextPassword) es r =
-    record { news = []; login = Cleartext; rest = r.0; are = ap (λ (l : List Event). Got (backend.Authentication authentication.CleartextPassword) ∷ l) r.1; all = tt; accepted = tt; ends = r.2 }
+    let f = if_free input (must_bind input) (Goes Admitted (Some (cleartext_message input))) es r in
+    record { news = []; login = Cleartext; rest = f.1.0; are = ap (λ (l : List Event). Got (backend.Authentication authentication.CleartextPassword) ∷ l) f.1.1; all = tt; accepted = f.0; ends = f.1.2 }
 asked_by input (backend.Authentication (authentication.MD5Password salt)) es r =
-    record { news = []; login = Md5 salt; rest = r.0; are = ap (λ (l : List Event). Got (backend.Authentication (authentication.MD5Password salt)) ∷ l) r.1; all = tt; accepted = tt; ends = r.2 }
+    let f = if_free input (must_bind input) (Goes Admitted (Some (md5_message input salt))) es r in
+    record { news = []; login = Md5 salt; rest = f.1.0; are = ap (λ (l : List Event). Got (backend.Authentication (authentication.MD5Password salt)) ∷ l) f.1.1; all = tt; accepted = f.0; ends = f.1.2 }
 asked_by input (backend.Authentication (authentication.SASL methods)) es r =
     by_unless input Starting (backend.Authentication (authentication.SASL methods)) es (methods_refusal input methods) _ goes r
   where
@@ -196,7 +221,9 @@ asked_by input (backend.Authentication (authentication.SASL methods)) es r =
           accepted = (accepted, f.3, g.3);
           ends = g.4;
         }
-asked_by input (backend.ReadyForQuery ready) es r = record { news = []; login = Unasked; rest = Got (backend.ReadyForQuery ready) ∷ es; are = refl; all = tt; accepted = tt; ends = up_last is_news ready es r }
+asked_by input (backend.ReadyForQuery ready) es r =
+    let f = if_free input (must_bind input) Closes es r in
+    record { news = []; login = Unasked; rest = Got (backend.ReadyForQuery ready) ∷ es; are = refl; all = tt; accepted = f.0; ends = up_last is_news ready es f.1 }
 asked_by input (backend.Authentication authentication.Ok) es r = absurd r
 asked_by input m es r = absurd r
 
@@ -226,7 +253,7 @@ by_passing input m es r = up_more is_other m es refl (subst IsPassedOver (sym r.
 
 pub by_rest : (input : Input) (s : Stage) (m : Backend) (es : List Event) → RestBy input (after input s m) es → Rest input s (Got m ∷ es)
 by_rest input Starting m es r =
-    news_by input Starting m es (is_news m) (by_login input m) refl
+    news_by input Starting m es (is_early (must_bind input) m) (is_early (must_bind input) m) (by_login input m) refl
     (λ is g. record { news = m ∷ g.news; login = g.login; rest = g.rest; are = ap (λ (l : List Event). Got m ∷ l) g.are; all = (is, g.all); accepted = g.accepted; ends = g.ends }) (asked_by input m es) r
 by_rest input (Challenged login) m es r = firsts m r
   where
@@ -244,16 +271,16 @@ by_rest input (Proving expected) m es r = finals m r
         (λ accepted r. (final, r.0, ap (λ (l : List Event). Got (backend.Authentication (authentication.SASLFinal final)) ∷ l) r.1, accepted, r.2)) r
     finals (backend.Authentication authentication.Ok) r = absurd r
     finals m r = absurd r
-by_rest input Admitted m es r = news_by input Admitted m es (is_news m) (by_welcome m) refl (λ is u. up_more is_news m es is u) (by_welcomed input m es) r
+by_rest input Admitted m es r = news_by input Admitted m es (is_news m) (is_news m) (by_welcome m) refl (λ is u. up_more is_news m es is u) (by_welcomed input m es) r
 by_rest input (Answering k rows) m es r = by_answer input k rows m es (role k rows m) refl r
 by_rest input PassingOver m es r = by_passing input m es r
 
 -- ---- each stage can end
 
-idle : ReadyForQuery
+pub idle : ReadyForQuery
 idle = record { status = status.Idle }
 
-up_now : (p : Backend → Bool) → IsUpToReady p (Got (backend.ReadyForQuery idle) ∷ [])
+pub up_now : (p : Backend → Bool) → IsUpToReady p (Got (backend.ReadyForQuery idle) ∷ [])
 up_now p = up_last p idle [] refl
 
 some_final_rest : (login : ClientLogin) (first : List ℕ) → (m : Backend) × (es : List Event) × IsFinal (expected_of login first) (Got m ∷ es)
@@ -270,14 +297,16 @@ closing kind.DescribePortal rows = (backend.ReadyForQuery idle, refl)
 closing kind.Close rows = (backend.ReadyForQuery idle, refl)
 closing kind.Query rows = (backend.ReadyForQuery idle, refl)
 
--- the nonce is the session's, and the signature that is expected is that behind some server-first
+-- the nonce is the session's, and the signature that is expected is that behind some server-first; before a login block
+-- there need be nothing that ends it
 abbrev pub Expects : Input → Stage → Type 0
+Expects input Starting = ⊥
 Expects input (Challenged login) = login.nonce ≡ nonce_text input.nonce
 Expects input (Proving expected) = (login : ClientLogin) × (first : List ℕ) × (expected ≡ expected_of login first)
 Expects input s = Unit {0}
 
 pub some_got : (input : Input) (s : Stage) → Expects input s → (m : Backend) × (es : List Event) × Rest input s (Got m ∷ es)
-some_got input Starting e = (backend.ReadyForQuery idle, [], record { news = []; login = Unasked; rest = Got (backend.ReadyForQuery idle) ∷ []; are = refl; all = tt; accepted = tt; ends = up_now is_news })
+some_got input Starting e = absurd e
 some_got input (Challenged login) e = let f = some_first input login e in let g = some_final_rest login f.0 in (_, _, (f.0, Got g.0 ∷ g.1, refl, f.1, g.2))
 some_got input (Proving expected) e = let g = some_final_rest e.0 e.1 in (g.0, g.1, subst (λ (x : List ℕ). IsFinal x (Got g.0 ∷ g.1)) (sym e.2) g.2)
 some_got input Admitted e = (_, _, up_now is_news)
@@ -359,17 +388,24 @@ Logs closed es p = (closed ≡ []) × (place_of es ≡ p) × (IsSimple es → �
 
 -- what is known of the closed segments and the open one's events at a stage
 abbrev pub StandsAt : Input → List (List Event) → List Event → Stage → Type 0
-StandsAt input closed es Starting = Logs closed es Before
+StandsAt input closed es Starting = Logs closed es Before × IsBegun input es
 StandsAt input closed es (Challenged login) = (methods : List (List ℕ)) × (login ≡ scram_login input methods) × Logs closed es (AtFirst methods)
 StandsAt input closed es (Proving expected) = (methods : List (List ℕ)) × (first : List ℕ) × (expected ≡ expected_of (scram_login input methods) first) × Logs closed es (AtFinal methods first)
 StandsAt input closed es Admitted = Logs closed es Behind
 StandsAt input closed es (Answering k rows) = (closed ≡ [] → ⊥) × (IsSimple es → passes_over k ≡ true) × (passes_over k ≡ true → IsSimple es)
 StandsAt input closed es PassingOver = closed ≡ [] → ⊥
 
-pub stands_expects : (input : Input) (closed : List (List Event)) (es : List Event) (s : Stage) → StandsAt input closed es s → Expects input s
-stands_expects input closed es (Challenged login) stands = ap (λ (l : ClientLogin). l.nonce) stands.1
-stands_expects input closed es (Proving expected) stands = (scram_login input stands.0, stands.1, stands.2)
-stands_expects input closed es s stands = tt
+-- it has begun, or can end
+abbrev pub Comes : Input → List (List Event) → List Event → Stage → Type 0
+Comes input closed es s = ((closed ≡ []) × IsBegun input es) ⊎ Expects input s
+
+pub stands_comes : (input : Input) (closed : List (List Event)) (es : List Event) (s : Stage) → StandsAt input closed es s → Comes input closed es s
+stands_comes input closed es Starting stands = inl (stands.0.0, stands.1)
+stands_comes input closed es (Challenged login) stands = inr (ap (λ (l : ClientLogin). l.nonce) stands.1)
+stands_comes input closed es (Proving expected) stands = inr (scram_login input stands.0, stands.1, stands.2)
+stands_comes input closed es Admitted stands = inr tt
+stands_comes input closed es (Answering k rows) stands = inr tt
+stands_comes input closed es PassingOver stands = inr tt
 
 -- and behind a message
 abbrev pub StandsBy : Input → List (List Event) → List Event → Backend → Next → Type 0
@@ -392,6 +428,37 @@ logs_unless : (input : Input) (closed : List (List Event)) (es : List Event) (p 
 logs_unless input closed es p m None n l is s = s
 logs_unless input closed es p m (Some e) n l is s = logs_refused input closed es p m e l is
 
+logs_unbound : (input : Input) (closed : List (List Event)) (es : List Event) (m : Backend) (b : Bool) (n : Next) → Logs closed es Before → refusal_at input Before m ≡ None → StandsBy input closed es m n → StandsBy input closed es m (unless_bound b n)
+logs_unbound input closed es m true n l is s = logs_wrong input closed es Before m l is
+logs_unbound input closed es m false n l is s = s
+
+-- a message more
+begun_on : (input : Input) (es : List Event) (m : Backend) → IsBegun input es → is_early (must_bind input) m ≡ true → IsBegun input (es ++ Got m ∷ [])
+begun_on input es m b is = (b.0 ++ m ∷ [], ap (λ (l : List Event). l ++ Got m ∷ []) b.1 ∙ ap (λ (l : List Event). Sent (startup_message input) ∷ l) (sym (map-append Got b.0 (m ∷ []))), all_more b.0 b.2)
+  where
+    all_more : (ms : List Backend) → AreAll (is_early (must_bind input)) ms → AreAll (is_early (must_bind input)) (ms ++ m ∷ [])
+    all_more [] all = (is, tt)
+    all_more (x ∷ ms) all = (all.0, all_more ms all.1)
+
+-- a front of what is early is early
+pub early_front : (input : Input) (xs ys : List Event) → IsBegun input (xs ++ ys) → IsEarly input xs
+early_front input [] ys b = inl refl
+early_front input (x ∷ xs) ys b =
+    let are = b.1 in
+    let same : x ≡ Sent (startup_message input) = cc in
+    let rest : xs ++ ys ≡ map Got b.0 = cc in
+    let f = fronts xs b.0 rest b.2 in
+    inr (f.0, ap (λ (e : Event). e ∷ xs) same ∙ ap (λ (l : List Event). Sent (startup_message input) ∷ l) f.1, f.2)
+  where
+    fronts : (xs : List Event) (news : List Backend) → xs ++ ys ≡ map Got news → AreAll (is_early (must_bind input)) news → (ms : List Backend) × (xs ≡ map Got ms) × AreAll (is_early (must_bind input)) ms
+    fronts [] news are all = ([], refl, tt)
+    fronts (x ∷ xs) [] are all = absurd cc
+    fronts (x ∷ xs) (n ∷ news) are all =
+        let same : x ≡ Got n = cc in
+        let rest : xs ++ ys ≡ map Got news = cc in
+        let f = fronts xs news rest all.1 in
+        (n ∷ f.0, ap (λ (e : Event). e ∷ xs) same ∙ ap (λ (l : List Event). Got n ∷ l) f.1, (all.0, f.2))
+
 known_place : (p : Place) (m : Backend) → is_news m ≡ true → place_at p (Got m) ≡ p
 known_place p (backend.Authentication authentication.Ok) is = refl
 known_place p (backend.Authentication a) is = cc
@@ -404,11 +471,13 @@ welcome_stands input closed es (backend.Authentication a) l = logs_wrong input c
 welcome_stands input closed es m l = logs_wrong input closed es Behind m l refl
 
 login_stands : (input : Input) (closed : List (List Event)) (es : List Event) (m : Backend) → Logs closed es Before → StandsBy input closed es m (by_login input m)
-login_stands input closed es (backend.Authentication authentication.CleartextPassword) l = logs_on closed es Before Behind _ (cleartext_message input ∷ []) l refl
-login_stands input closed es (backend.Authentication (authentication.MD5Password salt)) l = logs_on closed es Before Behind _ (md5_message input salt ∷ []) l refl
+login_stands input closed es (backend.Authentication authentication.CleartextPassword) l =
+    logs_unbound input closed es (backend.Authentication authentication.CleartextPassword) (must_bind input) (Goes Admitted (Some (cleartext_message input))) l refl (logs_on closed es Before Behind _ (cleartext_message input ∷ []) l refl)
+login_stands input closed es (backend.Authentication (authentication.MD5Password salt)) l =
+    logs_unbound input closed es (backend.Authentication (authentication.MD5Password salt)) (must_bind input) (Goes Admitted (Some (md5_message input salt))) l refl (logs_on closed es Before Behind _ (md5_message input salt ∷ []) l refl)
 login_stands input closed es (backend.Authentication (authentication.SASL methods)) l =
     logs_unless input closed es Before (backend.Authentication (authentication.SASL methods)) (methods_refusal input methods) _ l refl (methods, refl, logs_on closed es Before (AtFirst methods) _ (first_message (scram_login input methods) ∷ []) l refl)
-login_stands input closed es (backend.ReadyForQuery ready) l = tt
+login_stands input closed es (backend.ReadyForQuery ready) l = logs_unbound input closed es (backend.ReadyForQuery ready) (must_bind input) Closes l refl tt
 login_stands input closed es (backend.ErrorResponse e) l = logs_refused input closed es Before (backend.ErrorResponse e) _ l refl
 login_stands input closed es (backend.Authentication authentication.Ok) l = logs_wrong input closed es Before (backend.Authentication authentication.Ok) l refl
 login_stands input closed es m l = logs_wrong input closed es Before m l refl
@@ -439,11 +508,11 @@ role_stands input closed es k rows m Misplaced s = go (passes_over k) refl
     go false is = (λ simple. let passes = s.1 simple in cc, λ none. absurd (s.0 none))
 
 pub stands_by : (input : Input) (closed : List (List Event)) (es : List Event) (s : Stage) (m : Backend) → StandsAt input closed es s → StandsBy input closed es m (after input s m)
-stands_by input closed es Starting m l = go (is_news m) refl
+stands_by input closed es Starting m l = go (is_early (must_bind input) m) refl
   where
-    go : (b : Bool) → is_news m ≡ b → StandsBy input closed es m (news_or b Starting (by_login input m))
-    go true is = logs_on closed es Before Before m [] l (known_place Before m is)
-    go false is = login_stands input closed es m l
+    go : (b : Bool) → is_early (must_bind input) m ≡ b → StandsBy input closed es m (news_or b Starting (by_login input m))
+    go true is = (logs_on closed es Before Before m [] l.0 (known_place Before m (early_news (must_bind input) m is)), begun_on input es m l.1 is)
+    go false is = login_stands input closed es m l.0
 stands_by input closed es (Challenged login) m l = subst (λ (x : ClientLogin). StandsBy input closed es m (by_first x m)) (sym l.1) (first_stands input closed es l.0 m l.2)
 stands_by input closed es (Proving expected) m l = subst (λ e. StandsBy input closed es m (by_final e m)) (sym l.2) (final_stands input closed es l.0 l.1 m l.3)
 stands_by input closed es Admitted m l = go (is_news m) refl

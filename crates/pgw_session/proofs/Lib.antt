@@ -17,3 +17,5 @@ pub mod NotesLaws
 pub mod FlowLaws
 pub mod ReadFaults
 pub mod FaultLaws
+pub mod BoundLaws
+pub mod EarlyLaws

@@ -1,5 +1,5 @@
 -- What the texts of a login keep: a SCRAM login can end, and an MD5 password can be sent.
-use Rattle.std.proofs.Common.{◌≡◌, ◌≢◌, ◌≤◌, ◌<◌, ℕ, zero, suc, Bool, true, false, List, [], ◌∷◌, ◌++◌, length, codes, Option, Some, None, Ok, is_some, arith, refl, sym, ap, ◌∙◌, length-append}
+use Rattle.std.proofs.Common.{◌≡◌, ◌≢◌, ◌≤◌, ◌<◌, ℕ, zero, suc, Bool, true, false, List, [], ◌∷◌, ◌++◌, length, codes, Option, Some, None, Ok, is_some, option_map, arith, refl, sym, ap, ◌∙◌, length-append}
 use Rattle.std.specs.Prelude.{◌==◌, ◌||◌, ◌/◌, ◌%◌, get_or}
 use Rattle.std.specs.Int.{w32, to_le_bytes}
 use Rattle.std.specs.Str.{bytes_eq}
@@ -20,17 +20,19 @@ use Rattle.pgw_scram.specs.declared.exchange.ClientLogin.{ClientLogin}
 use Rattle.pgw_scram.specs.declared.binding.ClientBinding.{ClientBinding}
 use Rattle.pgw_scram.specs.declared.binding.ClientBinding.TheVariants as binding
 use Rattle.pgw_scram.specs.declared.messages.ServerFirst.{ServerFirst}
-use Rattle.pgw_scram.specs.Binding.{binding_text}
-use Rattle.pgw_scram.specs.Exchange.{exchanged, client_final, without_proof}
+use Rattle.pgw_scram.specs.Binding.{header, binding_text}
+use Rattle.pgw_scram.specs.Exchange.{exchanged, client_first_bare, client_first, client_final, without_proof}
 use Rattle.pgw_scram.specs.Formulas.{client_proof}
 use Rattle.pgw_hash.specs.Pbkdf2.{salted_password}
 use Rattle.pgw_config.specs.declared.config.ChannelBinding.{ChannelBinding}
 use Rattle.pgw_config.specs.declared.config.ChannelBinding.TheVariants as channel_binding
 use Rattle.pgw_scram.specs.Readers.{read_server_first}
 use Rattle.pgw_session.specs.Input.{Input}
-use Rattle.pgw_backend.specs.declared.client_error.PgWireClientError.TheVariants as client
-use Rattle.pgw_backend.specs.declared.client_error.ScramFault.TheVariants as scram_fault
-use Rattle.pgw_session.specs.Logins.{offers, binding_by, binding_of, scram_login, first_refusal, expected_of, final_refusal, BindsTo}
+use Rattle.pgw_types.specs.declared.scram_error.ScramClientError.TheVariants as scram
+use Rattle.pgw_types.specs.declared.scram_error.ScramFault.TheVariants as scram_fault
+use Rattle.pgw_backend.specs.ClientError.{of_scram}
+use Rattle.pgw_session.specs.Logins.{offers, binding_by, binding_of, scram_login, first_refusal, expected_of, final_refusal}
+use Rattle.pgw_session.specs.Bound.{BindsTo, NamesEndPoint}
 use Rattle.pgw_scram.specs.Answers.{unless_so, first_of}
 use Rattle.pgw_scram.specs.Refusals.{parts_refusal, verifier_refusal, begins_with}
 
@@ -46,18 +48,20 @@ begins_itself xs = (starts_is Decides-eqb xs xs (begins_with xs xs) refl).1 [] (
 pub some_first : (input : Input) (login : ClientLogin) → login.nonce ≡ nonce_text input.nonce → (first : List ℕ) × (first_refusal login first ≡ None)
 some_first input login same = (
   least_server_first (nonce_text input.nonce),
-  ap (λ (nonce : List ℕ). parts_refusal nonce (read_server_first (least_server_first (nonce_text input.nonce)))) same
+  ap (option_map of_scram)
+      (ap (λ (nonce : List ℕ). parts_refusal nonce (read_server_first (least_server_first (nonce_text input.nonce)))) same
       ∙ ap (parts_refusal (nonce_text input.nonce)) (nonce_is_read input.nonce)
-      ∙ ap (λ b. first_of (unless_so b (client.ScramError scram_fault.NonceMismatch)) (unless_so (is_some (salt_of [])) (client.ScramError scram_fault.SaltNotBase64))) (begins_itself (nonce_text input.nonce))
-      ∙ ap (λ (o : Option (List ℕ)). unless_so (is_some o) (client.ScramError scram_fault.SaltNotBase64)) salt_of-nil,
+      ∙ ap (λ b. first_of (unless_so b (scram.ScramError scram_fault.NonceMismatch)) (unless_so (is_some (salt_of [])) (scram.ScramError scram_fault.SaltNotBase64))) (begins_itself (nonce_text input.nonce))
+      ∙ ap (λ (o : Option (List ℕ)). unless_so (is_some o) (scram.ScramError scram_fault.SaltNotBase64)) salt_of-nil),
 )
 
 -- and behind it some server-final
 pub some_final : (login : ClientLogin) (first : List ℕ) → (final : List ℕ) × (final_refusal (expected_of login first) final ≡ None)
 some_final login first = (
   codes "v=" ++ expected_of login first,
-  ap (verifier_refusal (expected_of login first)) (signature_is_read login first)
-      ∙ ap (λ b. unless_so b (client.ScramError scram_fault.SignatureMismatch)) (same_bytes (expected_of login first)),
+  ap (option_map of_scram)
+      (ap (verifier_refusal (expected_of login first)) (signature_is_read login first)
+      ∙ ap (λ b. unless_so b (scram.ScramError scram_fault.SignatureMismatch)) (same_bytes (expected_of login first))),
 )
 
 -- ---- what is bound
@@ -74,13 +78,20 @@ bound_by login hash first salt parts is read is_salt = (
   rw (read, is_salt) (ap (λ (b : ClientBinding). codes "c=" ++ binding_text b ++ codes ",r=" ++ parts.nonce ++ codes ",p=" ++ base64 (client_proof (salted_password login.password salt parts.count) (exchanged login first parts))) is),
 )
 
+-- a hash is given, to bind is not forbidden, and the server offers it
+pub binds : (input : Input) (methods : List (List ℕ)) (hash : List ℕ) → (input.config).certificate_hash ≡ Some hash → (input.config).channel_binding ≢ channel_binding.Disable → offers (codes "SCRAM-SHA-256-PLUS") methods ≡ true
+    → binding_of input methods ≡ binding.EndPoint hash
+binds input methods hash own allowed offered =
+    let mode = (input.config).channel_binding in
+    ap (λ (o : Option (List ℕ)). binding_by mode o (offers (codes "SCRAM-SHA-256-PLUS") methods)) own ∙ ap (binding_by mode (Some hash)) offered ∙ end_point mode hash allowed
+
 pub bound_final : (input : Input) (methods : List (List ℕ)) (hash first salt : List ℕ) (parts : ServerFirst) → (input.config).certificate_hash ≡ Some hash → (input.config).channel_binding ≢ channel_binding.Disable → offers (codes "SCRAM-SHA-256-PLUS") methods ≡ true
     → read_server_first first ≡ Ok parts → salt_of parts.salt ≡ Some salt → BindsTo hash parts.nonce (client_final (scram_login input methods) first)
-bound_final input methods hash first salt parts own allowed offered read is_salt =
-    let mode = (input.config).channel_binding in
-    let is : binding_of input methods ≡ binding.EndPoint hash =
-    ap (λ (o : Option (List ℕ)). binding_by mode o (offers (codes "SCRAM-SHA-256-PLUS") methods)) own ∙ ap (binding_by mode (Some hash)) offered ∙ end_point mode hash allowed in
-    bound_by (scram_login input methods) hash first salt parts is read is_salt
+bound_final input methods hash first salt parts own allowed offered read is_salt = bound_by (scram_login input methods) hash first salt parts (binds input methods hash own allowed offered) read is_salt
+
+pub names_end : (login : ClientLogin) (hash : List ℕ) → login.binding ≡ binding.EndPoint hash → NamesEndPoint (client_first login)
+unfolding client_first
+names_end login hash is = (client_first_bare login.user login.nonce, ap (λ (b : ClientBinding). header b ++ client_first_bare login.user login.nonce) is)
 
 -- ---- MD5
 

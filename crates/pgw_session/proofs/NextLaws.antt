@@ -1,14 +1,13 @@
 -- The next message is refused exactly where it makes no legal prefix.
-use Rattle.std.proofs.Common.{◌≡◌, ℕ, List, [], ◌∷◌, ◌++◌, length, drop, map, inr, refl, ◌∙◌, ap, sym, subst, append_assoc}
+use Rattle.std.proofs.Common.{◌≡◌, ℕ, List, [], ◌∷◌, ◌++◌, length, drop, inl, inr, refl, ◌∙◌, ap, sym, subst, append_assoc}
 use Rattle.pgw_types.specs.declared.context.ProtocolVersion.{ProtocolVersion}
 use Rattle.pgw_backend.specs.declared.backend.PgWireBackendMessage.{PgWireBackendMessage as Backend}
 use Rattle.pgw_backend.specs.Front.{front, More, Spells}
 use Rattle.pgw_session.specs.declared.stage.Next.{Next}
 use Rattle.pgw_session.specs.declared.stage.Next.TheVariants.{Goes, Closes, Wrong, Refuses, PassesOver}
-use Rattle.pgw_session.specs.Events.{Event, Sent, Got, joined}
+use Rattle.pgw_session.specs.Events.{Event, Got, joined}
 use Rattle.pgw_session.specs.Standings.{standing_of}
 use Rattle.pgw_session.specs.Transcript.{IsTranscript, IsLegalPrefix}
-use Rattle.pgw_session.specs.Segments.{sends}
 use Rattle.pgw_course.specs.Course.{Waits, onto, run}
 use Rattle.pgw_session.specs.Table.{after}
 use Rattle.pgw_session.proofs.ReadingLaws.{reads_more, reads_whole, steady_by}
@@ -16,9 +15,9 @@ use Rattle.pgw_session.proofs.Moves.{moves, turn}
 use Rattle.pgw_session.specs.Talk.{Talk, said, heard_of, talk_book, talk_rules, beginning, conversation, HasRefused}
 use Rattle.pgw_course.proofs.CourseLaws.{run_append, whole_from}
 use Rattle.pgw_session.proofs.Events.{clean_heard}
-use Rattle.pgw_session.proofs.Grammar.{RestBy, by_rest, some_rest}
+use Rattle.pgw_session.proofs.Grammar.{RestBy, by_rest}
 use Rattle.pgw_session.proofs.Whole.{no_place}
-use Rattle.pgw_session.proofs.Sound.{conversation_sound, SoundAt, Open, some_segments, reply_expects, spelled_front}
+use Rattle.pgw_session.proofs.Sound.{conversation_sound, SoundAt, Open, some_segments, reply_legal, spelled_front}
 use Rattle.pgw_session.specs.Input.{Input}
 
 -- a message behind which the segment can end makes a legal prefix
@@ -26,7 +25,7 @@ got_legal : (input : Input) (t : Talk) (m : Backend) (es : List Event) → Open 
 got_legal input t m es is_open rest =
     let later = some_segments input (drop (length t.closed) input.requests) in
     let transcript = is_open.completes (Got m ∷ es) later.0 (by_rest input t.stage m es rest) later.1 in
-    inr (record {
+    inr (inl (record {
       closed = t.closed;
       part = t.open_events ++ Got m ∷ [];
       rest = es;
@@ -34,14 +33,13 @@ got_legal input t m es is_open rest =
       are = append_assoc (joined t.closed) t.open_events (Got m ∷ []);
       transcript = subst (λ (l : List Event). IsTranscript input (t.closed ++ l ∷ later.0)) (sym (append_assoc t.open_events (Got m ∷ []) es)) transcript;
       opening = inr (is_open.begins.0 ++ Got m ∷ [], ap (λ (l : List Event). l ++ Got m ∷ []) is_open.begins.1 ∙ append_assoc _ is_open.begins.0 (Got m ∷ []));
-    })
+    }))
 
 -- a message that makes none is refused
 refused_by : (input : Input) (t : Talk) (sent : List ℕ) (m : Backend) (n : Next) → t.passed ≡ [] → after input t.stage m ≡ n → Open input t → (IsLegalPrefix input (said t ++ Got m ∷ []) → ⊥)
     → HasRefused (onto sent (moves input t m n))
 refused_by input t sent m (Goes stage reply) clean is is_open illegal =
-    let rest = some_rest input stage (reply_expects input t m stage reply is is_open) in
-    absurd (illegal (got_legal input t m (map Sent (sends reply) ++ rest.0) is_open (subst (λ n. RestBy input n (map Sent (sends reply) ++ rest.0)) (sym is) (rest.0, refl, rest.1))))
+    absurd (illegal (subst (IsLegalPrefix input) (sym (append_assoc (joined t.closed) t.open_events (Got m ∷ []))) (reply_legal input t m stage reply is is_open).0))
 refused_by input t sent m Closes clean is is_open illegal = absurd (illegal (got_legal input t m [] is_open (subst (λ n. RestBy input n []) (sym is) refl)))
 refused_by input t sent m Wrong clean is is_open illegal = tt
 refused_by input t sent m (Refuses e) clean is is_open illegal = tt

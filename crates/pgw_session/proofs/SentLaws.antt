@@ -19,13 +19,13 @@ use Rattle.pgw_session.specs.declared.stage.Role.TheVariants.{Taken, Closing, Co
 use Rattle.pgw_scram.specs.declared.exchange.ClientLogin.{ClientLogin}
 use Rattle.pgw_session.specs.Input.{Input}
 use Rattle.pgw_session.specs.Events.{Event, Sent, Got, joined, sents}
-use Rattle.pgw_session.specs.Logins.{cleartext_message, md5_message, scram_login, first_message, final_message, methods_refusal, first_refusal, final_refusal}
+use Rattle.pgw_session.specs.Logins.{must_bind, cleartext_message, md5_message, scram_login, first_message, final_message, methods_refusal, first_refusal, final_refusal}
 use Rattle.pgw_session.specs.Requests.{sends_of, sync, behind_error, passes_over, role}
-use Rattle.pgw_session.specs.Segments.{IsRequestSegment, startup_message, is_news, is_ready, sends}
+use Rattle.pgw_session.specs.Segments.{IsRequestSegment, startup_message, is_news, is_early, is_ready, sends}
 use Rattle.pgw_session.specs.Transcript.{AreSegments, IsTranscript, IsLegalPrefix}
-use Rattle.pgw_session.specs.Table.{after, stage_for, news_or, unless, by_welcome, by_login, by_first, by_final, by_role, by_ready, misplaced}
+use Rattle.pgw_session.specs.Table.{after, stage_for, news_or, unless, unless_bound, by_welcome, by_login, by_first, by_final, by_role, by_ready, misplaced}
 use Rattle.pgw_session.proofs.Hears.{sents_append, sents_sends}
-use Rattle.pgw_session.proofs.Events.{joined_cut}
+use Rattle.pgw_session.proofs.Events.{joined_cut, sents_gots}
 use Rattle.pgw_session.proofs.Grammar.{Rest, RestBy, rest_by, rest_sent}
 
 -- each of the messages has the property
@@ -73,9 +73,14 @@ welcome_sent : (P : Frontend → Type 0) (m : Backend) → ReplySent P (by_welco
 welcome_sent P (backend.Authentication a) = tt
 welcome_sent P m = tt
 
+unbound_sent : (P : Frontend → Type 0) (b : Bool) (n : Next) → ReplySent P n → ReplySent P (unless_bound b n)
+unbound_sent P true n r = tt
+unbound_sent P false n r = r
+
 login_sent : (input : Input) (P : Frontend → Type 0) (m : Backend) → MaySend input P → ReplySent P (by_login input m)
-login_sent input P (backend.Authentication authentication.CleartextPassword) may = (may.cleartext, tt)
-login_sent input P (backend.Authentication (authentication.MD5Password salt)) may = (may.md5 salt, tt)
+login_sent input P (backend.Authentication authentication.CleartextPassword) may = unbound_sent P (must_bind input) _ (may.cleartext, tt)
+login_sent input P (backend.Authentication (authentication.MD5Password salt)) may = unbound_sent P (must_bind input) _ (may.md5 salt, tt)
+login_sent input P (backend.ReadyForQuery ready) may = unbound_sent P (must_bind input) Closes tt
 login_sent input P (backend.Authentication (authentication.SASL methods)) may = unless_sent P (methods_refusal input methods) _ (may.first (scram_login input methods), tt)
 login_sent input P (backend.Authentication authentication.Ok) may = tt
 login_sent input P m may = tt
@@ -123,7 +128,7 @@ ready_sent P true = tt
 ready_sent P false = tt
 
 reply_sent : (input : Input) (P : Frontend → Type 0) (s : Stage) (m : Backend) → MaySend input P → ReplySent P (after input s m)
-reply_sent input P Starting m may = news_sent P (is_news m) Starting _ (login_sent input P m may)
+reply_sent input P Starting m may = news_sent P (is_early (must_bind input) m) Starting _ (login_sent input P m may)
 reply_sent input P (Challenged login) m may = first_sent input P login m may
 reply_sent input P (Proving expected) m may = last_sent P expected m
 reply_sent input P Admitted m may = news_sent P (is_news m) Admitted _ (welcome_sent P m)
@@ -177,7 +182,10 @@ transcript_sent input P (es ∷ segments) may transcript =
 -- so does each message sent in a legal prefix
 pub prefix_sent : (input : Input) (P : Frontend → Type 0) (es : List Event) → MaySend input P → IsLegalPrefix input es → AreSent P (sents es)
 prefix_sent input P es may (inl w) = subst (λ (l : List Event). AreSent P (sents l)) w.2 (transcript_sent input P w.0 may w.1)
-prefix_sent input P es may (inr p) =
+prefix_sent input P es may (inr (inr (inl none))) = subst (λ (l : List Event). AreSent P (sents l)) (sym none) tt
+prefix_sent input P es may (inr (inr (inr b))) =
+    subst (λ (l : List Event). AreSent P (sents l)) (sym b.1) (may.startup, subst (AreSent P) (sym (sents_gots [] b.0)) tt)
+prefix_sent input P es may (inr (inl p)) =
     sent_front P (sents es) (sents (p.rest ++ joined p.later))
     (subst (AreSent P) (sents_append es (p.rest ++ joined p.later))
     (subst (λ (l : List Event). AreSent P (sents l)) (joined_cut p.closed p.part p.rest p.later ∙ ap (λ (l : List Event). l ++ (p.rest ++ joined p.later)) (sym p.are)) (transcript_sent input P _ may p.transcript)))

@@ -19,7 +19,7 @@ use Rattle.pgw_session.specs.declared.stage.Next.TheVariants.{Goes, Closes, Wron
 use Rattle.pgw_session.specs.Events.{Event, Sent, Got, joined}
 use Rattle.pgw_session.specs.Standings.{first_standing, standing_of}
 use Rattle.pgw_session.specs.Requests.{sends_of}
-use Rattle.pgw_session.specs.Segments.{IsQuiet, IsSimple, startup_message, is_ready, is_other, sends}
+use Rattle.pgw_session.specs.Segments.{IsBegun, IsQuiet, IsSimple, startup_message, is_ready, is_other, sends}
 use Rattle.pgw_session.specs.Transcript.{AreSegments, IsTranscript, IsLegalPrefix, SpellsGot, EncodesSent, opening_at, opened_by}
 use Rattle.pgw_session.specs.Failures.{IsServersTurn, ArePassedOver, place_of, refusal_at}
 use Rattle.pgw_course.specs.Course.{Move, On, Ends, Course, Waits, Over, onto, eat, feed, run}
@@ -30,7 +30,7 @@ use Rattle.pgw_session.proofs.Moves.{moves, opens, opening, passing, turn}
 use Rattle.pgw_session.specs.Talk.{Talk, Ending, between, said, heard_of, talk_rules, beginning, conversation, HasRefused}
 use Rattle.pgw_session.proofs.Hears.{hear, hear_append, gots, gots_append, gots_sends}
 use Rattle.pgw_session.proofs.Events.{clean_heard, joined_more, got_more, got_sends, put_on_sends, Grown, turn_grown}
-use Rattle.pgw_session.proofs.Grammar.{Rest, RestBy, by_rest, some_got, some_rest, Expects, StandsAt, StandsBy, stands_expects, stands_by, stands_first}
+use Rattle.pgw_session.proofs.Grammar.{Rest, RestBy, by_rest, some_got, some_rest, Comes, StandsAt, StandsBy, stands_comes, early_front, stands_by, stands_first}
 use Rattle.pgw_session.proofs.Whole.{Heard, no_place}
 use Rattle.pgw_session.specs.Input.{Input}
 
@@ -48,31 +48,43 @@ some_segments input (q ∷ qs) =
     let later = some_segments input qs in
     ((map Sent (sends_of q) ++ answer.0) ∷ later.0, ((answer.0, refl, answer.1), later.1))
 
+-- what has begun is early
+pub begun_said : (input : Input) (closed : List (List Event)) (es : List Event) → (closed ≡ []) × IsBegun input es → IsBegun input (joined closed ++ es)
+begun_said input closed es b = subst (λ (c : List (List Event)). IsBegun input (joined c ++ es)) (sym b.0) b.1
+
 pub open_legal : (input : Input) (t : Talk) → Open input t → IsLegalPrefix input (said t)
 open_legal input t is_open =
-    let rest = some_rest input t.stage (stands_expects input t.closed t.open_events t.stage is_open.stands) in
-    let later = some_segments input (drop (length t.closed) input.requests) in
-    inr (record {
-      closed = t.closed;
-      part = t.open_events;
-      rest = rest.0;
-      later = later.0;
-      are = refl;
-      transcript = is_open.completes rest.0 later.0 rest.1 later.1;
-      opening = inr is_open.begins;
-    })
+    elim (stands_comes input t.closed t.open_events t.stage is_open.stands) [
+      | inl begun ↦ inr (inr (inr (begun_said input t.closed t.open_events begun)))
+      | inr expects ↦
+          let rest = some_rest input t.stage expects in
+          let later = some_segments input (drop (length t.closed) input.requests) in
+          inr (inl (record {
+            closed = t.closed;
+            part = t.open_events;
+            rest = rest.0;
+            later = later.0;
+            are = refl;
+            transcript = is_open.completes rest.0 later.0 rest.1 later.1;
+            opening = inr is_open.begins;
+          }))
+    ]
 
--- a message that is taken leads to a stage that can end
-pub reply_expects : (input : Input) (t : Talk) (m : Backend) (stage : Stage) (reply : Option Frontend) → after input t.stage m ≡ Goes stage reply → Open input t → Expects input stage
-reply_expects input t m stage reply is is_open =
-    stands_expects input t.closed (t.open_events ++ Got m ∷ map Sent (sends reply)) stage (subst (StandsBy input t.closed t.open_events m) is (stands_by input t.closed t.open_events t.stage m is_open.stands))
+-- a message that is taken leads to a stage that can end, or that has begun
+pub reply_comes : (input : Input) (t : Talk) (m : Backend) (stage : Stage) (reply : Option Frontend) → after input t.stage m ≡ Goes stage reply → Open input t → Comes input t.closed (t.open_events ++ Got m ∷ map Sent (sends reply)) stage
+reply_comes input t m stage reply is is_open =
+    stands_comes input t.closed (t.open_events ++ Got m ∷ map Sent (sends reply)) stage (subst (StandsBy input t.closed t.open_events m) is (stands_by input t.closed t.open_events t.stage m is_open.stands))
 
 -- what comes next in it is a message of the server
 pub open_awaits : (input : Input) (t : Talk) → Open input t → IsServersTurn input t.closed t.open_events
 open_awaits input t is_open =
-    let got = some_got input t.stage (stands_expects input t.closed t.open_events t.stage is_open.stands) in
-    let later = some_segments input (drop (length t.closed) input.requests) in
-    record { next = got.0; rest = got.1; later = later.0; transcript = is_open.completes (Got got.0 ∷ got.1) later.0 got.2 later.1; opening = is_open.begins }
+    elim (stands_comes input t.closed t.open_events t.stage is_open.stands) [
+      | inl begun ↦ inr begun
+      | inr expects ↦
+          let got = some_got input t.stage expects in
+          let later = some_segments input (drop (length t.closed) input.requests) in
+          inl (record { next = got.0; rest = got.1; later = later.0; transcript = is_open.completes (Got got.0 ∷ got.1) later.0 got.2 later.1; opening = is_open.begins })
+    ]
 
 -- the messages passed over
 abbrev pub Passed : Input → Talk → List Backend → Type 0
@@ -174,7 +186,7 @@ opening_good input t m closed k q (Err e) is are count asked closes =
       refl,
       (
         are,
-        inr (record {
+        inr (inl (record {
           closed = closed;
           part = [];
           rest = map Sent (sends_of q) ++ answer.0;
@@ -182,10 +194,10 @@ opening_good input t m closed k q (Err e) is are count asked closes =
           are = refl;
           transcript = transcript;
           opening = inl refl;
-        }),
+        })),
         (
           sends_of q,
-          inr (record {
+          inr (inl (record {
             closed = closed;
             part = map Sent (sends_of q);
             rest = answer.0;
@@ -193,7 +205,7 @@ opening_good input t m closed k q (Err e) is are count asked closes =
             are = ap (λ (l : List Event). l ++ map Sent (sends_of q)) (append-nil (joined closed));
             transcript = transcript;
             opening = inr ([], begins);
-          }),
+          })),
           is,
           refl,
         ),
@@ -229,43 +241,62 @@ quiet_more : (ms : List Backend) (m : Backend) → IsQuiet ms → is_ready m ≡
 quiet_more [] m q is = (other_is m is, tt)
 quiet_more (x ∷ ms) m q is = (q.0, quiet_more ms m q.1 is)
 
+-- behind a message that is taken stands a legal prefix, and behind the reply
+pub reply_legal : (input : Input) (t : Talk) (m : Backend) (stage : Stage) (reply : Option Frontend) → after input t.stage m ≡ Goes stage reply → Open input t
+    → IsLegalPrefix input (joined t.closed ++ (t.open_events ++ Got m ∷ [])) × IsLegalPrefix input ((joined t.closed ++ (t.open_events ++ Got m ∷ [])) ++ map Sent (sends reply))
+reply_legal input t m stage reply is is_open = elim (reply_comes input t m stage reply is is_open) [ inl begun ↦ early begun | inr expects ↦ part (some_rest input stage expects) ]
+  where
+    fs : List Frontend
+    fs = sends reply
+
+    one : List Event
+    one = t.open_events ++ Got m ∷ []
+
+    whole : one ++ map Sent fs ≡ t.open_events ++ Got m ∷ map Sent fs
+    whole = append_assoc t.open_events (Got m ∷ []) (map Sent fs)
+
+    early : (t.closed ≡ []) × IsBegun input (t.open_events ++ Got m ∷ map Sent fs) → IsLegalPrefix input (joined t.closed ++ one) × IsLegalPrefix input ((joined t.closed ++ one) ++ map Sent fs)
+    early b =
+        let all : IsBegun input ((joined t.closed ++ one) ++ map Sent fs) = subst (IsBegun input) (ap (λ (l : List Event). joined t.closed ++ l) (sym whole) ∙ sym (append_assoc (joined t.closed) one (map Sent fs))) (begun_said input t.closed _ b) in
+        (inr (inr (early_front input (joined t.closed ++ one) (map Sent fs) all)), inr (inr (inr all)))
+
+    part : (es : List Event) × Rest input stage es → IsLegalPrefix input (joined t.closed ++ one) × IsLegalPrefix input ((joined t.closed ++ one) ++ map Sent fs)
+    part rest =
+        let later = some_segments input (drop (length t.closed) input.requests) in
+        let more = map Sent fs ++ rest.0 in
+        let transcript = is_open.completes (Got m ∷ more) later.0 (by_rest input t.stage m more (subst (λ x. RestBy input x more) (sym is) (rest.0, refl, rest.1))) later.1 in
+        let begins = ap (λ (l : List Event). l ++ Got m ∷ []) is_open.begins.1 ∙ append_assoc _ is_open.begins.0 (Got m ∷ []) in (
+          inr (inl (record {
+            closed = t.closed;
+            part = one;
+            rest = more;
+            later = later.0;
+            are = refl;
+            transcript = subst (λ (l : List Event). IsTranscript input (t.closed ++ l ∷ later.0)) (sym (append_assoc t.open_events (Got m ∷ []) more)) transcript;
+            opening = inr (is_open.begins.0 ++ Got m ∷ [], begins);
+          })),
+          inr (inl (record {
+            closed = t.closed;
+            part = one ++ map Sent fs;
+            rest = rest.0;
+            later = later.0;
+            are = append_assoc (joined t.closed) one (map Sent fs);
+            transcript = subst (λ (l : List Event). IsTranscript input (t.closed ++ l ∷ later.0)) (sym (append_assoc one (map Sent fs) rest.0 ∙ append_assoc t.open_events (Got m ∷ []) more)) transcript;
+            opening = inr ((is_open.begins.0 ++ Got m ∷ []) ++ map Sent fs, ap (λ (l : List Event). l ++ map Sent fs) begins ∙ append_assoc _ (is_open.begins.0 ++ Got m ∷ []) (map Sent fs));
+          })),
+        )
+
 reply_good : (input : Input) (t : Talk) (m : Backend) (stage : Stage) (reply : Option Frontend) (o : Result (List ℕ) PgWireError) → encodings (sends reply) ≡ o → t.passed ≡ [] → after input t.stage m ≡ Goes stage reply → Open input t
     → Good input t m (sending (record { closed = t.closed; open_events = t.open_events ++ Got m ∷ []; stage = stage; passed = [] }) (record { closed = t.closed; open_events = t.open_events ++ Got m ∷ map Sent (sends reply); stage = stage; passed = [] }) o)
 reply_good input t m stage reply (Err e) none clean is is_open =
-    let s = t.stage in
     let fs = sends reply in
-    let rest = some_rest input stage (reply_expects input t m stage reply is is_open) in
-    let later = some_segments input (drop (length t.closed) input.requests) in
-    let more = map Sent fs ++ rest.0 in
     let are : joined t.closed ++ (t.open_events ++ Got m ∷ []) ≡ said t ++ Got m ∷ [] = sym (append_assoc (joined t.closed) t.open_events (Got m ∷ [])) in
-    let transcript = is_open.completes (Got m ∷ more) later.0 (by_rest input s m more (subst (λ x. RestBy input x more) (sym is) (rest.0, refl, rest.1))) later.1 in
-    let begins = ap (λ (l : List Event). l ++ Got m ∷ []) is_open.begins.1 ∙ append_assoc _ is_open.begins.0 (Got m ∷ []) in (
+    let legal = reply_legal input t m stage reply is is_open in (
       refl,
       (
         append-nil _ ∙ are ∙ ap (λ (l : List Event). l ++ Got m ∷ []) (clean_heard t clean),
-        inr (record {
-          closed = t.closed;
-          part = t.open_events ++ Got m ∷ [];
-          rest = more;
-          later = later.0;
-          are = refl;
-          transcript = subst (λ (l : List Event). IsTranscript input (t.closed ++ l ∷ later.0)) (sym (append_assoc t.open_events (Got m ∷ []) more)) transcript;
-          opening = inr (is_open.begins.0 ++ Got m ∷ [], begins);
-        }),
-        (
-          fs,
-          inr (record {
-            closed = t.closed;
-            part = (t.open_events ++ Got m ∷ []) ++ map Sent fs;
-            rest = rest.0;
-            later = later.0;
-            are = append_assoc (joined t.closed) (t.open_events ++ Got m ∷ []) (map Sent fs);
-            transcript = subst (λ (l : List Event). IsTranscript input (t.closed ++ l ∷ later.0)) (sym (append_assoc (t.open_events ++ Got m ∷ []) (map Sent fs) rest.0 ∙ append_assoc t.open_events (Got m ∷ []) more)) transcript;
-            opening = inr ((is_open.begins.0 ++ Got m ∷ []) ++ map Sent fs, ap (λ (l : List Event). l ++ map Sent fs) begins ∙ append_assoc _ (is_open.begins.0 ++ Got m ∷ []) (map Sent fs));
-          }),
-          none,
-          refl,
-        ),
+        legal.0,
+        (fs, legal.1, none, refl),
       ),
     )
 reply_good input t m stage reply (Ok out) some clean is is_open =
@@ -465,40 +496,16 @@ run_sound input before c (b ∷ bytes) s =
 
 start_sound : (input : Input) (o : Result (List ℕ) PgWireError) → encodings (startup_message input ∷ []) ≡ o → SoundAt input [] (onto [] (opening [] (startup_message input ∷ []) Starting o))
 unfolding hear
-start_sound input (Err e) is =
-    let answer = some_rest input Starting tt in
-    let later = some_segments input input.requests in
-    record {
-      done = [];
-      rest = [];
-      begins = refl;
-      got = refl;
-      put = refl;
-      legal = inr (record {
-        closed = [];
-        part = [];
-        rest = Sent (startup_message input) ∷ answer.0;
-        later = later.0;
-        are = refl;
-        transcript = ((answer.0, refl, answer.1), later.1);
-        opening = inl refl;
-      });
-      is_open = tt;
-      cause = (
-        startup_message input ∷ [],
-        inr (record {
-          closed = [];
-          part = Sent (startup_message input) ∷ [];
-          rest = answer.0;
-          later = later.0;
-          are = refl;
-          transcript = ((answer.0, refl, answer.1), later.1);
-          opening = inr ([], refl);
-        }),
-        is,
-        refl,
-      );
-    }
+start_sound input (Err e) is = record {
+  done = [];
+  rest = [];
+  begins = refl;
+  got = refl;
+  put = refl;
+  legal = inr (inr (inl refl));
+  is_open = tt;
+  cause = (startup_message input ∷ [], inr (inr (inr ([], refl, tt))), is, refl);
+}
 start_sound input (Ok out) is = (
   [],
   refl,
@@ -507,7 +514,7 @@ start_sound input (Ok out) is = (
     put = is;
     is_open = record {
       completes = λ es segments rest segs. ((es, refl, rest), segs);
-      stands = (refl, refl, λ l. l);
+      stands = ((refl, refl, λ l. l), ([], refl, tt));
       begins = ([], refl);
     };
     passed = tt;

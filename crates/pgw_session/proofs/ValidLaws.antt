@@ -1,5 +1,5 @@
 -- Each message of a valid input can be sent.
-use Rattle.std.proofs.Common.{◌≡◌, ◌≢◌, ◌<◌, ◌≤◌, ◌+◌, ℕ, Bool, true, false, List, [], ◌∷◌, ◌++◌, length, Option, Some, None, Result, Ok, Err, inl, inr, arith, refl, ◌∙◌, ap, sym, length-append, IfSome}
+use Rattle.std.proofs.Common.{is_some, ◌≡◌, ◌≢◌, ◌<◌, ◌≤◌, ◌+◌, ℕ, Bool, true, false, List, [], ◌∷◌, ◌++◌, length, Option, Some, None, Result, Ok, Err, inl, inr, arith, refl, ◌∙◌, ap, sym, length-append, IfSome}
 use Rattle.std.specs.Prelude.{◌==◌, ◌||◌, not, codes, get_or}
 use Rattle.std.specs.List.{flat_map, list_any}
 use Rattle.std.specs.FinMap as finite
@@ -26,7 +26,7 @@ use Rattle.pgw_config.specs.declared.config.ChannelBinding.{ChannelBinding}
 use Rattle.pgw_config.specs.declared.config.ChannelBinding.TheVariants as channel_binding
 use Rattle.pgw_session.specs.Events.{Event, joined, sents}
 use Rattle.pgw_session.specs.Transcript.{IsTranscript, IsLegalPrefix, EncodesSent, SpellsGot, Completes}
-use Rattle.pgw_session.specs.Demands.{refused_demand, refused_config}
+use Rattle.pgw_session.specs.Demands.{refused_binding, refused_demand, refused_config}
 use Rattle.pgw_session.specs.Standings.{first_standing}
 use Rattle.pgw_course.specs.Course.{Over}
 use Rattle.pgw_session.proofs.FailureLaws.{unencoded}
@@ -81,17 +81,21 @@ unfolding text
 text_length t = length-append t (0 ∷ [])
 
 -- nothing demanded is refused
-no_encryption : (mode : SslMode) (binding : ChannelBinding) → mode ≢ ssl_mode.Require → binding ≢ channel_binding.Require → refused_demand mode binding ≡ None
-no_encryption ssl_mode.Require binding open_mode open_binding = absurd (open_mode refl)
-no_encryption ssl_mode.Disable channel_binding.Require open_mode open_binding = absurd (open_binding refl)
-no_encryption ssl_mode.Disable channel_binding.Disable open_mode open_binding = refl
-no_encryption ssl_mode.Disable channel_binding.Prefer open_mode open_binding = refl
-no_encryption ssl_mode.Prefer channel_binding.Require open_mode open_binding = absurd (open_binding refl)
-no_encryption ssl_mode.Prefer channel_binding.Disable open_mode open_binding = refl
-no_encryption ssl_mode.Prefer channel_binding.Prefer open_mode open_binding = refl
+no_binding : (binding : ChannelBinding) (hash : Option (List ℕ)) → (binding ≡ channel_binding.Require → is_some hash ≡ true) → refused_binding binding hash ≡ None
+no_binding channel_binding.Require None given = let none : false ≡ true = given refl in cc
+no_binding channel_binding.Require (Some hash) given = refl
+no_binding channel_binding.Disable hash given = refl
+no_binding channel_binding.Prefer hash given = refl
+
+no_encryption : (mode : SslMode) (binding : ChannelBinding) (hash : Option (List ℕ)) → mode ≢ ssl_mode.Require → refused_binding binding hash ≡ None → refused_demand mode binding hash ≡ None
+no_encryption ssl_mode.Require binding hash open_mode bound = absurd (open_mode refl)
+no_encryption ssl_mode.Disable binding hash open_mode bound = bound
+no_encryption ssl_mode.Prefer binding hash open_mode bound = bound
 
 pub no_demand : (input : Input) → IsValidInput input → refused_config input.config ≡ None
-no_demand input valid = no_encryption (input.config).ssl_mode (input.config).channel_binding valid.encryption valid.binding
+no_demand input valid =
+    let c = input.config in
+    no_encryption c.ssl_mode c.channel_binding c.certificate_hash valid.encryption (no_binding c.channel_binding c.certificate_hash valid.binding)
 
 -- ---- the parameters as they are written
 

@@ -1,6 +1,6 @@
 -- The messages of a transcript lead the conversation to its end.
 use Rattle.std.proofs.Common.{◌≡◌, ◌≤◌, ℕ, ◌+◌, zero, suc, List, [], ◌∷◌, ◌++◌, length, map, Some, None, Result, Ok, Err, Option, slice_get, Bool, true, false, inl, inr, arith, refl, sym, ◌∙◌, ap, subst, append_assoc, length-append}
-use Rattle.std.proofs.lemmas.List.{append-nil, length_push}
+use Rattle.std.proofs.lemmas.List.{append-nil, length_push, map-append}
 use Rattle.pgw_types.specs.declared.error.PgWireError.{PgWireError}
 use Rattle.pgw_backend.specs.declared.backend.PgWireBackendMessage.{PgWireBackendMessage as Backend}
 use Rattle.pgw_frontend.specs.declared.frontend.PgWireFrontendMessage.{PgWireFrontendMessage as Frontend}
@@ -14,18 +14,19 @@ use Rattle.pgw_session.specs.declared.stage.Next.TheVariants.{Goes, Closes, Wron
 use Rattle.pgw_session.specs.Events.{Event, Sent, Got, joined, sents}
 use Rattle.pgw_session.specs.Standings.{first_standing, standing_of}
 use Rattle.pgw_session.specs.Requests.{sends_of}
-use Rattle.pgw_session.specs.Segments.{IsStartupSegment, startup_message, is_ready, sends}
+use Rattle.pgw_session.specs.Segments.{AreAll, IsBegun, IsStartupSegment, startup_message, is_early, is_ready, sends}
 use Rattle.pgw_session.specs.Transcript.{AreSegments, IsTranscript, IsLegalPrefix, SpellsGot, EncodesSent}
 use Rattle.pgw_course.specs.Course.{On, Course, Waits, Over, Rules, onto, eat, feed, run}
 use Rattle.pgw_session.specs.Reading.{met}
-use Rattle.pgw_session.specs.Table.{after, stage_for}
+use Rattle.pgw_session.specs.Table.{after, by_login, news_or, stage_for}
 use Rattle.pgw_session.specs.Machine.{Outcome, Complete, Unencoded, sending}
 use Rattle.pgw_session.proofs.Moves.{moves, opens, opening, passing, turn}
 use Rattle.pgw_session.specs.Talk.{Talk, Ending, said, heard_of, talk_rules, beginning, conversation, whole_talk, HasRefused, IsRefusal}
 use Rattle.pgw_course.proofs.CourseLaws.{run_over}
-use Rattle.pgw_session.proofs.Hears.{hear, hears, hear_append, hear_over, hear_one, gots, gots_append, gots_sends, sents_append, sents_sends, spelled_onto}
+use Rattle.pgw_session.proofs.Hears.{hear, hears, hear_append, hear_over, hear_one, gots, gots_append, gots_sends, gots_gots, sents_append, sents_sends, spelled_onto}
 use Rattle.pgw_session.proofs.Events.{encodings_append, joined_cut, talk_follows, first_sends}
 use Rattle.pgw_session.proofs.Grammar.{Rest, RestBy, rest_by, rest_nil, rest_sent}
+use Rattle.pgw_session.specs.Logins.{must_bind}
 use Rattle.pgw_session.specs.Input.{Input}
 
 -- A course comes where it should, if the messages sent on the way have encodings; else it ends at one that has none.
@@ -288,6 +289,49 @@ lost_nowhere input t sent m segments more heard lost transcript are =
     ∙ hear_one rules t sent m (gots more) in
     lost_not_ended _ e.0 e.1 (lost_hear input _ (gots more) lost) (sym course ∙ e.2) e.3
 
+some_said : (es : List Event) (m : Backend) → es ++ Got m ∷ [] ≡ [] → ⊥
+some_said [] m is = cc
+some_said (e ∷ es) m is = cc
+
+-- behind the startup message, and what came before a login block
+abbrev begun_talk : Input → List Backend → Talk
+begun_talk input news = record { closed = []; open_events = Sent (startup_message input) ∷ map Got news; stage = Starting; passed = [] }
+
+-- which the conversation takes
+early_heard : (input : Input) (done news : List Backend) (out : List ℕ) → AreAll (is_early (must_bind input)) news
+    → hear (talk_rules input) (Waits (begun_talk input done) out []) news ≡ Waits (begun_talk input (done ++ news)) out []
+unfolding hear
+early_heard input done [] out all = ap (λ (l : List Backend). Waits (begun_talk input l) out []) (sym (append-nil done))
+early_heard input done (m ∷ news) out all =
+    let rules = talk_rules input in
+    let t = begun_talk input done in
+    let taken : after input Starting m ≡ Goes Starting None = ap (λ b. news_or b Starting (by_login input m)) all.0 in
+    let on : rules.step t m ≡ On (begun_talk input (done ++ m ∷ [])) [] =
+    ap (moves input t m) taken ∙ ap (λ (l : List Event). On (record { closed = []; open_events = Sent (startup_message input) ∷ l; stage = Starting; passed = [] }) []) (sym (map-append Got done (m ∷ []))) in
+    hear_one rules t out m news
+    ∙ ap (λ x. hear rules (onto out x) news) on
+    ∙ ap (λ (w : List ℕ). hear rules (Waits (begun_talk input (done ++ m ∷ [])) w []) news) (append-nil out)
+    ∙ early_heard input (done ++ m ∷ []) news out all.1
+    ∙ ap (λ (l : List Backend). Waits (begun_talk input l) out []) (append_assoc done (m ∷ []) news)
+
+none_refused : (c : Course Talk Ending) (t : Talk) (out : List ℕ) → c ≡ Waits t out [] → t.passed ≡ [] → HasRefused c → ⊥
+none_refused (Waits x sent pending) t out is clean l = let same : x ≡ t = cc in let some = l.2 in let none = ap (λ (y : Talk). y.passed) same in cc
+none_refused (Over e sent) t out is clean l = cc
+
+-- so it refuses none of it
+begun_taken : (input : Input) (t : Talk) (sent : List ℕ) (m : Backend) → IsBegun input (said t ++ Got m ∷ []) → (o : Result (List ℕ) PgWireError) → encodings (startup_message input ∷ []) ≡ o
+    → hear (talk_rules input) (beginning input) (gots (said t)) ≡ Waits t sent [] → HasRefused (onto sent ((talk_rules input).step t m)) → ⊥
+begun_taken input t sent m b (Err why) is heard lost =
+    let rules = talk_rules input in
+    let over = ap (λ o. hear rules (onto [] (opening [] (startup_message input ∷ []) Starting o)) (gots (said t))) is ∙ hear_over rules _ _ (gots (said t)) in
+    cc
+begun_taken input t sent m b (Ok out) is heard lost =
+    let rules = talk_rules input in
+    let news : gots (said t) ++ m ∷ [] ≡ b.0 = sym (gots_append (said t) (Got m ∷ [])) ∙ ap gots b.1 ∙ gots_gots b.0 in
+    let early = ap (λ o. hear rules (onto [] (opening [] (startup_message input ∷ []) Starting o)) b.0) is ∙ early_heard input [] b.0 out b.2 in
+    let course = ap (hear rules (beginning input)) (sym news) ∙ hear_append rules (beginning input) (gots (said t)) (m ∷ []) ∙ ap (λ c. hear rules c (m ∷ [])) heard ∙ hear_one rules t sent m [] ∙ nothing rules _ in
+    none_refused (onto sent (rules.step t m)) (begun_talk input b.0) out (sym course ∙ early) refl lost
+
 pub no_place : (input : Input) (t : Talk) (sent : List ℕ) (m : Backend) → t.passed ≡ [] → Heard input t sent → HasRefused (onto sent (moves input t m (after input t.stage m)))
     → IsLegalPrefix input (said t ++ Got m ∷ []) → ⊥
 no_place input t sent m clean heard lost legal = go legal
@@ -300,4 +344,6 @@ no_place input t sent m clean heard lost legal = go legal
 
     go : IsLegalPrefix input (said t ++ Got m ∷ []) → ⊥
     go (inl w) = lost_nowhere input t sent m w.0 [] here there w.1 (w.2 ∙ sym (append-nil _))
-    go (inr p) = lost_nowhere input t sent m _ (p.rest ++ joined p.later) here there p.transcript (joined_cut p.closed p.part p.rest p.later ∙ ap (λ (l : List Event). l ++ (p.rest ++ joined p.later)) (sym p.are))
+    go (inr (inr (inl none))) = some_said (said t) m none
+    go (inr (inr (inr b))) = begun_taken input t sent m b (encodings (startup_message input ∷ [])) refl here there
+    go (inr (inl p)) = lost_nowhere input t sent m _ (p.rest ++ joined p.later) here there p.transcript (joined_cut p.closed p.part p.rest p.later ∙ ap (λ (l : List Event). l ++ (p.rest ++ joined p.later)) (sym p.are))

@@ -1,8 +1,8 @@
 -- The answer of a request, by its segment.
 use Rattle.std.specs.Prelude.{ℕ, List, [], ◌∷◌, ◌++◌, fold, map, Option, Some, None}
-use Rattle.pgw_backend.specs.Tags.{tag_of}
-use Rattle.pgw_backend.specs.Fields.{field_info_of, type_of}
-use Rattle.pgw_backend.specs.declared.field_info.FieldInfo.{FieldInfo}
+use Rattle.pgw_query.specs.Tags.{tag_of}
+use Rattle.pgw_query.specs.Fields.{field_info_of, type_of}
+use Rattle.pgw_query.specs.declared.field_info.FieldInfo.{FieldInfo}
 use Rattle.pgw_query.specs.declared.data.DataRow.{DataRow}
 use Rattle.pgw_query.specs.declared.response.ErrorResponse.{ErrorResponse}
 use Rattle.pgw_backend.specs.declared.backend.PgWireBackendMessage.{PgWireBackendMessage as Backend}

@@ -1,5 +1,5 @@
 -- Why a session stops before its transcript is whole, in the terms of transcripts.
-use Rattle.std.specs.Prelude.{◌≡◌, ℕ, List, [], ◌∷◌, ◌++◌, length, map, fold, Option, Some, None, Err}
+use Rattle.std.specs.Prelude.{◌≡◌, ◌⊎◌, ℕ, List, [], ◌∷◌, ◌++◌, length, map, fold, Option, Some, None, Err}
 use Rattle.pgw_types.specs.declared.error.PgWireError.{PgWireError}
 use Rattle.pgw_startup.specs.declared.authentication.Authentication.TheVariants as authentication
 use Rattle.pgw_backend.specs.Front.{front, More, Bad, Whole}
@@ -14,7 +14,7 @@ use Rattle.pgw_query.specs.declared.response.ReadyForQuery.{ReadyForQuery}
 use Rattle.pgw_session.specs.declared.types.SessionReport.{SessionReport}
 use Rattle.pgw_session.specs.Events.{Event, Sent, Got, joined}
 use Rattle.pgw_session.specs.Standings.{first_standing, standing_of}
-use Rattle.pgw_session.specs.Segments.{IsQuiet, IsSimple}
+use Rattle.pgw_session.specs.Segments.{IsBegun, IsQuiet, IsSimple}
 use Rattle.pgw_session.specs.Answers.{first_error}
 use Rattle.pgw_session.specs.Logins.{scram_login, methods_refusal, first_refusal, expected_of, final_refusal}
 use Rattle.pgw_session.specs.Transcript.{IsTranscript, IsLegalPrefix, SpellsGot, EncodesSent, Completed, Completes, opening_at}
@@ -22,12 +22,16 @@ use Rattle.pgw_session.specs.Input.{Input}
 
 -- some segments have closed, and of the next its opening and maybe more has come; what is next in it is a message of
 -- the server, so that nothing is due
-pub record IsServersTurn (input : Input) (closed : List (List Event)) (part : List Event) : Type 0 where
+pub record GoesOn (input : Input) (closed : List (List Event)) (part : List Event) : Type 0 where
   pub next : Backend
   pub rest : List Event
   pub later : List (List Event)
   pub transcript : IsTranscript input (closed ++ (part ++ Got next ∷ rest) ∷ later)
   pub opening : (more : List Event) × (part ≡ map Sent (opening_at input (length closed)) ++ more)
+
+-- so it is too before a login block, whether or not this client can log in
+abbrev pub IsServersTurn : Input → List (List Event) → List Event → Type 0
+IsServersTurn input closed part = GoesOn input closed part ⊎ ((closed ≡ []) × IsBegun input part)
 
 -- messages passed over behind the events of a simple query's segment: the first makes no legal prefix there, and none
 -- behind it is ReadyForQuery
@@ -145,6 +149,10 @@ pub record Unsendable (input : Input) (taken sent : List ℕ) (why : PgWireError
 -- whatever follows these bytes, they complete no transcript
 abbrev pub IsHopeless : Input → List ℕ → Type 0
 IsHopeless input taken = (limit : ℕ) (more : List ℕ) (segments : List (List Event)) → Completes input limit (taken ++ more) segments → ⊥
+
+-- a message at startup for which this error stands
+abbrev pub IsRefused : Input → List ℕ → List ℕ → ClientError → Type 0
+IsRefused input taken sent e = FailsAtStartup input taken sent e × IsHopeless input taken
 
 -- no front of these bytes completes a transcript
 abbrev pub IsUnfinished : Input → List ℕ → Type 0

@@ -18,3 +18,4 @@ pub mod Failures
 pub mod Faults
 pub mod Demands
 pub mod Valid
+pub mod Bound

@@ -1,5 +1,5 @@
 -- How a client logs in.
-use Rattle.std.specs.Prelude.{◌≡◌, ℕ, Bool, true, false, ◌||◌, ◌&&◌, List, [], ◌∷◌, ◌++◌, codes, Option, Some, None, is_some, unwrap_or}
+use Rattle.std.specs.Prelude.{◌≡◌, ℕ, Bool, true, false, ◌||◌, ◌&&◌, List, [], ◌∷◌, ◌++◌, codes, Option, Some, None, is_some, option_map, unwrap_or}
 use Rattle.std.specs.List.{list_any}
 use Rattle.std.specs.Str.{bytes_eq, is_utf8}
 use Rattle.pgw_wire.specs.Reading.{lossy}
@@ -10,7 +10,8 @@ use Rattle.pgw_frontend.specs.declared.frontend.PgWireFrontendMessage.{PgWireFro
 use Rattle.pgw_frontend.specs.declared.frontend.PgWireFrontendMessage.TheVariants as frontend
 use Rattle.pgw_backend.specs.declared.client_error.PgWireClientError.{PgWireClientError as ClientError}
 use Rattle.pgw_backend.specs.declared.client_error.PgWireClientError.TheVariants as client
-use Rattle.pgw_backend.specs.declared.client_error.ScramFault.TheVariants as scram_fault
+use Rattle.pgw_backend.specs.ClientError.{of_scram}
+use Rattle.pgw_types.specs.declared.scram_error.ScramFault.TheVariants as scram_fault
 use Rattle.pgw_hash.specs.Md5Password.{md5_password}
 use Rattle.pgw_hash.specs.Saslprep.{prepared}
 use Rattle.pgw_config.specs.declared.config.ChannelBinding.{ChannelBinding}
@@ -18,7 +19,7 @@ use Rattle.pgw_config.specs.declared.config.ChannelBinding.TheVariants as channe
 use Rattle.pgw_scram.specs.declared.binding.ClientBinding.{ClientBinding}
 use Rattle.pgw_scram.specs.declared.binding.ClientBinding.TheVariants as binding
 use Rattle.pgw_scram.specs.declared.exchange.ClientLogin.{ClientLogin}
-use Rattle.pgw_scram.specs.Base64.{base64, nonce_text}
+use Rattle.pgw_scram.specs.Base64.{nonce_text}
 use Rattle.pgw_scram.specs.Refusals as scram
 use Rattle.pgw_scram.specs.Answers.{unless_so, first_of}
 use Rattle.pgw_scram.specs.Refusals.{user_refusal}
@@ -64,6 +65,14 @@ binding_by mode (Some hash) false = binding.NotOffered
 abbrev pub binding_of : Input → List (List ℕ) → ClientBinding
 binding_of input methods = binding_by (input.config).channel_binding (input.config).certificate_hash (offers (codes "SCRAM-SHA-256-PLUS") methods)
 
+-- a login is required to be bound
+abbrev pub is_required : ChannelBinding → Bool
+is_required channel_binding.Require = true
+is_required mode = false
+
+abbrev pub must_bind : Input → Bool
+must_bind input = is_required (input.config).channel_binding
+
 -- A method is taken: the one that binds, where a hash is given and to bind is not forbidden; or the plain one, where to
 -- bind is not required.
 abbrev pub takes_by : ChannelBinding → Bool → Bool → Bool → Bool
@@ -89,10 +98,6 @@ first_message login = frontend.PasswordMessageFamily (family.SASLInitialResponse
 abbrev pub final_message : ClientLogin → List ℕ → Frontend
 final_message login first = frontend.PasswordMessageFamily (family.SASLResponse (record { payload = client_final login first }))
 
--- client-final has the binding text of this hash, and this nonce (RFC 5802, section 7; RFC 5929, section 4)
-abbrev pub BindsTo : List ℕ → List ℕ → List ℕ → Type 0
-BindsTo hash nonce text = (proof : List ℕ) × (text ≡ codes "c=" ++ base64 (codes "p=tls-server-end-point,," ++ hash) ++ codes ",r=" ++ nonce ++ codes ",p=" ++ proof)
-
 -- ---- what of the server's is refused
 
 -- a list of methods of which none is taken; or the password is not UTF-8; or the user name has no prepared form
@@ -100,11 +105,11 @@ abbrev pub methods_refusal : Input → List (List ℕ) → Option ClientError
 methods_refusal input methods =
     first_of (unless_so (takes_method input methods) (client.UnsupportedSASLAuthMethods methods))
     (first_of (unless_so (is_utf8 (password_of input)) (client.ScramError scram_fault.PasswordNotUtf8))
-    (user_refusal (prepared (user_of input))))
+    (option_map of_scram (user_refusal (prepared (user_of input)))))
 
 -- server-first outside its grammar; or its nonce does not begin with the client's; or its salt is none
 abbrev pub first_refusal : ClientLogin → List ℕ → Option ClientError
-first_refusal login first = scram.first_refusal login.nonce first
+first_refusal login first = option_map of_scram (scram.first_refusal login.nonce first)
 
 -- the signature that server-final should have behind server-first
 abbrev pub expected_of : ClientLogin → List ℕ → List ℕ
@@ -112,7 +117,7 @@ expected_of login first = signature login first
 
 -- server-final outside its grammar; or it tells a failure; or its signature is another
 abbrev pub final_refusal : List ℕ → List ℕ → Option ClientError
-final_refusal expected final = scram.final_refusal expected final
+final_refusal expected final = option_map of_scram (scram.final_refusal expected final)
 
 -- ---- login blocks
 
@@ -131,7 +136,7 @@ login_events input (Scram methods first final) =
     ∷ Got (backend.Authentication (authentication.SASLContinue first)) ∷ Sent (final_message (scram_login input methods) first)
     ∷ Got (backend.Authentication (authentication.SASLFinal final)) ∷ []
 
--- nothing of the server's is refused
+-- nothing of the server's is refused; and a login is by SCRAM where it must be bound
 abbrev pub IsAccepted : Input → Login → Type 0
 IsAccepted input (Scram methods first final) = (methods_refusal input methods ≡ None) × (first_refusal (scram_login input methods) first ≡ None) × (final_refusal (expected_of (scram_login input methods) first) final ≡ None)
-IsAccepted input login = Unit {0}
+IsAccepted input login = must_bind input ≡ false

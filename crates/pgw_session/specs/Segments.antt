@@ -15,7 +15,7 @@ use Rattle.pgw_session.specs.declared.types.Request.{Request}
 use Rattle.pgw_session.specs.declared.stage.Kind.{Kind}
 use Rattle.pgw_session.specs.Input.{Input}
 use Rattle.pgw_session.specs.Events.{Event, Sent, Got}
-use Rattle.pgw_session.specs.Logins.{Login, login_events, IsAccepted}
+use Rattle.pgw_session.specs.Logins.{Login, login_events, must_bind, IsAccepted}
 use Rattle.pgw_session.specs.declared.stage.Role.{Role}
 use Rattle.pgw_session.specs.declared.stage.Role.TheVariants.{Taken, Closing, Completing, Failing, Misplaced}
 use Rattle.pgw_session.specs.Requests.{kind_of, sends_of, sync, behind_error, role}
@@ -80,13 +80,22 @@ is_news (backend.NoticeResponse m) = true
 is_news (backend.NegotiateProtocolVersion m) = is_known (negotiated_version m.newest_minor_protocol)
 is_news m = false
 
+-- before a login block: AuthenticationOk is not among it where a login must be bound
+abbrev pub is_early : Bool → Backend → Bool
+is_early bound (backend.Authentication authentication.Ok) = not bound
+is_early bound m = is_news m
+
+-- the startup message, and what a server may say before a login block
+abbrev pub IsBegun : Input → List Event → Type 0
+IsBegun input es = (news : List Backend) × (es ≡ Sent (startup_message input) ∷ map Got news) × AreAll (is_early (must_bind input)) news
+
 -- what a server says behind the startup message: news, one login block, and news up to ReadyForQuery
 pub record IsGreeting (input : Input) (es : List Event) : Type 0 where
   pub news : List Backend
   pub login : Login
   pub rest : List Event
   pub are : es ≡ map Got news ++ (login_events input login ++ rest)
-  pub all : AreAll is_news news
+  pub all : AreAll (is_early (must_bind input)) news
   pub accepted : IsAccepted input login
   pub ends : IsUpToReady is_news rest
 

@@ -14,11 +14,11 @@ use Rattle.pgw_session.specs.declared.stage.Stage.TheVariants.{Starting, Challen
 use Rattle.pgw_session.specs.declared.stage.Next.{Next}
 use Rattle.pgw_session.specs.declared.stage.Next.TheVariants.{Goes, Closes, Wrong, Refuses, PassesOver}
 use Rattle.pgw_session.specs.Input.{Input}
-use Rattle.pgw_session.specs.Logins.{cleartext_message, md5_message, scram_login, first_message, final_message, methods_refusal, first_refusal, expected_of, final_refusal}
+use Rattle.pgw_session.specs.Logins.{must_bind, cleartext_message, md5_message, scram_login, first_message, final_message, methods_refusal, first_refusal, expected_of, final_refusal}
 use Rattle.pgw_session.specs.declared.stage.Role.{Role}
 use Rattle.pgw_session.specs.declared.stage.Role.TheVariants.{Taken, Closing, Completing, Failing, Misplaced}
 use Rattle.pgw_session.specs.Requests.{kind_of, sync, behind_error, passes_over, role}
-use Rattle.pgw_session.specs.Segments.{is_news, is_ready}
+use Rattle.pgw_session.specs.Segments.{is_news, is_early, is_ready}
 
 -- news are taken at a stage of the startup segment; else it is by the message
 abbrev pub news_or : Bool → Stage → Next → Next
@@ -36,10 +36,16 @@ abbrev pub unless : Option ClientError → Next → Next
 unless None next = next
 unless (Some e) next = Refuses e
 
+-- what lets a client in that is not bound has no place where a login must be
+abbrev pub unless_bound : Bool → Next → Next
+unless_bound true next = Wrong
+unless_bound false next = next
+
 abbrev pub by_login : Input → Backend → Next
-by_login input (backend.Authentication authentication.CleartextPassword) = Goes Admitted (Some (cleartext_message input))
-by_login input (backend.Authentication (authentication.MD5Password salt)) = Goes Admitted (Some (md5_message input salt))
+by_login input (backend.Authentication authentication.CleartextPassword) = unless_bound (must_bind input) (Goes Admitted (Some (cleartext_message input)))
+by_login input (backend.Authentication (authentication.MD5Password salt)) = unless_bound (must_bind input) (Goes Admitted (Some (md5_message input salt)))
 by_login input (backend.Authentication (authentication.SASL methods)) = unless (methods_refusal input methods) (Goes (Challenged (scram_login input methods)) (Some (first_message (scram_login input methods))))
+by_login input (backend.ReadyForQuery m) = unless_bound (must_bind input) Closes
 by_login input m = by_welcome m
 
 -- within a SCRAM login
@@ -71,7 +77,7 @@ by_ready false = Goes PassingOver None
 
 -- what a message does at a stage
 abbrev pub after : Input → Stage → Backend → Next
-after input Starting m = news_or (is_news m) Starting (by_login input m)
+after input Starting m = news_or (is_early (must_bind input) m) Starting (by_login input m)
 after input (Challenged login) m = by_first login m
 after input (Proving expected) m = by_final expected m
 after input Admitted m = news_or (is_news m) Admitted (by_welcome m)

@@ -10,7 +10,7 @@ use Rattle.pgw_session.specs.declared.standing.Standing.{Standing}
 use Rattle.pgw_session.specs.Events.{Event, Sent, Got, sents, joined}
 use Rattle.pgw_session.specs.Standings.{first_standing, standing_by, standing_of}
 use Rattle.pgw_session.specs.Requests.{sends_of}
-use Rattle.pgw_session.specs.Segments.{IsStartupSegment, IsRequestSegment, startup_message}
+use Rattle.pgw_session.specs.Segments.{IsStartupSegment, IsRequestSegment, IsBegun, startup_message}
 use Rattle.pgw_session.specs.Answers.{answers_of}
 use Rattle.pgw_session.specs.Input.{Input}
 
@@ -47,9 +47,17 @@ pub record IsPart (input : Input) (es : List Event) : Type 0 where
   pub transcript : IsTranscript input (closed ++ (part ++ rest) ∷ later)
   pub opening : (part ≡ []) ⊎ ((more : List Event) × (part ≡ map Sent (opening_at input (length closed)) ++ more))
 
--- a legal prefix: something makes it a joined list, and an opening's messages stand in it all or not at all
+-- a joined list
+abbrev pub IsJoined : Input → List Event → Type 0
+IsJoined input es = (segments : List (List Event)) × IsTranscript input segments × (joined segments ≡ es)
+
+-- nothing at all, or what stands before a login block, whether or not this client can log in
+abbrev pub IsEarly : Input → List Event → Type 0
+IsEarly input es = (es ≡ []) ⊎ IsBegun input es
+
+-- a legal prefix: something makes it a joined list, and an opening's messages stand in it all or not at all; or it is early
 abbrev pub IsLegalPrefix : Input → List Event → Type 0
-IsLegalPrefix input es = ((segments : List (List Event)) × IsTranscript input segments × (joined segments ≡ es)) ⊎ IsPart input es
+IsLegalPrefix input es = IsJoined input es ⊎ (IsPart input es ⊎ IsEarly input es)
 
 -- ---- bytes
 

@@ -1,5 +1,5 @@
 -- Input of which each message can be sent.
-use Rattle.std.specs.Prelude.{◌≢◌, ◌<◌, ◌≤◌, ℕ, ◌+◌, List, [], ◌∷◌, ◌++◌, length, codes, Option, Some, None, IfSome}
+use Rattle.std.specs.Prelude.{◌≡◌, ◌≢◌, ◌<◌, ◌≤◌, ℕ, true, ◌+◌, List, [], ◌∷◌, ◌++◌, length, codes, Option, Some, None, is_some, IfSome}
 use Rattle.std.specs.List.{All}
 use Rattle.pgw_wire.specs.Writing.{text, i32}
 use Rattle.pgw_ext.specs.Kinds.{name}
@@ -61,7 +61,7 @@ IsValidRequest q = AreValid (sends_of q)
 -- is above its limit
 pub record IsValidInput (input : Input) : Type 0 where
   pub encryption : (input.config).ssl_mode ≢ ssl_mode.Require
-  pub binding : (input.config).channel_binding ≢ channel_binding.Require
+  pub binding : (input.config).channel_binding ≡ channel_binding.Require → is_some (input.config).certificate_hash ≡ true
   pub application_name : IfSome (input.config).application_name HasNoZero
   pub user : IfSome (input.config).user HasNoZero
   pub database : IfSome (input.config).dbname HasNoZero

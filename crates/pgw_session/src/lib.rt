@@ -5,6 +5,7 @@
 //! functions and nothing that runs.
 #![tactic(auto)]
 
+pub mod equality;
 pub mod laws;
 pub mod notes;
 pub mod stage;

@@ -15,19 +15,24 @@ ghost use Rattle.pgw_session.specs.Flow.{HasNoError, EndsDescribed, EndsIn, Desc
 /// A message has a place in a request's segment exactly where it answers a message of that request, may come at any
 /// time, or is taken besides; but for a row of a simple query that nothing describes.
 pub fn requests_take_their_answers()
-    ensures { (q : TheRequest) (described : Bool) (m : Backend) → is_placed (role (kind_of q) described m) ≡ may_come q described m }
+    ensures { (q : TheRequest) (described : Bool) (m : Backend) →
+        is_placed (role (kind_of q) described m) ≡ may_come q described m }
 {}
 
 /// What a message does to the answer of a request, by the documentation.
 pub fn messages_have_their_roles()
     // It closes the segment exactly where it ends the answer,
-    ensures closing { (q : TheRequest) (described : Bool) (m : Backend) → is_closing (role (kind_of q) described m) ≡ ends_answer q m }
+    ensures closing { (q : TheRequest) (described : Bool) (m : Backend) →
+        is_closing (role (kind_of q) described m) ≡ ends_answer q m }
     // completes it exactly where it completes the portal that was executed,
-    ensures completing { (q : TheRequest) (described : Bool) (m : Backend) → is_completing (role (kind_of q) described m) ≡ completes_portal q m }
+    ensures completing { (q : TheRequest) (described : Bool) (m : Backend) →
+        is_completing (role (kind_of q) described m) ≡ completes_portal q m }
     // and fails the request exactly where it is an error.
-    ensures failing { (q : TheRequest) (described : Bool) (m : Backend) → is_failing (role (kind_of q) described m) ≡ is_error m }
+    ensures failing { (q : TheRequest) (described : Bool) (m : Backend) →
+        is_failing (role (kind_of q) described m) ≡ is_error m }
     // Where it is taken, rows may come behind it exactly where they are described there.
-    ensures taken { (q : TheRequest) (described behind : Bool) (m : Backend) → role (kind_of q) described m ≡ Taken behind → behind ≡ is_described_behind q described m }
+    ensures taken { (q : TheRequest) (described behind : Bool) (m : Backend) →
+        role (kind_of q) described m ≡ Taken behind → behind ≡ is_described_behind q described m }
 {}
 
 /// Behind an error Sync is sent where the request had neither Query nor Sync, and nothing where it had one.
@@ -37,7 +42,9 @@ pub fn sync_is_sent_behind_errors()
 
 /// In a simple query, each row up to the first error stands behind a description, with no command completed between.
 pub fn rows_are_described()
-    ensures { (query : List ℕ) (es before behind : List Event) (row : TheRow) → IsRequestSegment (request.Simple query) es → es ≡ before ++ Got (backend.DataRow row) ∷ behind → HasNoError before →
+    ensures { (query : List ℕ) (es before behind : List Event) (row : TheRow) →
+        IsRequestSegment (request.Simple query) es → es ≡ before
+        ++ Got (backend.DataRow row) ∷ behind → HasNoError before →
         EndsDescribed before }
 {}
 
@@ -49,5 +56,6 @@ pub fn segments_end_once()
 /// In a request's segment one ReadyForQuery is got for each Query and Sync that was sent. Where a portal is described, one
 /// is taken unasked too.
 pub fn rounds_are_answered()
-    ensures { (q : TheRequest) (es : List Event) → (DescribesPortal q → ⊥) → IsRequestSegment q es → rounds_asked es ≡ rounds_ended es }
+    ensures { (q : TheRequest) (es : List Event) → (DescribesPortal q → ⊥) → IsRequestSegment q es →
+        rounds_asked es ≡ rounds_ended es }
 {}

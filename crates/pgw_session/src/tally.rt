@@ -1,10 +1,10 @@
 //! What a segment gave so far.
 
 use crate::types::{ExecuteResult, Response};
-use pgw_backend::field_info::FieldInfo;
-use pgw_backend::pg_type::PgType;
+use pgw_query::data_rows::DataRows;
+use pgw_query::field_info::FieldInfo;
+use pgw_query::pg_type::PgType;
 use pgw_query::response::ErrorResponse;
-use pgw_rows::data_rows::DataRows;
 use pgw_types::listed::Listed;
 
 /// A result whose rows are still coming.

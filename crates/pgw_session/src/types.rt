@@ -3,11 +3,11 @@ ghost use Rattle.std.specs.Prelude.{◌≡◌, [], map, IfOk};
 ghost use Rattle.std.specs.Option.{option_copied};
 ghost use Rattle.pgw_wire.specs.Reading.{name_of};
 
-use pgw_backend::field_info::FieldInfo;
-use pgw_backend::pg_type::PgType;
-use pgw_backend::tag::Tag;
+use pgw_query::data_rows::DataRows;
+use pgw_query::field_info::FieldInfo;
+use pgw_query::pg_type::PgType;
 use pgw_query::response::{ErrorResponse, TransactionStatus};
-use pgw_rows::data_rows::DataRows;
+use pgw_query::tag::Tag;
 use pgw_rows::result::DataRowsReader;
 use pgw_types::context::ProtocolVersion;
 use pgw_types::listed::{Duplicate, Listed};
@@ -99,7 +99,8 @@ impl Request {
         statement: &str,
         parameters: &[Option<&str>],
     ) -> Result<Request, OutOfMemory>
-        ensures { IfOk result (λ r. r ≡ request.Bind (name_of portal.now) (name_of statement.now) (map option_copied parameters.now) []) }
+        ensures { IfOk result (λ r. r ≡ request.Bind (name_of portal.now) (name_of statement.now)
+            (map option_copied parameters.now) []) }
     {
         let portal = named(alloc, portal)?;
         let statement = named(alloc, statement)?;
@@ -119,7 +120,8 @@ impl Request {
         sql: &str,
         parameters: &[Option<&str>],
     ) -> Result<Request, OutOfMemory>
-        ensures { IfOk result (λ r. r ≡ request.Query sql.now [] (map option_copied parameters.now)) }
+        ensures { IfOk result (λ r. r ≡ request.Query sql.now []
+            (map option_copied parameters.now)) }
     {
         let parameters = parameters_of(alloc, parameters)?;
         Ok(Request::Query(Text::from_str(alloc, sql)?, Listed::new(alloc), parameters))

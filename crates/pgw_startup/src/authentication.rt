@@ -109,7 +109,8 @@ fn put_coded(out: &mut Writer, code: u32, bytes: &[u8]) -> Result<(), OutOfMemor
 }
 
 fn put_methods(out: &mut Writer, methods: &[Text]) -> Result<(), OutOfMemory>
-    ensures ok { OnOk result (out.new.body ≡ out.old.body ++ u32_bytes 10 ++ flat_map text_bytes methods.now ++ 0 ∷ []) }
+    ensures ok { OnOk result (out.new.body ≡ out.old.body ++ u32_bytes 10
+        ++ flat_map text_bytes methods.now ++ 0 ∷ []) }
     ensures kept { out.new.before ≡ out.old.before }
 {
     put_u32(out, 10)?;

@@ -18,8 +18,12 @@ ghost use Rattle.pgw_startup.specs.Startup.{startup_of, startup, is_startup_refu
 
 /// A Startup that is read is spelled so, and what is spelled so is read; and parameters are made again from their pairs.
 pub fn startup_is_exact()
-    ensures found { (ctx : TheContext) (bytes : List ℕ) (m : TheStartup) (rest : List ℕ) → front Untyped 10000 (startup_of ctx) bytes ≡ Ok (Some (m, rest)) → (g : List ℕ) × (bytes ≡ g ++ rest) × SpellsUntyped 10000 SpellsStartup m g }
-    ensures only { (ctx : TheContext) (m : TheStartup) (g rest : List ℕ) → SpellsUntyped 10000 SpellsStartup m g → front Untyped 10000 (startup_of ctx) (g ++ rest) ≡ Ok (Some (m, rest)) }
+    ensures found { (ctx : TheContext) (bytes : List ℕ) (m : TheStartup) (rest : List ℕ) →
+        front Untyped 10000 (startup_of ctx) bytes ≡ Ok (Some (m, rest)) → (g : List ℕ)
+        × (bytes ≡ g ++ rest) × SpellsUntyped 10000 SpellsStartup m g }
+    ensures only { (ctx : TheContext) (m : TheStartup) (g rest : List ℕ) →
+        SpellsUntyped 10000 SpellsStartup m g → front Untyped 10000 (startup_of ctx) (g ++ rest)
+        ≡ Ok (Some (m, rest)) }
     ensures parameters { (m : Held) → from_pairs (map.entries m) ≡ m }
 {}
 
@@ -33,16 +37,32 @@ pub fn client_rows_are_exact()
 
 /// What is written of a message spells it.
 pub fn what_is_written_is_spelled()
-    ensures startup { (m : TheStartup) (g : List ℕ) → IsStartup m → encoded Untyped 10000 (refused_if (is_startup_refused m)) (startup m) ≡ Ok g → SpellsUntyped 10000 SpellsStartup m g }
-    ensures password { (m : ThePassword) (g : List ℕ) → IsUtf8 m.password → encoded (Typed 112) 10000 (refused_if (has_zero m.password)) (text m.password) ≡ Ok g → SpellsTyped 112 10000 SpellsPassword m g }
-    ensures initial_response { (m : TheInitial) (g : List ℕ) → IsUtf8 m.auth_method → encoded (Typed 112) 10000 (refused_if (is_method_refused m.auth_method)) (initial_response m) ≡ Ok g → SpellsTyped 112 10000 SpellsInitialResponse m g }
-    ensures response { (m : TheResponse) (g : List ℕ) → encoded (Typed 112) 10000 None m.payload ≡ Ok g → SpellsTyped 112 10000 SpellsResponse m g }
+    ensures startup { (m : TheStartup) (g : List ℕ) → IsStartup m →
+        encoded Untyped 10000 (refused_if (is_startup_refused m)) (startup m) ≡ Ok g →
+        SpellsUntyped 10000 SpellsStartup m g }
+    ensures password { (m : ThePassword) (g : List ℕ) → IsUtf8 m.password →
+        encoded (Typed 112) 10000 (refused_if (has_zero m.password)) (text m.password) ≡ Ok g →
+        SpellsTyped 112 10000 SpellsPassword m g }
+    ensures initial_response { (m : TheInitial) (g : List ℕ) → IsUtf8 m.auth_method →
+        encoded (Typed 112) 10000 (refused_if (is_method_refused m.auth_method))
+        (initial_response m) ≡ Ok g → SpellsTyped 112 10000 SpellsInitialResponse m g }
+    ensures response { (m : TheResponse) (g : List ℕ) → encoded (Typed 112) 10000 None m.payload
+        ≡ Ok g → SpellsTyped 112 10000 SpellsResponse m g }
 {}
 
 /// And it is read again, whatever follows it.
 pub fn what_is_written_comes_back()
-    ensures startup { (ctx : TheContext) (m : TheStartup) (g rest : List ℕ) → IsStartup m → encoded Untyped 10000 (refused_if (is_startup_refused m)) (startup m) ≡ Ok g → front Untyped 10000 (startup_of ctx) (g ++ rest) ≡ Ok (Some (m, rest)) }
-    ensures password { (m : ThePassword) (g rest : List ℕ) → IsUtf8 m.password → encoded (Typed 112) 10000 (refused_if (has_zero m.password)) (text m.password) ≡ Ok g → front (Typed 112) 10000 password_of (g ++ rest) ≡ Ok (Some (m, rest)) }
-    ensures initial_response { (m : TheInitial) (g rest : List ℕ) → IsUtf8 m.auth_method → encoded (Typed 112) 10000 (refused_if (is_method_refused m.auth_method)) (initial_response m) ≡ Ok g → front (Typed 112) 10000 initial_response_of (g ++ rest) ≡ Ok (Some (m, rest)) }
-    ensures response { (m : TheResponse) (g rest : List ℕ) → encoded (Typed 112) 10000 None m.payload ≡ Ok g → front (Typed 112) 10000 response_of (g ++ rest) ≡ Ok (Some (m, rest)) }
+    ensures startup { (ctx : TheContext) (m : TheStartup) (g rest : List ℕ) → IsStartup m →
+        encoded Untyped 10000 (refused_if (is_startup_refused m)) (startup m) ≡ Ok g →
+        front Untyped 10000 (startup_of ctx) (g ++ rest) ≡ Ok (Some (m, rest)) }
+    ensures password { (m : ThePassword) (g rest : List ℕ) → IsUtf8 m.password →
+        encoded (Typed 112) 10000 (refused_if (has_zero m.password)) (text m.password) ≡ Ok g →
+        front (Typed 112) 10000 password_of (g ++ rest) ≡ Ok (Some (m, rest)) }
+    ensures initial_response { (m : TheInitial) (g rest : List ℕ) → IsUtf8 m.auth_method →
+        encoded (Typed 112) 10000 (refused_if (is_method_refused m.auth_method))
+        (initial_response m) ≡ Ok g → front (Typed 112) 10000 initial_response_of (g ++ rest)
+        ≡ Ok (Some (m, rest)) }
+    ensures response { (m : TheResponse) (g rest : List ℕ) →
+        encoded (Typed 112) 10000 None m.payload ≡ Ok g →
+        front (Typed 112) 10000 response_of (g ++ rest) ≡ Ok (Some (m, rest)) }
 {}

@@ -7,9 +7,11 @@ ghost use Rattle.pgw_startup.specs.Response.{ssl_response_of, gss_enc_response_o
 
 /// A server may send the minor version alone or with the major one: both are read alike.
 pub fn both_forms_are_read_alike()
-    ensures alike { (minor : ℕ) → minor < 65536 → negotiated_version (pos (3 * 65536 + minor)) ≡ negotiated_version (pos minor) }
+    ensures alike { (minor : ℕ) → minor < 65536 → negotiated_version (pos (3 * 65536 + minor))
+        ≡ negotiated_version (pos minor) }
     ensures first { negotiated_version (pos 0) ≡ Some PROTOCOL3_0 }
-    ensures later { (minor : ℕ) → 2 ≤ minor → minor < 65536 → negotiated_version (pos minor) ≡ Some PROTOCOL3_2 }
+    ensures later { (minor : ℕ) → 2 ≤ minor → minor < 65536 → negotiated_version (pos minor)
+        ≡ Some PROTOCOL3_2 }
 {}
 
 /// What is read of the one byte that answers a request for encryption is spelled so, and what is spelled so is read, whatever follows it.

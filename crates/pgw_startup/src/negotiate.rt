@@ -36,7 +36,10 @@ impl NegotiateProtocolVersion {
         newest_minor_protocol: i32,
         unsupported_options: Listed<Text>,
     ) -> NegotiateProtocolVersion
-        ensures { result ≡ record { newest_minor_protocol = newest_minor_protocol; unsupported_options = unsupported_options } }
+        ensures { result ≡ record {
+          newest_minor_protocol = newest_minor_protocol;
+          unsupported_options = unsupported_options;
+        } }
     {
         NegotiateProtocolVersion {
             newest_minor_protocol,

@@ -42,7 +42,12 @@ impl Startup {
 
     /// Version 3.0 without parameters.
     pub fn new(alloc: Global) -> Startup
-        ensures { result ≡ record { protocol_number_major = 3; protocol_number_minor = 0; parameters = map.empty } }
+        ensures { result ≡ record {
+          protocol_number_major = 3;
+          protocol_number_minor = 0;
+          parameters
+              = map.empty;
+        } }
     {
         Startup {
             protocol_number_major: Startup::PG_PROTOCOL_LATEST,

@@ -207,7 +207,8 @@ fn grade(error: &PgWireError) -> (&str, &str)
 
 // What is said of an error that no user made.
 fn plain_error(alloc: Global, error: &PgWireError) -> Result<ErrorInfo, OutOfMemory>
-    ensures { IfOk result (λ info. info ≡ plain_info (grade_of error.now).0 (grade_of error.now).1 info.message) }
+    ensures { IfOk result (λ info. info ≡ plain_info (grade_of error.now).0 (grade_of error.now).1
+        info.message) }
 {
     let (severity, code) = grade(error);
     let message = Text::from_string(format!(in alloc; "{error}")?);

@@ -5,12 +5,16 @@
 //! are the same.
 #![tactic(auto)]
 
+pub mod address;
 pub mod boxed;
+pub mod config_error;
 pub mod context;
 pub mod error;
 pub mod error_info;
 pub mod listed;
+pub mod marks;
 pub mod memory;
 pub mod octets;
+pub mod scram_error;
 pub mod text;
 mod told;

@@ -84,7 +84,8 @@ impl<'a, T> IntoIterator for &'a Listed<T> {
 
     type IntoIter = slice::Iter<'a, T>;
 
-    ghost into_iter_gives = { λ l it. (iter_rest it ≡ l.now) × (length (iter_rest it) < 2 ^ 64) × EveryRun (iter_steps {A = T}) (λ run. ItemsMapTo run (λ x. x.now) (iter_rest run.from)) };
+    ghost into_iter_gives = { λ l it. (iter_rest it ≡ l.now) × (length (iter_rest it) < 2 ^ 64)
+        × EveryRun (iter_steps {A = T}) (λ run. ItemsMapTo run (λ x. x.now) (iter_rest run.from)) };
 
     fn into_iter(self) -> slice::Iter<'a, T> {
         self.as_slice().iter()

@@ -1,4 +1,5 @@
 pub mod Reading
+pub mod Header
 pub mod Framing
 pub mod Sound
 pub mod Equal
@@ -12,3 +13,4 @@ pub mod CodeLaws
 pub mod Keys
 pub mod Counted
 pub mod Draft
+pub mod Values

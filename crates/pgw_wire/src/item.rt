@@ -18,7 +18,8 @@ pub trait Item: Sized + Drop {
         ensures { Reads result reader.new (at reader.old) };
 
     // each takes a byte or more
-    ghost shrinks: { (bytes : List ℕ) (o : Option Self) (rest : List ℕ) → at bytes ≡ Ok (o, rest) → length rest < length bytes };
+    ghost shrinks: { (bytes : List ℕ) (o : Option Self) (rest : List ℕ) → at bytes ≡ Ok (o, rest) →
+        length rest < length bytes };
 }
 
 /// The elements up to the mark.

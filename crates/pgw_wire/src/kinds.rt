@@ -20,7 +20,9 @@ pub fn decode_as<M: Message, A, B: Buffer, F: FnOnce(M) -> A>(
     make: F,
 ) -> PgWireResult<Option<A>>
     requires { F.IsAlwaysCallable make }
-    ensures taken { (kind : M → A) → ((m : M) (a : A) → F.post make m a → a ≡ kind m) → Decodes result (B.held buf.old) (B.held buf.new) (as_one_of kind (front M.row_framing M.limit (M.reading ctx.now) (B.held buf.old))) }
+    ensures taken { (kind : M → A) → ((m : M) (a : A) → F.post make m a → a ≡ kind m) →
+        Decodes result (B.held buf.old) (B.held buf.new)
+        (as_one_of kind (front M.row_framing M.limit (M.reading ctx.now) (B.held buf.old))) }
     ensures kept { OnErr result (B.held buf.new ≡ B.held buf.old) }
 {
     Ok(M::decode_from(alloc, buf, ctx)?.map(make))

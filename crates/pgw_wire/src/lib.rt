@@ -10,6 +10,7 @@ pub mod counted;
 pub mod equality;
 pub mod field;
 pub mod framing;
+pub mod header;
 pub mod item;
 pub mod kinds;
 pub mod message;

@@ -124,7 +124,8 @@ impl SecretKey {
     /// Appends the key's bytes.
     #[tactic(auto, unfolding(crate::specs::Writing::i32))]
     pub fn encode(&self, buf: &mut BytesMut) -> PgWireResult<()>
-        ensures { Appends result buf.old.items buf.new.items (body_or (key_fault self.now) (key_bytes self.now)) }
+        ensures { Appends result buf.old.items buf.new.items
+            (body_or (key_fault self.now) (key_bytes self.now)) }
     {
         match self {
             SecretKey::I32(n) => append(buf, &n.cast_unsigned().to_be_bytes()),

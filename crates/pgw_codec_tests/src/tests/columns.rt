@@ -1,10 +1,10 @@
 //! Tags, types and columns.
 
 use crate::tests::shared::same;
-use pgw_backend::field_info::FieldInfo;
-use pgw_backend::pg_type::PgType;
-use pgw_backend::tag::Tag;
 use pgw_query::data::FieldDescription;
+use pgw_query::field_info::FieldInfo;
+use pgw_query::pg_type::PgType;
+use pgw_query::tag::Tag;
 use pgw_types::listed::Duplicate;
 use pgw_types::memory::OutOfMemory;
 use pgw_types::text::Text;

@@ -3,10 +3,11 @@
 use crate::tests::shared::{encoded, printed, same, same_bytes};
 use bytes::BytesMut;
 use pgw_backend::backend::PgWireBackendMessage;
-use pgw_backend::client_error::{PgWireClientError, ScramFault, SqlFault, unexpected};
-use pgw_backend::pg_type::PgType;
+use pgw_backend::client_error::{PgWireClientError, unexpected};
 use pgw_query::description::NoData;
+use pgw_query::pg_type::PgType;
 use pgw_query::response::{ErrorResponse, NoticeResponse};
+use pgw_query::row_error::SqlFault;
 use pgw_types::boxed::Boxed;
 use pgw_types::error::{
     ApiFault, OauthFault, OauthRefusal, PgWireError, PgWireResult, ScramMessageFault,
@@ -15,6 +16,7 @@ use pgw_types::error_info::ErrorInfo;
 use pgw_types::listed::{Duplicate, Listed};
 use pgw_types::memory::OutOfMemory;
 use pgw_types::octets::Octets;
+use pgw_types::scram_error::ScramFault;
 use pgw_types::text::Text;
 use std::alloc::Global;
 use std::test::Fail;
@@ -308,7 +310,7 @@ fn held_error(alloc: Global, number: usize) -> Result<PgWireClientError, OutOfMe
 }
 
 const HELD_ERRORS: &[&str] = &[
-    "a value of the configuration is not UTF-8: [255]",
+    "a value of the configuration is not UTF-8; its length in bytes is 1",
     "the server sent NoData where it has no place",
     "ERROR 42703: no such column\nDETAIL: detail\nHINT: hint",
     "ERROR 42703: no such column",
@@ -348,7 +350,7 @@ const CLIENT_TEXT_ERRORS: &[(usize, &str, &str)] = &[
     (
         0,
         "channel_binding",
-        "`channel_binding`: the value of channel_binding is unknown or not supported: no login is bound to a connection",
+        "`channel_binding`: the value of channel_binding is unknown, or it demands a bound login and no certificate's hash is given",
     ),
     (
         0,

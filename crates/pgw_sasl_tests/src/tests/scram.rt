@@ -1,8 +1,11 @@
 //! SCRAM-SHA-256. Texts and digests were computed with Python's hashlib by the formulas of RFC 5802.
-use crate::tests::shared::{Case, Outcome, Silent, Step, TwoPasswords, compare, outcome_of, scram};
+use crate::tests::shared::{
+    Case, OneSecret, Outcome, Silent, Step, TwoPasswords, compare, outcome_of, scram,
+};
 use pgw_registry::generator::RandomPidSecretKeyGenerator;
 use pgw_sasl::handler::SASLAuthStartupHandler;
-use pgw_sasl::scram::ScramAuth;
+use pgw_sasl::scram::{ScramAuth, ScramSource};
+use pgw_sasl::stored::Secrets;
 use pgw_types::memory::OutOfMemory;
 use std::alloc::Global;
 use std::process::Abort;
@@ -177,10 +180,10 @@ const BOUND: &[Case] = &[
 ];
 
 // What comes of messages to a handler for SCRAM alone.
-fn by_scram<R: Abort>(
+fn by_scram<A: ScramSource + Drop, R: Abort>(
     rt: &R,
     alloc: Global,
-    scram: ScramAuth<TwoPasswords>,
+    scram: ScramAuth<A>,
     steps: &[Step<'_>],
 ) -> Result<Outcome, OutOfMemory> {
     let (generator, seat) = RandomPidSecretKeyGenerator::new(alloc)?;
@@ -207,6 +210,83 @@ fn bound(alloc: Global) -> Result<ScramAuth<TwoPasswords>, OutOfMemory> {
 fn bound_logins(rt: HostRuntime) -> Result<(), Fail> {
     for (steps, words, sent, number) in BOUND {
         let outcome = by_scram(&rt, rt.alloc(), bound(rt.alloc())?, steps)?;
+        compare(&rt, rt.alloc(), outcome, words, sent, *number)?;
+    }
+    Ok(())
+}
+
+// Over a stored secret an honest client's login is the same, bound or not, and so are the refusals.
+const STORED: &[Case] = &[
+    (
+        &[OPENED, BEGUN, ENDED],
+        "ok ok ok",
+        &[BOUND_OFFER, SERVER_FIRST, SERVER_FINAL, END],
+        100000,
+    ),
+    (
+        &[
+            OPENED,
+            Step::First(PLUS, Some(BOUND_FIRST)),
+            Step::Further(BOUND_LAST),
+        ],
+        "ok ok ok",
+        &[BOUND_OFFER, SERVER_FIRST, BOUND_FINAL, END],
+        100000,
+    ),
+    (
+        &[OPENED, BEGUN, Step::Further(FALSE_PROOF)],
+        "ok ok bob",
+        &[BOUND_OFFER, SERVER_FIRST],
+        -1,
+    ),
+    (
+        &[Step::Startup("eve"), BEGUN],
+        "ok UserNameRequired",
+        &[BOUND_OFFER],
+        -1,
+    ),
+    (
+        &[OPENED, Step::First(PLUS, Some(FIRST))],
+        "ok ChannelBinding",
+        &[BOUND_OFFER],
+        -1,
+    ),
+    (
+        &[OPENED, Step::First(METHOD, Some(b"n=bob"))],
+        "ok Grammar",
+        &[BOUND_OFFER],
+        -1,
+    ),
+    (
+        &[OPENED, Step::First(METHOD, None)],
+        "ok Empty",
+        &[BOUND_OFFER],
+        -1,
+    ),
+    (
+        &[OPENED, BEGUN, BEGUN],
+        "ok ok FailedToCoercePasswordMessage",
+        &[BOUND_OFFER, SERVER_FIRST],
+        -1,
+    ),
+    (
+        &[OPENED, BEGUN, ENDED, ENDED],
+        "ok ok ok InvalidSASLState",
+        &[BOUND_OFFER, SERVER_FIRST, SERVER_FINAL, END],
+        100000,
+    ),
+];
+
+fn stored(alloc: Global) -> Result<ScramAuth<Secrets<OneSecret>>, OutOfMemory> {
+    let mut scram = ScramAuth::new(Secrets::new(OneSecret));
+    scram.configure_certificate_hash(alloc, &[10])?;
+    Ok(scram)
+}
+
+#[test]
+fn stored_logins(rt: HostRuntime) -> Result<(), Fail> {
+    for (steps, words, sent, number) in STORED {
+        let outcome = by_scram(&rt, rt.alloc(), stored(rt.alloc())?, steps)?;
         compare(&rt, rt.alloc(), outcome, words, sent, *number)?;
     }
     Ok(())

@@ -9,11 +9,12 @@ use pgw_login::client_info::{ClientInfo, DefaultClient, METADATA_USER, PgWireCon
 use pgw_login::handler::StartupHandler;
 use pgw_login::outbox::ByteOutbox;
 use pgw_login::provider::ServerParameterProvider;
-use pgw_login::source::{AuthSource, LoginInfo};
+use pgw_login::source::{AuthSource, LoginInfo, SecretSource};
 use pgw_login::state::LoginState;
 use pgw_registry::generator::PidSeat;
 use pgw_sasl::scram::ScramAuth;
 use pgw_scram::password::Password as Kept;
+use pgw_secrets::secret::StoredSecret;
 use pgw_startup::password::{Password, PasswordMessageFamily};
 use pgw_startup::sasl::{SASLInitialResponse, SASLResponse};
 use pgw_startup::startup::Startup;
@@ -42,6 +43,21 @@ impl AuthSource for TwoPasswords {
             Some(name) if name == "tom" => {
                 Ok(Kept::new(None, Octets::from_slice(alloc, b"pencil")?))
             }
+            _ => Err(PgWireError::UserNameRequired),
+        }
+    }
+}
+
+/// Keeps the secret of `pencil` of `bob`, and none of others.
+#[derive(Drop)]
+pub struct OneSecret;
+
+impl SecretSource for OneSecret {
+    ghost secrets = { λ source login answer. Unit {0} };
+
+    fn get_secret(&self, alloc: Global, login: &LoginInfo<'_>) -> PgWireResult<StoredSecret> {
+        match login.user() {
+            Some(name) if name == "bob" => { Ok(StoredSecret::make(alloc, "pencil", b"bar", 12)?) }
             _ => Err(PgWireError::UserNameRequired),
         }
     }
@@ -218,7 +234,8 @@ pub fn outcome_of<H: StartupHandler, R: Abort>(
     seat: PidSeat,
     steps: &[Step<'_>],
 ) -> Result<Outcome, OutOfMemory>
-    requires { (state : TheState) → state.seat ≡ seat → state.pass ≡ None → state.registered ≡ None → H.fits handler.now state }
+    requires { (state : TheState) → state.seat ≡ seat → state.pass ≡ None → state.registered
+        ≡ None → H.fits handler.now state }
 {
     let mut client = DefaultClient::new(alloc, Text::new(alloc), false, ());
     let mut out = ByteOutbox::new(alloc);

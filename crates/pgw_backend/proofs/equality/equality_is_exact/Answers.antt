@@ -1,7 +1,4 @@
-use Rattle.std.proofs.Common.{◌≡◌, ◌⊎◌, inl, inr, refl, ap}
-use Rattle.std.proofs.lemmas.Bool.{false≢true}
-use Rattle.std.proofs.lemmas.Bool.Decides.{Decides-eqb, Decides-int_eq}
-use Rattle.std.specs.Cmp.Lexicographic.{bytes_decides}
+use Rattle.std.proofs.Common.{◌≡◌, ◌⊎◌, inl, inr, refl}
 use Rattle.pgw_backend.specs.declared.backend.PgWireBackendMessage.{PgWireBackendMessage}
 use Rattle.pgw_backend.specs.declared.backend.PgWireBackendMessage.TheVariants as backend
 use Rattle.pgw_backend.specs.contracts.backend.PgWireBackendMessage.{as_values}
@@ -31,13 +28,7 @@ use Rattle.pgw_copy.specs.declared.data.CopyFail.{CopyFail}
 use Rattle.pgw_copy.specs.declared.response.CopyInResponse.{CopyInResponse}
 use Rattle.pgw_copy.specs.declared.response.CopyOutResponse.{CopyOutResponse}
 use Rattle.pgw_copy.specs.declared.response.CopyBothResponse.{CopyBothResponse}
-use Rattle.pgw_backend.specs.declared.tag.Tag.{Tag}
-use Rattle.pgw_backend.specs.declared.pg_type.PgType.TheVariants as types
-use Rattle.pgw_backend.specs.declared.field_info.FieldFormat.TheVariants as formats
-use Rattle.pgw_backend.specs.declared.field_info.FieldInfo.{FieldInfo}
-use Rattle.pgw_backend.specs.declared.client_error.SqlFault.TheVariants as sql
-use Rattle.pgw_backend.specs.declared.client_error.ScramFault.TheVariants as scram
-use Rattle.pgw_wire.proofs.EqualLaws.{option_exact, both_exact, made_exact, none_exact, sum_exact, field_exact}
+use Rattle.pgw_wire.proofs.EqualLaws.{made_exact, none_exact, sum_exact, field_exact}
 use Rattle.pgw_backend.proofs.equality.equality_is_exact.Goals as goal
 
 -- a message as one of its kinds
@@ -102,44 +93,5 @@ from_kind-as_values (backend.CopyInResponse m) = refl
 from_kind-as_values (backend.CopyOutResponse m) = refl
 from_kind-as_values (backend.CopyBothResponse m) = refl
 
-pub returns-clause-message : goal.returns-clause-message
-returns-clause-message c = made_exact as_values from_kind from_kind-as_values _ (sum_exact _ _ (field_exact _ (c.equality_is_exact.ensures.ssl_response)) (sum_exact _ _ (field_exact _ (c.equality_is_exact.ensures.gss_enc_response)) (sum_exact _ _ (field_exact _ (c.equality_is_exact.ensures.authentication)) (sum_exact _ _ (field_exact _ (c.equality_is_exact.ensures.parameter_status)) (sum_exact _ _ (field_exact _ (c.equality_is_exact.ensures.backend_key_data)) (sum_exact _ _ (field_exact _ (c.equality_is_exact.ensures.negotiate_protocol_version)) (sum_exact _ _ (field_exact _ (c.equality_is_exact-3.ensures.parse_complete)) (sum_exact _ _ (field_exact _ (c.equality_is_exact-3.ensures.bind_complete)) (sum_exact _ _ (field_exact _ (c.equality_is_exact-3.ensures.close_complete)) (sum_exact _ _ (field_exact _ (c.equality_is_exact-3.ensures.portal_suspended)) (sum_exact _ _ (field_exact _ (c.equality_is_exact-2.ensures.empty_query_response)) (sum_exact _ _ (field_exact _ (c.equality_is_exact-2.ensures.no_data)) (sum_exact _ _ (field_exact _ (c.equality_is_exact-2.ensures.command_complete)) (sum_exact _ _ (field_exact _ (c.equality_is_exact-2.ensures.ready_for_query)) (sum_exact _ _ (field_exact _ (c.equality_is_exact-2.ensures.error_response)) (sum_exact _ _ (field_exact _ (c.equality_is_exact-2.ensures.notice_response)) (sum_exact _ _ (field_exact _ (c.equality_is_exact-2.ensures.notification_response)) (sum_exact _ _ (field_exact _ (c.equality_is_exact-2.ensures.parameter_description)) (sum_exact _ _ (field_exact _ (c.equality_is_exact-2.ensures.row_description)) (sum_exact _ _ (field_exact _ (c.equality_is_exact-2.ensures.data_row)) (sum_exact _ _ (field_exact _ (c.equality_is_exact-4.ensures.copy_data)) (sum_exact _ _ (field_exact _ (c.equality_is_exact-4.ensures.copy_done)) (sum_exact _ _ (field_exact _ (c.equality_is_exact-4.ensures.copy_fail)) (sum_exact _ _ (field_exact _ (c.equality_is_exact-4.ensures.copy_in_response)) (sum_exact _ _ (field_exact _ (c.equality_is_exact-4.ensures.copy_out_response)) (sum_exact _ _ (field_exact _ (c.equality_is_exact-4.ensures.copy_both_response)) (none_exact (λ x y. absurd x))))))))))))))))))))))))))))
-
-pub returns-clause-tag : goal.returns-clause-tag
-returns-clause-tag c = made_exact {Y = Tag} (λ x. (x.command, (x.oid, x.rows))) (λ p. record { command = p.0; oid = p.1.0; rows = p.1.1 }) (λ x. refl) _ (both_exact _ _ bytes_decides (both_exact _ _ (option_exact _ Decides-eqb) (option_exact _ Decides-eqb)))
-
-pub returns-clause-pg_type : goal.returns-clause-pg_type
-returns-clause-pg_type c types.Bool types.Bool = (λ e. refl, λ e. refl)
-returns-clause-pg_type c types.Bytea types.Bytea = (λ e. refl, λ e. refl)
-returns-clause-pg_type c types.Name types.Name = (λ e. refl, λ e. refl)
-returns-clause-pg_type c types.Int8 types.Int8 = (λ e. refl, λ e. refl)
-returns-clause-pg_type c types.Int2 types.Int2 = (λ e. refl, λ e. refl)
-returns-clause-pg_type c types.Int4 types.Int4 = (λ e. refl, λ e. refl)
-returns-clause-pg_type c types.Text types.Text = (λ e. refl, λ e. refl)
-returns-clause-pg_type c types.Unknown types.Unknown = (λ e. refl, λ e. refl)
-returns-clause-pg_type c types.Bpchar types.Bpchar = (λ e. refl, λ e. refl)
-returns-clause-pg_type c types.Varchar types.Varchar = (λ e. refl, λ e. refl)
-returns-clause-pg_type c (types.Other x) (types.Other y) = (λ e. ap (λ z. types.Other z) ((Decides-eqb x y).0 e), λ e. (Decides-eqb x y).1 cc)
-returns-clause-pg_type c x y = (λ e. absurd (false≢true e), λ e. absurd cc)
-
-pub returns-clause-field_format : goal.returns-clause-field_format
-returns-clause-field_format c formats.Text formats.Text = (λ e. refl, λ e. refl)
-returns-clause-field_format c formats.Binary formats.Binary = (λ e. refl, λ e. refl)
-returns-clause-field_format c x y = (λ e. absurd (false≢true e), λ e. absurd cc)
-
-pub returns-clause-field_info : goal.returns-clause-field_info
-returns-clause-field_info c = made_exact {Y = FieldInfo} (λ x. (x.name, (x.table_id, (x.column_id, (x.datatype, (x.type_size, (x.type_modifier, x.format))))))) (λ p. record { name = p.0; table_id = p.1.0; column_id = p.1.1.0; datatype = p.1.1.1.0; type_size = p.1.1.1.1.0; type_modifier = p.1.1.1.1.1.0; format = p.1.1.1.1.1.1 }) (λ x. refl) _ (both_exact _ _ bytes_decides (both_exact _ _ (option_exact _ Decides-int_eq) (both_exact _ _ (option_exact _ Decides-int_eq) (both_exact _ _ (returns-clause-pg_type c) (both_exact _ _ Decides-int_eq (both_exact _ _ Decides-int_eq (returns-clause-field_format c)))))))
-
-pub returns-clause-sql_fault : goal.returns-clause-sql_fault
-returns-clause-sql_fault c (sql.WrongType x) (sql.WrongType y) = (λ e. ap (λ z. sql.WrongType z) ((returns-clause-pg_type c x y).0 e), λ e. (returns-clause-pg_type c x y).1 cc)
-returns-clause-sql_fault c (sql.WrongLength x) (sql.WrongLength y) = (λ e. ap (λ z. sql.WrongLength z) ((Decides-eqb x y).0 e), λ e. (Decides-eqb x y).1 cc)
-returns-clause-sql_fault c sql.BadText sql.BadText = (λ e. refl, λ e. refl)
-returns-clause-sql_fault c x y = (λ e. absurd (false≢true e), λ e. absurd cc)
-
-pub returns-clause-scram_fault : goal.returns-clause-scram_fault
-returns-clause-scram_fault c scram.PasswordNotUtf8 scram.PasswordNotUtf8 = (λ e. refl, λ e. refl)
-returns-clause-scram_fault c scram.NonceMismatch scram.NonceMismatch = (λ e. refl, λ e. refl)
-returns-clause-scram_fault c scram.SaltNotBase64 scram.SaltNotBase64 = (λ e. refl, λ e. refl)
-returns-clause-scram_fault c (scram.ServerError x) (scram.ServerError y) = (λ e. ap (λ z. scram.ServerError z) ((bytes_decides x y).0 e), λ e. (bytes_decides x y).1 cc)
-returns-clause-scram_fault c scram.SignatureMismatch scram.SignatureMismatch = (λ e. refl, λ e. refl)
-returns-clause-scram_fault c x y = (λ e. absurd (false≢true e), λ e. absurd cc)
+pub returns : goal.returns
+returns c = made_exact as_values from_kind from_kind-as_values _ (sum_exact _ _ (field_exact _ (c.equality_is_exact.ensures.ssl_response)) (sum_exact _ _ (field_exact _ (c.equality_is_exact.ensures.gss_enc_response)) (sum_exact _ _ (field_exact _ (c.equality_is_exact.ensures.authentication)) (sum_exact _ _ (field_exact _ (c.equality_is_exact.ensures.parameter_status)) (sum_exact _ _ (field_exact _ (c.equality_is_exact.ensures.backend_key_data)) (sum_exact _ _ (field_exact _ (c.equality_is_exact.ensures.negotiate_protocol_version)) (sum_exact _ _ (field_exact _ (c.equality_is_exact-3.ensures.parse_complete)) (sum_exact _ _ (field_exact _ (c.equality_is_exact-3.ensures.bind_complete)) (sum_exact _ _ (field_exact _ (c.equality_is_exact-3.ensures.close_complete)) (sum_exact _ _ (field_exact _ (c.equality_is_exact-3.ensures.portal_suspended)) (sum_exact _ _ (field_exact _ (c.equality_is_exact-2.ensures.empty_query_response)) (sum_exact _ _ (field_exact _ (c.equality_is_exact-2.ensures.no_data)) (sum_exact _ _ (field_exact _ (c.equality_is_exact-2.ensures.command_complete)) (sum_exact _ _ (field_exact _ (c.equality_is_exact-2.ensures.ready_for_query)) (sum_exact _ _ (field_exact _ (c.equality_is_exact-2.ensures.error_response)) (sum_exact _ _ (field_exact _ (c.equality_is_exact-2.ensures.notice_response)) (sum_exact _ _ (field_exact _ (c.equality_is_exact-2.ensures.notification_response)) (sum_exact _ _ (field_exact _ (c.equality_is_exact-2.ensures.parameter_description)) (sum_exact _ _ (field_exact _ (c.equality_is_exact-2.ensures.row_description)) (sum_exact _ _ (field_exact _ (c.equality_is_exact-2.ensures.data_row)) (sum_exact _ _ (field_exact _ (c.equality_is_exact-4.ensures.copy_data)) (sum_exact _ _ (field_exact _ (c.equality_is_exact-4.ensures.copy_done)) (sum_exact _ _ (field_exact _ (c.equality_is_exact-4.ensures.copy_fail)) (sum_exact _ _ (field_exact _ (c.equality_is_exact-4.ensures.copy_in_response)) (sum_exact _ _ (field_exact _ (c.equality_is_exact-4.ensures.copy_out_response)) (sum_exact _ _ (field_exact _ (c.equality_is_exact-4.ensures.copy_both_response)) (none_exact (λ x y. absurd x))))))))))))))))))))))))))))

@@ -1,5 +1,5 @@
 use Rattle.std.proofs.Common.{◌-◌, arith, ◌∙◌}
-use Rattle.pgw_client.proofs.DemandLaws.{not_io}
+use Rattle.pgw_client.proofs.RefusedLaws.{not_io}
 use Rattle.pgw_link.proofs.LogLaws.{ends_further, foreseen_on}
 use Rattle.pgw_client.proofs.SessionTurnLaws.{ends_quiet, foreseen_quiet, settled, broke, finished, waited, read_on, ended, unread}
 use Rattle.pgw_client.proofs.session.converse.Goals as goal

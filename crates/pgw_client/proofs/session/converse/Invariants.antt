@@ -1,6 +1,6 @@
 use Rattle.std.proofs.Common.{◌≡◌, ◌≤◌, ◌-◌, length}
 use Rattle.pgw_link.specs.Foresight.{Ends, Foreseen}
-use Rattle.pgw_client.specs.Input.{input_of}
+use Rattle.pgw_dialogue.specs.Input.{input_of}
 use Rattle.pgw_client.specs.SessionSteps.{Reading}
 use Rattle.pgw_client.proofs.session.converse.Given as goal
 

@@ -1,6 +1,6 @@
 use Rattle.std.proofs.Common.{◌∙◌}
 use Rattle.pgw_link.proofs.LogLaws.{foreseen_kept, foreseen_on}
-use Rattle.pgw_client.specs.Input.{input_of}
+use Rattle.pgw_dialogue.specs.Input.{input_of}
 use Rattle.pgw_client.proofs.MachineTalkLaws.{lift_err, lift_ok, unstarted, unsent_start}
 use Rattle.pgw_client.proofs.session.hold_session.Goals as goal
 

@@ -1,5 +1,5 @@
 use Rattle.std.proofs.Common.{◌<◌, ◌++◌, ℕ, List, length, arith, subst, ap, ◌∙◌}
-use Rattle.pgw_client.specs.SessionSteps.{WroteSome}
+use Rattle.pgw_link.specs.Sending.{WroteSome}
 use Rattle.pgw_client.proofs.SessionTakingLaws.{refused, unsent, whole}
 use Rattle.pgw_client.proofs.session.take_all.Goals as goal
 

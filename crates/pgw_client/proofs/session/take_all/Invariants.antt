@@ -1,7 +1,8 @@
 use Rattle.std.proofs.Common.{◌≡◌, ◌≤◌, [], length}
 use Rattle.std.specs.Io.KnownBytes.{Keeps}
-use Rattle.pgw_client.specs.Input.{input_of}
-use Rattle.pgw_client.specs.SessionSteps.{Going, ReadsNothing}
+use Rattle.pgw_dialogue.specs.Input.{input_of}
+use Rattle.pgw_client.specs.SessionSteps.{Going}
+use Rattle.pgw_link.specs.Sending.{ReadsNothing}
 use Rattle.pgw_client.proofs.session.take_all.Given as goal
 
 abbrev pub invariant-messages : goal.invariant-messages

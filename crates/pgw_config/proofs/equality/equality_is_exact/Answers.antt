@@ -1,9 +1,9 @@
 use Rattle.std.proofs.Common.{refl, ap}
 use Rattle.std.proofs.lemmas.Bool.Decides.{Decides-eqb}
 use Rattle.std.specs.Cmp.Lexicographic.{pointwise_decides, bytes_decides}
-use Rattle.pgw_conninfo.specs.declared.address.Host.TheVariants as host
-use Rattle.pgw_conninfo.specs.declared.address.HostAddr.TheVariants as addr
-use Rattle.pgw_conninfo.specs.declared.address.Address.TheVariants as address
+use Rattle.pgw_types.specs.declared.address.Host.TheVariants as host
+use Rattle.pgw_types.specs.declared.address.HostAddr.TheVariants as addr
+use Rattle.pgw_types.specs.declared.address.Address.TheVariants as address
 use Rattle.pgw_config.specs.declared.config.SslMode.TheVariants as ssl_mode
 use Rattle.pgw_config.specs.declared.config.SslNegotiation.TheVariants as ssl_negotiation
 use Rattle.pgw_config.specs.declared.config.TargetSessionAttrs.TheVariants as target

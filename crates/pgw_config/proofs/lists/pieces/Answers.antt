@@ -1,5 +1,5 @@
 use Rattle.std.proofs.Common.{◌≡◌, ◌++◌, rules}
-use Rattle.pgw_conninfo.specs.Marks.{pieces_at}
+use Rattle.pgw_types.specs.Marks.{pieces_at}
 use Rattle.pgw_config.proofs.PieceLaws.{goes_on, ends}
 use Rattle.pgw_config.proofs.lists.pieces.Goals as goal
 

@@ -1,7 +1,7 @@
 use Rattle.std.proofs.Common.{◌≡◌, ◌++◌, length}
 use denote.Text.{Utf8}
 use denote.Shadow.{shadow}
-use Rattle.pgw_conninfo.specs.Marks.{pieces_at}
+use Rattle.pgw_types.specs.Marks.{pieces_at}
 use Rattle.pgw_config.proofs.lists.pieces.Given as goal
 
 abbrev pub invariant-loop-piece : goal.invariant-loop-piece

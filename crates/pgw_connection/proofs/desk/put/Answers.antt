@@ -1,7 +1,7 @@
 use Rattle.std.proofs.Common.{Err, sym, subst}
 use Rattle.pgw_frontend.specs.Frontend.{encoding}
-use Rattle.pgw_client.specs.Wire.{PutOut}
-use Rattle.pgw_client.proofs.WireLaws.{appended}
+use Rattle.pgw_dialogue.specs.Wire.{PutOut}
+use Rattle.pgw_dialogue.proofs.WireLaws.{appended}
 use Rattle.pgw_connection.proofs.DeskLaws.{put_refused}
 use Rattle.pgw_connection.proofs.desk.put.Goals as goal
 

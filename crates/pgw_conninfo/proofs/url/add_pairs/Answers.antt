@@ -1,6 +1,6 @@
 use Rattle.std.proofs.Common.{◌≡◌, ◌∙◌, sym, ap, length, Some, arith}
 use Rattle.std.specs.Option.{option_copied}
-use Rattle.pgw_conninfo.specs.Marks.{or_empty, behind_mark}
+use Rattle.pgw_types.specs.Marks.{or_empty, behind_mark}
 use Rattle.pgw_conninfo.proofs.UrlLaws.{no_more_pairs, pairs_end, pairs_go_on, behind_is_less, behind_is_no_more}
 use Rattle.pgw_conninfo.proofs.url.add_pairs.Goals as goal
 

@@ -1,5 +1,5 @@
 use Rattle.std.proofs.Common.{ℕ, List, IfOk, ap, subst, ◌∙◌}
-use Rattle.pgw_conninfo.specs.Marks.{before_mark, behind_mark, or_empty}
+use Rattle.pgw_types.specs.Marks.{before_mark, behind_mark, or_empty}
 use Rattle.pgw_conninfo.specs.Part.{adds}
 use Rattle.pgw_conninfo.specs.Url.{address_in}
 use Rattle.pgw_conninfo.specs.UrlReader.{AddsPairs}

@@ -1,5 +1,5 @@
 use Rattle.std.proofs.Common.{◌∙◌, sym}
-use Rattle.pgw_dialogue.proofs.AgreementLaws.{sent_is}
+use Rattle.pgw_dialogue.proofs.ToldLaws.{sent_is}
 use Rattle.pgw_dialogue.proofs.laws.cuts_do_not_matter.Goals as goal
 
 pub returns : goal.returns

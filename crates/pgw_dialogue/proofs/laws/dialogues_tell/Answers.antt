@@ -1,4 +1,4 @@
-use Rattle.pgw_dialogue.proofs.AgreementLaws.{told, awaits_still, done_completed}
+use Rattle.pgw_dialogue.proofs.ToldLaws.{told, awaits_still, done_completed}
 use Rattle.pgw_dialogue.proofs.laws.dialogues_tell.Goals as goal
 
 pub returns : goal.returns

@@ -1,4 +1,4 @@
-use Rattle.pgw_client.specs.Input.{input_of}
+use Rattle.pgw_dialogue.specs.Input.{input_of}
 use Rattle.pgw_dialogue.proofs.StepLaws.{first, went, waits, done, refused}
 use Rattle.pgw_dialogue.proofs.steps.take_all.Goals as goal
 

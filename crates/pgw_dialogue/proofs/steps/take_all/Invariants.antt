@@ -1,5 +1,5 @@
 use Rattle.std.proofs.Common.{length}
-use Rattle.pgw_client.specs.Input.{input_of}
+use Rattle.pgw_dialogue.specs.Input.{input_of}
 use Rattle.pgw_dialogue.specs.Steps.{Going}
 use Rattle.pgw_dialogue.proofs.steps.take_all.Given as goal
 

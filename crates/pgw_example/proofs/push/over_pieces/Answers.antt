@@ -1,7 +1,7 @@
 use Rattle.std.proofs.Common.{◌+◌, List, ℕ, Ok, Err, take, drop, sym, subst}
 use Rattle.std.proofs.lemmas.Result.{err_from_is_err_and}
 use Rattle.std.specs.List.{concat}
-use Rattle.pgw_client.specs.Input.{input_with}
+use Rattle.pgw_session.specs.Input.{input_with}
 use Rattle.pgw_dialogue.specs.Dialogue.{IsBehind}
 use Rattle.pgw_session.specs.Demands.{refused_config}
 use Rattle.pgw_session.specs.declared.types.SessionReport.{SessionReport}

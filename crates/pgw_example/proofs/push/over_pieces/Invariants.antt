@@ -1,6 +1,6 @@
 use Rattle.std.proofs.Common.{take}
 use Rattle.std.specs.List.{concat}
-use Rattle.pgw_client.specs.Input.{input_with}
+use Rattle.pgw_session.specs.Input.{input_with}
 use Rattle.pgw_example.proofs.PieceLaws.{SoFar}
 use Rattle.pgw_example.proofs.push.over_pieces.Given as goal
 

@@ -1,9 +1,18 @@
-use Rattle.std.proofs.Common.{◌∷◌, []}
+use Rattle.std.proofs.Common.{◌∷◌, [], subst, sym}
 use Rattle.pgw_startup.specs.declared.authentication.Authentication.TheVariants as authentication
 use Rattle.pgw_backend.specs.declared.backend.PgWireBackendMessage.TheVariants as backend
-use Rattle.pgw_gen.specs.Stream.{description, ready}
-use Rattle.pgw_gen.proofs.StreamLaws.{puts_on}
+use Rattle.pgw_gen.specs.Stream.{HasEncoding, description, ready}
+use Rattle.pgw_gen.proofs.StreamLaws.{description_encodes, greeting_encodes, puts_on, ready_encodes}
 use Rattle.pgw_gen.proofs.stream.put_beginning.Goals as goal
+
+pub put-requires : goal.put-requires
+put-requires c = greeting_encodes
+
+pub put-requires-2 : goal.put-requires-2
+put-requires-2 c = subst HasEncoding (sym c.ready.ensures) ready_encodes
+
+pub put-requires-3 : goal.put-requires-3
+put-requires-3 c = subst HasEncoding (sym c.in_ok-description.ensures) description_encodes
 
 pub returns : goal.returns
 returns c =

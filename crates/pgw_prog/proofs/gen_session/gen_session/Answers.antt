@@ -1,7 +1,8 @@
-use Rattle.std.proofs.Common.{refl}
+use Rattle.std.proofs.Common.{rules, refl}
 use Rattle.std.proofs.lemmas.Result.{err_from_is_err_and}
 use Rattle.pgw_gen.specs.Summary.{gen_input}
 use Rattle.pgw_prog.proofs.OverLaws.{nothing_held, wanting}
+use Rattle.pgw_prog.proofs.RowCounts.{rows_counted}
 use Rattle.pgw_prog.proofs.gen_session.gen_session.Goals as goal
 
 pub returns-in_err-config : goal.returns-in_err-config
@@ -32,8 +33,14 @@ returns-in_err-request g c =
 
 pub returns : goal.returns
 returns g c =
-    let e = rw (c.in_ok-config.ensures, c.in_ok-request.ensures) at c.hold_over-outcome.ensures in
+    let e = rw (c.in_ok-config.ensures, c.in_ok-request.ensures) at c.run_session-outcome.ensures in
     record {
-      session = record { outcome = c.hold_over-outcome.result; session = e.session; told = c.summed.ensures };
+      session = record { outcome = c.run_session-outcome.result; session = e.session; told = c.summed.ensures };
       kept = e.kept;
     }
+
+pub summed-requires : goal.summed-requires
+summed-requires g c =
+    let e = rw (c.in_ok-config.ensures, c.in_ok-request.ensures) at c.run_session-outcome.ensures in
+    let link = e.session in
+    rows_counted (gen_input c.args.nonce.now) c.args.limit _ _ c.run_session-outcome.result (search rules) link.completed link.paced

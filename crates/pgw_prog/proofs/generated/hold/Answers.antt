@@ -2,7 +2,7 @@ use Rattle.std.proofs.Common.{ap, ◌∙◌, Some}
 use Rattle.pgw_link.specs.Calls.{number_of}
 use Rattle.pgw_link.specs.Memory.{Making, memory_tape, memory_left, faults_of, making_of}
 use Rattle.pgw_link.specs.declared.memory.MemoryLink.{MemoryLink}
-use Rattle.pgw_prog.specs.OverLink.{LinkSpan, link_span}
+use Rattle.pgw_client.specs.OverLink.{LinkSpan, link_span}
 use Rattle.pgw_prog.proofs.GenLaws.{none_failed, stream_summed}
 use Rattle.pgw_prog.proofs.generated.hold.Goals as goal
 

@@ -15,7 +15,7 @@ returns-in-Ok-write_whole-clause-run g c =
     let source : SourceSpan = source_span I.tape I.left I.faults c.args.input.now c.answer_words.new.input in
     let sink : SinkSpan = sink_span O.tape O.faults c.args.output.now c.write_whole.new.output in
     let dialer : DialSpan = dial_span D.tape D.foretells D.offer D.faults c.args.dialer.now c.answer_words.new.dialer in
-    ran_written _ _ _ _ source sink dialer c.in-Ok.printed e.answers e.no_fault e.took e.unread e.later e.leaves (rw c.deref.ensures.value at c.in-Ok-write_whole.ensures.wrote) c.in-Ok-write_whole.ensures.no_fault
+    ran_written _ _ _ _ _ source sink dialer c.in-Ok.printed e.answers e.no_fault e.took e.unread e.later e.leaves (rw c.deref.ensures.value at c.in-Ok-write_whole.ensures.wrote) c.in-Ok-write_whole.ensures.no_fault
 
 pub returns-in-Ok-clause-run : goal.returns-in-Ok-clause-run
 returns-in-Ok-clause-run g c =
@@ -26,7 +26,7 @@ returns-in-Ok-clause-run g c =
     let source : SourceSpan = source_span I.tape I.left I.faults c.args.input.now c.answer_words.new.input in
     let sink : SinkSpan = sink_span O.tape O.faults c.args.output.now c.write_whole.new.output in
     let dialer : DialSpan = dial_span D.tape D.foretells D.offer D.faults c.args.dialer.now c.answer_words.new.dialer in
-    ran_unwritten _ _ _ _ source sink dialer c.in-Ok.printed e.answers e.no_fault e.took e.unread e.later e.leaves (rw c.deref.ensures.value at c.in-Err.ensures.failed) c.in-Err.ensures.cause.failed
+    ran_unwritten _ _ _ _ _ source sink dialer c.in-Ok.printed e.answers e.no_fault e.took e.unread e.later e.leaves (rw c.deref.ensures.value at c.in-Err.ensures.failed) c.in-Err.ensures.cause.failed
 
 pub returns-in-Err-Source-clause-run : goal.returns-in-Err-Source-clause-run
 returns-in-Err-Source-clause-run g c =
@@ -38,7 +38,7 @@ returns-in-Err-Source-clause-run g c =
     let source : SourceSpan = source_span I.tape I.left I.faults c.args.input.now c.answer_words.new.input in
     let sink : SinkSpan = sink_span O.tape O.faults c.args.output.now c.args.output.now in
     let dialer : DialSpan = dial_span D.tape D.foretells D.offer D.faults c.args.dialer.now c.answer_words.new.dialer in
-    ran_unread _ _ _ _ source sink dialer (e.source is) (subst (λ (s : Stop). CountsStop s source) is e.cause) e.took e.unread e.later e.leaves refl refl refl
+    ran_unread _ _ _ _ _ source sink dialer (e.source is) (subst (λ (s : Stop). CountsStop s source) is e.cause) e.took e.unread e.later e.leaves refl refl refl
 
 pub returns-clause-run : goal.returns-clause-run
 returns-clause-run g c =
@@ -50,4 +50,4 @@ returns-clause-run g c =
     let source : SourceSpan = source_span I.tape I.left I.faults c.args.input.now c.answer_words.new.input in
     let sink : SinkSpan = sink_span O.tape O.faults c.args.output.now c.args.output.now in
     let dialer : DialSpan = dial_span D.tape D.foretells D.offer D.faults c.args.dialer.now c.answer_words.new.dialer in
-    ran_short _ _ _ _ source sink dialer (subst (λ (s : Stop). CountsStop s source) is e.cause) e.took e.unread e.later e.leaves refl refl refl
+    ran_short _ _ _ _ _ source sink dialer (subst (λ (s : Stop). CountsStop s source) is e.cause) e.took e.unread e.later e.leaves refl refl refl

@@ -3,7 +3,8 @@ use Rattle.std.specs.Int.{w32}
 use Rattle.std.proofs.lemmas.List.{length-drop}
 use mir.Val.{SFits, to_z, of_z}
 use Rattle.pgw_wire.specs.Reading.{int_at}
-use Rattle.pgw_rows.proofs.CutLaws.{is_count, rest_of, value_null, value_short, value_whole}
+use Rattle.pgw_query.proofs.RunLaws.{rest_of}
+use Rattle.pgw_rows.proofs.CutLaws.{is_count, value_null, value_short, value_whole}
 use Rattle.pgw_rows.proofs.cut.locate.Goals as goal
 
 pub returns-then-len-lt0 : goal.returns-then-len-lt0

@@ -15,6 +15,7 @@ use Rattle.pgw_types.specs.declared.error.PgWireError.{PgWireError}
 use Rattle.pgw_types.specs.declared.error.PgWireError.TheVariants as error
 use Rattle.pgw_types.specs.contracts.error.PgWireError.{as_values}
 use Rattle.pgw_types.specs.declared.error_info.ErrorInfo.{ErrorInfo}
+use Rattle.pgw_types.specs.declared.scram_error.ScramFault.TheVariants as login
 use Rattle.pgw_wire.specs.declared.framing.Framing.TheVariants as framing
 use Rattle.pgw_wire.specs.declared.secret_key.SecretKey.TheVariants.{I32, Bytes}
 use Rattle.pgw_wire.proofs.EqualLaws.{bool_exact, option_exact, both_exact, made_exact, one_exact, none_exact, field_exact, pair_exact, triple_exact, sum_exact}
@@ -62,6 +63,14 @@ returns-clause-scram_message_fault c scram.Nonce scram.Nonce = (λ e. refl, λ e
 returns-clause-scram_message_fault c scram.Empty scram.Empty = (λ e. refl, λ e. refl)
 returns-clause-scram_message_fault c scram.Mechanism scram.Mechanism = (λ e. refl, λ e. refl)
 returns-clause-scram_message_fault c x y = (λ e. absurd (false≢true e), λ e. absurd cc)
+
+pub returns-clause-scram_fault : goal.returns-clause-scram_fault
+returns-clause-scram_fault c login.PasswordNotUtf8 login.PasswordNotUtf8 = (λ e. refl, λ e. refl)
+returns-clause-scram_fault c login.NonceMismatch login.NonceMismatch = (λ e. refl, λ e. refl)
+returns-clause-scram_fault c login.SaltNotBase64 login.SaltNotBase64 = (λ e. refl, λ e. refl)
+returns-clause-scram_fault c (login.ServerError x) (login.ServerError y) = (λ e. ap (λ z. login.ServerError z) ((bytes_decides x y).0 e), λ e. (bytes_decides x y).1 cc)
+returns-clause-scram_fault c login.SignatureMismatch login.SignatureMismatch = (λ e. refl, λ e. refl)
+returns-clause-scram_fault c x y = (λ e. absurd (false≢true e), λ e. absurd cc)
 
 pub returns-clause-oauth_fault : goal.returns-clause-oauth_fault
 returns-clause-oauth_fault c oauth.Flag oauth.Flag = (λ e. refl, λ e. refl)

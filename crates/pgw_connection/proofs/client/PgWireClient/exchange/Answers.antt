@@ -1,18 +1,17 @@
 use Rattle.std.proofs.Common.{arith, ◌∙◌}
-use Rattle.pgw_connection.proofs.ExchangeLaws.{exchanged_on}
 use Rattle.pgw_connection.proofs.ForetoldLaws.{foretold_on}
 use Rattle.pgw_connection.proofs.client.PgWireClient.exchange.Goals as goal
 
 pub messages-preserved : goal.messages-preserved
 messages-preserved g c =
-    let h = c.heed_next.ensures in
+    let h = c.go_on_in_exchange.ensures in
     record {
       usable = c.in-Ok-Pending.ensures.usable;
       limit = h.limit ∙ c.messages.invariant.limit;
       config = h.config ∙ c.messages.invariant.config;
-      foretold = λ t is now rest. c.messages.invariant.foretold t is now (foretold_on _ _ _ _ _ _ (g.met.L.Link.knows t c.heed_next.new.self.link) (c.heed_next.ensures.foretold t) rest);
+      foretold = λ t is now rest. c.messages.invariant.foretold t is now (foretold_on _ _ _ _ _ _ (g.met.L.Link.knows t c.go_on_in_exchange.new.self.link) (c.go_on_in_exchange.ensures.foretold t) rest);
       later = omega (arith, c.messages.invariant.later, h.cause.later);
       exchanged = λ final last rest.
           let one = rw c.in-Ok-Pending.field-0-is at c.in-Ok-Pending.ensures.heeded in
-          c.messages.invariant.exchanged final last (exchanged_on g.H.ExtendedQueryHandler.means c.args.kind _ _ _ _ _ _ _ _ final last one.0 rest);
+          c.messages.invariant.exchanged final last (one.0 final last rest);
     }

@@ -8,13 +8,13 @@ use Rattle.pgw_connection.proofs.client.PgWireClient.start.Goals as goal
 pub returns-in-Ok-clause-asked : goal.returns-in-Ok-clause-asked
 returns-in-Ok-clause-asked g c =
     let o = c.startup-opened in
-    call_opened (λ before after answer. g.S.StartupHandler.means before startup after answer) (HeardAtStartup g.S.StartupHandler.exchanges g.S.StartupHandler.means) never c.args.handler o.new.self _ (sight_of c.clear.new.self) (sight_of o.new.client) _ _ o.result
+    call_opened (λ before after answer. g.S.StartupHandler.means before startup after answer) (HeardAtStartup g.S.StartupHandler.exchanges g.S.StartupHandler.means) never c.args.handler o.new.self _ (sight_of c.clear.new.self) (sight_of o.new.client) _ _ (c.args.self.now.flushed c.requires) o.result
     (c.clear.ensures.fresh c.requires) o.ensures.means _ _ _ _ c.in-Ok.ensures.opens c.begin.ensures.client c.talk_at_startup.ensures.talked
 
 pub returns-clause-asked : goal.returns-clause-asked
 returns-clause-asked g c =
     let o = c.startup-opened in
-    call_closed (λ before after answer. g.S.StartupHandler.means before startup after answer) (HeardAtStartup g.S.StartupHandler.exchanges g.S.StartupHandler.means) never c.args.handler o.new.self _ (sight_of c.clear.new.self) (sight_of o.new.client) _ _ o.result
+    call_closed (λ before after answer. g.S.StartupHandler.means before startup after answer) (HeardAtStartup g.S.StartupHandler.exchanges g.S.StartupHandler.means) never c.args.handler o.new.self _ (sight_of c.clear.new.self) (sight_of o.new.client) _ _ (c.args.self.now.flushed c.requires) o.result
     (c.clear.ensures.fresh c.requires) o.ensures.means c.in-Err.error _ _ o.ensures.cause.failed c.in-Err.ensures.opens c.begin.ensures.client
 
 pub returns-in-Ok-clause-foretold : goal.returns-in-Ok-clause-foretold

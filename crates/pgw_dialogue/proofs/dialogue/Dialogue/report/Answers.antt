@@ -1,7 +1,7 @@
 use Rattle.std.proofs.Common.{sym, subst}
 use Rattle.pgw_session.specs.Transcript.{Completed}
 use Rattle.pgw_dialogue.specs.Answers.{taken_of}
-use Rattle.pgw_dialogue.proofs.AgreementLaws.{done_completed}
+use Rattle.pgw_dialogue.proofs.ToldLaws.{done_completed}
 use Rattle.pgw_dialogue.proofs.dialogue.Dialogue.report.Goals as goal
 
 pub returns : goal.returns

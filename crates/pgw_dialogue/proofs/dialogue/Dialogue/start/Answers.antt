@@ -1,5 +1,5 @@
 use Rattle.std.proofs.Common.{◌++◌, ◌∙◌, List, ℕ, refl, ap}
-use Rattle.pgw_client.specs.Input.{input_with}
+use Rattle.pgw_session.specs.Input.{input_with}
 use Rattle.pgw_dialogue.proofs.CallLaws.{starts}
 use Rattle.pgw_dialogue.proofs.dialogue.Dialogue.start.Goals as goal
 

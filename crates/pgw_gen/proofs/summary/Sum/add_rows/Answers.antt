@@ -1,7 +1,7 @@
 use Rattle.std.proofs.Common.{[], ◌∷◌, ◌++◌, List, ap, sym, subst, ◌∙◌, append_assoc}
 use Rattle.sha2.specs.Hashers.{Holds256}
 use Rattle.pgw_query.specs.declared.data.DataRow.{DataRow}
-use Rattle.pgw_rows.specs.Runs.{lent_row}
+use Rattle.pgw_query.specs.Runs.{lent_row}
 use Rattle.pgw_gen.specs.Summary.{payloads}
 use Rattle.pgw_gen.proofs.SummaryLaws.{payload_on}
 use Rattle.pgw_gen.proofs.summary.Sum.add_rows.Goals as goal

@@ -2,8 +2,8 @@ use Rattle.std.proofs.Common.{rules, ap, ◌∙◌, refl, drop, ◌+◌}
 use Rattle.std.specs.Int.{w16}
 use Rattle.std.proofs.lemmas.Int.{to_z-of_z}
 use mir.Val.{SFits}
-use Rattle.pgw_rows.specs.Runs.{IsHead}
-use Rattle.pgw_rows.proofs.CutLaws.{rest_of}
+use Rattle.pgw_query.specs.Runs.{IsHead}
+use Rattle.pgw_query.proofs.RunLaws.{rest_of}
 use Rattle.pgw_rows.proofs.UnreadLaws.{ends_within, first_of, is_place}
 use Rattle.pgw_rows.proofs.unread.Unread.place.Goals as goal
 

@@ -1,0 +1,170 @@
+-- One request, and what it comes to.
+use Rattle.std.proofs.Common.{◌≡◌, ◌≤◌, ℕ, Bool, true, false, List, ◌++◌, Result, Ok, Err, refl, sym, ◌∙◌, ap, subst}
+use Rattle.pgw_backend.specs.declared.client_error.PgWireClientError.{PgWireClientError as ClientError}
+use Rattle.pgw_backend.specs.declared.client_error.PgWireClientError.TheVariants as client
+use Rattle.pgw_query.specs.declared.data.DataRow.{DataRow}
+use Rattle.pgw_query.specs.declared.response.ErrorResponse.{ErrorResponse}
+use Rattle.pgw_config.specs.declared.config.Config.{Config}
+use Rattle.pgw_session.specs.declared.types.Request.{Request}
+use Rattle.pgw_session.specs.declared.types.Request.TheVariants as request
+use Rattle.pgw_session.specs.declared.types.Response.{Response}
+use Rattle.pgw_session.specs.declared.types.Answer.{Answer}
+use Rattle.pgw_session.specs.declared.types.Answer.TheVariants as answer
+use Rattle.pgw_handlers.specs.Client.{Client}
+use Rattle.pgw_handlers.specs.Handling.{HasCause, IsCaused}
+use Rattle.pgw_handlers.specs.Simple.{HeardInQuery, simple_query}
+use Rattle.pgw_default_handlers.specs.declared.simple.DefaultSimpleQueryHandler.{DefaultSimpleQueryHandler as SimpleHandler}
+use Rattle.pgw_default_handlers.specs.declared.extended.DefaultExtendedQueryHandler.{DefaultExtendedQueryHandler as ExtendedHandler}
+use Rattle.pgw_default_handlers.specs.Simple.{QueryMeans}
+use Rattle.pgw_default_handlers.specs.Extended.{ExtendedMeans}
+use Rattle.pgw_connection.specs.declared.gathered.Gathered.{Gathered}
+use Rattle.pgw_connection.specs.Line.{Line, Moved, IsFlushed, Pause, Reasons}
+use Rattle.pgw_connection.specs.Talk.{End, Asked as TalkAsked, passes}
+use Rattle.pgw_connection.specs.Calls.{Call}
+use Rattle.pgw_connection.specs.Extended.{Finish, finish, Requested, in_lists}
+use Rattle.pgw_connection.specs.ExtendedSteps.{Called, Answered, given as given_by}
+use Rattle.pgw_connection.specs.Lent.{both}
+use Rattle.pgw_calls.specs.Calls.{Comes, SimpleCall}
+use Rattle.pgw_calls.specs.Extended.{IsExtended, ExtendedCall, given}
+use Rattle.pgw_calls.specs.Stands.{Made, Stands, StandsBehind}
+use Rattle.pgw_ask.specs.Asking.{answered, same, Adds, Fails, Asks, failed}
+
+-- ---- what is said of an error, whatever the call gives
+
+stands_error : {A : Type 0} (give : A → Answer) (config : Config) (nonce : List ℕ) (ts : List Made) (q : Request) (read wrote : List ℕ) (c : Client) (buffer : List ℕ) (e : ClientError) (broken : Bool)
+    → StandsBehind give config nonce ts q read wrote c buffer (Err e) broken → StandsBehind same config nonce ts q read wrote c buffer (Err e) broken
+stands_error give config nonce ts q read wrote c buffer e true stands = stands
+stands_error give config nonce ts q read wrote c buffer (client.RemoteError e) false stands = stands
+stands_error give config nonce ts q read wrote c buffer (client.UnexpectedMessage m) false stands = stands
+stands_error give config nonce ts q read wrote c buffer (client.PgWireError why) false stands = stands
+stands_error give config nonce ts q read wrote c buffer e false stands = absurd stands
+
+comes_error : {A : Type 0} (give : A → Answer) (P : Reasons) (q : Request) (c : Client) (bytes sent : List ℕ) (info : Client) (rest : List ℕ) (e : ClientError) (broken : Bool)
+    → Comes give P q c bytes sent info rest (Err e) broken → Comes same P q c bytes sent info rest (Err e) broken
+comes_error give P q c bytes sent info rest client.OutOfMemory true h = h
+comes_error give P q c bytes sent info rest (client.PgWireError why) true h = h
+comes_error give P q c bytes sent info rest client.ReadLimit true h = h
+comes_error give P q c bytes sent info rest client.IoError true h = h
+comes_error give P q c bytes sent info rest client.UnexpectedEOF true h = h
+comes_error give P q c bytes sent info rest (client.RemoteError x) true h = h
+comes_error give P q c bytes sent info rest (client.UnexpectedMessage m) true h = h
+comes_error give P q c bytes sent info rest e true h = absurd h
+comes_error give P q c bytes sent info rest (client.RemoteError x) false h = h
+comes_error give P q c bytes sent info rest (client.UnexpectedMessage m) false h = h
+comes_error give P q c bytes sent info rest (client.PgWireError why) false h = h
+comes_error give P q c bytes sent info rest e false h = absurd h
+
+-- ---- one request
+
+-- what a call is to the client's history, and what it came to
+abbrev pub Behind : {A : Type 0} → (A → Answer) → Request → Client → Line → Client → Line → Result A ClientError → Bool → Type 0
+Behind give q before old after now r broken =
+    (config : Config) (nonce : List ℕ) (ts : List Made) (read wrote : List ℕ) → Stands config nonce ts read wrote before old.buffer →
+    (more sent : List ℕ) × Moved old now more sent × (broken ≡ false → IsFlushed now) × StandsBehind give config nonce ts q (read ++ more) (wrote ++ sent) after now.buffer r broken
+
+abbrev pub CameTo : {A : Type 0} → (A → Answer) → Request → Client → Line → Client → Line → Result A ClientError → Bool → Type 0
+CameTo give q before old after now r broken =
+    (taken sent : List ℕ) × Moved old now taken sent × Comes give (Pause old now) q before (old.buffer ++ taken) sent after now.buffer r broken
+
+module _ {A : Type 0} (give : A → Answer) (q : Request) (before : Client) (old : Line) (after : Client) (now : Line) where
+  -- an answer
+  pub adds : (x : A) (broken : Bool) → broken ≡ false → Behind give q before old after now (Ok x) broken → Adds q (give x) before old after now
+  adds x true usable b = absurd (let no : true ≡ false = usable in cc)
+  adds x false usable b = λ config nonce ts read wrote stands.
+      let f = b config nonce ts read wrote stands in
+      record { taken = f.0; sent = f.1; moved = f.2; flushed = f.3 refl; stands = f.4 }
+
+  adds_remote : (e : ErrorResponse) → Behind give q before old after now (Err (client.RemoteError e)) false → Adds q (answer.Remote e) before old after now
+  adds_remote e b = λ config nonce ts read wrote stands.
+      let f = b config nonce ts read wrote stands in
+      record { taken = f.0; sent = f.1; moved = f.2; flushed = f.3 refl; stands = f.4 }
+
+  fails : (e : ClientError) (broken : Bool) → answered e broken ≡ Err e → Behind give q before old after now (Err e) broken → CameTo give q before old after now (Err e) broken → Fails q before old after now broken e
+  fails e broken none b c = failed e (record {
+    reason = record {
+      no_answer = none;
+      taken = c.0;
+      sent = c.1;
+      moved = c.2;
+      comes = comes_error give (Pause old now) q before (old.buffer ++ c.0) c.1 after now.buffer e broken c.3;
+    };
+    stands = λ config nonce ts read wrote stands.
+        let f = b config nonce ts read wrote stands in
+        (f.0, f.1, f.2, f.3, stands_error give config nonce ts q (read ++ f.0) (wrote ++ f.1) after now.buffer e broken f.4);
+  })
+
+  -- an error
+  pub ends : (e : ClientError) (broken : Bool) → Behind give q before old after now (Err e) broken → CameTo give q before old after now (Err e) broken → Asks q before old after now broken (answered e broken)
+  ends (client.RemoteError e) false b c = (adds_remote e b, refl)
+  ends (client.RemoteError e) true b c = fails (client.RemoteError e) true refl b c
+  ends e broken b c = fails e broken refl b c
+
+  pub ends_as : (e : ClientError) (broken shown : Bool) (result : Result Answer ClientError) → shown ≡ broken → result ≡ answered e shown → Behind give q before old after now (Err e) broken → CameTo give q before old after now (Err e) broken
+      → Asks q before old after now broken result
+  ends_as e broken shown result same_flag is b c = subst (Asks q before old after now broken) (sym (is ∙ ap (answered e) same_flag)) (ends e broken b c)
+
+-- ---- what the calls come to
+
+pub simple_came : ((q : List ℕ) (before now : Line) (h : SimpleHandler) (c : Client) (bytes sent : List ℕ) (end : End (List Response))
+    → TalkAsked (λ old new answer. QueryMeans old (simple_query q) new answer) (HeardInQuery QueryMeans) (Pause before now) passes h c bytes sent end → SimpleCall q c bytes sent (Pause before now) end)
+    → (sql : List ℕ) {h : SimpleHandler} {c : Client} {old now : Line} {last : End (List Response)}
+    → Call (λ before after answer. QueryMeans before (simple_query sql) after answer) (HeardInQuery QueryMeans) passes h c old now last → last.rest ≡ now.buffer
+    → CameTo answer.Responses (request.Simple sql) c old last.info now last.answer last.broken
+simple_came law sql {h} {c} {old} {now} {last} call rest =
+    let comes = law sql old now h c (old.buffer ++ call.taken) call.sent last call.asked in (
+      call.taken,
+      call.sent,
+      call.moved,
+      subst (λ (l : List ℕ). Comes answer.Responses (Pause old now) (request.Simple sql) c (old.buffer ++ call.taken) call.sent last.info l last.answer last.broken) rest comes,
+    )
+
+pub extended_came : ((q : Request) (before now : Line) (h : ExtendedHandler) (c : Client) (bytes sent : List ℕ) (end : Finish ExtendedHandler DataRow)
+    → IsExtended q → Requested ExtendedMeans (Pause before now) q h c bytes sent end → ExtendedCall q c bytes sent (Pause before now) end)
+    → (q : Request) {h : ExtendedHandler} {c : Client} {old now : Line} {last : Finish ExtendedHandler DataRow} → IsExtended q
+    → Called ExtendedMeans q h c old now last → last.rest ≡ now.buffer
+    → CameTo (given q) q c old last.info now last.answer last.broken
+extended_came law q {h} {c} {old} {now} {last} extended call rest =
+    let comes = law q old now h c (old.buffer ++ call.taken) call.sent last extended call.requested in (
+      call.taken,
+      call.sent,
+      call.moved,
+      subst (λ (l : List ℕ). Comes (given q) (Pause old now) q c (old.buffer ++ call.taken) call.sent last.info l last.answer last.broken) rest comes,
+    )
+
+pub extended : (q : Request) → ((sql : List ℕ) → q ≡ request.Simple sql → ⊥) → IsExtended q
+extended (request.Simple sql) never = never sql refl
+extended (request.Prepare name query types) never = tt
+extended (request.Bind portal statement parameters formats) never = tt
+extended (request.Execute portal max_rows) never = tt
+extended (request.Describe target) never = tt
+extended (request.Close target) never = tt
+extended (request.Query query types parameters) never = tt
+
+-- the default handler's list of rows is the list
+abbrev listed : Result (Gathered (List DataRow) × Bool) ClientError → Result (Gathered (List DataRow) × Bool) ClientError
+listed a = in_lists (λ (rows : List DataRow). rows) a
+
+-- what was gathered is what the call gives
+given_both : (r a : Result (Gathered (List DataRow) × Bool) ClientError) → r ≡ given_by both a → listed a ≡ r
+given_both r (Ok x) is = sym is
+given_both r (Err e) is = sym is
+
+pub called_both : (q : Request) {h handler : ExtendedHandler} {c info : Client} {old now : Line} {broken : Bool} (r : Result (Gathered (List DataRow) × Bool) ClientError)
+    → Answered ExtendedMeans (λ (rows : List DataRow). rows) q both h c old now handler info broken r → Called ExtendedMeans q h c old now (finish r handler info broken now.buffer)
+called_both q {h} {handler} {c} {info} {old} {now} {broken} r a =
+    subst (λ (x : Result (Gathered (List DataRow) × Bool) ClientError). Called ExtendedMeans q h c old now (finish x handler info broken now.buffer)) (given_both r a.answer a.gives) a.called
+
+-- ---- causes
+
+pub answered_caused : {A B : Type 0} (before now : ℕ) (was : Bool) (x : A) (y : B) → HasCause {T = A} before now was (Ok x) → HasCause {T = B} before now false (Ok y)
+answered_caused before now was x y h = record { later = h.later; failed = tt }
+
+error_caused : (e : ClientError) (shown : Bool) (before now : ℕ) → IsCaused e before now false → before ≤ now → HasCause before now false (answered e shown)
+error_caused (client.RemoteError e) false before now h later = record { later = later; failed = tt }
+error_caused (client.RemoteError e) true before now h later = record { later = later; failed = h }
+error_caused e shown before now h later = record { later = later; failed = h }
+
+pub ended_caused : {A : Type 0} (before now : ℕ) (was shown : Bool) (e : ClientError) (result : Result Answer ClientError) → was ≡ false → result ≡ answered e shown → HasCause {T = A} before now was (Err e) → HasCause before now false result
+ended_caused before now was shown e result usable is h =
+    subst (λ (r : Result Answer ClientError). HasCause before now false r) (sym is)
+    (error_caused e shown before now (subst (λ (b : Bool). IsCaused e before now b) usable h.failed) h.later)

@@ -1,0 +1,88 @@
+-- What a client stands for behind one request of any kind.
+use Rattle.std.specs.Prelude.{◌≡◌, ℕ, Bool, false, List, Option, Some, None, ◌++◌, Result, Ok, Err}
+use Rattle.pgw_backend.specs.declared.client_error.PgWireClientError.{PgWireClientError as ClientError}
+use Rattle.pgw_backend.specs.declared.client_error.PgWireClientError.TheVariants as client
+use Rattle.pgw_config.specs.declared.config.Config.{Config}
+use Rattle.pgw_session.specs.declared.types.Request.{Request}
+use Rattle.pgw_session.specs.declared.types.Request.TheVariants as request
+use Rattle.pgw_session.specs.declared.types.Answer.{Answer}
+use Rattle.pgw_session.specs.declared.types.Answer.TheVariants as answer
+use Rattle.pgw_handlers.specs.Client.{Client}
+use Rattle.pgw_connection.specs.Line.{Line, Moved, Pause, IsFlushed}
+use Rattle.pgw_calls.specs.Calls.{Comes}
+use Rattle.pgw_calls.specs.Turns.{IsAnswered}
+use Rattle.pgw_calls.specs.Stands.{Made, Stands, OneMore, StandsBehind}
+
+-- the server's error is an answer, where the client can still be used
+abbrev pub answered : ClientError → Bool → Result Answer ClientError
+answered (client.RemoteError e) false = Ok (answer.Remote e)
+answered e broken = Err e
+
+-- the name that an answer tells again
+abbrev pub name_in : Request → Option (List ℕ)
+name_in (request.Prepare name query types) = name
+name_in q = None
+
+abbrev pub same : Answer → Answer
+same a = a
+
+-- ---- an answer
+
+-- A client that stood for some requests stands for this one besides, with this answer of its own
+-- segment, and all that was written is flushed.
+pub record Asked (config : Config) (nonce : List ℕ) (ts : List Made) (read wrote : List ℕ)
+    (q : Request) (a : Answer) (old now : Line) (after : Client) : Type 0 where
+  pub taken : List ℕ
+  pub sent : List ℕ
+  pub moved : Moved old now taken sent
+  pub flushed : IsFlushed now
+  pub stands : OneMore config nonce ts q (IsAnswered q a) (read ++ taken) (wrote ++ sent)
+      after now.buffer
+
+-- So does one that stood for any.
+abbrev pub Adds : Request → Answer → Client → Line → Client → Line → Type 0
+Adds q a before old after now =
+    (config : Config) (nonce : List ℕ) (ts : List Made) (read wrote : List ℕ) →
+    Stands config nonce ts read wrote before old.buffer →
+    Asked config nonce ts read wrote q a old now after
+
+-- ---- an error
+
+-- Why an error ended the request: it is no answer, and as the call's answer it has its reason in
+-- what was read for the request and sent, and in what the link's calls did meanwhile.
+pub record IsReason (q : Request) (before : Client) (old : Line) (after : Client) (now : Line)
+    (broken : Bool) (e : ClientError) : Type 0 where
+  pub no_answer : answered e broken ≡ Err e
+  pub taken : List ℕ
+  pub sent : List ℕ
+  pub moved : Moved old now taken sent
+  pub comes : Comes same (Pause old now) q before (old.buffer ++ taken) sent after now.buffer
+      (Err e) broken
+
+-- The error has its reason. A client that stood for some requests stands behind this one by it: for
+-- the request too, or for a front of its segment, or for none more where it has no encoding.
+pub record Failed (q : Request) (before : Client) (old : Line) (after : Client) (now : Line)
+    (broken : Bool) (e : ClientError) : Type 0 where
+  pub reason : IsReason q before old after now broken e
+  pub stands : (config : Config) (nonce : List ℕ) (ts : List Made) (read wrote : List ℕ)
+      → Stands config nonce ts read wrote before old.buffer
+      → (taken sent : List ℕ) × Moved old now taken sent × (broken ≡ false → IsFlushed now)
+      × StandsBehind same config nonce ts q
+      (read ++ taken) (wrote ++ sent) after now.buffer (Err e) broken
+
+-- So it ends; or memory was wanting to keep the name that the answer tells again, and nothing was
+-- done.
+pub data Fails (q : Request) (before : Client) (old : Line) (after : Client) (now : Line)
+    (broken : Bool) : ClientError → Type 0 where
+  failed : (e : ClientError) → Failed q before old after now broken e →
+      Fails q before old after now broken e
+  wants : (name : List ℕ) → name_in q ≡ Some name → after ≡ before → now ≡ old → broken ≡ false →
+      Fails q before old after now broken client.OutOfMemory
+
+-- ---- either
+
+-- a request was asked
+abbrev pub Asks : Request → Client → Line → Client → Line → Bool → Result Answer ClientError →
+    Type 0
+Asks q before old after now broken (Ok a) = Adds q a before old after now × (broken ≡ false)
+Asks q before old after now broken (Err e) = Fails q before old after now broken e

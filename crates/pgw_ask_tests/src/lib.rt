@@ -1,0 +1,5 @@
+//! Tests of asking one request.
+#![tactic(auto)]
+
+#[cfg(test)]
+mod asking;

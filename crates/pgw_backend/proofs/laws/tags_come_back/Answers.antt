@@ -1,5 +1,0 @@
-use Rattle.pgw_backend.proofs.TagLaws.{tag_comes_back}
-use Rattle.pgw_backend.proofs.laws.tags_come_back.Goals as goal
-
-pub returns : goal.returns
-returns c = tag_comes_back

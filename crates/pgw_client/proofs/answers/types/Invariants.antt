@@ -1,6 +1,0 @@
-use Rattle.std.proofs.Common.{◌≡◌, map, take}
-use Rattle.pgw_backend.specs.Fields.{type_of}
-use Rattle.pgw_client.proofs.answers.types.Given as goal
-
-abbrev pub invariant-loop-oid : goal.invariant-loop-oid
-invariant-loop-oid l = l.types ≡ map type_of (take l.oid-index l.oids)

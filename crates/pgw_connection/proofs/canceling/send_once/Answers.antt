@@ -1,0 +1,14 @@
+use Rattle.pgw_connection.specs.Canceling.{cut, no_link}
+use Rattle.pgw_connection.proofs.ConnectLaws.{once, rose_once}
+use Rattle.pgw_connection.proofs.canceling.send_once.Goals as goal
+
+pub returns-in-Ok-sent-clause-sent : goal.returns-in-Ok-sent-clause-sent
+returns-in-Ok-sent-clause-sent g c = (_, _, once _ _ _ _ _ _ c.in-Ok.ensures.dialled c.close.ensures.shut, c.in-Ok-sent.ensures.sent)
+
+pub returns-in-Err-sent-clause-failed : goal.returns-in-Err-sent-clause-failed
+returns-in-Err-sent-clause-failed g c =
+    cut (rose_once _ _ _ _ _ c.in-Ok.ensures.faultless c.in-Ok.ensures.calm c.in-Err-sent.ensures.cause.failed c.close.ensures.counts)
+    _ _ (once _ _ _ _ _ _ c.in-Ok.ensures.dialled c.close.ensures.shut) c.in-Err-sent.ensures.failed
+
+pub returns-in-Err-clause-failed : goal.returns-in-Err-clause-failed
+returns-in-Err-clause-failed g c = no_link c.in-Err.error c.in-Err.ensures.failed

@@ -1,0 +1,10 @@
+pub mod Context
+pub mod Fronts
+pub mod Record
+pub mod Proxied
+pub mod Stands
+pub mod Taking
+pub mod Reading
+pub mod ReadingSteps
+pub mod Run
+pub mod RunSteps

@@ -1,0 +1,11 @@
+pub mod Marks
+pub mod Encodings
+pub mod Parts
+pub mod Proving
+pub mod Digests
+pub mod Written
+pub mod Comparing
+pub mod Fields
+pub mod Lines
+pub mod Finding
+pub mod Rests

@@ -1,0 +1,10 @@
+pub mod Secret
+pub mod Proof
+pub mod Text
+pub mod Found
+pub mod Server
+pub mod Comparison
+pub mod PasswordFile
+pub mod Lookup
+pub mod PasswordReader
+pub mod PasswordShown

@@ -1,0 +1,195 @@
+//! Stored secrets, and logins over them.
+use pgw_scram::client::ScramClientAuth;
+use pgw_secrets::secret::{SecretFault, StoredSecret};
+use pgw_secrets::server::StoredScramAuth;
+use pgw_types::memory::OutOfMemory;
+use pgw_types::text::Text;
+use std::alloc::Global;
+use std::test::Fail;
+
+const SALT: &[u8] = b"\x5b\x6d\x99\x68\x9d\x12\x35\x8e\xec\xa0\x4b\x14\x12\x36\xfa\x81";
+
+const BARE: &[u8] = b"n=user,r=rOprNGfwEbeRWgbNEkqO";
+
+const FIRST: &[u8] =
+    b"r=rOprNGfwEbeRWgbNEkqO%hvYDpWUa2RaTCAfuxFIlj)hNlF$k0,s=W22ZaJ0SNY7soEsUEjb6gQ==,i=4096";
+
+const WITHOUT_PROOF: &[u8] = b"c=biws,r=rOprNGfwEbeRWgbNEkqO%hvYDpWUa2RaTCAfuxFIlj)hNlF$k0";
+
+/// A proof of the example, and whether it is one: the one of RFC 7677, section 3, another, one that is no base64, and one
+/// of 31 bytes.
+const PROOFS: &[(&str, bool)] = &[
+    ("dHzbZapWIk4jUhN+Ute9ytag9zjfMHgsqmmiz7AndVQ=", true),
+    ("dHzbZapWIk4jUhN+Ute9ytag9zjfMHgsqmmiz7AndVU=", false),
+    ("dHzbZapWIk4jUhN+Ute9ytag9zjfMHgsqmmiz7AndVR=", false),
+    ("dHzbZapWIk4jUhN+Ute9ytag9zjfMHgsqmmiz7AndQ==", false),
+    ("", false),
+];
+
+// RFC 7677, section 3.
+#[test]
+fn proofs(rt: HostRuntime) -> Result<(), Fail> {
+    let secret = StoredSecret::make(rt.alloc(), "pencil", SALT, 4096)?;
+    for (proof, wanted) in PROOFS {
+        let found = secret.verify_proof(rt.alloc(), BARE, FIRST, WITHOUT_PROOF, proof)?;
+        if found != *wanted {
+            return Err(Fail::new(format_args!("{proof} is {found}")));
+        }
+    }
+    Ok(())
+}
+
+#[test]
+fn signature(_rt: HostRuntime) -> Result<(), Fail> {
+    let secret = StoredSecret::make(_rt.alloc(), "pencil", SALT, 4096)?;
+    let signature = secret.signature(BARE, FIRST, WITHOUT_PROOF);
+    if signature.as_slice() == b"6rriTRBi23WpRR/wtup+mMhUZUn/dB5nLTJRsjl95G4=".as_slice() {
+        return Ok(());
+    }
+    Err(Fail::new(format_args!("{signature:?}")))
+}
+
+/// The text of a password's secret, with the salt of the example and so many rounds. The keys were computed with Python's
+/// hashlib.
+const TEXTS: &[(&str, u32, &str)] = &[
+    (
+        "pencil",
+        4096,
+        "SCRAM-SHA-256$4096:W22ZaJ0SNY7soEsUEjb6gQ==$WG5d8oPm3OtcPnkdi4Uo7BkeZkBFzpcXkuLmtbsT4qY=:wfPLwcE6nTWhTAmQ7tl2KeoiWGPlZqQxSrmfPwDl2dU=",
+    ),
+    (
+        "secret",
+        1,
+        "SCRAM-SHA-256$1:W22ZaJ0SNY7soEsUEjb6gQ==$8x2B4yhiw6z+YCrlrPDl906m86uimd/lEx0dXfwmCl4=:NGZ3B36yqWam01mOBQur+jcPNMIsN0NDOk/J/ZVaWaA=",
+    ),
+];
+
+fn text_of(alloc: Global, password: &str, salt: &[u8], count: u32) -> Result<Text, OutOfMemory> {
+    StoredSecret::make(alloc, password, salt, count.max(1))?.to_text(alloc)
+}
+
+#[test]
+fn texts(rt: HostRuntime) -> Result<(), Fail> {
+    for (password, count, wanted) in TEXTS {
+        let text = text_of(rt.alloc(), password, SALT, *count)?;
+        if text.as_str() != *wanted {
+            return Err(Fail::new(format_args!("{} and not {wanted}", text.as_str())));
+        }
+        let again = read_again(rt.alloc(), text.as_str())?;
+        if again.as_str() != *wanted {
+            return Err(Fail::new(format_args!("{} read back", again.as_str())));
+        }
+    }
+    Ok(())
+}
+
+/// What PostgreSQL 15 keeps of the password `geheim`, by `CREATE ROLE .. PASSWORD`.
+const POSTGRESQLS: &str =
+    "SCRAM-SHA-256$4096:lZ6Gtg9s0e9tJ+KUjm7eXw==$rCjGxHdegP4njk+eN5bpbxxApZdEwM62b3m+jrikYnY=:tFYkI95ci1iRJCuZRB8vh49BTlwcvNl4YvChjnV6M0s=";
+
+#[test]
+fn postgresqls_own(rt: HostRuntime) -> Result<(), Fail> {
+    let text = read_again(rt.alloc(), POSTGRESQLS)?;
+    if text.as_str() != POSTGRESQLS {
+        return Err(Fail::new(format_args!("{} read back", text.as_str())));
+    }
+    let found = logged_in(rt.alloc(), "geheim", POSTGRESQLS)?;
+    if found.as_str() == "accepted" {
+        return Ok(());
+    }
+    Err(Fail::new(format_args!("{}", found.as_str())))
+}
+
+fn read_again(alloc: Global, text: &str) -> Result<Text, SecretFault> {
+    let secret = StoredSecret::read(alloc, text)?;
+    Ok(secret.to_text(alloc)?)
+}
+
+/// A text that tells no secret, and its first faulty part.
+const FAULTS: &[(&str, SecretFault)] = &[
+    ("", SecretFault::Prefix),
+    ("md5abc", SecretFault::Prefix),
+    ("scram-sha-256$1:$:", SecretFault::Prefix),
+    ("SCRAM-SHA-256$", SecretFault::Count),
+    ("SCRAM-SHA-256$4096", SecretFault::Count),
+    ("SCRAM-SHA-256$0:YmFy$", SecretFault::Count),
+    ("SCRAM-SHA-256$4294967296:YmFy$", SecretFault::Count),
+    ("SCRAM-SHA-256$-1:YmFy$", SecretFault::Count),
+    ("SCRAM-SHA-256$1:YmFy", SecretFault::Salt),
+    ("SCRAM-SHA-256$1:YmFyx$a:b", SecretFault::Salt),
+    ("SCRAM-SHA-256$1:YmF=$a:b", SecretFault::Salt),
+    ("SCRAM-SHA-256$1:YmFy$", SecretFault::StoredKey),
+    ("SCRAM-SHA-256$1:YmFy$YmFy:YmFy", SecretFault::StoredKey),
+    (
+        "SCRAM-SHA-256$1:YmFy$AAAAAAAAAAAAAAAAAAAAAAAAAAAAAAAAAAAAAAAAAAA=",
+        SecretFault::StoredKey,
+    ),
+    (
+        "SCRAM-SHA-256$1:YmFy$AAAAAAAAAAAAAAAAAAAAAAAAAAAAAAAAAAAAAAAAAAA=:YmFy",
+        SecretFault::ServerKey,
+    ),
+    (
+        "SCRAM-SHA-256$1:$AAAAAAAAAAAAAAAAAAAAAAAAAAAAAAAAAAAAAAAAAAA=:AAAAAAAAAAAAAAAAAAAAAAAAAAAAAAAAAAAAAAAAAAA= ",
+        SecretFault::ServerKey,
+    ),
+];
+
+#[test]
+fn faults(rt: HostRuntime) -> Result<(), Fail> {
+    for (text, wanted) in FAULTS {
+        match StoredSecret::read(rt.alloc(), text).err() {
+            Some(fault) if fault == *wanted => {}
+            found => return Err(Fail::new(format_args!("{text}: {found:?}"))),
+        }
+    }
+    Ok(())
+}
+
+/// A login of a client with this password, by the server that keeps this secret's text: what the server answers last.
+fn logged_in(alloc: Global, password: &str, secret: &str) -> Result<String, Fail> {
+    let secret = StoredSecret::read(alloc, secret)?;
+    if secret.count == 0 {
+        return Err(Fail::new(format_args!("no count")));
+    }
+    let server = StoredScramAuth::new(secret);
+    let client = ScramClientAuth::new(
+        Text::from_str(alloc, "bob")?,
+        Text::from_str(alloc, password)?,
+    );
+    let (first, client) = client.build_client_first(alloc, &[0; 18])?;
+    let (answer, server) = server.on_client_first_message(
+        alloc,
+        first.as_str().as_bytes(),
+        &[1; 18],
+    )?;
+    let (last, client) = client.build_client_final(alloc, answer.as_str().as_bytes())?;
+    match server.on_client_final_message(alloc, last.as_str().as_bytes()) {
+        Ok(text) => {
+            client.verify_server_final(alloc, text.as_str().as_bytes())?;
+            Ok(String::from_str(alloc, "accepted")?)
+        }
+        Err(error) => Ok(format!(in alloc; "{error:?}")?),
+    }
+}
+
+/// A password that a secret is made of, one that a client has, and what the server answers.
+const LOGINS: &[(&str, &str, &str)] = &[
+    ("pencil", "pencil", "accepted"),
+    (
+        "pencil",
+        "pencils",
+        "InvalidPassword(Text { text: \"bob\" })",
+    ),
+];
+
+#[test]
+fn logins(rt: HostRuntime) -> Result<(), Fail> {
+    for (kept, given, wanted) in LOGINS {
+        let text = text_of(rt.alloc(), kept, SALT, 7)?;
+        let found = logged_in(rt.alloc(), given, text.as_str())?;
+        if found.as_str() != *wanted {
+            return Err(Fail::new(format_args!("{given}: {}", found.as_str())));
+        }
+    }
+    Ok(())
+}
