@@ -185,21 +185,33 @@ fn ended(alloc: Global, client: Client, dialer: &mut CaseDialer) -> Result<Strin
     Ok(format!(in alloc; "; end -> {came}, closed {closed}")?)
 }
 
-// What the calls on a client come to, and its end where that is asked for.
+// What the calls on a client come to, and its end behind them.
+fn until_its_end(
+    alloc: Global,
+    mut client: Client,
+    dialer: &mut CaseDialer,
+    calls: &str,
+) -> Result<String> {
+    let answers = all(alloc, &mut client, dialer, calls);
+    let end = ended(alloc, client, dialer);
+    let mut whole = answers?;
+    whole.push_str(end?.as_str())?;
+    Ok(whole)
+}
+
+// What the calls on a client come to, with its end where that is asked for.
 fn whole(
     alloc: Global,
     mut client: Client,
     dialer: &mut CaseDialer,
     calls: &str,
 ) -> Result<String> {
-    match calls.split_once(" ; end") {
-        Some((calls, _)) => {
-            let mut said = all(alloc, &mut client, dialer, calls)?;
-            said.push_str(ended(alloc, client, dialer)?.as_str())?;
-            Ok(said)
-        }
-        None => all(alloc, &mut client, dialer, calls),
+    if let Some((calls, _)) = calls.split_once(" ; end") {
+        return until_its_end(alloc, client, dialer, calls);
     }
+    let answers = all(alloc, &mut client, dialer, calls);
+    drop(client);
+    answers
 }
 
 /// What a case's calls come to, one behind the other.
