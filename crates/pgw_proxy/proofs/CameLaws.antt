@@ -5,10 +5,8 @@ use Rattle.std.proofs.lemmas.Grind.{flat_map-append}
 use Rattle.pgw_proxy.specs.declared.context.Context.{Context}
 use Rattle.pgw_proxy.specs.declared.recorded.Side.{Side}
 use Rattle.pgw_proxy.specs.declared.recorded.Side.TheVariants.{Client, Server}
-use Rattle.pgw_proxy.specs.declared.proxy.Proxy.{Proxy}
 use Rattle.pgw_proxy.specs.Record.{Passed, passed, joined}
 use Rattle.pgw_proxy.specs.Proxied.{Event, Ending, Waits, Fails, Takes, waits, fails, breaks, passes, Place, Course, Going, Stopped, moved, Proxied, begins, goes, stays, piece_of, given}
-use Rattle.pgw_proxy.specs.Stands.{Stands}
 use Rattle.pgw_proxy.proofs.MetLaws.{met}
 use Rattle.pgw_proxy.proofs.TakingLaws.{joined_append, joined_one}
 use Rattle.pgw_proxy.proofs.StandsLaws.{takes_foreign}
@@ -96,12 +94,6 @@ came events ms course (stays es xs why side piece proxied) =
       left = tt;
     }
 
-pub to_server_came : (proxy : Proxy) (events : List Event) (sent got tape : List ℕ) → Stands proxy events sent got tape → (more : List ℕ) × (given Client events ≡ sent ++ more)
-to_server_came proxy events sent got tape s =
-    let h = came events s.messages s.course s.proxied in
-    (h.client, h.of_client ∙ ap (λ (l : List ℕ). l ++ h.client) (sym s.server_got))
-
-pub to_client_came : (proxy : Proxy) (events : List Event) (sent got tape : List ℕ) → Stands proxy events sent got tape → (more : List ℕ) × (given Server events ≡ got ++ more)
-to_client_came proxy events sent got tape s =
-    let h = came events s.messages s.course s.proxied in
-    (h.server, h.of_server ∙ ap (λ (l : List ℕ). l ++ h.server) (sym s.client_got))
+pub passed_on_came : (events : List Event) (ms : List Passed) (course : Course) → Proxied events ms course → (side : Side) → (more : List ℕ) × (given side events ≡ joined side ms ++ more)
+passed_on_came events ms course proxied Client = let h = came events ms course proxied in (h.client, h.of_client)
+passed_on_came events ms course proxied Server = let h = came events ms course proxied in (h.server, h.of_server)

@@ -1,14 +1,16 @@
 -- A run of a proxy, turn by turn.
 use Rattle.std.proofs.Common.{◌≡◌, ◌≢◌, ◌<◌, ◌≤◌, ◌+◌, ℕ, true, false, List, [], ◌∷◌, ◌++◌, take, drop, length, get_or, Option, Some, None, Result, Ok, Err, refl, sym, ap, subst, ◌∙◌, append_assoc, inl, inr, arith}
 use Rattle.std.specs.Prelude.{◌⊎◌, Bool, IsSome, zero, suc, if◌then◌else◌}
+use Rattle.std.specs.Io.KnownBytes.{Keeps}
 use Rattle.std.proofs.lemmas.List.{append-nil, length-append, length-take, take-append-drop, take_more}
 use Rattle.std.proofs.lemmas.Grind.{flat_map-append}
 use Rattle.pgw_types.specs.Counts.{Rose}
 use Rattle.pgw_types.specs.declared.error.PgWireError.{PgWireError}
+use Rattle.pgw_types.specs.declared.memory.OutOfMemory.{OutOfMemory}
 use Rattle.pgw_types.specs.declared.error.PgWireError.TheVariants as wire
 use Rattle.pgw_link.specs.Tape.{Tape, Took, Failed}
 use Rattle.pgw_link.specs.Sending.{WroteSome}
-use Rattle.pgw_link.proofs.LogLaws.{foreseen_on, foreseen_still, ends_further, ends_still}
+use Rattle.pgw_link.proofs.LogLaws.{foreseen_on, foreseen_kept, foreseen_still, ends_further, ends_on, ends_still}
 use Rattle.pgw_backend.specs.declared.backend.PgWireBackendMessage.{PgWireBackendMessage as Backend}
 use Rattle.pgw_frontend.specs.declared.frontend.PgWireFrontendMessage.{PgWireFrontendMessage as Frontend}
 use Rattle.pgw_backend.specs.Backend.{backend_front}
@@ -18,13 +20,15 @@ use Rattle.pgw_proxy.specs.declared.recorded.Side.TheVariants.{Client, Server}
 use Rattle.pgw_proxy.specs.declared.fault.ProxyFault.{ProxyFault}
 use Rattle.pgw_proxy.specs.declared.fault.ProxyFault.TheVariants as fault
 use Rattle.pgw_proxy.specs.declared.proxy.Proxy.{Proxy}
-use Rattle.pgw_proxy.specs.Context.{client_context, is_due, is_accepted}
+use Rattle.pgw_proxy.specs.declared.run.ProxyRun.{ProxyRun}
+use Rattle.pgw_proxy.specs.Context.{client_context, first, is_due, is_accepted}
 use Rattle.pgw_proxy.specs.Fronts.{Found, client_front, front, of_client, of_server, refused}
 use Rattle.pgw_proxy.specs.Record.{Passed, joined, record_of}
-use Rattle.pgw_proxy.specs.Proxied.{Event, Ending, Waits, Fails, Takes, waits, fails, breaks, passes, Place, waiting, Course, Going, Stopped, moved, Proxied, goes, piece_of, given, answer_of}
+use Rattle.pgw_proxy.specs.Proxied.{Event, Ending, Waits, Fails, Takes, waits, fails, breaks, passes, Place, place, waiting, Course, Going, Stopped, moved, Proxied, begins as nothing, goes, stays, piece_of, given, answer_of}
 use Rattle.pgw_proxy.specs.Stands.{GoesOn, IsAt, Stands, Forwards, place_of}
-use Rattle.pgw_proxy.specs.Run.{Foretold, Span, Turned, begins, takes, ends, HadTurns, AtLink, StopsFor, Passes, io_of, is_side, turns_of}
-use Rattle.pgw_proxy.specs.RunSteps.{Delivers, Turn, TurnOf, unread, ended, sent, unsent, Half, Runs}
+use Rattle.pgw_proxy.specs.Turns.{Links, Turn, unread, ended, sent, unsent, Turns, begins, goes_on, Still, Gave, Unread, Writes, Got, GotSome, fault_of, faults_of, graver, io_of, other, tape_of}
+use Rattle.pgw_proxy.specs.Run.{AtLink, FaredWell, Foretold, HadTurns, Passes, RelaysOr, Span, StopsFor, end_of, start_of, turns_of}
+use Rattle.pgw_proxy.specs.RunSteps.{Delivers, Ended, Half, Moves, Runs, Stops, end_by, start_by}
 use Rattle.pgw_proxy.proofs.TakingLaws.{joined_append, record_append}
 use Rattle.pgw_proxy.proofs.StandsLaws.{takes_foreign}
 
@@ -86,17 +90,15 @@ own_piece : (o : Side) (piece : List ℕ) → piece_of o (o, piece) ≡ piece
 own_piece Client piece = refl
 own_piece Server piece = refl
 
-foreign_piece : (o far : Side) → is_side o far ≡ false → (piece : List ℕ) → piece_of o (far, piece) ≡ []
-foreign_piece Client Client apart piece = absurd cc
-foreign_piece Client Server apart piece = refl
-foreign_piece Server Client apart piece = refl
-foreign_piece Server Server apart piece = absurd cc
+other_piece : (o : Side) (piece : List ℕ) → piece_of (other o) (o, piece) ≡ []
+other_piece Client piece = refl
+other_piece Server piece = refl
 
 given_own : (o : Side) (events : List Event) (piece : List ℕ) → given o (events ++ (o, piece) ∷ []) ≡ given o events ++ piece
 given_own o events piece = given_on o events (o, piece) ∙ ap (λ (l : List ℕ). given o events ++ l) (own_piece o piece)
 
-given_foreign : (o far : Side) → is_side o far ≡ false → (events : List Event) (piece : List ℕ) → given o (events ++ (far, piece) ∷ []) ≡ given o events
-given_foreign o far apart events piece = given_on o events (far, piece) ∙ ap (λ (l : List ℕ). given o events ++ l) (foreign_piece o far apart piece) ∙ append-nil (given o events)
+given_other : (o : Side) (events : List Event) (piece : List ℕ) → given (other o) (events ++ (o, piece) ∷ []) ≡ given (other o) events
+given_other o events piece = given_on (other o) events (o, piece) ∙ ap (λ (l : List ℕ). given (other o) events ++ l) (other_piece o piece) ∙ append-nil (given (other o) events)
 
 turns_own : (o : Side) (turns : List Side) → turns_of o (turns ++ o ∷ []) ≡ turns_of o turns + 1
 turns_own Client [] = refl
@@ -106,420 +108,529 @@ turns_own Client (Server ∷ ts) = turns_own Client ts
 turns_own Server (Client ∷ ts) = turns_own Server ts
 turns_own Server (Server ∷ ts) = let h = turns_own Server ts in omega (arith, h)
 
-turns_foreign : (o far : Side) → is_side o far ≡ false → (turns : List Side) → turns_of o (turns ++ far ∷ []) ≡ turns_of o turns
-turns_foreign Client Client apart ts = absurd cc
-turns_foreign Server Server apart ts = absurd cc
-turns_foreign Client Server apart [] = refl
-turns_foreign Server Client apart [] = refl
-turns_foreign Client Server apart (Client ∷ ts) = let h = turns_foreign Client Server apart ts in omega (arith, h)
-turns_foreign Client Server apart (Server ∷ ts) = turns_foreign Client Server apart ts
-turns_foreign Server Client apart (Client ∷ ts) = turns_foreign Server Client apart ts
-turns_foreign Server Client apart (Server ∷ ts) = let h = turns_foreign Server Client apart ts in omega (arith, h)
+turns_other : (o : Side) (turns : List Side) → turns_of (other o) (turns ++ o ∷ []) ≡ turns_of (other o) turns
+turns_other Client [] = refl
+turns_other Server [] = refl
+turns_other Client (Server ∷ ts) = let h = turns_other Client ts in omega (arith, h)
+turns_other Client (Client ∷ ts) = turns_other Client ts
+turns_other Server (Server ∷ ts) = turns_other Server ts
+turns_other Server (Client ∷ ts) = let h = turns_other Server ts in omega (arith, h)
 
-foreign_joined : (side far : Side) → is_side side far ≡ false → (c : Context) (bytes : List ℕ) (ms : List Passed) (there : Ending) → Takes side c bytes ms there → joined far ms ≡ []
-foreign_joined Client Client apart c bytes ms there t = absurd cc
-foreign_joined Client Server apart c bytes ms there t = takes_foreign Client c bytes ms there t
-foreign_joined Server Client apart c bytes ms there t = takes_foreign Server c bytes ms there t
-foreign_joined Server Server apart c bytes ms there t = absurd cc
+round : (o : Side) → other (other o) ≡ o
+round Client = refl
+round Server = refl
 
-io_apart : (side far : Side) → is_side side far ≡ false → io_of side ≢ io_of far
-io_apart Client Client apart is = absurd cc
-io_apart Client Server apart is = cc
-io_apart Server Client apart is = cc
-io_apart Server Server apart is = absurd cc
+apart : (o : Side) → io_of o ≢ io_of (other o)
+apart Client is = cc
+apart Server is = cc
 
 no_more : (o : Side) (ms more : List Passed) → joined o more ≡ [] → joined o (ms ++ more) ≡ joined o ms
 no_more o ms more none = joined_append o ms more ∙ ap (λ (l : List ℕ). joined o ms ++ l) none ∙ append-nil (joined o ms)
 
--- ---- a link over one turn more
+-- what holds of a side and of the other holds of each
+each : (o : Side) (Fact : Side → Type 0) → Fact o → Fact (other o) → (side : Side) → Fact side
+each Client Fact own far Client = own
+each Client Fact own far Server = far
+each Server Fact own far Server = own
+each Server Fact own far Client = far
 
-abbrev pub further : Span → Tape → Option (List ℕ) → ℕ → Span
-further link new is now = record { old = link.old; new = new; was = link.was; is = is; before = link.before; now = now }
+-- ---- a link over a turn more
 
-had_more : (link : Span) (new : Tape) (is : Option (List ℕ)) (now count count2 : ℕ) (came came2 : List ℕ) → HadTurns link count came → new.ended ≡ link.new.ended → count2 + length came ≤ count + length came2 → HadTurns (further link new is now) count2 came2
-had_more link new is now count count2 came came2 (inl few) same more = inl (omega (arith, few, more))
-had_more link new is now count count2 came came2 (inr met) same more = inr (met.0, met.1, same ∙ met.2)
+had_more : (old mid last : Tape) (count count2 : ℕ) (came came2 : List ℕ) → HadTurns old mid count came → last.ended ≡ mid.ended → count2 + length came ≤ count + length came2 → HadTurns old last count2 came2
+had_more old mid last count count2 came came2 (inl few) same more = inl (omega (arith, few, more))
+had_more old mid last count count2 came came2 (inr met) same more = inr (met.0, met.1, same ∙ met.2)
 
-module _ (side far : Side) (apart : is_side side far ≡ false) (turns : List Side) (events : List Event) (ms : List Passed) (link : Span) (half : Half side far turns events ms link) (new : Tape) (is : Option (List ℕ)) (now : ℕ) where
-  -- its side's piece was read
-  half_took : (more : List Passed) (piece : List ℕ) → Took link.new new piece → 0 < length piece → now ≡ link.now → joined far more ≡ [] → Half side far (turns ++ side ∷ []) (events ++ (side, piece) ∷ []) (ms ++ more) (further link new is now)
-  half_took more piece took some calm none =
+-- of the side whose turn it is
+module _ (side : Side) (start mid last : Links) (turns : List Side) (events : List Event) (ms : List Passed) (half : Half side start mid turns events ms) where
+  -- its piece was read
+  half_took : (more : List Passed) (piece : List ℕ) → Gave side mid last piece → 0 < length piece → joined (other side) more ≡ [] → Half side start last (turns ++ side ∷ []) (events ++ (side, piece) ∷ []) (ms ++ more)
+  half_took more piece gave some none =
+      let took = gave.0 in
       let came : given side (events ++ (side, piece) ∷ []) ≡ given side events ++ piece = given_own side events piece in
-      let due : joined far (ms ++ more) ≡ joined far ms = no_more far ms more none in
+      let due : joined (other side) (ms ++ more) ≡ joined (other side) ms = no_more (other side) ms more none in
       record {
-        took = took.took ∙ ap (λ (l : List ℕ). l ++ piece) half.took ∙ append_assoc link.old.took (given side events) piece ∙ ap (λ (l : List ℕ). link.old.took ++ l) (sym came);
-        wrote = took.wrote ∙ half.wrote ∙ ap (λ (l : List ℕ). link.old.wrote ++ l) (sym due);
+        took = took.took ∙ ap (λ (l : List ℕ). l ++ piece) half.took ∙ append_assoc (tape_of side start).took (given side events) piece ∙ ap (λ (l : List ℕ). (tape_of side start).took ++ l) (sym came);
+        wrote = took.wrote ∙ half.wrote ∙ ap (λ (l : List ℕ). (tape_of side start).wrote ++ l) (sym due);
         flushed = λ some_due. took.flushed ∙ half.flushed (λ nothing. some_due (due ∙ nothing)) ∙ ap length (sym took.wrote);
-        calm = calm ∙ half.calm;
+        calm = gave.1 ∙ half.calm;
         answers = half.answers;
         ended = took.goes_on some ∙ half.ended;
-        turns_made = had_more link new is now (turns_of side turns) (turns_of side (turns ++ side ∷ [])) (given side events) (given side (events ++ (side, piece) ∷ [])) half.turns_made (took.goes_on some) (omega (arith, turns_own side turns, some, ap length came, length-append (given side events) piece));
+        turns_made = had_more (tape_of side start) (tape_of side mid) (tape_of side last) (turns_of side turns) (turns_of side (turns ++ side ∷ [])) (given side events) (given side (events ++ (side, piece) ∷ [])) half.turns_made (took.goes_on some) (omega (arith, turns_own side turns, some, ap length came, length-append (given side events) piece));
       }
 
   -- it answered its end
-  half_ended : Took link.new new [] → now ≡ link.now → Half side far (turns ++ side ∷ []) events ms (further link new is now)
-  half_ended took calm = record {
-    took = took.took ∙ append-nil link.new.took ∙ half.took;
-    wrote = took.wrote ∙ half.wrote;
-    flushed = λ some_due. took.flushed ∙ half.flushed some_due ∙ ap length (sym took.wrote);
-    calm = calm ∙ half.calm;
-    answers = half.answers ++ link.new.flushed ∷ [];
-    ended = took.ended refl ∙ ap (λ (l : List ℕ). l ++ link.new.flushed ∷ []) half.ended ∙ append_assoc link.old.ended half.answers (link.new.flushed ∷ []);
-    turns_made = inr (half.answers, link.new.flushed, took.ended refl ∙ ap (λ (l : List ℕ). l ++ link.new.flushed ∷ []) half.ended);
-  }
+  half_ended : Gave side mid last [] → Half side start last (turns ++ side ∷ []) events ms
+  half_ended gave =
+      let took = gave.0 in
+      let met : (tape_of side last).ended ≡ ((tape_of side start).ended ++ half.answers) ++ (tape_of side mid).flushed ∷ [] = took.ended refl ∙ ap (λ (l : List ℕ). l ++ (tape_of side mid).flushed ∷ []) half.ended in
+      record {
+        took = took.took ∙ append-nil (tape_of side mid).took ∙ half.took;
+        wrote = took.wrote ∙ half.wrote;
+        flushed = λ some_due. took.flushed ∙ half.flushed some_due ∙ ap length (sym took.wrote);
+        calm = gave.1 ∙ half.calm;
+        answers = half.answers ++ (tape_of side mid).flushed ∷ [];
+        ended = met ∙ append_assoc (tape_of side start).ended half.answers ((tape_of side mid).flushed ∷ []);
+        turns_made = inr (half.answers, (tape_of side mid).flushed, met);
+      }
 
-  -- nothing was written to it in a turn of the other
-  half_idle : new ≡ link.new → now ≡ link.now → Half side far (turns ++ far ∷ []) events ms (further link new is now)
-  half_idle same calm = record {
-    took = ap (λ (t : Tape). t.took) same ∙ half.took;
-    wrote = ap (λ (t : Tape). t.wrote) same ∙ half.wrote;
-    flushed = λ some_due. ap (λ (t : Tape). t.flushed) same ∙ half.flushed some_due ∙ ap (λ (t : Tape). length t.wrote) (sym same);
-    calm = calm ∙ half.calm;
-    answers = half.answers;
-    ended = ap (λ (t : Tape). t.ended) same ∙ half.ended;
-    turns_made = had_more link new is now (turns_of side turns) (turns_of side (turns ++ far ∷ [])) (given side events) (given side events) half.turns_made (ap (λ (t : Tape). t.ended) same) (omega (arith, turns_foreign side far apart turns));
-  }
+-- of the other side, in a turn of this one
+module _ (side : Side) (start mid last : Links) (turns : List Side) (events : List Event) (ms : List Passed) (half : Half (other side) start mid turns events ms) where
+  -- nothing was written to it
+  half_idle : Still (other side) mid last → Half (other side) start last (turns ++ side ∷ []) events ms
+  half_idle still =
+      let same = still.0 in
+      record {
+        took = ap (λ (t : Tape). t.took) same ∙ half.took;
+        wrote = ap (λ (t : Tape). t.wrote) same ∙ half.wrote;
+        flushed = λ some_due. ap (λ (t : Tape). t.flushed) same ∙ half.flushed some_due ∙ ap (λ (t : Tape). length t.wrote) (sym same);
+        calm = still.1 ∙ half.calm;
+        answers = half.answers;
+        ended = ap (λ (t : Tape). t.ended) same ∙ half.ended;
+        turns_made = had_more (tape_of (other side) start) (tape_of (other side) mid) (tape_of (other side) last) (turns_of (other side) turns) (turns_of (other side) (turns ++ side ∷ [])) (given (other side) events) (given (other side) events) half.turns_made (ap (λ (t : Tape). t.ended) same) (omega (arith, turns_other side turns));
+      }
 
   -- what was due was written
-  half_wrote : (more : List Passed) (piece out : List ℕ) → Delivers side link.new new out (Ok tt) → now ≡ link.now → out ≡ joined far more → Half side far (turns ++ far ∷ []) (events ++ (far, piece) ∷ []) (ms ++ more) (further link new is now)
+  half_wrote : (more : List Passed) (piece out : List ℕ) → Writes out (tape_of (other side) mid) (tape_of (other side) last) → faults_of (other side) last ≡ faults_of (other side) mid → out ≡ joined (other (other side)) more → Half (other side) start last (turns ++ side ∷ []) (events ++ (side, piece) ∷ []) (ms ++ more)
   half_wrote more piece [] same calm out =
-      let due : joined far (ms ++ more) ≡ joined far ms = no_more far ms more (sym out) in
-      let came : given side (events ++ (far, piece) ∷ []) ≡ given side events = given_foreign side far apart events piece in
+      let far = other side in
+      let due : joined (other far) (ms ++ more) ≡ joined (other far) ms = no_more (other far) ms more (sym out) in
+      let came : given far (events ++ (side, piece) ∷ []) ≡ given far events = given_other side events piece in
       record {
-        took = ap (λ (t : Tape). t.took) same ∙ half.took ∙ ap (λ (l : List ℕ). link.old.took ++ l) (sym came);
-        wrote = ap (λ (t : Tape). t.wrote) same ∙ half.wrote ∙ ap (λ (l : List ℕ). link.old.wrote ++ l) (sym due);
+        took = ap (λ (t : Tape). t.took) same ∙ half.took ∙ ap (λ (l : List ℕ). (tape_of far start).took ++ l) (sym came);
+        wrote = ap (λ (t : Tape). t.wrote) same ∙ half.wrote ∙ ap (λ (l : List ℕ). (tape_of far start).wrote ++ l) (sym due);
         flushed = λ some_due. ap (λ (t : Tape). t.flushed) same ∙ half.flushed (λ nothing. some_due (due ∙ nothing)) ∙ ap (λ (t : Tape). length t.wrote) (sym same);
         calm = calm ∙ half.calm;
         answers = half.answers;
         ended = ap (λ (t : Tape). t.ended) same ∙ half.ended;
-        turns_made = had_more link new is now (turns_of side turns) (turns_of side (turns ++ far ∷ [])) (given side events) (given side (events ++ (far, piece) ∷ [])) half.turns_made (ap (λ (t : Tape). t.ended) same) (omega (arith, turns_foreign side far apart turns, ap length came));
+        turns_made = had_more (tape_of far start) (tape_of far mid) (tape_of far last) (turns_of far turns) (turns_of far (turns ++ side ∷ [])) (given far events) (given far (events ++ (side, piece) ∷ [])) half.turns_made (ap (λ (t : Tape). t.ended) same) (omega (arith, turns_other side turns, ap length came));
       }
   half_wrote more piece (b ∷ bs) wrote calm out =
-      let due : joined far (ms ++ more) ≡ joined far ms ++ (b ∷ bs) = joined_append far ms more ∙ ap (λ (l : List ℕ). joined far ms ++ l) (sym out) in
-      let came : given side (events ++ (far, piece) ∷ []) ≡ given side events = given_foreign side far apart events piece in
+      let far = other side in
+      let due : joined (other far) (ms ++ more) ≡ joined (other far) ms ++ (b ∷ bs) = joined_append (other far) ms more ∙ ap (λ (l : List ℕ). joined (other far) ms ++ l) (sym out) in
+      let came : given far (events ++ (side, piece) ∷ []) ≡ given far events = given_other side events piece in
       record {
-        took = (wrote.reads_nothing).took ∙ half.took ∙ ap (λ (l : List ℕ). link.old.took ++ l) (sym came);
-        wrote = wrote.wrote ∙ ap (λ (l : List ℕ). l ++ (b ∷ bs)) half.wrote ∙ append_assoc link.old.wrote (joined far ms) (b ∷ bs) ∙ ap (λ (l : List ℕ). link.old.wrote ++ l) (sym due);
+        took = (wrote.reads_nothing).took ∙ half.took ∙ ap (λ (l : List ℕ). (tape_of far start).took ++ l) (sym came);
+        wrote = wrote.wrote ∙ ap (λ (l : List ℕ). l ++ (b ∷ bs)) half.wrote ∙ append_assoc (tape_of far start).wrote (joined (other far) ms) (b ∷ bs) ∙ ap (λ (l : List ℕ). (tape_of far start).wrote ++ l) (sym due);
         flushed = λ some_due. wrote.flushed;
         calm = calm ∙ half.calm;
         answers = half.answers;
         ended = (wrote.reads_nothing).ended ∙ half.ended;
-        turns_made = had_more link new is now (turns_of side turns) (turns_of side (turns ++ far ∷ [])) (given side events) (given side (events ++ (far, piece) ∷ [])) half.turns_made (wrote.reads_nothing).ended (omega (arith, turns_foreign side far apart turns, ap length came));
+        turns_made = had_more (tape_of far start) (tape_of far mid) (tape_of far last) (turns_of far turns) (turns_of far (turns ++ side ∷ [])) (given far events) (given far (events ++ (side, piece) ∷ [])) half.turns_made (wrote.reads_nothing).ended (omega (arith, turns_other side turns, ap length came));
       }
 
--- ---- where a run ends, at one side
+-- the messages of a turn go to the other side alone
+due_of : (side : Side) (ms : List Passed) → joined side ms ≡ joined (other (other side)) ms
+due_of side ms = ap (λ o. joined o ms) (sym (round side))
 
--- no call of it failed
-at_calm : (side far : Side) (turns : List Side) (events : List Event) (ms : List Passed) (link : Span) (why : Option ProxyFault) → Half side far turns events ms link → why ≢ Some (io_of side) → AtLink side far link turns events ms why
-at_calm side far turns events ms link why half never = record {
-  took = half.took;
-  part = joined far ms;
-  lost = [];
-  cut = sym (append-nil (joined far ms));
-  wrote = half.wrote;
-  whole = λ _. refl;
-  flushed = λ _. half.flushed;
-  calm = λ _. half.calm;
-  failed = λ is. absurd (never is);
-  turns_made = half.turns_made;
-}
+-- ---- where a run ends, at one side
 
 rose_from : (a b c : ℕ) → b ≡ a → Rose b c → Rose a c
 rose_from a b c same rose = subst (λ n. Rose n c) same rose
 
--- a read of it failed
-at_unread : (side far : Side) (turns : List Side) (events : List Event) (ms : List Passed) (link : Span) (new : Tape) (is : Option (List ℕ)) (now reads : ℕ) → Half side far turns events ms link → Failed link.new new reads link.new.writes → Rose link.now now
-    → AtLink side far (further link new is now) turns events ms (Some (io_of side))
-at_unread side far turns events ms link new is now reads half f rose = record {
-  took = f.took ∙ half.took;
-  part = joined far ms;
+-- no call of it failed
+at_calm : (side : Side) (start last : Links) (turns : List Side) (events : List Event) (ms : List Passed) (why : Option ProxyFault) → Half side start last turns events ms → why ≢ Some (io_of side) → AtLink side start last turns events ms why
+at_calm side start last turns events ms why half never = record {
+  took = half.took;
+  part = joined (other side) ms;
   lost = [];
-  cut = sym (append-nil (joined far ms));
-  wrote = f.wrote ∙ half.wrote;
-  whole = λ not_so. refl;
-  flushed = λ not_so. absurd (not_so refl);
-  calm = λ not_so. absurd (not_so refl);
-  failed = λ _. rose_from link.before link.now now half.calm rose;
-  turns_made = had_more link new is now (turns_of side turns) (turns_of side turns) (given side events) (given side events) half.turns_made f.ended (omega arith);
+  cut = sym (append-nil (joined (other side) ms));
+  wrote = half.wrote;
+  whole = λ _. refl;
+  flushed = λ _. half.flushed;
+  calm = λ _ _. half.calm;
+  failed = λ is. absurd (never is);
+  turns_made = λ _. half.turns_made;
 }
+
+-- a read of it failed
+at_unread : (side : Side) (start mid last : Links) (turns more : List Side) (events : List Event) (ms : List Passed) → Half side start mid turns events ms → Unread side mid last → AtLink side start last (turns ++ more) events ms (Some (io_of side))
+at_unread side start mid last turns more events ms half failed =
+    let f = failed.0 in
+    record {
+      took = f.took ∙ half.took;
+      part = joined (other side) ms;
+      lost = [];
+      cut = sym (append-nil (joined (other side) ms));
+      wrote = f.wrote ∙ half.wrote;
+      whole = λ _. refl;
+      flushed = λ well. absurd (well.0 refl);
+      calm = λ not_so _. absurd (not_so refl);
+      failed = λ _. rose_from (faults_of side start) (faults_of side mid) (faults_of side last) half.calm failed.1;
+      turns_made = λ not_so. absurd (not_so refl);
+    }
 
 take_drop : (n : ℕ) (l : List ℕ) → l ≡ take n l ++ drop n l
 take_drop zero l = refl
 take_drop (suc n) [] = refl
 take_drop (suc n) (x ∷ xs) = ap (λ (l : List ℕ). x ∷ l) (take_drop n xs)
 
--- a write to it failed
-some_written : (side : Side) (old new : Tape) (out : List ℕ) → Delivers side old new out (Err (io_of side)) → WroteSome old new out
-some_written side old new [] d = absurd d
-some_written side old new (b ∷ bs) d = d.1
+-- why a turn stops whose write failed: that, or want of memory
+abbrev IsUnsent : Side → ProxyFault → Type 0
+IsUnsent far f = (f ≡ io_of far) ⊎ (f ≡ fault.OutOfMemory)
 
-at_unsent : (side far : Side) (apart : is_side side far ≡ false) (turns : List Side) (events : List Event) (ms more : List Passed) (piece : List ℕ) (link : Span) (new : Tape) (is : Option (List ℕ)) (now : ℕ) (out : List ℕ) → Half side far turns events ms link → WroteSome link.new new out → Rose link.now now → out ≡ joined far more
-    → AtLink side far (further link new is now) (turns ++ far ∷ []) (events ++ (far, piece) ∷ []) (ms ++ more) (Some (io_of side))
-at_unsent side far apart turns events ms more piece link new is now out half w rose is_due =
-    let came : given side (events ++ (far, piece) ∷ []) ≡ given side events = given_foreign side far apart events piece in
+unwell : (far : Side) (f : ProxyFault) (start last : Links) → IsUnsent far f → Rose (faults_of far start) (faults_of far last) → FaredWell far start last (Some f) → ⊥
+unwell far f start last (inl is) rose well = well.0 (ap Some is)
+unwell far f start last (inr is) rose well = well.1 (ap Some is) rose
+
+unsent_not_calm : (far : Side) (f : ProxyFault) → IsUnsent far f → Some f ≢ Some (io_of far) → Some f ≢ Some fault.OutOfMemory → ⊥
+unsent_not_calm far f (inl is) one two = one (ap Some is)
+unsent_not_calm far f (inr is) one two = two (ap Some is)
+
+-- a write to it failed
+at_unsent : (side : Side) (start mid last : Links) (turns : List Side) (events : List Event) (ms more : List Passed) (piece : List ℕ) (f : ProxyFault) → Half (other side) start mid turns events ms → GotSome (other side) mid last (joined side more) → IsUnsent (other side) f
+    → AtLink (other side) start last (turns ++ side ∷ []) (events ++ (side, piece) ∷ []) (ms ++ more) (Some f)
+at_unsent side start mid last turns events ms more piece f half got why =
+    let far = other side in
+    let w = got.1 in
+    let out = joined side more in
+    let came : given far (events ++ (side, piece) ∷ []) ≡ given far events = given_other side events piece in
     let part = take w.count out in
+    let rose = rose_from (faults_of far start) (faults_of far mid) (faults_of far last) half.calm got.2 in
     record {
-      took = (w.reads_nothing).took ∙ half.took ∙ ap (λ (l : List ℕ). link.old.took ++ l) (sym came);
-      part = joined far ms ++ part;
+      took = (w.reads_nothing).took ∙ half.took ∙ ap (λ (l : List ℕ). (tape_of far start).took ++ l) (sym came);
+      part = joined (other far) ms ++ part;
       lost = drop w.count out;
-      cut = joined_append far ms more ∙ ap (λ (l : List ℕ). joined far ms ++ l) (sym is_due ∙ take_drop w.count out) ∙ sym (append_assoc (joined far ms) part (drop w.count out));
-      wrote = w.wrote ∙ ap (λ (l : List ℕ). l ++ part) half.wrote ∙ append_assoc link.old.wrote (joined far ms) part;
-      whole = λ not_so. absurd (not_so refl);
-      flushed = λ not_so. absurd (not_so refl);
-      calm = λ not_so. absurd (not_so refl);
-      failed = λ _. rose_from link.before link.now now half.calm rose;
-      turns_made = had_more link new is now (turns_of side turns) (turns_of side (turns ++ far ∷ [])) (given side events) (given side (events ++ (far, piece) ∷ [])) half.turns_made (w.reads_nothing).ended (omega (arith, turns_foreign side far apart turns, ap length came));
+      cut = joined_append (other far) ms more ∙ ap (λ (l : List ℕ). joined (other far) ms ++ l) (sym (due_of side more) ∙ take_drop w.count out) ∙ sym (append_assoc (joined (other far) ms) part (drop w.count out));
+      wrote = w.wrote ∙ ap (λ (l : List ℕ). l ++ part) half.wrote ∙ append_assoc (tape_of far start).wrote (joined (other far) ms) part;
+      whole = λ well. absurd (unwell far f start last why rose well);
+      flushed = λ well. absurd (unwell far f start last why rose well);
+      calm = λ one two. absurd (unsent_not_calm far f why one two);
+      failed = λ _. rose;
+      turns_made = λ _. had_more (tape_of far start) (tape_of far mid) (tape_of far last) (turns_of far turns) (turns_of far (turns ++ side ∷ [])) (given far events) (given far (events ++ (side, piece) ∷ [])) half.turns_made (w.reads_nothing).ended (omega (arith, turns_other side turns, ap length came));
     }
 
 some_same : (f g : ProxyFault) → Some f ≡ Some g → f ≡ g
 some_same f g is = cc
 
-which : (side : Side) (f : ProxyFault) {course : Course} → f ≡ io_of side → (f ≡ io_of Client) ⊎ (f ≡ io_of Server) ⊎ (course ≡ Stopped f)
+-- ---- where a turn leads
+
+moved_by : (side : Side) (p : Place) (why : ProxyFault) → moved side p (Fails why) ≡ Stopped why
+moved_by Client p why = refl
+moved_by Server p why = refl
+
+-- a piece leads on where there is no fault
+waits_on : (side : Side) (p : Place) (there : Ending) → fault_of (answer_of there) ≡ None → (q : Place) × (moved side p there ≡ Going q)
+waits_on Client p (Waits c rest) none = (_, refl)
+waits_on Server p (Waits c rest) none = (_, refl)
+waits_on side p (Fails why) none = cc
+
+-- and to the fault else
+stops_sent : (side : Side) (p : Place) (there : Ending) → StopsFor (fault_of (answer_of there)) (moved side p there)
+stops_sent Client p (Waits c rest) = (_, refl)
+stops_sent Server p (Waits c rest) = (_, refl)
+stops_sent side p (Fails why) = inr (moved_by side p why)
+
+fails_by : (there : Ending) (f : ProxyFault) → fault_of (answer_of there) ≡ Some f → there ≡ Fails f
+fails_by (Waits c rest) f is = cc
+fails_by (Fails why) f is = ap Fails (some_same why f is)
+
+-- which is none of a link
+sent_calm : (side o : Side) (c : Context) (bytes : List ℕ) (ms : List Passed) (there : Ending) → Takes side c bytes ms there → fault_of (answer_of there) ≢ Some (io_of o)
+sent_calm side o c bytes ms there taken is = not_io o (io_of o) (takes_calm side c bytes ms there taken (io_of o) (fails_by there (io_of o) is)) refl
+
+waited : (side : Side) (p : Place) (c : Context) (rest : List ℕ) (why : ProxyFault) → moved side p (Waits c rest) ≢ Stopped why
+waited Client p c rest why is = cc
+waited Server p c rest why is = cc
+
+which : (side : Side) (f : ProxyFault) → f ≡ io_of side → (f ≡ io_of Client) ⊎ (f ≡ io_of Server)
 which Client f is = inl is
-which Server f is = inr (inl is)
+which Server f is = inr is
 
--- ---- one turn more
+-- why a turn stops whose write failed, and where the pieces lead then
+record Unsent (far : Side) (f : ProxyFault) (course : Course) : Type 0 where
+  why : IsUnsent far f
+  stops : StopsFor (Some f) course
 
--- a link after a turn, by what it told before
-abbrev pub turn_span : Span → Tape → Option (List ℕ) → ℕ → Span
-turn_span link new is now = record { old = link.new; new = new; was = link.is; is = is; before = link.now; now = now }
-
-half_same : (side far : Side) (turns : List Side) (events : List Event) (ms : List Passed) (link : Span) (new : Tape) (is : Option (List ℕ)) (now : ℕ) → Half side far turns events ms link → new ≡ link.new → now ≡ link.now → Half side far turns events ms (further link new is now)
-half_same side far turns events ms link new is now half same calm = record {
-  took = ap (λ (t : Tape). t.took) same ∙ half.took;
-  wrote = ap (λ (t : Tape). t.wrote) same ∙ half.wrote;
-  flushed = λ some_due. ap (λ (t : Tape). t.flushed) same ∙ half.flushed some_due ∙ ap (λ (t : Tape). length t.wrote) (sym same);
-  calm = calm ∙ half.calm;
-  answers = half.answers;
-  ended = ap (λ (t : Tape). t.ended) same ∙ half.ended;
-  turns_made = had_more link new is now (turns_of side turns) (turns_of side turns) (given side events) (given side events) half.turns_made (ap (λ (t : Tape). t.ended) same) (omega arith);
+unsent_for : (side : Side) (p : Place) (far : Side) (why f : ProxyFault) → f ≡ io_of far → why ≢ fault.OutOfMemory → Unsent far f (moved side p (Fails why))
+unsent_for side p far why f is known = record {
+  why = inl is;
+  stops = inl (which far f is, λ stopped. known (let same : Stopped why ≡ Stopped fault.OutOfMemory = sym (moved_by side p why) ∙ stopped in cc));
 }
 
--- a piece that leads on
-went_on : (side : Side) (old new : Proxy) (events : List Event) (ms more : List Passed) (piece : List ℕ) (there : Ending) → Proxied events ms (Going (place_of old)) → Takes side old.context (waiting side (place_of old) ++ piece) more there → IsAt new (moved side (place_of old) there) → Ok tt ≡ answer_of there
-    → Proxied (events ++ (side, piece) ∷ []) (ms ++ more) (Going (place_of new)) × GoesOn new
-went_on Client old new events ms more piece (Waits c rest) proxied into at is =
-    (subst (λ (p : Place). Proxied (events ++ (Client, piece) ∷ []) (ms ++ more) (Going p)) at.1 (goes events ms more (place_of old) Client piece (Waits c rest) proxied into), at.0)
-went_on Server old new events ms more piece (Waits c rest) proxied into at is =
-    (subst (λ (p : Place). Proxied (events ++ (Server, piece) ∷ []) (ms ++ more) (Going p)) at.1 (goes events ms more (place_of old) Server piece (Waits c rest) proxied into), at.0)
-went_on side old new events ms more piece (Fails why) proxied into at is = absurd cc
+unsent_by : (side : Side) (p : Place) (there : Ending) (far : Side) → Unsent far (graver (answer_of there) (io_of far)) (moved side p there)
+unsent_by side p (Waits c rest) far = record { why = inl refl; stops = inl (which far (io_of far) refl, waited side p c rest fault.OutOfMemory) }
+unsent_by side p (Fails fault.OutOfMemory) far = record { why = inr refl; stops = inr (moved_by side p fault.OutOfMemory) }
+unsent_by side p (Fails (fault.Client e)) far = unsent_for side p far (fault.Client e) _ refl (λ is. cc)
+unsent_by side p (Fails (fault.Server e)) far = unsent_for side p far (fault.Server e) _ refl (λ is. cc)
+unsent_by side p (Fails fault.Negotiation) far = unsent_for side p far fault.Negotiation _ refl (λ is. cc)
+unsent_by side p (Fails fault.TlsAccepted) far = unsent_for side p far fault.TlsAccepted _ refl (λ is. cc)
+unsent_by side p (Fails fault.ClientIo) far = unsent_for side p far fault.ClientIo _ refl (λ is. cc)
+unsent_by side p (Fails fault.ServerIo) far = unsent_for side p far fault.ServerIo _ refl (λ is. cc)
+unsent_by side p (Fails fault.Stopped) far = unsent_for side p far fault.Stopped _ refl (λ is. cc)
 
--- one that leads to a fault
-stopped_by : (side : Side) (old : Proxy) (events : List Event) (ms more : List Passed) (piece : List ℕ) (there : Ending) (f : ProxyFault) → Proxied events ms (Going (place_of old)) → Takes side old.context (waiting side (place_of old) ++ piece) more there → Err f ≡ answer_of there
-    → Proxied (events ++ (side, piece) ∷ []) (ms ++ more) (Stopped f) × (is_io f ≡ false)
-stopped_by side old events ms more piece (Waits c rest) f proxied into is = absurd cc
-stopped_by Client old events ms more piece (Fails why) f proxied into is =
-    let same : why ≡ f = cc in
-    (subst (λ w. Proxied (events ++ (Client, piece) ∷ []) (ms ++ more) (Stopped w)) same (goes events ms more (place_of old) Client piece (Fails why) proxied into), ap is_io (sym same) ∙ takes_calm Client old.context (waiting Client (place_of old) ++ piece) more (Fails why) into why refl)
-stopped_by Server old events ms more piece (Fails why) f proxied into is =
-    let same : why ≡ f = cc in
-    (subst (λ w. Proxied (events ++ (Server, piece) ∷ []) (ms ++ more) (Stopped w)) same (goes events ms more (place_of old) Server piece (Fails why) proxied into), ap is_io (sym same) ∙ takes_calm Server old.context (waiting Server (place_of old) ++ piece) more (Fails why) into why refl)
+unsent_apart : (side : Side) (f : ProxyFault) → IsUnsent (other side) f → Some f ≢ Some (io_of side)
+unsent_apart Client f (inl is) same = let io : f ≡ fault.ClientIo = some_same f fault.ClientIo same in cc
+unsent_apart Client f (inr is) same = let io : f ≡ fault.ClientIo = some_same f fault.ClientIo same in cc
+unsent_apart Server f (inl is) same = let io : f ≡ fault.ServerIo = some_same f fault.ServerIo same in cc
+unsent_apart Server f (inr is) same = let io : f ≡ fault.ServerIo = some_same f fault.ServerIo same in cc
 
--- where the pieces lead, whatever that is
-led_to : (side : Side) (old : Proxy) (events : List Event) (ms more : List Passed) (piece : List ℕ) (there : Ending) → Proxied events ms (Going (place_of old)) → Takes side old.context (waiting side (place_of old) ++ piece) more there → Proxied (events ++ (side, piece) ∷ []) (ms ++ more) (moved side (place_of old) there)
-led_to side old events ms more piece there proxied into = goes events ms more (place_of old) side piece there proxied into
+-- ---- what a turn leaves of a run
+
+record Left (start last : Links) (turns : List Side) (events : List Event) (ms : List Passed) (course : Course) (why : Option ProxyFault) : Type 0 where
+  proxied : Proxied events ms course
+  at_each : (side : Side) → AtLink side start last turns events ms why
+  stops : StopsFor why course
+
+-- with nothing behind
+left_still : (start last : Links) (turns : List Side) (events : List Event) (ms : List Passed) (course : Course) (why : Option ProxyFault) → Left start last turns events ms course why → Left start last turns (events ++ []) (ms ++ []) course why
+left_still start last turns events ms course why left = subst (λ (l : List Event). Left start last turns l (ms ++ []) course why) (sym (append-nil events)) (subst (λ (l : List Passed). Left start last turns events l course why) (sym (append-nil ms)) left)
+
+module _ (side : Side) (start mid last : Links) (turns : List Side) (events : List Event) (ms : List Passed) (p : Place) (half : (o : Side) → Half o start mid turns events ms) (proxied : Proxied events ms (Going p)) where
+  ended_halves : Gave side mid last [] → Still (other side) mid last → (o : Side) → Half o start last (turns ++ side ∷ []) events ms
+  ended_halves gave still = each side (λ o. Half o start last (turns ++ side ∷ []) events ms) (half_ended side start mid last turns events ms (half side) gave) (half_idle side start mid last turns events ms (half (other side)) still)
+
+  sent_halves : (xs : List Passed) (piece : List ℕ) (there : Ending) → 0 < length piece → Gave side mid last piece → Takes side p.context (waiting side p ++ piece) xs there → Got (other side) mid last (joined side xs) → (o : Side) → Half o start last (turns ++ side ∷ []) (events ++ (side, piece) ∷ []) (ms ++ xs)
+  sent_halves xs piece there some gave taken got =
+      each side (λ o. Half o start last (turns ++ side ∷ []) (events ++ (side, piece) ∷ []) (ms ++ xs)) (half_took side start mid last turns events ms (half side) xs piece gave some (takes_foreign side p.context (waiting side p ++ piece) xs there taken)) (half_wrote side start mid last turns events ms (half (other side)) xs piece (joined side xs) got.0 got.1 (due_of side xs))
+
+  left_by : (more : List Event) (others : List Passed) (course : Course) (why : Option ProxyFault) → Turn side p mid last more others course why → Left start last (turns ++ side ∷ []) (events ++ more) (ms ++ others) course why
+  left_by more others course why (unread failed still) =
+      left_still start last (turns ++ side ∷ []) events ms (Going p) (Some (io_of side)) (record {
+        proxied = proxied;
+        at_each = each side (λ o. AtLink o start last (turns ++ side ∷ []) events ms (Some (io_of side))) (at_unread side start mid last turns (side ∷ []) events ms (half side) failed)
+            (at_calm (other side) start last (turns ++ side ∷ []) events ms (Some (io_of side)) (half_idle side start mid last turns events ms (half (other side)) still) (λ is. apart side (some_same (io_of side) (io_of (other side)) is)));
+        stops = inl (which side (io_of side) refl, λ is. cc);
+      })
+  left_by more others course why (ended gave still) =
+      left_still start last (turns ++ side ∷ []) events ms (Going p) None (record {
+        proxied = proxied;
+        at_each = λ o. at_calm o start last (turns ++ side ∷ []) events ms None (ended_halves gave still o) (λ is. cc);
+        stops = (p, refl);
+      })
+  left_by more others course why (sent piece xs there some few gave taken got) = record {
+    proxied = goes events ms xs p side piece there proxied taken;
+    at_each = λ o. at_calm o start last (turns ++ side ∷ []) (events ++ (side, piece) ∷ []) (ms ++ xs) (fault_of (answer_of there)) (sent_halves xs piece there some gave taken got o) (sent_calm side o p.context (waiting side p ++ piece) xs there taken);
+    stops = stops_sent side p there;
+  }
+  left_by more others course why (unsent piece xs there some few gave taken got) =
+      let for = unsent_by side p there (other side) in
+      let f = graver (answer_of there) (io_of (other side)) in
+      record {
+        proxied = goes events ms xs p side piece there proxied taken;
+        at_each = each side (λ o. AtLink o start last (turns ++ side ∷ []) (events ++ (side, piece) ∷ []) (ms ++ xs) (Some f)) (at_calm side start last (turns ++ side ∷ []) (events ++ (side, piece) ∷ []) (ms ++ xs) (Some f) (half_took side start mid last turns events ms (half side) xs piece gave some (takes_foreign side p.context (waiting side p ++ piece) xs there taken)) (unsent_apart side f for.why))
+            (at_unsent side start mid last turns events ms xs piece f (half (other side)) got for.why);
+        stops = for.stops;
+      }
+
+  -- both links, and where the pieces lead, behind a turn without a fault
+  halves_by : (more : List Event) (others : List Passed) (course : Course) (why : Option ProxyFault) → Turn side p mid last more others course why → why ≡ None → (o : Side) → Half o start last (turns ++ side ∷ []) (events ++ more) (ms ++ others)
+  halves_by more others course why (unread failed still) none = cc
+  halves_by more others course why (ended gave still) none =
+      subst (λ (l : List Event). (o : Side) → Half o start last (turns ++ side ∷ []) l (ms ++ [])) (sym (append-nil events)) (subst (λ (l : List Passed). (o : Side) → Half o start last (turns ++ side ∷ []) events l) (sym (append-nil ms)) (ended_halves gave still))
+  halves_by more others course why (sent piece xs there some few gave taken got) none = sent_halves xs piece there some gave taken got
+  halves_by more others course why (unsent piece xs there some few gave taken got) none = cc
+
+  going_by : (more : List Event) (others : List Passed) (course : Course) (why : Option ProxyFault) → Turn side p mid last more others course why → why ≡ None → (q : Place) × (course ≡ Going q)
+  going_by more others course why (unread failed still) none = cc
+  going_by more others course why (ended gave still) none = (p, refl)
+  going_by more others course why (sent piece xs there some few gave taken got) none = waits_on side p there none
+  going_by more others course why (unsent piece xs there some few gave taken got) none = cc
 
 record_on : (tape tape2 : List ℕ) (ms more : List Passed) → tape ≡ record_of ms → tape2 ≡ tape ++ record_of more → tape2 ≡ record_of (ms ++ more)
 record_on tape tape2 ms more is on = on ∙ ap (λ (l : List ℕ). l ++ record_of more) is ∙ sym (record_append ms more)
 
--- the turns that were made, as one side sees its link and the far one
-pub record Made (side far : Side) (turns : List Side) (link far_link : Span) (tape : List ℕ) (why : Option ProxyFault) : Type 0 where
-  pub done : List Side
-  pub left : List Side
-  pub cut : turns ≡ done ++ left
-  pub events : List Event
-  pub turned : Turned done events
-  pub messages : List Passed
-  pub course : Course
-  pub proxied : Proxied events messages course
-  pub at : AtLink side far link done events messages why
-  pub at_far : AtLink far side far_link done events messages why
-  pub record_is : tape ≡ record_of messages
-  pub stops : StopsFor why course
+is_going : (proxy : Proxy) (course : Course) (q : Place) → course ≡ Going q → IsAt proxy course → (course ≡ Going (place_of proxy)) × GoesOn proxy
+is_going proxy (Going p) q is at = (ap Going at.1, at.0)
+is_going proxy (Stopped why) q is at = cc
 
-module _ (side far : Side) (apart : is_side side far ≡ false) (apart_too : is_side far side ≡ false) (turns : List Side) (old new : Proxy) (tape tape2 : List ℕ) (link far_link : Span) (next far_next : Tape) (is far_is : Option (List ℕ)) (now far_now : ℕ) (runs : Runs side far turns old tape link far_link) where
-  ran_on : (answer : Result (Unit {0}) ProxyFault) → Turn side far old new tape tape2 (turn_span link next is now) (turn_span far_link far_next far_is far_now) answer → answer ≡ Ok tt → Runs side far (turns ++ side ∷ []) new tape2 (further link next is now) (further far_link far_next far_is far_now)
-  ran_on answer (unread f rose a b c d) good = absurd cc
-  ran_on answer (ended took calm same still kept taped) good = record {
-    events = runs.events;
-    turned = ends turns runs.events side runs.turned;
-    messages = runs.messages;
-    proxied = subst (λ (p : Proxy). Proxied runs.events runs.messages (Going (place_of p))) (sym kept) runs.proxied;
-    goes_on = subst GoesOn (sym kept) runs.goes_on;
-    record_is = taped ∙ runs.record_is;
-    half = half_ended side far apart turns runs.events runs.messages link runs.half next is now took calm;
-    far_half = half_idle far side apart_too turns runs.events runs.messages far_link runs.far_half far_next far_is far_now same still;
-  }
-  ran_on answer (sent piece out a some few took calm f d still) good =
-      let on = went_on side old new runs.events runs.messages f.messages piece f.there runs.proxied f.takes f.at (sym good ∙ f.says) in
-      record {
-        events = runs.events ++ (side, piece) ∷ [];
-        turned = takes turns runs.events side piece runs.turned some few;
-        messages = runs.messages ++ f.messages;
-        proxied = on.0;
-        goes_on = on.1;
-        record_is = record_on tape tape2 runs.messages f.messages runs.record_is f.tape;
-        half = half_took side far apart turns runs.events runs.messages link runs.half next is now f.messages piece took some calm (foreign_joined side far apart old.context (waiting side (place_of old) ++ piece) f.messages f.there f.takes);
-        far_half = half_wrote far side apart_too turns runs.events runs.messages far_link runs.far_half far_next far_is far_now f.messages piece out d still f.out;
-      }
-  ran_on answer (unsent piece out a some few took calm f d rose) good = absurd cc
+-- one turn more of a run
+module _ (turns : List Side) (side : Side) (old new : Proxy) (tape tape2 : List ℕ) (start mid last : Links) (runs : Runs turns old tape start mid) (answer : Result (Unit {0}) ProxyFault) (moves : Moves side old new tape tape2 mid last answer) where
+  made_on : Turns start (turns ++ side ∷ []) (runs.events ++ moves.events) (runs.messages ++ moves.messages) moves.course last (fault_of answer)
+  made_on = goes_on turns runs.events moves.events runs.messages moves.messages (place_of old) side mid last moves.course (fault_of answer) runs.made moves.turn
 
-  ran_out : (rest : List Side) (f : ProxyFault) → f ≢ fault.OutOfMemory → (answer : Result (Unit {0}) ProxyFault) → Turn side far old new tape tape2 (turn_span link next is now) (turn_span far_link far_next far_is far_now) answer → answer ≡ Err f
-      → Made side far (turns ++ side ∷ rest) (further link next is now) (further far_link far_next far_is far_now) tape2 (Some f)
-  ran_out rest f known answer (unread failed rose same still kept taped) bad =
-      let io : f ≡ io_of side = cc in
+  left_on : Left start last (turns ++ side ∷ []) (runs.events ++ moves.events) (runs.messages ++ moves.messages) moves.course (fault_of answer)
+  left_on = left_by side start mid last turns runs.events runs.messages (place_of old) runs.half runs.proxied moves.events moves.messages moves.course (fault_of answer) moves.turn
+
+  pub ran_on : answer ≡ Ok tt → Runs (turns ++ side ∷ []) new tape2 start last
+  ran_on good =
+      let none : fault_of answer ≡ None = ap fault_of good in
+      let going = going_by side start mid last turns runs.events runs.messages (place_of old) runs.half runs.proxied moves.events moves.messages moves.course (fault_of answer) moves.turn none in
+      let at = is_going new moves.course going.0 going.1 moves.at in
       record {
-        done = turns;
-        left = side ∷ rest;
-        cut = refl;
-        events = runs.events;
-        turned = runs.turned;
-        messages = runs.messages;
-        course = Going (place_of old);
-        proxied = runs.proxied;
-        at = subst (λ g. AtLink side far (further link next is now) turns runs.events runs.messages (Some g)) (sym io) (at_unread side far turns runs.events runs.messages link next is now (link.new.reads + 1) runs.half failed rose);
-        at_far = at_calm far side turns runs.events runs.messages (further far_link far_next far_is far_now) (Some f) (half_same far side turns runs.events runs.messages far_link far_next far_is far_now runs.far_half same still) (λ e. io_apart side far apart (sym io ∙ some_same f (io_of far) e));
-        record_is = taped ∙ runs.record_is;
-        stops = (known, which side f io);
+        events = runs.events ++ moves.events;
+        messages = runs.messages ++ moves.messages;
+        made = subst (λ (c : Course). Turns start (turns ++ side ∷ []) (runs.events ++ moves.events) (runs.messages ++ moves.messages) c last None) at.0 (subst (λ (w : Option ProxyFault). Turns start (turns ++ side ∷ []) (runs.events ++ moves.events) (runs.messages ++ moves.messages) moves.course last w) none made_on);
+        proxied = subst (λ (c : Course). Proxied (runs.events ++ moves.events) (runs.messages ++ moves.messages) c) at.0 left_on.proxied;
+        goes_on = at.1;
+        record_is = record_on tape tape2 runs.messages moves.messages runs.record_is moves.tape;
+        half = halves_by side start mid last turns runs.events runs.messages (place_of old) runs.half runs.proxied moves.events moves.messages moves.course (fault_of answer) moves.turn none;
       }
-  ran_out rest f known answer (ended took calm same still kept taped) bad = absurd cc
-  ran_out rest f known answer (sent piece out a some few took calm fw d still) bad =
-      let to = stopped_by side old runs.events runs.messages fw.messages piece fw.there f runs.proxied fw.takes (sym bad ∙ fw.says) in
-      let half = half_took side far apart turns runs.events runs.messages link runs.half next is now fw.messages piece took some calm (foreign_joined side far apart old.context (waiting side (place_of old) ++ piece) fw.messages fw.there fw.takes) in
-      let far_half = half_wrote far side apart_too turns runs.events runs.messages far_link runs.far_half far_next far_is far_now fw.messages piece out d still fw.out in
-      record {
-        done = turns ++ side ∷ [];
-        left = rest;
-        cut = sym (append_assoc turns (side ∷ []) rest);
-        events = runs.events ++ (side, piece) ∷ [];
-        turned = takes turns runs.events side piece runs.turned some few;
-        messages = runs.messages ++ fw.messages;
-        course = Stopped f;
-        proxied = to.0;
-        at = at_calm side far (turns ++ side ∷ []) (runs.events ++ (side, piece) ∷ []) (runs.messages ++ fw.messages) (further link next is now) (Some f) half (λ e. not_io side f to.1 (some_same f (io_of side) e));
-        at_far = at_calm far side (turns ++ side ∷ []) (runs.events ++ (side, piece) ∷ []) (runs.messages ++ fw.messages) (further far_link far_next far_is far_now) (Some f) far_half (λ e. not_io far f to.1 (some_same f (io_of far) e));
-        record_is = record_on tape tape2 runs.messages fw.messages runs.record_is fw.tape;
-        stops = (known, inr (inr refl));
-      }
-  ran_out rest f known answer (unsent piece out a some few took calm fw d rose) bad =
-      let io : f ≡ io_of far = cc in
-      let half = half_took side far apart turns runs.events runs.messages link runs.half next is now fw.messages piece took some calm (foreign_joined side far apart old.context (waiting side (place_of old) ++ piece) fw.messages fw.there fw.takes) in
-      record {
-        done = turns ++ side ∷ [];
-        left = rest;
-        cut = sym (append_assoc turns (side ∷ []) rest);
-        events = runs.events ++ (side, piece) ∷ [];
-        turned = takes turns runs.events side piece runs.turned some few;
-        messages = runs.messages ++ fw.messages;
-        course = moved side (place_of old) fw.there;
-        proxied = led_to side old runs.events runs.messages fw.messages piece fw.there runs.proxied fw.takes;
-        at = at_calm side far (turns ++ side ∷ []) (runs.events ++ (side, piece) ∷ []) (runs.messages ++ fw.messages) (further link next is now) (Some f) half (λ e. io_apart side far apart (sym (some_same f (io_of side) e) ∙ io));
-        at_far = subst (λ g. AtLink far side (further far_link far_next far_is far_now) (turns ++ side ∷ []) (runs.events ++ (side, piece) ∷ []) (runs.messages ++ fw.messages) (Some g)) (sym io) (at_unsent far side apart_too turns runs.events runs.messages fw.messages piece far_link far_next far_is far_now out runs.far_half (some_written far far_link.new far_next out d) rose fw.out);
-        record_is = record_on tape tape2 runs.messages fw.messages runs.record_is fw.tape;
-        stops = (known, which far f io);
-      }
+
+  ran_out : (rest : List Side) (f : ProxyFault) → answer ≡ Err f → (messages : List Passed) × (tape2 ≡ record_of messages) × Passes (turns ++ side ∷ rest) start last messages (fault_of answer)
+  ran_out rest f bad = (
+    runs.messages ++ moves.messages,
+    record_on tape tape2 runs.messages moves.messages runs.record_is moves.tape,
+    record {
+      done = turns ++ side ∷ [];
+      left = rest;
+      cut = sym (append_assoc turns (side ∷ []) rest);
+      all = λ none. let some : fault_of answer ≡ Some f = ap fault_of bad in cc;
+      events = runs.events ++ moves.events;
+      course = moves.course;
+      made = made_on;
+      proxied = left_on.proxied;
+      at_each = left_on.at_each;
+      stops = left_on.stops;
+    },
+  )
+
+  -- in a list of turns
+  pub ran_to : (rest all : List Side) → all ≡ turns ++ side ∷ rest → (f : ProxyFault) → answer ≡ Err f → (messages : List Passed) × (tape2 ≡ record_of messages) × Passes all start last messages (fault_of answer)
+  ran_to rest all cut f bad = subst (λ (l : List Side). (messages : List Passed) × (tape2 ≡ record_of messages) × Passes l start last messages (fault_of answer)) (sym cut) (ran_out rest f bad)
 
 -- ---- the turn that a function took
 
-turn_unread_by : (side far : Side) (proxy : Proxy) (tape : List ℕ) (from to : Span) (f : ProxyFault) → f ≡ io_of side → Failed from.old from.new (from.old.reads + 1) from.old.writes → Rose from.before from.now → to.new ≡ to.old → to.now ≡ to.before
-    → Turn side far proxy proxy tape tape from to (Err f)
-turn_unread_by side far proxy tape from to f is failed rose same still = subst (λ g. Turn side far proxy proxy tape tape from to (Err g)) (sym is) (unread failed rose same still refl refl)
+gave_by : (side : Side) (from to : Span) (piece : List ℕ) → Took from.old from.new piece → from.now ≡ from.before → Gave side (start_by side from to) (end_by side from to) piece
+gave_by Client from to piece took calm = (took, calm)
+gave_by Server from to piece took calm = (took, calm)
 
-pub turn_unread : (side far : Side) (proxy : Proxy) (tape : List ℕ) (from to : Span) (f : ProxyFault) → (f ≡ io_of side) × Failed from.old from.new (from.old.reads + 1) from.old.writes → Rose from.before from.now → to.new ≡ to.old → to.now ≡ to.before
-    → Turn side far proxy proxy tape tape from to (Err f)
-turn_unread side far proxy tape from to f came rose same still = turn_unread_by side far proxy tape from to f came.0 came.1 rose same still
+unread_by : (side : Side) (from to : Span) → Failed from.old from.new (from.old.reads + 1) from.old.writes → Rose from.before from.now → Unread side (start_by side from to) (end_by side from to)
+unread_by Client from to failed rose = (failed, rose)
+unread_by Server from to failed rose = (failed, rose)
 
-none_taken : (n : ℕ) (l : List ℕ) → n ≡ 0 → take n l ≡ []
-none_taken n l is = ap (λ m. take m l) is
+still_by : (side : Side) (from to : Span) → to.new ≡ to.old → to.now ≡ to.before → Still (other side) (start_by side from to) (end_by side from to)
+still_by Client from to same calm = (same, calm)
+still_by Server from to same calm = (same, calm)
 
-pub turn_ended : (side far : Side) (proxy : Proxy) (tape : List ℕ) (from to : Span) (n : ℕ) (buffer : List ℕ) → (n ≤ 8192) × (n ≤ length buffer) × Took from.old from.new (take n buffer) → from.now ≡ from.before → n ≡ 0 → to.new ≡ to.old → to.now ≡ to.before
-    → Turn side far proxy proxy tape tape from to (Ok tt)
-turn_ended side far proxy tape from to n buffer came calm none same still = ended (subst (λ (l : List ℕ). Took from.old from.new l) (none_taken n buffer none) came.2) calm same still refl refl
+writes_by : (far : Side) (old new : Tape) (out : List ℕ) → Delivers far old new out (Ok tt) → Writes out old new
+writes_by far old new [] d = d
+writes_by far old new (b ∷ bs) d = d
 
-pub turn_sent : (side far : Side) (old new : Proxy) (tape tape2 : List ℕ) (from to : Span) (n : ℕ) (buffer piece start out out2 : List ℕ) (answer : Result (Unit {0}) ProxyFault) → (n ≤ 8192) × (n ≤ length buffer) × Took from.old from.new (take n buffer) → from.now ≡ from.before → 0 < n → piece ≡ take n buffer → start ≡ []
-    → Forwards side old new piece start out tape tape2 answer → out2 ≡ out → Delivers far to.old to.new out2 (Ok tt) → to.now ≡ to.before → Turn side far old new tape tape2 from to answer
-turn_sent side far old new tape tape2 from to n buffer piece start out out2 answer came calm some is begun f same d still =
-    let len : length (take n buffer) ≡ n = omega (arith, length-take n buffer, came.1) in
-    sent (take n buffer) out answer (omega (arith, len, some)) (omega (arith, len, came.0)) came.2 calm (subst (λ (l : List ℕ). Forwards side old new (take n buffer) l out tape tape2 answer) begun (subst (λ (l : List ℕ). Forwards side old new l start out tape tape2 answer) is f)) (subst (λ (l : List ℕ). Delivers far to.old to.new l (Ok tt)) same d) still
+got_by : (side far : Side) (from to : Span) (out : List ℕ) → Delivers far to.old to.new out (Ok tt) → to.now ≡ to.before → Got (other side) (start_by side from to) (end_by side from to) out
+got_by Client far from to out d calm = (writes_by far to.old to.new out d, calm)
+got_by Server far from to out d calm = (writes_by far to.old to.new out d, calm)
+
+some_written : (far : Side) (old new : Tape) (out : List ℕ) (e : ProxyFault) → Delivers far old new out (Err e) → WroteSome old new out
+some_written far old new [] e d = absurd d
+some_written far old new (b ∷ bs) e d = d.1
+
+some_due : (far : Side) (old new : Tape) (out : List ℕ) (e : ProxyFault) → Delivers far old new out (Err e) → out ≢ []
+some_due far old new [] e d is = absurd d
+some_due far old new (b ∷ bs) e d is = cc
 
 fault_is : (far : Side) (old new : Tape) (out : List ℕ) (e : ProxyFault) → Delivers far old new out (Err e) → e ≡ io_of far
 fault_is far old new [] e d = absurd d
 fault_is far old new (b ∷ bs) e d = d.0
 
-pub turn_unsent : (side far : Side) (old new : Proxy) (tape tape2 : List ℕ) (from to : Span) (n : ℕ) (buffer piece start out out2 : List ℕ) (answer : Result (Unit {0}) ProxyFault) (e : ProxyFault) → (n ≤ 8192) × (n ≤ length buffer) × Took from.old from.new (take n buffer) → from.now ≡ from.before → 0 < n → piece ≡ take n buffer → start ≡ []
-    → Forwards side old new piece start out tape tape2 answer → out2 ≡ out → Delivers far to.old to.new out2 (Err e) → Rose to.before to.now → Turn side far old new tape tape2 from to (Err e)
-turn_unsent side far old new tape tape2 from to n buffer piece start out out2 answer e came calm some is begun f same d rose =
-    let len : length (take n buffer) ≡ n = omega (arith, length-take n buffer, came.1) in
-    let io : e ≡ io_of far = fault_is far to.old to.new out2 e d in
-    let due = subst (λ g. Delivers far to.old to.new out (Err g)) io (subst (λ (l : List ℕ). Delivers far to.old to.new l (Err e)) same d) in
-    subst (λ g. Turn side far old new tape tape2 from to (Err g)) (sym io) (unsent (take n buffer) out answer (omega (arith, len, some)) (omega (arith, len, came.0)) came.2 calm (subst (λ (l : List ℕ). Forwards side old new (take n buffer) l out tape tape2 answer) begun (subst (λ (l : List ℕ). Forwards side old new l start out tape tape2 answer) is f)) due rose)
+got_some_by : (side far : Side) (from to : Span) (out : List ℕ) (e : ProxyFault) → Delivers far to.old to.new out (Err e) → Rose to.before to.now → GotSome (other side) (start_by side from to) (end_by side from to) out
+got_some_by Client far from to out e d rose = (some_due far to.old to.new out e d, some_written far to.old to.new out e d, rose)
+got_some_by Server far from to out e d rose = (some_due far to.old to.new out e d, some_written far to.old to.new out e d, rose)
+
+pub turn_unread : (side : Side) (proxy : Proxy) (tape : List ℕ) (from to : Span) (f : ProxyFault) → GoesOn proxy → (f ≡ io_of side) × Failed from.old from.new (from.old.reads + 1) from.old.writes → Rose from.before from.now → to.new ≡ to.old → to.now ≡ to.before
+    → Moves side proxy proxy tape tape (start_by side from to) (end_by side from to) (Err f)
+turn_unread side proxy tape from to f on came rose same calm = record {
+  events = [];
+  messages = [];
+  course = Going (place_of proxy);
+  turn = subst (λ g. Turn side (place_of proxy) (start_by side from to) (end_by side from to) [] [] (Going (place_of proxy)) (Some g)) (sym came.0) (unread (unread_by side from to came.1 rose) (still_by side from to same calm));
+  at = (on, refl);
+  tape = sym (append-nil tape);
+}
+
+none_taken : (n : ℕ) (l : List ℕ) → n ≡ 0 → take n l ≡ []
+none_taken n l is = ap (λ m. take m l) is
+
+pub turn_ended : (side : Side) (proxy : Proxy) (tape : List ℕ) (from to : Span) (n : ℕ) (buffer : List ℕ) → GoesOn proxy → (n ≤ 8192) × (n ≤ length buffer) × Took from.old from.new (take n buffer) → from.now ≡ from.before → n ≡ 0 → to.new ≡ to.old → to.now ≡ to.before
+    → Moves side proxy proxy tape tape (start_by side from to) (end_by side from to) (Ok tt)
+turn_ended side proxy tape from to n buffer on came calm none same still = record {
+  events = [];
+  messages = [];
+  course = Going (place_of proxy);
+  turn = ended (gave_by side from to [] (subst (λ (l : List ℕ). Took from.old from.new l) (none_taken n buffer none) came.2) calm) (still_by side from to same still);
+  at = (on, refl);
+  tape = sym (append-nil tape);
+}
+
+module _ (side far : Side) (old new : Proxy) (tape tape2 : List ℕ) (from to : Span) (n : ℕ) (buffer : List ℕ) (came : (n ≤ 8192) × (n ≤ length buffer) × Took from.old from.new (take n buffer)) (calm : from.now ≡ from.before) (some : 0 < n) where
+  some_came : 0 < length (take n buffer)
+  some_came = omega (arith, length-take n buffer, came.1, some)
+
+  few_came : length (take n buffer) ≤ 8192
+  few_came = omega (arith, length-take n buffer, came.0, came.1)
+
+  pub turn_sent : (piece start out out2 : List ℕ) (answer : Result (Unit {0}) ProxyFault) → piece ≡ take n buffer → start ≡ [] → Forwards side old new piece start out tape tape2 answer → out2 ≡ out → Delivers far to.old to.new out2 (Ok tt) → to.now ≡ to.before
+      → Moves side old new tape tape2 (start_by side from to) (end_by side from to) answer
+  turn_sent piece start out out2 answer is begun f same d still =
+      let due : out2 ≡ joined side f.messages = same ∙ f.out ∙ ap (λ (l : List ℕ). l ++ joined side f.messages) begun in
+      let got = subst (λ (l : List ℕ). Got (other side) (start_by side from to) (end_by side from to) l) due (got_by side far from to out2 d still) in
+      let taken = subst (λ (l : List ℕ). Takes side old.context (waiting side (place_of old) ++ l) f.messages f.there) is f.takes in
+      record {
+        events = (side, take n buffer) ∷ [];
+        messages = f.messages;
+        course = moved side (place_of old) f.there;
+        turn = subst (λ (r : Result (Unit {0}) ProxyFault). Turn side (place_of old) (start_by side from to) (end_by side from to) ((side, take n buffer) ∷ []) f.messages (moved side (place_of old) f.there) (fault_of r)) (sym f.says) (sent (take n buffer) f.messages f.there some_came few_came (gave_by side from to (take n buffer) came.2 calm) taken got);
+        at = f.at;
+        tape = f.tape;
+      }
+
+  pub turn_unsent : (piece start out out2 : List ℕ) (answer : Result (Unit {0}) ProxyFault) (e f_is : ProxyFault) → piece ≡ take n buffer → start ≡ [] → Forwards side old new piece start out tape tape2 answer → out2 ≡ out → far ≡ other side → Delivers far to.old to.new out2 (Err e) → Rose to.before to.now → f_is ≡ graver answer e
+      → Moves side old new tape tape2 (start_by side from to) (end_by side from to) (Err f_is)
+  turn_unsent piece start out out2 answer e f_is is begun f same across d rose why =
+      let due : out2 ≡ joined side f.messages = same ∙ f.out ∙ ap (λ (l : List ℕ). l ++ joined side f.messages) begun in
+      let got = subst (λ (l : List ℕ). GotSome (other side) (start_by side from to) (end_by side from to) l) due (got_some_by side far from to out2 e d rose) in
+      let taken = subst (λ (l : List ℕ). Takes side old.context (waiting side (place_of old) ++ l) f.messages f.there) is f.takes in
+      let io : e ≡ io_of (other side) = fault_is far to.old to.new out2 e d ∙ ap io_of across in
+      let told : f_is ≡ graver (answer_of f.there) (io_of (other side)) = why ∙ ap (λ (r : Result (Unit {0}) ProxyFault). graver r e) f.says ∙ ap (graver (answer_of f.there)) io in
+      record {
+        events = (side, take n buffer) ∷ [];
+        messages = f.messages;
+        course = moved side (place_of old) f.there;
+        turn = subst (λ g. Turn side (place_of old) (start_by side from to) (end_by side from to) ((side, take n buffer) ∷ []) f.messages (moved side (place_of old) f.there) (Some g)) (sym told) (unsent (take n buffer) f.messages f.there some_came few_came (gave_by side from to (take n buffer) came.2 calm) taken got);
+        at = f.at;
+        tape = f.tape;
+      }
 
 -- ---- all turns
 
--- the same, as the far side sees it
-pub turned_round : (side far : Side) (turns : List Side) (proxy : Proxy) (tape : List ℕ) (link far_link : Span) → Runs side far turns proxy tape link far_link → Runs far side turns proxy tape far_link link
-turned_round side far turns proxy tape link far_link r = record { events = r.events; turned = r.turned; messages = r.messages; proxied = r.proxied; goes_on = r.goes_on; record_is = r.record_is; half = r.far_half; far_half = r.half }
+-- no events lead nowhere
+none_yet : (events : List Event) (ms : List Passed) (course : Course) → Proxied events ms course → events ≡ [] → (ms ≡ []) × (course ≡ Going (place first [] []))
+none_yet events ms course nothing is = (refl, refl)
+none_yet events ms course (goes es xs more p side piece there proxied taken) is = absurd (omega (arith, ap length is, length-append es ((side, piece) ∷ [])))
+none_yet events ms course (stays es xs why side piece proxied) is = absurd (omega (arith, ap length is, length-append es ((side, piece) ∷ [])))
 
-half_first : (side far : Side) (link : Span) (ms : List Passed) → joined far ms ≡ [] → link.new ≡ link.old → link.now ≡ link.before → Half side far [] [] ms link
-half_first side far link ms none same calm = record {
-  took = ap (λ (t : Tape). t.took) same ∙ sym (append-nil link.old.took);
-  wrote = ap (λ (t : Tape). t.wrote) same ∙ sym (append-nil link.old.wrote) ∙ ap (λ (l : List ℕ). link.old.wrote ++ l) (sym none);
-  flushed = λ some_due. absurd (some_due none);
-  calm = calm;
+half_first : (side : Side) (start : Links) → Half side start start [] [] []
+half_first side start = record {
+  took = sym (append-nil (tape_of side start).took);
+  wrote = sym (append-nil (tape_of side start).wrote);
+  flushed = λ some_due. absurd (some_due refl);
+  calm = refl;
   answers = [];
-  ended = ap (λ (t : Tape). t.ended) same ∙ sym (append-nil link.old.ended);
+  ended = sym (append-nil (tape_of side start).ended);
   turns_made = inl (omega arith);
 }
 
-started : (proxy : Proxy) (ms : List Passed) (course : Course) → proxy.over ≡ false → Proxied [] ms course → IsAt proxy course → Proxied [] ms (Going (place_of proxy))
-started proxy ms (Going p) on proxied at = subst (λ (q : Place). Proxied [] ms (Going q)) at.1 proxied
-started proxy ms (Stopped why) on proxied at = cc
+runs_at : (proxy : Proxy) (tape : List ℕ) (start : Links) → GoesOn proxy → (ms : List Passed) (course : Course) → Proxied [] ms course → IsAt proxy course → tape ≡ record_of ms → Runs [] proxy tape start start
+runs_at proxy tape start on ms course proxied at none =
+    let yet = none_yet [] ms course proxied refl in
+    let here = is_going proxy course (place first [] []) yet.1 at in
+    let same : Going (place first [] []) ≡ Going (place_of proxy) = sym yet.1 ∙ here.0 in
+    record {
+      events = [];
+      messages = [];
+      made = subst (λ (c : Course). Turns start [] [] [] c start None) same begins;
+      proxied = subst (λ (c : Course). Proxied [] [] c) same nothing;
+      goes_on = on;
+      record_is = none ∙ ap record_of yet.0;
+      half = λ side. half_first side start;
+    }
 
-pub runs_first : (proxy : Proxy) (tape : List ℕ) (client server : Span) → GoesOn proxy → Stands proxy [] [] [] [] → tape ≡ [] → client.new ≡ client.old → client.now ≡ client.before → server.new ≡ server.old → server.now ≡ server.before → Runs Client Server [] proxy tape client server
-runs_first proxy tape client server on s none same calm far_same far_calm = record {
-  events = [];
-  turned = begins;
-  messages = s.messages;
-  proxied = started proxy s.messages s.course on s.proxied s.at;
-  goes_on = on;
-  record_is = none ∙ s.recorded;
-  half = half_first Client Server client s.messages (sym s.client_got) same calm;
-  far_half = half_first Server Client server s.messages (sym s.server_got) far_same far_calm;
-}
+pub runs_first : (proxy : Proxy) (tape : List ℕ) (start : Links) → GoesOn proxy → Stands proxy [] [] [] [] → tape ≡ [] → Runs [] proxy tape start start
+runs_first proxy tape start on s none = runs_at proxy tape start on s.messages s.course s.proxied s.at (none ∙ s.recorded)
 
 -- where all turns were made
-pub passed_all : (turns : List Side) (proxy : Proxy) (tape : List ℕ) (client server : Span) → Runs Client Server turns proxy tape client server → Passes turns client server tape None
-passed_all turns proxy tape client server r = record {
+pub passed_all : (turns : List Side) (proxy : Proxy) (tape : List ℕ) (start last : Links) → Runs turns proxy tape start last → (messages : List Passed) × (tape ≡ record_of messages) × Passes turns start last messages None
+passed_all turns proxy tape start last r = (r.messages, r.record_is, record {
   done = turns;
   left = [];
   cut = sym (append-nil turns);
   all = λ _. refl;
   events = r.events;
-  turned = r.turned;
-  messages = r.messages;
   course = Going (place_of proxy);
+  made = r.made;
   proxied = r.proxied;
-  at_client = at_calm Client Server turns r.events r.messages client None r.half (λ e. cc);
-  at_server = at_calm Server Client turns r.events r.messages server None r.far_half (λ e. cc);
-  record_is = r.record_is;
+  at_each = λ side. at_calm side start last turns r.events r.messages None (r.half side) (λ e. cc);
   stops = (place_of proxy, refl);
-}
-
-client_made : (turns : List Side) (client server : Span) (tape : List ℕ) (f : ProxyFault) → Made Client Server turns client server tape (Some f) → Passes turns client server tape (Some f)
-client_made turns client server tape f m = record { done = m.done; left = m.left; cut = m.cut; all = λ e. cc; events = m.events; turned = m.turned; messages = m.messages; course = m.course; proxied = m.proxied; at_client = m.at; at_server = m.at_far; record_is = m.record_is; stops = m.stops }
-
-server_made : (turns : List Side) (client server : Span) (tape : List ℕ) (f : ProxyFault) → Made Server Client turns server client tape (Some f) → Passes turns client server tape (Some f)
-server_made turns client server tape f m = record { done = m.done; left = m.left; cut = m.cut; all = λ e. cc; events = m.events; turned = m.turned; messages = m.messages; course = m.course; proxied = m.proxied; at_client = m.at_far; at_server = m.at; record_is = m.record_is; stops = m.stops }
-
--- one turn of the client, and of the server, in a list of turns
-module _ (turns done rest : List Side) (old new : Proxy) (tape tape2 : List ℕ) (client server : Span) (next far_next : Tape) (is far_is : Option (List ℕ)) (now far_now : ℕ) (runs : Runs Client Server done old tape client server) where
-  pub turn_on : (side : Side) (answer : Result (Unit {0}) ProxyFault) → TurnOf side old new tape tape2 (turn_span client next is now) (turn_span server far_next far_is far_now) answer → answer ≡ Ok tt → Runs Client Server (done ++ side ∷ []) new tape2 (further client next is now) (further server far_next far_is far_now)
-  turn_on Client answer turn good = ran_on Client Server refl refl done old new tape tape2 client server next far_next is far_is now far_now runs answer turn good
-  turn_on Server answer turn good = turned_round Server Client (done ++ Server ∷ []) new tape2 (further server far_next far_is far_now) (further client next is now) (ran_on Server Client refl refl done old new tape tape2 server client far_next next far_is is far_now now (turned_round Client Server done old tape client server runs) answer turn good)
-
-  pub turn_out : (side : Side) → turns ≡ done ++ side ∷ rest → (f : ProxyFault) → f ≢ fault.OutOfMemory → (answer : Result (Unit {0}) ProxyFault) → TurnOf side old new tape tape2 (turn_span client next is now) (turn_span server far_next far_is far_now) answer → answer ≡ Err f → Passes turns (further client next is now) (further server far_next far_is far_now) tape2 (Some f)
-  turn_out Client cut f known answer turn bad = subst (λ (t : List Side). Passes t (further client next is now) (further server far_next far_is far_now) tape2 (Some f)) (sym cut) (client_made (done ++ Client ∷ rest) (further client next is now) (further server far_next far_is far_now) tape2 f (ran_out Client Server refl refl done old new tape tape2 client server next far_next is far_is now far_now runs rest f known answer turn bad))
-  turn_out Server cut f known answer turn bad = subst (λ (t : List Side). Passes t (further client next is now) (further server far_next far_is far_now) tape2 (Some f)) (sym cut) (server_made (done ++ Server ∷ rest) (further client next is now) (further server far_next far_is far_now) tape2 f (ran_out Server Client refl refl done old new tape tape2 server client far_next next far_is is far_now now (turned_round Client Server done old tape client server runs) rest f known answer turn bad))
+})
 
 -- a list, cut before and behind an item
 pub cut_at : {X : Type 0} (xs : List X) (i : ℕ) (d : X) → i < length xs → xs ≡ take i xs ++ get_or xs i d ∷ drop (i + 1) xs
@@ -534,3 +645,27 @@ foretold_on a b c t u v before mid now some f g known = record {
 
 pub foretold_first : (a : Option (List ℕ)) (t : Tape) (before now : ℕ) → Foretold (record { old = t; new = t; was = a; is = a; before = before; now = now })
 foretold_first a t before now = record { foreseen = foreseen_still a t; ends = ends_still a t }
+
+-- behind a write that failed
+pub foretold_unsent : (far : Side) (a b : Option (List ℕ)) (t u : Tape) (before now : ℕ) (out : List ℕ) (e : ProxyFault) → Keeps a b → Delivers far t u out (Err e) → Foretold (record { old = t; new = u; was = a; is = b; before = before; now = now })
+foretold_unsent far a b t u before now out e kept d =
+    let still = (some_written far t u out e d).reads_nothing in
+    record { foreseen = foreseen_kept a b t u still.took kept; ends = ends_on b t u still.ended }
+
+-- ---- the answer
+
+not_memory : (answer : Result (Unit {0}) ProxyFault) (told : Option ProxyFault) → answer ≢ Err fault.OutOfMemory → told ≡ fault_of answer → told ≢ Some fault.OutOfMemory
+not_memory (Ok done) told known is same = cc
+not_memory (Err f) told known is same = known (ap Err (some_same f fault.OutOfMemory (sym is ∙ same)))
+
+-- a run's answer, of the turns and of the record
+pub told_of : (turns : List Side) (client server : Span) (client_foretells server_foretells : Type 0) (tape : List ℕ) (answer : Result (Unit {0}) ProxyFault) (r : Result ProxyRun OutOfMemory) → Stops turns client server tape answer → (client_foretells → Foretold client) → (server_foretells → Foretold server) → Ended tape answer r → RelaysOr turns client server client_foretells server_foretells r
+told_of turns client server cf sf tape answer (Ok run) (ms, record_is, made) c s (known, tape_is, same) = record {
+  messages = ms;
+  passes = subst (λ (w : Option ProxyFault). Passes turns (start_of client server) (end_of client server) ms w) (sym same) made;
+  record_is = tape_is ∙ record_is;
+  known = not_memory answer run.fault known same;
+  client_foretold = c;
+  server_foretold = s;
+}
+told_of turns client server cf sf tape answer (Err e) (ms, record_is, made) c s over = record { messages = ms; why = fault_of answer; passes = made; client_foretold = c; server_foretold = s }

@@ -13,7 +13,7 @@ use Rattle.pgw_proxy.specs.Context.{first}
 use Rattle.pgw_proxy.specs.Record.{Passed, side_of, of_side, joined, record_of}
 use Rattle.pgw_proxy.specs.Proxied.{Event, Ending, Waits, Fails, Takes, waits, fails, breaks, passes, Place, place, waiting, Course, Going, Stopped, moved, Proxied, begins, goes, stays, answer_of}
 use Rattle.pgw_proxy.specs.Stands.{place_of, IsAt, Stands, told_at, Arrives, Forwards}
-use Rattle.pgw_proxy.specs.Run.{other}
+use Rattle.pgw_proxy.specs.Turns.{other}
 use Rattle.pgw_proxy.specs.Taking.{LeavesAt, Ran}
 use Rattle.pgw_proxy.proofs.MetLaws.{met}
 use Rattle.pgw_proxy.proofs.TakingLaws.{joined_append, record_append}

@@ -6,5 +6,6 @@ pub mod Stands
 pub mod Taking
 pub mod Reading
 pub mod ReadingSteps
+pub mod Turns
 pub mod Run
 pub mod RunSteps

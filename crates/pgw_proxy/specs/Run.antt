@@ -1,5 +1,5 @@
 -- What a proxy between two links comes to, over what these tell.
-use Rattle.std.specs.Prelude.{◌≡◌, ◌≢◌, ◌⊎◌, ◌<◌, ◌≤◌, ℕ, List, [], ◌∷◌, ◌++◌, Bool, true, false}
+use Rattle.std.specs.Prelude.{◌≡◌, ◌≢◌, ◌⊎◌, ◌≤◌, ℕ, List, [], ◌∷◌, ◌++◌, Bool, true, false}
 use Rattle.std.specs.Prelude.{length, Option, Some, None, Result, Ok, Err}
 use Rattle.std.specs.List.{filter}
 use Rattle.pgw_types.specs.Counts.{Rose}
@@ -12,6 +12,7 @@ use Rattle.pgw_proxy.specs.declared.fault.ProxyFault.TheVariants as fault
 use Rattle.pgw_proxy.specs.declared.run.ProxyRun.{ProxyRun}
 use Rattle.pgw_proxy.specs.Record.{Passed, joined, record_of}
 use Rattle.pgw_proxy.specs.Proxied.{Event, Course, Going, Stopped, Place, Proxied, given}
+use Rattle.pgw_proxy.specs.Turns.{Links, Turns, faults_of, io_of, other, tape_of}
 
 -- a link before and behind some calls: what it tells, what is to come, and how many calls failed
 pub record Span : Type 0 where
@@ -32,16 +33,24 @@ span tape left faults old new = record {
   now = faults new;
 }
 
--- ---- what moved
+-- both links before, and behind
+abbrev pub start_of : Span → Span → Links
+start_of client server = record {
+  client = client.old;
+  server = server.old;
+  client_faults = client.before;
+  server_faults = server.before;
+}
 
--- Each of these turns gave a piece, of one byte to 8192, or met its side's end.
-pub data Turned : List Side → List Event → Type 0 where
-  begins : Turned [] []
-  takes : (turns : List Side) (events : List Event) (side : Side) (piece : List ℕ) →
-      Turned turns events → 0 < length piece → length piece ≤ 8192 →
-      Turned (turns ++ side ∷ []) (events ++ (side, piece) ∷ [])
-  ends : (turns : List Side) (events : List Event) (side : Side) →
-      Turned turns events → Turned (turns ++ side ∷ []) events
+abbrev pub end_of : Span → Span → Links
+end_of client server = record {
+  client = client.new;
+  server = server.new;
+  client_faults = client.now;
+  server_faults = server.now;
+}
+
+-- ---- what moved
 
 abbrev pub is_side : Side → Side → Bool
 is_side Client Client = true
@@ -53,12 +62,12 @@ abbrev pub turns_of : Side → List Side → ℕ
 turns_of side turns = length (filter (λ t. is_side side t) turns)
 
 -- the link answered its end
-abbrev pub MetEnd : Span → Type 0
-MetEnd link = (more : List ℕ) × (n : ℕ) × (link.new.ended ≡ (link.old.ended ++ more) ++ n ∷ [])
+abbrev pub MetEnd : Tape → Tape → Type 0
+MetEnd old new = (more : List ℕ) × (n : ℕ) × (new.ended ≡ (old.ended ++ more) ++ n ∷ [])
 
 -- the bytes that came number at least the turns, or the link answered its end
-abbrev pub HadTurns : Span → ℕ → List ℕ → Type 0
-HadTurns link count came = (count ≤ length came) ⊎ MetEnd link
+abbrev pub HadTurns : Tape → Tape → ℕ → List ℕ → Type 0
+HadTurns old new count came = (count ≤ length came) ⊎ MetEnd old new
 
 -- of a link that knows what is to come: what was taken is the front of it, and the end is answered behind the last byte
 pub record Foretold (link : Span) : Type 0 where
@@ -67,44 +76,40 @@ pub record Foretold (link : Span) : Type 0 where
 
 -- ---- at each side
 
-abbrev pub other : Side → Side
-other Client = Server
-other Server = Client
+-- a call of its link that failed is not why the proxy stopped; and where memory was wanting, none failed
+abbrev pub FaredWell : Side → Links → Links → Option ProxyFault → Type 0
+FaredWell side start last why = (why ≢ Some (io_of side))
+    × (why ≡ Some fault.OutOfMemory → Rose (faults_of side start) (faults_of side last) → ⊥)
 
--- the fault that a failed call of the link to a side is
-abbrev pub io_of : Side → ProxyFault
-io_of Client = fault.ClientIo
-io_of Server = fault.ServerIo
-
--- Over the link to this side these pieces came, and the messages of the far side were written: whole and flushed, unless a call of the
--- link failed, which is why the proxy stopped; then it is a front. So many turns were made.
-pub record AtLink (side far : Side) (link : Span) (turns : List Side) (events : List Event)
+-- Over the link to this side its pieces came, and the messages of the other side were written: whole and flushed, or a
+-- front of them where a call of the link failed. So many turns were made, unless one failed to read.
+pub record AtLink (side : Side) (start last : Links) (turns : List Side) (events : List Event)
     (messages : List Passed) (why : Option ProxyFault) : Type 0 where
-  pub took : link.new.took ≡ link.old.took ++ given side events
+  pub took : (tape_of side last).took ≡ (tape_of side start).took ++ given side events
   pub part : List ℕ
   pub lost : List ℕ
-  pub cut : joined far messages ≡ part ++ lost
-  pub wrote : link.new.wrote ≡ link.old.wrote ++ part
-  pub whole : why ≢ Some (io_of side) → lost ≡ []
-  pub flushed : why ≢ Some (io_of side) → part ≢ [] → link.new.flushed ≡ length link.new.wrote
-  pub calm : why ≢ Some (io_of side) → link.now ≡ link.before
-  pub failed : why ≡ Some (io_of side) → Rose link.before link.now
-  pub turns_made : HadTurns link (turns_of side turns) (given side events)
-
-abbrev pub AtSide : Side → Span → List Side → List Event → List Passed → Option ProxyFault → Type 0
-AtSide side link turns events messages why = AtLink side (other side) link turns events messages why
+  pub cut : joined (other side) messages ≡ part ++ lost
+  pub wrote : (tape_of side last).wrote ≡ (tape_of side start).wrote ++ part
+  pub whole : FaredWell side start last why → lost ≡ []
+  pub flushed : FaredWell side start last why → part ≢ []
+      → (tape_of side last).flushed ≡ length (tape_of side last).wrote
+  pub calm : why ≢ Some (io_of side) → why ≢ Some fault.OutOfMemory
+      → faults_of side last ≡ faults_of side start
+  pub failed : why ≡ Some (io_of side) → Rose (faults_of side start) (faults_of side last)
+  pub turns_made : why ≢ Some (io_of side) → HadTurns (tape_of side start) (tape_of side last)
+      (turns_of side turns) (given side events)
 
 -- ---- the whole
 
--- The pieces lead on; or they lead to the fault for which the proxy stopped, or a call of a link failed. It is not want of
--- memory.
+-- The pieces lead on; or they lead to the fault for which the proxy stopped; or a call of a link failed, and memory was
+-- not wanting beside.
 abbrev pub StopsFor : Option ProxyFault → Course → Type 0
 StopsFor None course = (p : Place) × (course ≡ Going p)
-StopsFor (Some f) course =
-    (f ≢ fault.OutOfMemory) × ((f ≡ io_of Client) ⊎ (f ≡ io_of Server) ⊎ (course ≡ Stopped f))
+StopsFor (Some f) course = (((f ≡ io_of Client) ⊎ (f ≡ io_of Server))
+    × (course ≢ Stopped fault.OutOfMemory)) ⊎ (course ≡ Stopped f)
 
--- In these turns a proxy between the two links passed on and recorded the messages of the pieces that came.
-pub record Passes (turns : List Side) (client server : Span) (tape : List ℕ)
+-- In these turns a proxy between two links passed on these messages, those of the pieces that came.
+pub record Passes (turns : List Side) (start last : Links) (messages : List Passed)
     (why : Option ProxyFault) : Type 0 where
   pub done : List Side
   pub left : List Side
@@ -112,22 +117,36 @@ pub record Passes (turns : List Side) (client server : Span) (tape : List ℕ)
   -- all turns were made, where there was no fault
   pub all : why ≡ None → left ≡ []
   pub events : List Event
-  pub turned : Turned done events
-  pub messages : List Passed
   pub course : Course
+  -- turn by turn
+  pub made : Turns start done events messages course last why
+  -- and in sum
   pub proxied : Proxied events messages course
-  pub at_client : AtSide Client client done events messages why
-  pub at_server : AtSide Server server done events messages why
-  pub record_is : tape ≡ record_of messages
+  pub at_each : (side : Side) → AtLink side start last done events messages why
   pub stops : StopsFor why course
 
+-- What a run comes to that is answered: the record is that of the messages passed on, and memory was not wanting.
 pub record Relays (turns : List Side) (client server : Span)
     (client_foretells server_foretells : Type 0) (run : ProxyRun) : Type 0 where
-  pub passes : Passes turns client server run.tape run.fault
+  pub messages : List Passed
+  pub passes : Passes turns (start_of client server) (end_of client server) messages run.fault
+  pub record_is : run.tape ≡ record_of messages
+  pub known : run.fault ≢ Some fault.OutOfMemory
   pub client_foretold : client_foretells → Foretold client
   pub server_foretold : server_foretells → Foretold server
 
--- what is told of a run, but for want of memory
-abbrev pub RelaysOr : {E : Type 0} → (ProxyRun → Type 0) → Result ProxyRun E → Type 0
-RelaysOr fact (Ok run) = fact run
-RelaysOr fact (Err e) = Unit {0}
+-- Where memory was wanting, in a turn or for the record behind the last, the turns up to then were made as ever.
+pub record Unrecorded (turns : List Side) (client server : Span)
+    (client_foretells server_foretells : Type 0) : Type 0 where
+  pub messages : List Passed
+  pub why : Option ProxyFault
+  pub passes : Passes turns (start_of client server) (end_of client server) messages why
+  pub client_foretold : client_foretells → Foretold client
+  pub server_foretold : server_foretells → Foretold server
+
+abbrev pub RelaysOr : {E : Type 0} → List Side → Span → Span → Type 0 → Type 0
+    → Result ProxyRun E → Type 0
+RelaysOr turns client server client_foretells server_foretells (Ok run) =
+    Relays turns client server client_foretells server_foretells run
+RelaysOr turns client server client_foretells server_foretells (Err e) =
+    Unrecorded turns client server client_foretells server_foretells

@@ -3,9 +3,10 @@ ghost use Rattle.std.specs.Prelude.{◌≡◌, ◌<◌, ◌≤◌, [], length, O
 ghost use Rattle.std.specs.Io.KnownBytes.{Keeps};
 ghost use Rattle.pgw_link.specs.Foresight.{Ends, Foreseen};
 ghost use Rattle.pgw_link.specs.Tape.{HasCause};
-ghost use Rattle.pgw_proxy.specs.Run.{Foretold, Relays, RelaysOr, io_of, other as other_of, span};
-ghost use Rattle.pgw_proxy.specs.RunSteps.{Came, Delivers, Ended, Stops, Turn, TurnOf};
+ghost use Rattle.pgw_proxy.specs.Run.{Foretold, RelaysOr, end_of, span, start_of};
+ghost use Rattle.pgw_proxy.specs.RunSteps.{Came, Delivers, Ended, Moves, Stops, end_by, start_by};
 ghost use Rattle.pgw_proxy.specs.Stands.{Forwards, GoesOn};
+ghost use Rattle.pgw_proxy.specs.Turns.{graver as graver_of, io_of, other as other_of};
 
 use crate::fault::ProxyFault;
 use crate::proxy::Proxy;
@@ -105,6 +106,22 @@ fn deliver<L: Link>(link: &mut L, side: Side, due: &[u8]) -> Result<(), ProxyFau
     }
 }
 
+// Why a turn stops whose write failed: want of memory goes before.
+fn graver(passed: Result<(), ProxyFault>, fault: ProxyFault) -> ProxyFault
+    ensures { result ≡ graver_of passed fault }
+{
+    match passed {
+        Err(ProxyFault::OutOfMemory) => {
+            drop(fault);
+            ProxyFault::OutOfMemory
+        }
+        passed => {
+            drop(passed);
+            fault
+        }
+    }
+}
+
 // One turn: reads a piece of a side, and passes on what is whole then to the other.
 fn turn<F: Link, T: Link>(
     alloc: Global,
@@ -116,8 +133,11 @@ fn turn<F: Link, T: Link>(
     tape: &mut BytesMut,
 ) -> Result<(), ProxyFault>
     requires { GoesOn proxy.old }
-    ensures turn { Turn side (other_of side) proxy.old proxy.new tape.old.items tape.new.items
-        (span F.tape F.left F.faults from.old from.new) (span T.tape T.left T.faults to.old to.new)
+    ensures turn { Moves side proxy.old proxy.new tape.old.items tape.new.items
+        (start_by side (span F.tape F.left F.faults from.old from.new)
+            (span T.tape T.left T.faults to.old to.new))
+        (end_by side (span F.tape F.left F.faults from.old from.new)
+            (span T.tape T.left T.faults to.old to.new))
         result }
     ensures from { F.foretells → Foretold (span F.tape F.left F.faults from.old from.new) }
     ensures to { T.foretells → Foretold (span T.tape T.left T.faults to.old to.new) }
@@ -134,10 +154,7 @@ fn turn<F: Link, T: Link>(
     let passed = pass(alloc, side, proxy, &piece[..n], &mut due, tape);
     match deliver(to, other(side), due.as_slice()) {
         Ok(()) => passed,
-        Err(fault) => {
-            drop(passed);
-            Err(fault)
-        }
+        Err(fault) => Err(graver(passed, fault)),
     }
 }
 
@@ -152,9 +169,12 @@ fn turn_of<A: Link, B: Link>(
     tape: &mut BytesMut,
 ) -> Result<(), ProxyFault>
     requires { GoesOn proxy.old }
-    ensures turn { TurnOf side proxy.old proxy.new tape.old.items tape.new.items
-        (span A.tape A.left A.faults client.old client.new)
-        (span B.tape B.left B.faults server.old server.new) result }
+    ensures turn { Moves side proxy.old proxy.new tape.old.items tape.new.items
+        (start_of (span A.tape A.left A.faults client.old client.new)
+            (span B.tape B.left B.faults server.old server.new))
+        (end_of (span A.tape A.left A.faults client.old client.new)
+            (span B.tape B.left B.faults server.old server.new))
+        result }
     ensures client { A.foretells → Foretold (span A.tape A.left A.faults client.old client.new) }
     ensures server { B.foretells → Foretold (span B.tape B.left B.faults server.old server.new) }
     ensures kept { (A.plan client.new ≡ A.plan client.old)
@@ -225,8 +245,8 @@ pub fn run_proxy<A: Link, B: Link>(
     server: &mut B,
     turns: &[Side],
 ) -> Result<ProxyRun, OutOfMemory>
-    ensures relays { RelaysOr (Relays turns.now (span A.tape A.left A.faults client.old client.new)
-        (span B.tape B.left B.faults server.old server.new) A.foretells B.foretells) result }
+    ensures relays { RelaysOr turns.now (span A.tape A.left A.faults client.old client.new)
+        (span B.tape B.left B.faults server.old server.new) A.foretells B.foretells result }
     // What the links were made with stays.
     ensures kept { (A.plan client.new ≡ A.plan client.old)
         × (B.plan server.new ≡ B.plan server.old) }

@@ -1,14 +1,15 @@
 use Rattle.std.proofs.Common.{◌≡◌, take}
-use Rattle.pgw_proxy.specs.declared.recorded.Side.TheVariants.{Client, Server}
-use Rattle.pgw_proxy.specs.Run.{Foretold, span}
+use Rattle.pgw_proxy.specs.Run.{Foretold, end_of, span, start_of}
 use Rattle.pgw_proxy.specs.RunSteps.{Runs}
 use Rattle.pgw_proxy.proofs.run.take_turns.Given as goal
 
 abbrev pub invariant-loop-side : goal.invariant-loop-side
 invariant-loop-side g l = record {
-  runs : Runs Client Server (take l.side-index l.turns) l.proxy l.tape.items
-      (span g.A.Link.tape g.A.Link.left g.A.Link.faults l.fn.client l.client)
-      (span g.B.Link.tape g.B.Link.left g.B.Link.faults l.fn.server l.server);
+  runs : Runs (take l.side-index l.turns) l.proxy l.tape.items
+      (start_of (span g.A.Link.tape g.A.Link.left g.A.Link.faults l.fn.client l.client)
+        (span g.B.Link.tape g.B.Link.left g.B.Link.faults l.fn.server l.server))
+      (end_of (span g.A.Link.tape g.A.Link.left g.A.Link.faults l.fn.client l.client)
+        (span g.B.Link.tape g.B.Link.left g.B.Link.faults l.fn.server l.server));
   client_kept : g.A.Link.plan l.client ≡ g.A.Link.plan l.fn.client;
   server_kept : g.B.Link.plan l.server ≡ g.B.Link.plan l.fn.server;
   client : g.A.Link.foretells → Foretold (span g.A.Link.tape g.A.Link.left g.A.Link.faults l.fn.client l.client);
