@@ -82,7 +82,7 @@ FaredWell side start last why = (why ≢ Some (io_of side))
     × (why ≡ Some fault.OutOfMemory → Rose (faults_of side start) (faults_of side last) → ⊥)
 
 -- Over the link to this side its pieces came, and the messages of the other side were written: whole and flushed, or a
--- front of them where a call of the link failed. So many turns were made, unless one failed to read.
+-- front of them where a call of the link failed. So many turns were made, unless a call of its link failed.
 pub record AtLink (side : Side) (start last : Links) (turns : List Side) (events : List Event)
     (messages : List Passed) (why : Option ProxyFault) : Type 0 where
   pub took : (tape_of side last).took ≡ (tape_of side start).took ++ given side events

@@ -48,7 +48,7 @@ graver answer f = f
 
 -- ---- single calls
 
--- no call of the link to that side was made
+-- the link to that side tells what it told before
 abbrev pub Still : Side → Links → Links → Type 0
 Still side old new =
     (tape_of side new ≡ tape_of side old) × (faults_of side new ≡ faults_of side old)
