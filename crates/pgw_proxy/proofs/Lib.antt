@@ -6,3 +6,5 @@ pub mod StandsLaws
 pub mod ReadingLaws
 pub mod CameLaws
 pub mod RunLaws
+pub mod PlainLaws
+pub mod PassingLaws

@@ -4,6 +4,7 @@ pub mod Record
 pub mod Proxied
 pub mod Stands
 pub mod Taking
+pub mod Plain
 pub mod Reading
 pub mod ReadingSteps
 pub mod Turns

@@ -11,6 +11,8 @@ pub mod context;
 pub mod fault;
 mod front;
 pub mod laws;
+mod passing;
+mod plain;
 pub mod proxy;
 pub mod reading;
 pub mod recorded;

@@ -1,10 +1,11 @@
 //! The bytes that wait of a side: what came, and was not passed on yet.
-ghost use Rattle.std.specs.Prelude.{◌≡◌, ◌≤◌, ◌-◌, ◌++◌, length, slice_range, IfOk, OnOk, OnErr};
+ghost use Rattle.std.specs.Prelude.{◌≡◌, ◌≤◌, ◌-◌, ◌++◌, length, slice_range};
 ghost use Rattle.pgw_proxy.specs.Taking.{IsCutOf, Ran, Stepped};
 
 use crate::context::Context;
 use crate::fault::ProxyFault;
 use crate::front::take_message;
+use crate::passing::{append, pass_front};
 use crate::recorded::Side;
 use crate::tape::pass_on;
 use bytes::BytesMut;
@@ -177,36 +178,32 @@ fn take_whole(
     ensures { Ran side context.old waiting.old.items context.new waiting.new.items
         out.old.items out.new.items tape.old.items tape.new.items result }
 {
-    if whole_end(waiting.as_slice()).is_some() {
+    if waiting.is_empty() {
+        Ok(())
+    } else if whole_end(waiting.as_slice()).is_some() {
         take_frozen(alloc, side, context, waiting, out, tape)
     } else {
         take_here(alloc, side, context, waiting, out, tape)
     }
 }
 
-// Some bytes and others behind them, in a block of their size, of which nothing has to be cleared.
-fn joined(alloc: Global, first: &[u8], second: &[u8]) -> Result<BytesMut, OutOfMemory>
-    ensures { IfOk result (λ all. all.items ≡ first.now ++ second.now) }
+// Adds bytes that came behind those that wait, and takes the messages that are whole then.
+fn take_behind(
+    alloc: Global,
+    side: Side,
+    context: &mut Context,
+    waiting: &mut BytesMut,
+    piece: &[u8],
+    out: &mut BytesMut,
+    tape: &mut BytesMut,
+) -> Result<(), ProxyFault>
+    ensures { Ran side context.old (waiting.old.items ++ piece.now) context.new waiting.new.items
+        out.old.items out.new.items tape.old.items tape.new.items result }
 {
-    let mut all = Vec::with_capacity(alloc, first.len().saturating_add(second.len()))?;
-    all.extend_from_slice(first)?;
-    all.extend_from_slice(second)?;
-    Ok(BytesMut::from_vec(all))
-}
-
-// Adds a piece that came. The bytes that wait grow by themselves, and not by a length that was
-// told.
-fn append(alloc: Global, waiting: &mut BytesMut, piece: &[u8]) -> Result<(), OutOfMemory>
-    ensures ok { OnOk result (waiting.new.items ≡ waiting.old.items ++ piece.now) }
-    ensures err { OnErr result (waiting.new.items ≡ waiting.old.items) }
-{
-    if piece.len() < waiting.len() {
-        waiting.extend_from_slice(piece)?;
-    } else {
-        let all = joined(alloc, waiting.as_slice(), piece)?;
-        *waiting = all;
+    match append(alloc, waiting, piece) {
+        Ok(()) => take_whole(alloc, side, context, waiting, out, tape),
+        Err(_) => Err(ProxyFault::OutOfMemory),
     }
-    Ok(())
 }
 
 // Adds a piece that came, and takes the messages that are whole then.
@@ -222,8 +219,8 @@ pub fn take_piece(
     ensures { Ran side context.old (waiting.old.items ++ piece.now) context.new waiting.new.items
         out.old.items out.new.items tape.old.items tape.new.items result }
 {
-    match append(alloc, waiting, piece) {
-        Ok(()) => take_whole(alloc, side, context, waiting, out, tape),
+    match pass_front(alloc, side, context, waiting, piece, out, tape) {
+        Ok(taken) => { take_behind(alloc, side, context, waiting, &piece[taken..], out, tape) }
         Err(_) => Err(ProxyFault::OutOfMemory),
     }
 }

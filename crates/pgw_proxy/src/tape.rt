@@ -18,21 +18,16 @@ fn direction(side: Side) -> u8
 
 // Appends the record of a message, or nothing.
 #[tactic(auto, unfolding(crate::specs::Record::entry, pgw_wire::specs::Writing::u32))]
-fn put_record(side: Side, bytes: &[u8], tape: &mut BytesMut) -> Result<(), OutOfMemory>
+pub fn put_record(side: Side, bytes: &[u8], tape: &mut BytesMut) -> Result<(), OutOfMemory>
     requires { length bytes.now < 2 ^ 32 }
     ensures ok { OnOk result (tape.new.items ≡ tape.old.items ++ entry side bytes.now) }
     ensures err { OnErr result (tape.new.items ≡ tape.old.items) }
 {
-    let start = tape.len();
     let [a, b, c, d] = (bytes.len() as u32).to_be_bytes();
-    tape.extend_from_slice(&[direction(side), a, b, c, d])?;
-    match tape.extend_from_slice(bytes) {
-        Ok(()) => Ok(()),
-        Err(_) => {
-            tape.truncate(start);
-            Err(OutOfMemory)
-        }
-    }
+    tape.reserve(bytes.len() + 5)?;
+    tape.extend_reserved(&[direction(side), a, b, c, d]);
+    tape.extend_reserved(bytes);
+    Ok(())
 }
 
 // Appends a message's bytes to what goes to the other side, and its record, or nothing to either.
