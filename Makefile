@@ -6,9 +6,10 @@ SHELL = /bin/bash
 PROGRAM = crates/hothummei/out/hothummei
 VISIT = crates/hothummei_visit/out/hothummei_visit
 RELAY = crates/example_relay/out/example_relay
+CLIENT = crates/example_client/out/example_client
 LOG = build.log
 
-.PHONY: try run install test program visit relay live fmt plant needs-rt
+.PHONY: try run install test program visit relay client live fmt plant needs-rt
 
 needs-rt:
 	@command -v rt > /dev/null || { echo "rt is not in the PATH: install the Rattle kit that README.md names, and put its folder bin into the PATH" >&2; exit 1; }
@@ -40,8 +41,11 @@ visit: needs-rt
 relay: needs-rt
 	@(cd crates/example_relay && rt run >> ../../$(LOG) 2>&1) || { echo "make relay: the build failed, see $(LOG)" >&2; exit 1; }
 
-live: program visit relay
-	@live/run $(PROGRAM) $(VISIT) $(RELAY)
+client: needs-rt
+	@(cd crates/example_client && rt run >> ../../$(LOG) 2>&1) || { echo "make client: the build failed, see $(LOG)" >&2; exit 1; }
+
+live: program visit relay client
+	@live/run $(PROGRAM) $(VISIT) $(RELAY) $(CLIENT)
 
 fmt:
 	@for crate in crates/*/; do (cd $$crate && rt fmt) || exit 1; done
