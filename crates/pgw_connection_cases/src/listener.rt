@@ -1,5 +1,5 @@
 //! A handler of a caller's own that listens: it keeps the notices and notifications that it hears.
-ghost use Rattle.std.specs.Prelude.{⊤, tt};
+ghost use Rattle.std.specs.Prelude.{⊤};
 
 use pgw_backend::client_error::PgWireClientResult;
 use pgw_client::{DataRows, Listed, Text};

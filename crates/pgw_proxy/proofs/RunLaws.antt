@@ -619,18 +619,22 @@ runs_first proxy tape start on s none = runs_at proxy tape start on s.messages s
 
 -- where all turns were made
 pub passed_all : (turns : List Side) (proxy : Proxy) (tape : List ℕ) (start last : Links) → Runs turns proxy tape start last → (messages : List Passed) × (tape ≡ record_of messages) × Passes turns start last messages None
-passed_all turns proxy tape start last r = (r.messages, r.record_is, record {
-  done = turns;
-  left = [];
-  cut = sym (append-nil turns);
-  all = λ _. refl;
-  events = r.events;
-  course = Going (place_of proxy);
-  made = r.made;
-  proxied = r.proxied;
-  at_each = λ side. at_calm side start last turns r.events r.messages None (r.half side) (λ e. cc);
-  stops = (place_of proxy, refl);
-})
+passed_all turns proxy tape start last r = (
+  r.messages,
+  r.record_is,
+  record {
+    done = turns;
+    left = [];
+    cut = sym (append-nil turns);
+    all = λ _. refl;
+    events = r.events;
+    course = Going (place_of proxy);
+    made = r.made;
+    proxied = r.proxied;
+    at_each = λ side. at_calm side start last turns r.events r.messages None (r.half side) (λ e. cc);
+    stops = (place_of proxy, refl);
+  },
+)
 
 -- a list, cut before and behind an item
 pub cut_at : {X : Type 0} (xs : List X) (i : ℕ) (d : X) → i < length xs → xs ≡ take i xs ++ get_or xs i d ∷ drop (i + 1) xs

@@ -97,7 +97,7 @@ pub data Turn (side : Side) (p : Place) (old new : Links)
       → Takes side p.context (waiting side p ++ piece) ms there
       → GotSome (other side) old new (joined side ms)
       → Turn side p old new ((side, piece) ∷ []) ms (moved side p there)
-        (Some (graver (answer_of there) (io_of (other side))))
+      (Some (graver (answer_of there) (io_of (other side))))
 
 -- ---- all turns
 

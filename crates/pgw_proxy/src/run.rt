@@ -135,9 +135,9 @@ fn turn<F: Link, T: Link>(
     requires { GoesOn proxy.old }
     ensures turn { Moves side proxy.old proxy.new tape.old.items tape.new.items
         (start_by side (span F.tape F.left F.faults from.old from.new)
-            (span T.tape T.left T.faults to.old to.new))
+        (span T.tape T.left T.faults to.old to.new))
         (end_by side (span F.tape F.left F.faults from.old from.new)
-            (span T.tape T.left T.faults to.old to.new))
+        (span T.tape T.left T.faults to.old to.new))
         result }
     ensures from { F.foretells → Foretold (span F.tape F.left F.faults from.old from.new) }
     ensures to { T.foretells → Foretold (span T.tape T.left T.faults to.old to.new) }
@@ -171,9 +171,9 @@ fn turn_of<A: Link, B: Link>(
     requires { GoesOn proxy.old }
     ensures turn { Moves side proxy.old proxy.new tape.old.items tape.new.items
         (start_of (span A.tape A.left A.faults client.old client.new)
-            (span B.tape B.left B.faults server.old server.new))
+        (span B.tape B.left B.faults server.old server.new))
         (end_of (span A.tape A.left A.faults client.old client.new)
-            (span B.tape B.left B.faults server.old server.new))
+        (span B.tape B.left B.faults server.old server.new))
         result }
     ensures client { A.foretells → Foretold (span A.tape A.left A.faults client.old client.new) }
     ensures server { B.foretells → Foretold (span B.tape B.left B.faults server.old server.new) }
