@@ -15,6 +15,7 @@ use pgw_query::pg_type::PgType;
 use pgw_query::response::{CommandComplete, EmptyQueryResponse, NoticeResponse, ReadyForQuery};
 use pgw_query::simplequery::Query;
 use pgw_query::tag::Tag;
+use pgw_types::memory::OutOfMemory;
 use std::alloc::Global;
 use std::mem::replace;
 
@@ -32,7 +33,7 @@ impl Listener {
     }
 
     // Keeps the codes of a notice's fields.
-    fn keep_notice(&mut self, alloc: Global, message: NoticeResponse) -> PgWireClientResult<()> {
+    fn keep_notice(&mut self, alloc: Global, message: NoticeResponse) -> Result<(), OutOfMemory> {
         for (_code, text) in message.fields.into_vec() {
             self.heard.push(text)?;
         }
@@ -40,7 +41,7 @@ impl Listener {
         Ok(())
     }
 
-    fn keep(&mut self, message: NotificationResponse) -> PgWireClientResult<()> {
+    fn keep(&mut self, message: NotificationResponse) -> Result<(), OutOfMemory> {
         self.heard.push(message.channel)?;
         self.heard.push(message.payload)?;
         Ok(())
@@ -110,7 +111,7 @@ impl SimpleQueryHandler for Listener {
         _client: &mut C,
         message: NoticeResponse,
     ) -> PgWireClientResult<()> {
-        self.keep_notice(alloc, message)
+        Ok(self.keep_notice(alloc, message)?)
     }
 
     fn on_notification<C: ClientInfo + Outgoing>(
@@ -119,7 +120,7 @@ impl SimpleQueryHandler for Listener {
         _client: &mut C,
         message: NotificationResponse,
     ) -> PgWireClientResult<()> {
-        self.keep(message)
+        Ok(self.keep(message)?)
     }
 
     fn on_ready_for_query<C: ClientInfo + Outgoing>(
@@ -239,7 +240,7 @@ impl ExtendedQueryHandler for Listener {
     }
 
     fn on_notice(&mut self, alloc: Global, message: NoticeResponse) -> PgWireClientResult<()> {
-        self.keep_notice(alloc, message)
+        Ok(self.keep_notice(alloc, message)?)
     }
 
     fn on_notification(
@@ -247,6 +248,6 @@ impl ExtendedQueryHandler for Listener {
         _alloc: Global,
         message: NotificationResponse,
     ) -> PgWireClientResult<()> {
-        self.keep(message)
+        Ok(self.keep(message)?)
     }
 }
