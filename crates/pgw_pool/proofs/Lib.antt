@@ -1,0 +1,6 @@
+pub mod HistoryLaws
+pub mod RunLaws
+pub mod ReturnLaws
+pub mod StartLaws
+pub mod SessionLaws
+pub mod StockLaws

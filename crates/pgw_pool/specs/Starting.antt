@@ -1,0 +1,76 @@
+-- How a pool is started.
+use Rattle.std.specs.Prelude.{◌≡◌, ◌⊎◌, ℕ, negsuc, pos, List, [], ◌∷◌, ◌++◌, map, Option}
+use Rattle.pgw_wire.specs.declared.secret_key.SecretKey.TheVariants.{I32}
+use Rattle.pgw_backend.specs.declared.client_error.PgWireClientError.{PgWireClientError as ClientError}
+use Rattle.pgw_backend.specs.declared.client_error.PgWireClientError.TheVariants as client
+use Rattle.pgw_config.specs.declared.config.Config.{Config}
+use Rattle.pgw_link.specs.Dials.{DialTape}
+use Rattle.pgw_handlers.specs.Startup.{HeardAtStartup, startup}
+use Rattle.pgw_default_handlers.specs.declared.startup.DefaultStartupHandler.{DefaultStartupHandler}
+use Rattle.pgw_session.specs.declared.stage.Stage.TheVariants.{Starting}
+use Rattle.pgw_default_handlers.specs.Startup.{StartupMeans, exchanges}
+use Rattle.pgw_connection.specs.Connecting.{Connected, NotConnected}
+use Rattle.pgw_pool.specs.Histories.{History, View, new_history}
+
+-- a session for each nonce, of which none was lent
+abbrev pub new_histories : Config → List (List ℕ) → List History
+new_histories config nonces = map (new_history config) nonces
+
+-- the handler of a login
+abbrev pub handler_with : List ℕ → DefaultStartupHandler
+handler_with nonce = record {
+  nonce = nonce;
+  stage = Starting;
+  process_id = negsuc 0;
+  secret_key = I32 (pos 0);
+}
+
+-- what a dialer tells of its dials, what its next link has to come, how many of its calls failed
+pub record Dials : Type 0 where
+  pub tape : DialTape
+  pub offer : Option (List ℕ)
+  pub faults : ℕ
+
+abbrev pub dials : DialTape → Option (List ℕ) → ℕ → Dials
+dials tape offer faults = record { tape = tape; offer = offer; faults = faults }
+
+-- a login by this nonce, over a link that was dialled
+abbrev pub Connects : Config → ℕ → List ℕ → Dials → Dials → View → Type 0
+Connects config limit nonce old new v =
+    Connected (λ before after answer. StartupMeans before startup after answer)
+    (HeardAtStartup exchanges StartupMeans) (handler_with nonce) config limit old.tape new.tape
+    v.client v.line
+
+-- one by each of these nonces, in order
+pub data ConnectAll (config : Config) (limit : ℕ) (old : Dials)
+    : List (List ℕ) → Dials → List View → Type 0 where
+  no_login : ConnectAll config limit old [] old []
+  login_more : (nonces : List (List ℕ)) (nonce : List ℕ) (mid new : Dials) (vs : List View)
+      (v : View) →
+      ConnectAll config limit old nonces mid vs → Connects config limit nonce mid new v →
+      ConnectAll config limit old (nonces ++ nonce ∷ []) new (vs ++ v ∷ [])
+
+-- the login by this nonce was refused: there was no address, or no link, or it failed over one
+abbrev pub NotConnects : Type 0 → Config → ℕ → List ℕ → Dials → Dials → ClientError → Type 0
+NotConnects foretells config limit nonce old new e =
+    NotConnected (new ≡ old) foretells
+    (λ before after answer. StartupMeans before startup after answer)
+    (HeardAtStartup exchanges StartupMeans) (handler_with nonce) config limit
+    old.offer new.offer old.tape new.tape old.faults new.faults e
+
+-- The logins by the first nonces were made, and the next one was refused so.
+pub record StopsAt (foretells : Type 0) (config : Config) (limit : ℕ) (nonces : List (List ℕ))
+    (old new : Dials) (e : ClientError) : Type 0 where
+  pub done : List (List ℕ)
+  pub next : List ℕ
+  pub behind : List (List ℕ)
+  pub cut : nonces ≡ done ++ next ∷ behind
+  pub mid : Dials
+  pub views : List View
+  pub connected : ConnectAll config limit old done mid views
+  pub refused : NotConnects foretells config limit next mid new e
+
+-- why no pool was started: that; or memory was wanting
+abbrev pub NotStarted : Type 0 → Config → ℕ → List (List ℕ) → Dials → Dials → ClientError → Type 0
+NotStarted foretells config limit nonces old new e =
+    StopsAt foretells config limit nonces old new e ⊎ (e ≡ client.OutOfMemory)

@@ -1,0 +1,42 @@
+-- What is seen of a pool and of a lease.
+use Rattle.std.specs.Prelude.{ℕ, List, map}
+use Rattle.pgw_link.specs.Tape.{Tape}
+use Rattle.pgw_link.specs.declared.link.Link as Link
+use Rattle.pgw_connection.specs.declared.client.PgWireClient.{PgWireClient}
+use Rattle.pgw_connection.specs.Lent.{line_of, known_by, is_broken}
+use Rattle.pgw_pool.specs.declared.lease.Lease.{Lease}
+use Rattle.pgw_pool.specs.declared.pool.Pool.{Pool}
+use Rattle.pgw_pool.specs.Histories.{View}
+
+abbrev pub view_of : {X : Type 0} {L : Link.Ghosts X} → (X → Tape) → (X → ℕ) →
+    PgWireClient X L → View
+view_of tape faults c = record {
+  client = known_by c;
+  line = line_of tape faults c;
+  broken = is_broken c;
+}
+
+-- ---- a lease
+
+abbrev pub number_of : {X : Type 0} {L : Link.Ghosts X} → Lease X L → ℕ
+number_of lease = lease.number
+
+abbrev pub client_in : {X : Type 0} {L : Link.Ghosts X} → Lease X L → PgWireClient X L
+client_in lease = lease.client
+
+abbrev pub lease_view : {X : Type 0} {L : Link.Ghosts X} → (X → Tape) → (X → ℕ) → Lease X L → View
+lease_view tape faults lease = view_of tape faults lease.client
+
+-- ---- a pool
+
+-- its idle sessions, the one first that has been idle longest
+abbrev pub idle_in : {X : Type 0} {L : Link.Ghosts X} → (X → Tape) → (X → ℕ) → Pool X L → List View
+idle_in tape faults pool = map (view_of tape faults) (pool.idle).items
+
+-- how many leases it has lent
+abbrev pub lent_by : {X : Type 0} {L : Link.Ghosts X} → Pool X L → ℕ
+lent_by pool = pool.lent
+
+-- how many sessions it has room for
+abbrev pub room_of : {X : Type 0} {L : Link.Ghosts X} → Pool X L → ℕ
+room_of pool = pool.room

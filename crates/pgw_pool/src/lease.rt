@@ -1,0 +1,60 @@
+//! A session that is lent.
+ghost use Rattle.std.specs.Prelude.{◌≡◌, ℕ, Err, true, false};
+ghost use Rattle.pgw_backend.specs.declared.client_error.PgWireClientError.TheVariants as failure;
+ghost use Rattle.pgw_handlers.specs.Handling.{HasCause};
+ghost use Rattle.pgw_connection.specs.Lent.{link_of};
+ghost use Rattle.pgw_ask.specs.Asking.{Asks};
+
+use pgw_ask::ask;
+use pgw_client::{Answer, Link, PgWireClientResult, Request};
+use pgw_connection::PgWireClient;
+use std::alloc::Global;
+
+/// A session that is lent, until it is given back to its pool. It cannot be let go in another way.
+pub struct Lease<L: Link> {
+    pub(crate) client: PgWireClient<L>,
+    pub(crate) number: u64,
+}
+
+impl<L: Link> Lease<L> {
+    ghost use Rattle.pgw_pool.specs.Histories.{History, Lent, IsLent};
+    ghost use Rattle.pgw_pool.specs.Views.{number_of, client_in, lease_view};
+    ghost use Rattle.pgw_pool.specs.Lending.{Ran};
+
+    /// The first lease of a pool has number 1.
+    pub fn number(&self) -> u64
+        ensures { result ≡ number_of self.now }
+    {
+        self.number
+    }
+
+    pub fn link(&self) -> &L
+        ensures { result.now ≡ link_of (client_in self.now) }
+    {
+        self.client.link()
+    }
+
+    /// Asks a request by the default handlers, and gives its answer. The server's error is an answer,
+    /// where the session can go on behind it.
+    pub fn run(&mut self, alloc: Global, request: &Request) -> PgWireClientResult<Answer>
+        ensures number { number_of self.new ≡ number_of self.old }
+        // A session that an earlier error left unusable is asked nothing.
+        ensures broken { (lease_view L.tape L.faults self.old).broken ≡ true →
+            (result ≡ Err failure.Broken) × (self.new ≡ self.old) }
+        // Whatever was done over the session, this request is made besides, and the answer is that of
+        // its own segment; an error tells how far it was made.
+        ensures ran { (h : History) (l : Lent) → IsLent h l (lease_view L.tape L.faults self.old) →
+            Ran h l request.now (lease_view L.tape L.faults self.new)
+            (lease_view L.tape L.faults self.new).broken result }
+        // The same by the client's own call, with the reason of each error.
+        ensures asks { let old = lease_view L.tape L.faults self.old in
+            let new = lease_view L.tape L.faults self.new in
+            old.broken ≡ false →
+            Asks request.now old.client old.line new.client new.line new.broken result }
+        ensures cause { let old = lease_view L.tape L.faults self.old in
+            let new = lease_view L.tape L.faults self.new in
+            HasCause old.line.faults new.line.faults old.broken result }
+    {
+        ask(alloc, &mut self.client, request)
+    }
+}

@@ -1,0 +1,17 @@
+//! A pool of sessions with a server, which it lends one lease at a time.
+//!
+//! To a caller it promises what each session got and sent: its startup segment, then for each of its
+//! leases the segments of that lease's own requests and one of `DISCARD ALL`; that each answer is
+//! that of its own request's segment; that a lease begins with no transaction open; and that a
+//! session which is dropped is never lent again.
+#![tactic(auto)]
+
+pub mod laws;
+pub mod lease;
+pub mod pool;
+pub mod returned;
+mod starting;
+
+pub use crate::lease::Lease;
+pub use crate::pool::{LendError, Pool};
+pub use crate::returned::{DropCause, Returned};

@@ -1,0 +1,173 @@
+//! A pool.
+ghost use Rattle.std.specs.Prelude.{◌≡◌, ◌<◌, ◌≤◌, List, length, ◌+◌, false, IfOk, IfErr, OnOk};
+ghost use Rattle.std.specs.VecDeque.{deque_len, deque_capacity};
+ghost use Rattle.pgw_handlers.specs.Handling.{HasCause};
+
+use crate::lease::Lease;
+use crate::returned::{Returned, reset};
+use crate::starting::log_in;
+use pgw_client::{Config, Dialer, Link, PgWireClientError, PgWireClientResult};
+use pgw_connection::PgWireClient;
+use std::alloc::Global;
+use std::collections::VecDeque;
+
+/// Some sessions with one server. Room for all of them is taken as it is started.
+#[derive(Drop)]
+pub struct Pool<L: Link> {
+    // The one that has been idle longest stands first.
+    idle: VecDeque<PgWireClient<L>>,
+    room: usize,
+    lent: u64,
+    ghost fits: { deque_len idle ≤ room },
+    ghost reserved: { room ≤ deque_capacity idle },
+}
+
+/// Why no session is lent.
+#[derive(Clone, Copy, Debug, PartialEq, Eq, Drop)]
+pub enum LendError {
+    /// None is idle.
+    Empty,
+    /// 18446744073709551615 leases were lent.
+    Exhausted,
+}
+
+impl<L: Link> Pool<L> {
+    ghost use Rattle.pgw_pool.specs.Histories.{History, Lent, IsLent, AreIdle};
+    ghost use Rattle.pgw_pool.specs.Views.{idle_in, lent_by, room_of, number_of, lease_view};
+    ghost use Rattle.pgw_pool.specs.Lending.{Lends, LendsNone, LendsFirst};
+    ghost use Rattle.pgw_pool.specs.Returning.{GivesBack, GivenBack};
+    ghost use Rattle.pgw_pool.specs.Starting.{dials, new_histories, ConnectAll, NotStarted};
+
+    /// Connects one session for each nonce, with at most one dial each. Each nonce is to be random and
+    /// used for no other. Where one fails, those before it are let go.
+    pub fn start<D: Dialer<Link = L>>(
+        alloc: Global,
+        config: &Config,
+        nonces: &[[u8; 18]],
+        limit: u64,
+        dialer: &mut D,
+    ) -> PgWireClientResult<Pool<L>>
+        ensures room { IfOk result (λ pool. room_of pool ≡ length nonces.now) }
+        ensures none { IfOk result (λ pool. lent_by pool ≡ 0) }
+        // All of them are idle, in the order of the nonces, and none was lent.
+        ensures idle { IfOk result (λ pool. AreIdle (lent_by pool)
+            (new_histories config.now nonces.now) (idle_in L.tape L.faults pool)) }
+        ensures connected { IfOk result (λ pool. ConnectAll config.now limit
+            (dials (D.tape dialer.old) (D.offer dialer.old) (D.faults dialer.old)) nonces.now
+            (dials (D.tape dialer.new) (D.offer dialer.new) (D.faults dialer.new))
+            (idle_in L.tape L.faults pool)) }
+        // Else the first that failed gives the error.
+        ensures refused { IfErr result (NotStarted D.foretells config.now limit nonces.now
+            (dials (D.tape dialer.old) (D.offer dialer.old) (D.faults dialer.old))
+            (dials (D.tape dialer.new) (D.offer dialer.new) (D.faults dialer.new))) }
+        // IoError comes only where the dialer's count rose, and Broken never.
+        ensures cause { HasCause (D.faults dialer.old) (D.faults dialer.new) false result }
+    {
+        let mut idle = match VecDeque::with_capacity(alloc, nonces.len()) {
+            Ok(idle) => idle,
+            Err(_) => return Err(PgWireClientError::OutOfMemory),
+        };
+        for nonce in nonces {
+            match log_in(alloc, config, *nonce, limit, dialer) {
+                Ok(client) => idle.push_back_reserved(client),
+                Err(error) => return Err(error),
+            }
+        }
+        Ok(Pool {
+            idle,
+            room: nonces.len(),
+            lent: 0,
+        })
+    }
+
+    /// How many sessions it has room for, which are those that it was started with.
+    pub fn capacity(&self) -> usize
+        ensures { result ≡ room_of self.now }
+    {
+        self.room
+    }
+
+    /// How many of its sessions are idle.
+    pub fn idle(&self) -> usize
+        ensures counts { result ≡ length (idle_in L.tape L.faults self.now) }
+        ensures fits { result ≤ room_of self.now }
+    {
+        self.idle.len()
+    }
+
+    /// Lends the session that has been idle longest. It takes no memory.
+    pub fn lend(&mut self) -> Result<Lease<L>, LendError>
+        ensures room { room_of self.new ≡ room_of self.old }
+        ensures lent { IfOk result (λ lease. Lends
+            (idle_in L.tape L.faults self.old) (lent_by self.old)
+            (idle_in L.tape L.faults self.new) (lent_by self.new)
+            (number_of lease) (lease_view L.tape L.faults lease)) }
+        ensures counts { OnOk result (length (idle_in L.tape L.faults self.old)
+            ≡ length (idle_in L.tape L.faults self.new) + 1) }
+        // So the pool has room for it again.
+        ensures fits { OnOk result (length (idle_in L.tape L.faults self.new) < room_of self.new) }
+        // Whatever was done over the idle sessions, the first of them is lent, with a lease in which
+        // nothing was asked, and status Idle if it was lent before.
+        ensures first { (hs : List History) →
+            AreIdle (lent_by self.old) hs (idle_in L.tape L.faults self.old) →
+            IfOk result (λ lease. LendsFirst hs
+            (lent_by self.new) (idle_in L.tape L.faults self.new)
+            (number_of lease) (lease_view L.tape L.faults lease)) }
+        // Empty comes exactly where none is idle, and else Exhausted exactly where 2^64-1 were lent.
+        ensures refused { IfErr result
+            (LendsNone (idle_in L.tape L.faults self.old) (lent_by self.old)) }
+        ensures same { IfErr result (λ e. self.new ≡ self.old) }
+    {
+        if self.idle.is_empty() {
+            return Err(LendError::Empty);
+        }
+        if self.lent == u64::MAX {
+            return Err(LendError::Exhausted);
+        }
+        match self.idle.pop_front() {
+            Some(client) => {
+                self.lent += 1;
+                Ok(Lease {
+                    client,
+                    number: self.lent,
+                })
+            }
+            None => Err(LendError::Empty),
+        }
+    }
+
+    /// Asks `DISCARD ALL` of a session whose lease is over. Where that is answered, and no transaction
+    /// is open behind it, the session is idle from then on, behind all others. Else it is dropped with
+    /// its link. To keep it takes no memory of the pool's own.
+    pub fn give_back(&mut self, alloc: Global, lease: Lease<L>) -> Returned
+        requires { length (idle_in L.tape L.faults self.old) < room_of self.old }
+        ensures room { room_of self.new ≡ room_of self.old }
+        ensures lent { lent_by self.new ≡ lent_by self.old }
+        ensures counts { length (idle_in L.tape L.faults self.new)
+            ≤ length (idle_in L.tape L.faults self.old) + 1 }
+        // By the answer of that simple query: Kept exactly where it is responses and the status is Idle.
+        ensures gives_back { GivesBack (lease_view L.tape L.faults lease)
+            (idle_in L.tape L.faults self.old) (idle_in L.tape L.faults self.new) result }
+        // Whatever was done over the session, the lease and the reset are made besides; and where it
+        // is dropped the idle sessions are those that were idle before.
+        ensures given { (hs : List History) (h : History) (l : Lent) →
+            AreIdle (lent_by self.old) hs (idle_in L.tape L.faults self.old) →
+            IsLent h l (lease_view L.tape L.faults lease) → l.number ≤ lent_by self.old →
+            GivenBack (lent_by self.new) hs h l (idle_in L.tape L.faults self.new) result }
+    {
+        let Lease {
+            mut client,
+            number: _number,
+        } = lease;
+        match reset(alloc, &mut client) {
+            Returned::Kept => {
+                self.idle.push_back_reserved(client);
+                Returned::Kept
+            }
+            Returned::Dropped(cause) => {
+                drop(client);
+                Returned::Dropped(cause)
+            }
+        }
+    }
+}

@@ -1,0 +1,49 @@
+//! The logins of a pool's sessions.
+ghost use Rattle.std.specs.Prelude.{◌≡◌, ◌⊎◌, false, IfOk, IfErr};
+ghost use Rattle.pgw_backend.specs.declared.client_error.PgWireClientError.TheVariants as failure;
+ghost use Rattle.pgw_handlers.specs.Handling.{HasCause};
+ghost use Rattle.pgw_pool.specs.Histories.{IsIdle, new_history};
+ghost use Rattle.pgw_pool.specs.Views.{view_of};
+ghost use Rattle.pgw_pool.specs.Starting.{dials, Connects, NotConnects};
+
+use pgw_calls::laws::logins_begin_a_client;
+use pgw_client::{Config, Dialer, Link, PgWireClientError, PgWireClientResult};
+use pgw_connection::PgWireClient;
+use pgw_default_handlers::DefaultStartupHandler;
+use pgw_types::listed::Duplicate;
+use std::alloc::Global;
+
+// Logs one session in.
+pub(crate) fn log_in<L: Link, D: Dialer<Link = L>>(
+    alloc: Global,
+    config: &Config,
+    nonce: [u8; 18],
+    limit: u64,
+    dialer: &mut D,
+) -> PgWireClientResult<PgWireClient<L>>
+    ensures idle { IfOk result (λ client.
+        IsIdle 0 (new_history config.now nonce) (view_of L.tape L.faults client)) }
+    ensures connects { IfOk result (λ client. Connects config.now limit nonce
+        (dials (D.tape dialer.old) (D.offer dialer.old) (D.faults dialer.old))
+        (dials (D.tape dialer.new) (D.offer dialer.new) (D.faults dialer.new))
+        (view_of L.tape L.faults client)) }
+    ensures refused { IfErr result (λ e. NotConnects D.foretells config.now limit nonce
+        (dials (D.tape dialer.old) (D.offer dialer.old) (D.faults dialer.old))
+        (dials (D.tape dialer.new) (D.offer dialer.new) (D.faults dialer.new)) e
+        ⊎ (e ≡ failure.OutOfMemory)) }
+    ensures cause { HasCause (D.faults dialer.old) (D.faults dialer.new) false result }
+{
+    logins_begin_a_client();
+    match config.duplicate() {
+        Ok(copy) => {
+            PgWireClient::connect(
+                alloc,
+                copy,
+                DefaultStartupHandler::new(nonce),
+                dialer,
+                limit,
+            )
+        }
+        Err(_) => Err(PgWireClientError::OutOfMemory),
+    }
+}

@@ -1,0 +1,313 @@
+//! What is lent, answered and given back over links in memory.
+
+ghost use Rattle.std.specs.Prelude.{All, IfOk};
+ghost use Rattle.pgw_link.specs.MemoryLinks.{IsUnused};
+
+use pgw_client::{
+    Answer, Config, Listed, MemoryDialer, MemoryLink, Octets, OutOfMemory, PgWireClientError,
+    PgWireClientResult, Request,
+};
+use pgw_pool::{DropCause, Lease, LendError, Pool, Returned};
+use std::alloc::Global;
+use std::process::Abort;
+use std::test::Fail;
+
+// What a server says, by the message formats of the protocol.
+const WELCOME: &[u8] = b"R\0\0\0\x08\0\0\0\0Z\0\0\0\x05I";
+
+const DONE: &[u8] = b"C\0\0\0\x07OK\0";
+
+const DISCARDED: &[u8] = b"C\0\0\0\x10DISCARD ALL\0";
+
+const ERROR: &[u8] = b"E\0\0\0\x19SERROR\0CXX000\0Mboom\0\0";
+
+const BOUND: &[u8] = b"2\0\0\0\x04";
+
+const IDLE: &[u8] = b"Z\0\0\0\x05I";
+
+const OPEN: &[u8] = b"Z\0\0\0\x05T";
+
+// How a client asks for the reset.
+const RESET: &[u8] = b"Q\0\0\0\x10DISCARD ALL\0";
+
+// What the servers say behind their welcome, one for each session; how many leases are taken, one
+// after the other; and what comes of it.
+type Case = (&'static [&'static [&'static [u8]]], usize, &'static str);
+
+const CASES: &[Case] = &[
+    (
+        &[&[DONE, IDLE, DISCARDED, IDLE]],
+        2,
+        "1: responses, kept; 2 behind a reset: end, Failed; ",
+    ),
+    (
+        &[&[DONE, IDLE, DISCARDED, OPEN]],
+        2,
+        "1: responses, Status; empty; ",
+    ),
+    (
+        &[&[DONE, OPEN, ERROR, IDLE]],
+        2,
+        "1: responses, Refused; empty; ",
+    ),
+    (&[&[DONE, IDLE, ERROR]], 2, "1: responses, Failed; empty; "),
+    (
+        &[&[DONE, IDLE, BOUND, IDLE]],
+        2,
+        "1: responses, Failed; empty; ",
+    ),
+    (&[&[ERROR, OPEN, DISCARDED, IDLE]], 1, "1: remote, kept; "),
+    (&[&[ERROR]], 2, "1: remote error, Failed; empty; "),
+    (&[&[BOUND, IDLE]], 2, "1: unexpected, Failed; empty; "),
+    (&[&[]], 2, "1: end, Failed; empty; "),
+    (&[], 1, "empty; "),
+    (
+        &[
+            &[DONE, IDLE, DISCARDED, IDLE],
+            &[ERROR, IDLE, DISCARDED, IDLE],
+        ],
+        4,
+        "1: responses, kept; 2: remote, kept; 3 behind a reset: end, Failed; \
+        4 behind a reset: end, Failed; ",
+    ),
+    (
+        &[
+            &[DONE, IDLE, DISCARDED, OPEN],
+            &[ERROR, IDLE, DISCARDED, IDLE],
+        ],
+        4,
+        "1: responses, Status; 2: remote, kept; 3 behind a reset: end, Failed; empty; ",
+    ),
+];
+
+fn error_name(error: &PgWireClientError) -> &'static str {
+    match error {
+        PgWireClientError::UnexpectedEOF => "end",
+        PgWireClientError::IoError => "fault",
+        PgWireClientError::RemoteError(_) => "remote error",
+        PgWireClientError::UnexpectedMessage(_) => "unexpected",
+        _ => "another error",
+    }
+}
+
+fn answer_name(answer: &Answer) -> &'static str {
+    match answer {
+        Answer::Responses(_) => "responses",
+        Answer::Remote(_) => "remote",
+        _ => "another answer",
+    }
+}
+
+fn came_name(came: &PgWireClientResult<Answer>) -> &'static str {
+    match came {
+        Ok(answer) => answer_name(answer),
+        Err(error) => error_name(error),
+    }
+}
+
+fn cause_name(cause: &DropCause) -> &'static str {
+    match cause {
+        DropCause::Failed(_) => "Failed",
+        DropCause::Refused(_) => "Refused",
+        DropCause::Status(_) => "Status",
+        DropCause::OutOfMemory => "OutOfMemory",
+    }
+}
+
+fn returned_name(returned: &Returned) -> &'static str {
+    match returned {
+        Returned::Kept => "kept",
+        Returned::Dropped(cause) => cause_name(cause),
+    }
+}
+
+// How a number up to 4 is written.
+fn number_name(number: u64) -> &'static str {
+    match number {
+        1 => "1",
+        2 => "2",
+        3 => "3",
+        4 => "4",
+        _ => "another number",
+    }
+}
+
+fn is_behind_reset(lease: &Lease<MemoryLink>) -> bool {
+    lease.link().written().ends_with(RESET)
+}
+
+// Asks in a lease, and tells which it is and what came of it.
+fn asked(alloc: Global, lease: &mut Lease<MemoryLink>, request: &Request) -> [&'static str; 3] {
+    let number = number_name(lease.number());
+    let behind = if is_behind_reset(lease) {
+        " behind a reset"
+    } else {
+        ""
+    };
+    let came = lease.run(alloc, request);
+    let name = came_name(&came);
+    drop(came);
+    [number, behind, name]
+}
+
+// Takes a lease, asks in it and gives it back.
+fn lease_once(alloc: Global, pool: &mut Pool<MemoryLink>, request: &Request) -> [&'static str; 4] {
+    match pool.lend() {
+        Ok(mut lease) => {
+            let [number, behind, name] = asked(alloc, &mut lease, request);
+            let returned = pool.give_back(alloc, lease);
+            let ends = returned_name(&returned);
+            drop(returned);
+            [number, behind, name, ends]
+        }
+        Err(LendError::Empty) => ["empty", "", "", ""],
+        Err(LendError::Exhausted) => ["exhausted", "", "", ""],
+    }
+}
+
+fn tell(text: &mut String, words: [&'static str; 4]) -> Result<(), Fail> {
+    let [first, behind, name, ends] = words;
+    text.push_str(first)?;
+    text.push_str(behind)?;
+    if !name.is_empty() {
+        text.push_str(": ")?;
+        text.push_str(name)?;
+        text.push_str(", ")?;
+        text.push_str(ends)?;
+    }
+    text.push_str("; ")?;
+    Ok(())
+}
+
+fn link_to(alloc: Global, pieces: &[&[u8]]) -> Result<MemoryLink, OutOfMemory>
+    ensures { IfOk result IsUnused }
+{
+    let mut said = Vec::new(alloc);
+    said.extend_from_slice(WELCOME)?;
+    for piece in pieces {
+        said.extend_from_slice(piece)?;
+    }
+    let server = Octets::from_slice(alloc, &said)?;
+    Ok(MemoryLink::new(alloc, server, 30, Listed::new(alloc), Listed::new(alloc)))
+}
+
+// A link to each server.
+fn links_to(alloc: Global, servers: &[&[&[u8]]]) -> Result<Listed<MemoryLink>, OutOfMemory>
+    ensures { IfOk result (All IsUnused) }
+{
+    let mut links = Listed::new(alloc);
+    for pieces in servers {
+        links.push(link_to(alloc, pieces)?)?;
+    }
+    Ok(links)
+}
+
+// Starts a pool with one session for each server, or tells why none was started.
+fn start(
+    alloc: Global,
+    servers: &[&[&[u8]]],
+    fail_dials: Listed<u64>,
+) -> Result<Result<Pool<MemoryLink>, &'static str>, Fail> {
+    let config = Config::parse(alloc, "user=bob host=a")?;
+    let mut nonces: Vec<[u8; 18]> = Vec::new(alloc);
+    for _ in servers {
+        nonces.push([0; 18])?;
+    }
+    let mut dialer = MemoryDialer::new(links_to(alloc, servers)?, fail_dials);
+    let started = Pool::start(alloc, &config, nonces.as_slice(), 10_000, &mut dialer);
+    Ok(match started {
+        Ok(pool) => Ok(pool),
+        Err(error) => Err(error_name(&error)),
+    })
+}
+
+fn check<R: Abort>(rt: &R, alloc: Global, case: Case) -> Result<(), Fail> {
+    let (servers, leases, wanted) = case;
+    let request = Request::simple(alloc, "SELECT 1")?;
+    let mut text = String::new(alloc);
+    match start(alloc, servers, Listed::new(alloc))? {
+        Ok(mut pool) => {
+            assert_eq!(rt; pool.capacity(), servers.len());
+            assert_eq!(rt; pool.idle(), servers.len());
+            for _ in 0..leases {
+                tell(&mut text, lease_once(alloc, &mut pool, &request))?;
+            }
+        }
+        Err(name) => text.push_str(name)?,
+    }
+    assert_eq!(rt; text.as_str(), wanted);
+    Ok(())
+}
+
+#[test]
+fn sessions_are_lent_in_turn(rt: HostRuntime) -> Result<(), Fail> {
+    for case in CASES {
+        check(&rt, rt.alloc(), *case)?;
+    }
+    Ok(())
+}
+
+// Why no pool is started.
+fn refused(alloc: Global, servers: &[&[&[u8]]], dial: u64) -> Result<&'static str, Fail> {
+    let mut fail_dials = Listed::new(alloc);
+    fail_dials.push(dial)?;
+    match start(alloc, servers, fail_dials)? {
+        Ok(pool) => {
+            drop(pool);
+            Ok("started")
+        }
+        Err(name) => Ok(name),
+    }
+}
+
+#[test]
+fn the_first_failing_login_is_told(rt: HostRuntime) -> Result<(), Fail> {
+    let alloc = rt.alloc();
+    assert_eq!(rt; refused(alloc, &[&[], &[]], 1)?, "fault");
+    assert_eq!(rt; refused(alloc, &[&[], &[]], 2)?, "fault");
+    assert_eq!(rt; refused(alloc, &[&[], &[]], 3)?, "started");
+    Ok(())
+}
+
+// Lends two sessions at once, and gives them back in the other order.
+fn lent_together(alloc: Global, pool: &mut Pool<MemoryLink>) -> [&'static str; 2] {
+    match pool.lend() {
+        Ok(first) => match pool.lend() {
+            Ok(second) => {
+                let returned = pool.give_back(alloc, second);
+                let second_ends = returned_name(&returned);
+                drop(returned);
+                let returned = pool.give_back(alloc, first);
+                let first_ends = returned_name(&returned);
+                drop(returned);
+                [second_ends, first_ends]
+            }
+            Err(_) => {
+                drop(pool.give_back(alloc, first));
+                ["none", ""]
+            }
+        },
+        Err(_) => ["none", ""],
+    }
+}
+
+#[test]
+fn the_longest_idle_is_lent(rt: HostRuntime) -> Result<(), Fail> {
+    let alloc = rt.alloc();
+    let request = Request::simple(alloc, "SELECT 1")?;
+    let servers: &[&[&[u8]]] = &[
+        &[DISCARDED, IDLE, DONE, IDLE, DISCARDED, IDLE],
+        &[DISCARDED, IDLE, ERROR, IDLE, DISCARDED, IDLE],
+    ];
+    match start(alloc, servers, Listed::new(alloc))? {
+        Ok(mut pool) => {
+            assert_eq!(rt; lent_together(alloc, &mut pool), ["kept", "kept"]);
+            let words = lease_once(alloc, &mut pool, &request);
+            assert_eq!(rt; words, ["3", " behind a reset", "remote", "kept"]);
+            let words = lease_once(alloc, &mut pool, &request);
+            assert_eq!(rt; words, ["4", " behind a reset", "responses", "kept"]);
+        }
+        Err(name) => assert_eq!(rt; name, "started"),
+    }
+    Ok(())
+}

@@ -1,0 +1,5 @@
+//! Tests of a pool.
+#![tactic(auto)]
+
+#[cfg(test)]
+mod lending;
