@@ -20,8 +20,7 @@ pub fn sessions_are_leases()
 }
 
 /// Whatever calls are made of a pool and of its leases, in whatever order, each session that is idle has a history of
-/// leases that are over, and each that is out one with its lease so far, if these had one before. A pool that was just
-/// started has one for each.
+/// leases that are over, and each that is out one with its lease so far, if these had one before.
 pub fn calls_keep_sessions_in_order()
     ensures { (s t : Stock) → Steps s t → IsInOrder s → IsInOrder t }
 {}

@@ -10,7 +10,7 @@ use pgw_client::{Answer, Link, PgWireClientResult, Request};
 use pgw_connection::PgWireClient;
 use std::alloc::Global;
 
-/// A session that is lent, until it is given back to its pool. It cannot be let go in another way.
+/// A session that is lent, until it is given back to a pool. It cannot be let go in another way.
 pub struct Lease<L: Link> {
     pub(crate) client: PgWireClient<L>,
     pub(crate) number: u64,

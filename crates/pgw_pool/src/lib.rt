@@ -2,8 +2,9 @@
 //!
 //! To a caller it promises what each session got and sent: its startup segment, then for each of its
 //! leases the segments of that lease's own requests and one of `DISCARD ALL`; that each answer is
-//! that of its own request's segment; that a lease begins with no transaction open; and that a
-//! session which is dropped is never lent again.
+//! that of its own request's segment; that each lease after a session's first begins with no
+//! transaction open; and that a session which is dropped is never lent again. A request that was
+//! passed over, and one at which an error cut the session, are told as such.
 #![tactic(auto)]
 
 pub mod laws;

@@ -145,7 +145,7 @@ impl<L: Link> Pool<L> {
         ensures lent { lent_by self.new ≡ lent_by self.old }
         ensures counts { length (idle_in L.tape L.faults self.new)
             ≤ length (idle_in L.tape L.faults self.old) + 1 }
-        // By the answer of that simple query: Kept exactly where it is responses and the status is Idle.
+        // Kept only where that simple query is answered by responses, and the status is Idle.
         ensures gives_back { GivesBack (lease_view L.tape L.faults lease)
             (idle_in L.tape L.faults self.old) (idle_in L.tape L.faults self.new) result }
         // Whatever was done over the session, the lease and the reset are made besides; and where it

@@ -7,8 +7,7 @@ use Rattle.pgw_pool.proofs.returned.reset.Goals as goal
 pub returns : goal.returns
 returns g c =
     let V = view_of g.L.Link.tape g.L.Link.faults in
-    let asked = c.simple_query-answer.ensures in
-    (
+    let asked = c.simple_query-answer.ensures in (
       c.simple_query-answer.result,
       record {
         broken = λ b. ((asked.broken b).0, ap V (asked.broken b).1);
@@ -17,6 +16,6 @@ returns g c =
         cause = asked.cause;
       },
       c.returned_by.ensures
-      ∙ ap (λ x. returned_by c.simple_query-answer.result x c.is_broken.result) c.transaction_status.ensures
-      ∙ ap (λ x. returned_by c.simple_query-answer.result (V c.simple_query-answer.new.self).client.transaction_status x) c.is_broken.ensures.broken,
+          ∙ ap (λ x. returned_by c.simple_query-answer.result x c.is_broken.result) c.transaction_status.ensures
+          ∙ ap (λ x. returned_by c.simple_query-answer.result (V c.simple_query-answer.new.self).client.transaction_status x) c.is_broken.ensures.broken,
     )

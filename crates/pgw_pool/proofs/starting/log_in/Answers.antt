@@ -13,7 +13,7 @@ returns-in-Ok-clause-idle g c =
     let new = dials (g.D.Dialer.tape e) (g.D.Dialer.offer e) (g.D.Dialer.faults e) in
     both_ok c.connect.result _ _ _
     (λ client connected usable. begun c.logins_begin_a_client.ensures c.args.config.now c.args.limit c.args.nonce old new (view_of g.L.Link.tape g.L.Link.faults client)
-        (connects_as c.args.config.now c.in-Ok.copy c.new.result c.args.limit c.args.nonce old new (view_of g.L.Link.tape g.L.Link.faults client) c.in-Ok.ensures c.new.ensures connected) usable)
+    (connects_as c.args.config.now c.in-Ok.copy c.new.result c.args.limit c.args.nonce old new (view_of g.L.Link.tape g.L.Link.faults client) c.in-Ok.ensures c.new.ensures connected) usable)
     c.connect.ensures.connected c.connect.ensures.usable
 
 pub returns-in-Ok-clause-connects : goal.returns-in-Ok-clause-connects
@@ -34,7 +34,7 @@ returns-in-Ok-clause-refused g c =
     let new = dials (g.D.Dialer.tape e) (g.D.Dialer.offer e) (g.D.Dialer.faults e) in
     IfErr-weaker c.connect.result _ _
     (λ why refused. inl (not_connects_as g.D.Dialer.foretells c.args.config.now c.in-Ok.copy c.new.result c.args.limit c.args.nonce old new why
-        (λ same. ap (λ x. dials (g.D.Dialer.tape x) (g.D.Dialer.offer x) (g.D.Dialer.faults x)) same) c.in-Ok.ensures c.new.ensures refused))
+    (λ same. ap (λ x. dials (g.D.Dialer.tape x) (g.D.Dialer.offer x) (g.D.Dialer.faults x)) same) c.in-Ok.ensures c.new.ensures refused))
     c.connect.ensures.refused
 
 pub returns-in-Err-clause-refused : goal.returns-in-Err-clause-refused
