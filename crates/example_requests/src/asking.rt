@@ -1,7 +1,7 @@
 //! Questions, asked one after the other.
 ghost use Rattle.std.specs.Prelude.{◌≡◌, [], ◌∷◌, Err, IfErr, IfOk, OnOk, false, true};
 ghost use Rattle.pgw_backend.specs.declared.client_error.PgWireClientError.TheVariants as failure;
-ghost use Rattle.pgw_connection.specs.Lent.{line_of, known_by, is_broken};
+ghost use Rattle.pgw_connection.specs.State.{line_of, known_by, is_broken};
 ghost use Rattle.example_requests.specs.declared.asking.Question.TheVariants as question;
 ghost use Rattle.pgw_handlers.specs.Handling.{HasCause};
 ghost use Rattle.example_requests.specs.Asking.{Adds, Fails, Stops, replied};

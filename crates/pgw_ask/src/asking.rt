@@ -4,7 +4,7 @@ ghost use Rattle.pgw_backend.specs.declared.client_error.PgWireClientError.TheVa
 ghost use Rattle.pgw_session.specs.declared.types.Request.TheVariants as kind;
 ghost use Rattle.pgw_handlers.specs.Handling.{HasCause};
 ghost use Rattle.pgw_calls.specs.Extended.{executed, given};
-ghost use Rattle.pgw_connection.specs.Lent.{line_of, known_by, is_broken};
+ghost use Rattle.pgw_connection.specs.State.{line_of, known_by, is_broken};
 ghost use Rattle.pgw_ask.specs.Asking.{Asks, answered, name_in};
 
 use pgw_calls::laws::{

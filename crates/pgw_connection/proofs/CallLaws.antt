@@ -20,7 +20,7 @@ use Rattle.pgw_connection.specs.Talk as talk
 use Rattle.pgw_connection.specs.Talk.{fresh, Next, Lack, End, end, Hearing, Talk, Passing, IsCut, Asked, passes, is_remote, is_refusal}
 use Rattle.pgw_connection.specs.Line.{Line, Reasons, Pause, IsFlushed, WentWell, EndedWell, Halts, Drew, Moved}
 use Rattle.pgw_connection.specs.Reading.{GoesOn, Came, PassedOver}
-use Rattle.pgw_connection.specs.Calls.{link_sight, PutAll, PutSome, Puts, Opens, starved, wrote, cut, refused, GivesUp, breaks, fails, passes_over, Follows, starves, writes, cuts, gives_up, HeardOne, Talked, HeardNext, IsHalted, Call}
+use Rattle.pgw_connection.specs.Calls.{link_sight, PutAll, PutSome, Puts, Opens, starved, wrote, cut, refused, GivesUp, breaks, fails, passes_over, Follows, starves, writes, cuts, gives_up, HeardOne, Talked, HeardNext, HeardOn, IsHalted, Call}
 use Rattle.pgw_connection.proofs.ReadingLaws.{next_more, drew_on, not_halted, not_at_end, halts_on, at_end_on, at_end_so, pause_on, passing_as, PassedEnd, still_flushed, end_well, ended_on, failed, io_of, io_answer}
 
 -- ---- writing
@@ -356,6 +356,12 @@ module _ {H A : Type 0} (M : Hearing H A) (goes_on : ClientError → Bool) where
         at_end = at_end_on _ _ old mid new one.goes_on.0 (λ is. is) t.at_end;
         well = ended_on (last.answer ≡ Err client.IoError) old mid new one.goes_on.1 t.well;
       }
+
+  -- the call goes on from there as it does from the beginning, or has ended
+  pub heard_further : (h handler : H) (c info : Client) (old new : Line) (broken : Bool) (answer : Answer A) → HeardNext M goes_on h c old new handler info broken answer → HeardOn M goes_on h c old new handler info broken answer
+  heard_further h handler c info old new broken (Ok Pending) x = (λ final last d. talked_on h handler c info old new final last x.0 d, x.1)
+  heard_further h handler c info old new broken (Ok (Ready r)) x = x
+  heard_further h handler c info old new broken (Err e) x = x
 
 -- ---- a call
 

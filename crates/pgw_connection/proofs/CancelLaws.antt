@@ -1,5 +1,5 @@
 -- Canceling over a link of its own.
-use Rattle.std.proofs.Common.{◌≡◌, ℕ, List, [], Option, Result, Ok, Err, subst}
+use Rattle.std.proofs.Common.{ℕ, List, [], Option, Result, Ok, Err, subst}
 use Rattle.std.specs.Result.{OnOk, IfErr}
 use Rattle.pgw_types.specs.declared.error.PgWireError.{PgWireError}
 use Rattle.pgw_types.specs.declared.address.Address.{Address}

@@ -20,7 +20,7 @@ use Rattle.pgw_connection.specs.Talk.{end, Hearing}
 use Rattle.pgw_connection.specs.Desk.{with_information}
 use Rattle.pgw_connection.specs.Line.{Line, line}
 use Rattle.pgw_connection.specs.Calls.{Call}
-use Rattle.pgw_connection.specs.Connecting.{never, LeadsTo, LacksAddress, IsRefusedBy, NoLink, DialledOnce, LogsIn, new_line, ConnectedAt, Connected, ClosedAgain, NotConnectedAt, NotConnected}
+use Rattle.pgw_connection.specs.Connecting.{never, LeadsTo, LacksAddress, IsRefusedBy, DialledOnce, LogsIn, new_line}
 
 -- ---- the address
 

@@ -3,17 +3,15 @@ use Rattle.std.proofs.Common.{◌≡◌, ◌≤◌, ℕ, Bool, true, false, List
 use Rattle.pgw_backend.specs.declared.client_error.PgWireClientError.{PgWireClientError as ClientError}
 use Rattle.pgw_backend.specs.declared.client_error.PgWireClientError.TheVariants as client
 use Rattle.pgw_link.specs.Tape.{Tape}
-use Rattle.pgw_link.specs.declared.link.Link as Link
 use Rattle.pgw_session.specs.declared.types.Request.{Request}
 use Rattle.pgw_handlers.specs.Handling.{HasCause, IsCaused}
-use Rattle.pgw_connection.specs.declared.client.PgWireClient.{PgWireClient}
 use Rattle.pgw_connection.specs.declared.gathered.Gathered.{Gathered}
-use Rattle.pgw_connection.specs.Desk.{client_of}
 use Rattle.pgw_connection.specs.Line.{Line, Foretold, IsFlushed}
 use Rattle.pgw_connection.specs.Calls.{IsUsable}
 use Rattle.pgw_connection.specs.Extended.{Meaning, finish}
 use Rattle.pgw_connection.specs.ExtendedSteps.{Called, given, may_stay}
-use Rattle.pgw_connection.specs.Lent.{Asks, both, line_of}
+use Rattle.pgw_connection.specs.State.{ClientState, line_of}
+use Rattle.pgw_connection.specs.Lent.{Asks, both}
 use Rattle.pgw_connection.proofs.ForetoldLaws.{foretold_still}
 use Rattle.pgw_connection.proofs.RequestLaws.{called_starved}
 
@@ -29,7 +27,7 @@ given_usable : {S A : Type 0} (give : Gathered S → Bool → A) (r : Result (Ga
 given_usable give (Ok x) broken u = u
 given_usable give (Err e) broken u = u
 
-module _ {X : Type 0} {L : Link.Ghosts X} {H R S : Type 0} (foretells : Type 0) (left : X → Option (List ℕ)) (tape : X → Tape) (faults : X → ℕ) (M : Meaning H R) (listed : S → List R) (q : Request) (h : H) (before after : PgWireClient X L) where
+module _ {X H R S : Type 0} (foretells : Type 0) (left : X → Option (List ℕ)) (tape : X → Tape) (faults : X → ℕ) (M : Meaning H R) (listed : S → List R) (q : Request) (h : H) (before after : ClientState X) where
   -- a call that makes its own answer of what was gathered
   pub asks_as : {A : Type 0} (give : Gathered S → Bool → A) (handler : H) (r : Result (Gathered S × Bool) ClientError) (result : Result A ClientError) → result ≡ given give r → Asks foretells left tape faults M listed q both h handler before after r → Asks foretells left tape faults M listed q give h handler before after result
   asks_as {A} give handler r result is a =
@@ -40,8 +38,8 @@ module _ {X : Type 0} {L : Link.Ghosts X} {H R S : Type 0} (foretells : Type 0) 
             let x = a.asked usable in
             record { answer = x.answer; gives = ap (given give) x.gives ∙ given_both give x.answer; called = x.called };
         foretold = a.foretold;
-        cause = given_caused give r (faults before.link) (faults after.link) before.desk.broken a.cause;
-        usable = λ was. given_usable give r after.desk.broken (a.usable was);
+        cause = given_caused give r (faults before.link) (faults after.link) before.broken a.cause;
+        usable = λ was. given_usable give r after.broken (a.usable was);
         within = a.within;
         limit = a.limit;
         config = a.config;
@@ -52,24 +50,24 @@ module _ {X : Type 0} {L : Link.Ghosts X} {H R S : Type 0} (foretells : Type 0) 
   starve_caused false e was now b s = subst (λ (x : ClientError). IsCaused x was now false) (sym (s refl)) tt
 
   -- memory was wanting
-  pub asks_starved : (e : ClientError) → (before.desk.broken ≡ false → IsFlushed (line_of tape faults before)) → (before.desk.broken ≡ true → (e ≡ client.Broken) × (after ≡ before)) → (before.desk.broken ≡ false → (e ≡ client.OutOfMemory) × (after.desk.broken ≡ true)) → line_of tape faults after ≡ line_of tape faults before
-      → after.link ≡ before.link → after.read ≤ after.limit → after.desk.config ≡ before.desk.config → Asks foretells left tape faults M listed q both h h before after (Err e)
+  pub asks_starved : (e : ClientError) → (before.broken ≡ false → IsFlushed (line_of tape faults before)) → (before.broken ≡ true → (e ≡ client.Broken) × (after ≡ before)) → (before.broken ≡ false → (e ≡ client.OutOfMemory) × (after.broken ≡ true)) → line_of tape faults after ≡ line_of tape faults before
+      → after.link ≡ before.link → after.read ≤ after.limit → after.known.config ≡ before.known.config → Asks foretells left tape faults M listed q both h h before after (Err e)
   asks_starved e flushed broken starved same link within config = record {
     broken = λ was. let b = broken was in (ap Err b.0, b.1, refl);
     asked = λ usable.
         let s = starved usable in
-        let called = called_starved M q h h (client_of before.desk) (client_of after.desk) (line_of tape faults before) (flushed usable) in
-        let there = subst (λ (l : Line). Called M q h (client_of before.desk) (line_of tape faults before) l (finish (Err client.OutOfMemory) h (client_of after.desk) true l.buffer)) (sym same) called in
-        let so = subst (λ (x : ClientError). Called M q h (client_of before.desk) (line_of tape faults before) (line_of tape faults after) (finish (Err x) h (client_of after.desk) true after.inbox)) (sym s.0) there in
+        let called = called_starved M q h h before.known after.known (line_of tape faults before) (flushed usable) in
+        let there = subst (λ (l : Line). Called M q h before.known (line_of tape faults before) l (finish (Err client.OutOfMemory) h after.known true l.buffer)) (sym same) called in
+        let so = subst (λ (x : ClientError). Called M q h before.known (line_of tape faults before) (line_of tape faults after) (finish (Err x) h after.known true after.buffer)) (sym s.0) there in
         record {
           answer = Err e;
           gives = refl;
-          called = subst (λ (b : Bool). Called M q h (client_of before.desk) (line_of tape faults before) (line_of tape faults after) (finish (Err e) h (client_of after.desk) b after.inbox)) (sym s.1) so;
+          called = subst (λ (b : Bool). Called M q h before.known (line_of tape faults before) (line_of tape faults after) (finish (Err e) h after.known b after.buffer)) (sym s.1) so;
         };
     foretold = λ t. subst (λ (l : X). Foretold (left before.link) (left l) (tape before.link) (tape l)) (sym link) (foretold_still (left before.link) (tape before.link));
     cause = record {
       later = (let f = ap (λ (l : Line). l.faults) same in omega (arith, f));
-      failed = starve_caused before.desk.broken e (faults before.link) (faults after.link) (λ was. (broken was).0) (λ was. (starved was).0);
+      failed = starve_caused before.broken e (faults before.link) (faults after.link) (λ was. (broken was).0) (λ was. (starved was).0);
     };
     usable = λ was. inl (starved was).1;
     within = within;

@@ -9,13 +9,12 @@ use Rattle.pgw_session.specs.declared.types.Request.{Request}
 use Rattle.pgw_session.specs.Requests.{kind_of, sends_of}
 use Rattle.pgw_handlers.specs.Client.{Client, Sight}
 use Rattle.pgw_handlers.specs.Handling.{standing, IsCaused, OfError}
-use Rattle.pgw_connection.specs.declared.gathered.Gathered.{Gathered}
 use Rattle.pgw_connection.specs.Talk.{fresh, is_refusal}
 use Rattle.pgw_connection.specs.Line.{Line, Reasons, Pause, IsFlushed, Moved}
 use Rattle.pgw_connection.specs.Calls.{PutAll, PutSome, Opens as Begins, starved, wrote, cut, refused}
 use Rattle.pgw_connection.specs.Extended.{Meaning, calls_for, Opens, none_gathered, Finish, finish, Exchange, Requested}
 use Rattle.pgw_connection.specs.Extended as extended
-use Rattle.pgw_connection.specs.ExtendedSteps.{Exchanged, Called, Answered}
+use Rattle.pgw_connection.specs.ExtendedSteps.{Exchanged, Called}
 use Rattle.pgw_connection.proofs.ReadingLaws.{not_halted, not_at_end, halts_on, at_end_on, ended_on}
 use Rattle.pgw_connection.proofs.CallLaws.{moved_on, opened_well}
 use Rattle.pgw_connection.proofs.ExchangeLaws.{exchange_as}

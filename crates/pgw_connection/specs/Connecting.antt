@@ -1,6 +1,5 @@
 -- What a connect and a cancel do to their dialer, and what they answer.
-use Rattle.std.specs.Prelude.{◌≡◌, ◌≢◌, ◌⊎◌, ◌<◌, ◌≤◌, ℕ, Bool, true, false, List, [], ◌∷◌, ◌++◌, Option, Some, None, Result, Ok, Err}
-use Rattle.pgw_types.specs.declared.error.PgWireError.{PgWireError}
+use Rattle.std.specs.Prelude.{◌≡◌, ◌≢◌, ◌⊎◌, ◌<◌, ◌≤◌, ℕ, Bool, true, false, List, [], ◌∷◌, ◌++◌, Option, Some, None, Result, Ok, Err, IfOk, IfErr}
 use Rattle.pgw_types.specs.declared.config_error.ConfigError.{ConfigError}
 use Rattle.pgw_backend.specs.ClientError.{of_config}
 use Rattle.pgw_backend.specs.declared.client_error.PgWireClientError.{PgWireClientError as ClientError}
@@ -14,11 +13,13 @@ use Rattle.pgw_link.specs.Dials.{DialTape, Dialled, NotDialled, CountsClose}
 use Rattle.pgw_session.specs.Demands.{refused_config}
 use Rattle.pgw_dialogue.specs.Demands.{IsInvalidConfig}
 use Rattle.pgw_handlers.specs.Client.{Client}
-use Rattle.pgw_handlers.specs.Handling.{Standing, Answer}
+use Rattle.pgw_handlers.specs.Handling.{Standing, Answer, HasCause}
+use Rattle.pgw_handlers.specs.Startup.{StartupCall, startup, HeardAtStartup}
 use Rattle.pgw_handlers.specs.declared.client_info.ServerInformation.{ServerInformation}
 use Rattle.pgw_connection.specs.Talk.{end, Hearing}
 use Rattle.pgw_connection.specs.Desk.{first_client, with_information}
 use Rattle.pgw_connection.specs.Line.{Line, Foretold, line}
+use Rattle.pgw_connection.specs.State.{ClientState, line_of}
 use Rattle.pgw_connection.specs.Calls.{Call}
 
 -- behind no error a login goes on
@@ -97,3 +98,29 @@ NotConnectedAt foretells opens M handler config limit address was is old new bef
 abbrev pub NotConnected : {S : Type 0} → Type 0 → Type 0 → (Standing S → Standing S → Answer ServerInformation → Type 0) → Hearing S ServerInformation → S → Config → ℕ → Option (List ℕ) → Option (List ℕ) → DialTape → DialTape → ℕ → ℕ → ClientError → Type 0
 NotConnected same foretells opens M handler config limit was is old new before now e =
     (same × IsRefusedBy (refused_config config) config e) ⊎ ((address : Address) × LeadsTo config address × NotConnectedAt foretells opens M handler config limit address was is old new before now e)
+
+-- A client was connected by such a configuration and handler, over a link of this dialer; or why not.
+pub record Connects {Y X S : Type 0} (foretells : Type 0) (offer : Y → Option (List ℕ))
+    (dials : Y → DialTape) (failed : Y → ℕ) (left : X → Option (List ℕ)) (tape : X → Tape)
+    (faults : X → ℕ) (exchanges : S → Bool)
+    (M : Standing S → StartupCall → Standing S → Answer ServerInformation → Type 0) (handler : S)
+    (config : Config) (limit : ℕ) (old new : Y) (result : Result (ClientState X) ClientError)
+    : Type 0 where
+  -- The client stands over the link that was dialled, the handler's meaning over it ended with what the server told of
+  -- itself, and that was taken in.
+  pub connected : IfOk result (λ client.
+      Connected (λ before after answer. M before startup after answer) (HeardAtStartup exchanges M)
+      handler config limit (dials old) (dials new) client.known (line_of tape faults client))
+  -- else there is no address, or no link, or the login failed and its link was closed
+  pub refused : IfErr result (NotConnected (new ≡ old) foretells
+      (λ before after answer. M before startup after answer) (HeardAtStartup exchanges M)
+      handler config limit (offer old) (offer new) (dials old) (dials new)
+      (failed old) (failed new))
+  -- of a dialer that knows its offer: the bytes taken are its front, and the end is answered behind the last byte
+  pub foretold : foretells → IfOk result (λ client.
+      Foretold (offer old) (left client.link) new_tape (tape client.link))
+  -- IoError comes only where the dialer's count rose, and Broken never
+  pub cause : HasCause (failed old) (failed new) false result
+  pub usable : IfOk result (λ client. client.broken ≡ false)
+  pub config_is : IfOk result (λ client. (client.known).config ≡ config)
+  pub limit_is : IfOk result (λ client. client.limit ≡ limit)

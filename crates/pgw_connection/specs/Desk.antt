@@ -1,5 +1,5 @@
 -- What a client lays before its handlers.
-use Rattle.std.specs.Prelude.{ℕ, ℤ, Result, Bool, true, false, negsuc, pos, List, [], ◌∷◌, length}
+use Rattle.std.specs.Prelude.{ℕ, Bool, true, false, negsuc, pos, List, [], ◌∷◌, length}
 use Rattle.pgw_wire.specs.Pairs.{Held}
 use Rattle.pgw_handlers.specs.declared.client_info.ServerInformation.{ServerInformation}
 use Rattle.pgw_backend.specs.declared.client_error.PgWireClientError.{PgWireClientError as ClientError}
@@ -9,10 +9,6 @@ use Rattle.pgw_wire.specs.declared.secret_key.SecretKey.TheVariants.{I32}
 use Rattle.pgw_query.specs.declared.response.TransactionStatus.TheVariants.{Idle}
 use Rattle.pgw_config.specs.declared.config.Config.{Config}
 use Rattle.pgw_handlers.specs.Client.{Client, Sight}
-use Rattle.pgw_types.specs.declared.error.PgWireError.{PgWireError}
-use Rattle.pgw_wire.specs.declared.secret_key.SecretKey.{SecretKey}
-use Rattle.pgw_frontend.specs.declared.frontend.PgWireFrontendMessage.TheVariants as frontend
-use Rattle.pgw_frontend.specs.Frontend.{encoding}
 use Rattle.pgw_connection.specs.declared.desk.Desk.{Desk}
 
 -- what it knows of its connection

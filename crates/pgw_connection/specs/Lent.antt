@@ -3,18 +3,15 @@ use Rattle.std.specs.Prelude.{◌≡◌, ◌≤◌, ℕ, Bool, true, false, List
 use Rattle.pgw_backend.specs.declared.client_error.PgWireClientError.{PgWireClientError as ClientError}
 use Rattle.pgw_backend.specs.declared.client_error.PgWireClientError.TheVariants as client
 use Rattle.pgw_link.specs.Tape.{Tape}
-use Rattle.pgw_link.specs.declared.link.Link as Link
-use Rattle.pgw_handlers.specs.Client.{Client}
 use Rattle.pgw_session.specs.declared.types.Request.{Request}
 use Rattle.pgw_session.specs.declared.types.PrepareResponse.{PrepareResponse}
 use Rattle.pgw_session.specs.declared.types.DescribeResponse.{DescribeResponse}
 use Rattle.pgw_session.specs.declared.types.ExecuteResult.{ExecuteResult}
 use Rattle.pgw_session.specs.declared.types.ExecuteResult.TheVariants.{Complete, Suspended}
 use Rattle.pgw_handlers.specs.Handling.{HasCause}
-use Rattle.pgw_connection.specs.declared.client.PgWireClient.{PgWireClient}
 use Rattle.pgw_connection.specs.declared.gathered.Gathered.{Gathered}
-use Rattle.pgw_connection.specs.Desk.{client_of}
-use Rattle.pgw_connection.specs.Line.{Line, Foretold, line}
+use Rattle.pgw_connection.specs.Line.{Foretold}
+use Rattle.pgw_connection.specs.State.{ClientState, line_of}
 use Rattle.pgw_connection.specs.Calls.{IsUsable}
 use Rattle.pgw_connection.specs.Extended.{Meaning}
 use Rattle.pgw_connection.specs.ExtendedSteps.{Answered, may_stay}
@@ -40,36 +37,33 @@ described g suspended = record { param_types = g.types; fields = g.columns }
 abbrev pub all_responses : {S : Type 0} → Gathered S → Bool → S
 all_responses g suspended = g.responses
 
+abbrev pub all_gathered : {S : Type 0} → Gathered S → Bool → Gathered S
+all_gathered g suspended = g
+
 -- ---- a call
-
-abbrev pub line_of : {X : Type 0} {L : Link.Ghosts X} → (X → Tape) → (X → ℕ) → PgWireClient X L → Line
-line_of tape faults c = line (tape c.link) (faults c.link) c.inbox c.read c.limit
-
-abbrev pub link_of : {X : Type 0} {L : Link.Ghosts X} → PgWireClient X L → X
-link_of c = c.link
-
--- what a client knows of its connection, and whether an earlier error left it unusable
-abbrev pub known_by : {X : Type 0} {L : Link.Ghosts X} → PgWireClient X L → Client
-known_by c = client_of c.desk
-
-abbrev pub is_broken : {X : Type 0} {L : Link.Ghosts X} → PgWireClient X L → Bool
-is_broken c = c.desk.broken
 
 -- A request was asked by a client, with a handler, and this came of it. `listed` says which list the handler's responses
 -- are kept in.
-pub record Asks {X : Type 0} {L : Link.Ghosts X} {H R S A : Type 0} (foretells : Type 0) (left : X → Option (List ℕ)) (tape : X → Tape) (faults : X → ℕ) (M : Meaning H R) (listed : S → List R) (q : Request) (give : Gathered S → Bool → A) (h handler : H) (before after : PgWireClient X L) (result : Result A ClientError) : Type 0 where
+pub record Asks {X H R S A : Type 0} (foretells : Type 0) (left : X → Option (List ℕ))
+    (tape : X → Tape) (faults : X → ℕ) (M : Meaning H R) (listed : S → List R) (q : Request)
+    (give : Gathered S → Bool → A) (h handler : H) (before after : ClientState X)
+    (result : Result A ClientError) : Type 0 where
   -- a client that an earlier error left unusable stays as it is
-  pub broken : before.desk.broken ≡ true → (result ≡ Err client.Broken) × (after ≡ before) × (handler ≡ h)
+  pub broken : before.broken ≡ true →
+      (result ≡ Err client.Broken) × (after ≡ before) × (handler ≡ h)
   -- else the request's messages are opened as the handler means it, and each message is heeded so up to the end of the
   -- call, over the bytes that stood in the buffer and those that were read; what it sent is what was written
-  pub asked : before.desk.broken ≡ false → Answered M listed q give h (client_of before.desk) (line_of tape faults before) (line_of tape faults after) handler (client_of after.desk) after.desk.broken result
+  pub asked : before.broken ≡ false → Answered M listed q give h before.known
+      (line_of tape faults before) (line_of tape faults after) handler after.known after.broken
+      result
   -- of a link that knows what is to come: the bytes taken are its front, and the end is answered behind the last byte
-  pub foretold : foretells → Foretold (left before.link) (left after.link) (tape before.link) (tape after.link)
+  pub foretold : foretells → Foretold (left before.link) (left after.link)
+      (tape before.link) (tape after.link)
   -- IoError comes only where a call of the link failed, and Broken from no other client than the one above
-  pub cause : HasCause (faults before.link) (faults after.link) before.desk.broken result
+  pub cause : HasCause (faults before.link) (faults after.link) before.broken result
   -- behind an answer the client can be used; behind an error it can be where that is the server's, or where the opening
   -- was refused, and behind no other
-  pub usable : before.desk.broken ≡ false → IsUsable may_stay result after.desk.broken
+  pub usable : before.broken ≡ false → IsUsable may_stay result after.broken
   pub within : after.read ≤ after.limit
   pub limit : after.limit ≡ before.limit
-  pub config : after.desk.config ≡ before.desk.config
+  pub config : (after.known).config ≡ (before.known).config

@@ -1,8 +1,12 @@
 pub mod Talk
 pub mod Desk
 pub mod Line
+pub mod State
+pub mod Connection
 pub mod Reading
 pub mod Calls
+pub mod Filling
+pub mod Querying
 pub mod Connecting
 pub mod Extended
 pub mod ExtendedSteps

@@ -5,11 +5,12 @@ ghost use Rattle.pgw_dialogue.specs.Wire.{PutOut};
 ghost use Rattle.pgw_handlers.specs.Handling.{HasCause};
 ghost use Rattle.pgw_connection.specs.Canceling.{IsTokenOf, cancel_bytes, SentOnce, NotSentOnce, Cancels, CancelsFor};
 ghost use Rattle.pgw_connection.specs.Connecting.{LacksAddress};
-ghost use Rattle.pgw_connection.specs.Lent.{is_broken, known_by};
+ghost use Rattle.pgw_connection.specs.Desk.{client_of};
+ghost use Rattle.pgw_connection.specs.State.{is_broken, known_by};
 
 use crate::client::PgWireClient;
 use crate::connect::{address_in, dial_to};
-use crate::desk::put;
+use crate::desk::{Desk, put};
 use bytes::BytesMut;
 use pgw_backend::client_error::{PgWireClientError, PgWireClientResult};
 use pgw_dialogue::standings::own_key;
@@ -89,26 +90,28 @@ impl CancelToken {
     }
 }
 
-impl<L: Link> PgWireClient<L> {
-    // The same of a client that can be used.
+impl Desk {
+    // What cancels what the server does for the client that knows this.
     fn token(&self, alloc: Global) -> PgWireClientResult<CancelToken>
-        ensures token { IfOk result (IsTokenOf (known_by self.now)) }
-        ensures lacks { IfErr result (LacksAddress self.now.desk.config) }
+        ensures token { IfOk result (IsTokenOf (client_of self.now)) }
+        ensures lacks { IfErr result (LacksAddress self.now.config) }
     {
-        let address = match address_in(alloc, &self.desk.config) {
+        let address = match address_in(alloc, &self.config) {
             Ok(address) => address,
             Err(error) => return Err(error),
         };
-        match own_key(alloc, &self.desk.secret_key) {
+        match own_key(alloc, &self.secret_key) {
             Ok(secret_key) => Ok(CancelToken {
                 address,
-                process_id: self.desk.process_id,
+                process_id: self.process_id,
                 secret_key,
             }),
             Err(_) => Err(PgWireClientError::OutOfMemory),
         }
     }
+}
 
+impl<L: Link> PgWireClient<L> {
     /// What cancels what the server does for this client, to be used from anywhere.
     pub fn cancel_token(&self, alloc: Global) -> PgWireClientResult<CancelToken>
         ensures broken { is_broken self.now ≡ true → result ≡ Err client.Broken }
@@ -118,10 +121,10 @@ impl<L: Link> PgWireClient<L> {
         ensures lacks { is_broken self.now ≡ false →
             IfErr result (LacksAddress (known_by self.now).config) }
     {
-        if self.desk.broken {
+        if self.connection.desk.broken {
             return Err(PgWireClientError::Broken);
         }
-        self.token(alloc)
+        self.connection.desk.token(alloc)
     }
 
     /// Asks the server to cancel what it does for this client, by the client's token. The client's own

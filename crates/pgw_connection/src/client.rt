@@ -1,12 +1,9 @@
 //! A client over a link.
-ghost use Rattle.std.specs.Prelude.{◌≡◌, ◌≤◌, ℕ, false, length};
-ghost use Rattle.pgw_connection.specs.Desk.{client_of};
+ghost use Rattle.std.specs.Prelude.{◌≡◌, ℕ, false, length};
 ghost use Rattle.pgw_connection.specs.Calls.{Kept, KeptRest, kept, kept_rest, link_sight};
 
-use crate::desk::Desk;
-use crate::reading::Piece;
+use crate::connection::Connection;
 use pgw_config::config::Config;
-use pgw_dialogue::inbox::Inbox;
 use pgw_handlers::{ClientInfo, Seen};
 use pgw_link::link::Link;
 use pgw_query::response::TransactionStatus;
@@ -15,55 +12,67 @@ use pgw_types::memory::OutOfMemory;
 use pgw_types::text::Text;
 use pgw_wire::params::Params;
 use pgw_wire::secret_key::SecretKey;
+use std::marker::Model;
 
-/// A client over a link. It reads at most `limit` bytes.
+/// A client over a link. It reads at most `limit` bytes. Its contracts see its link, what it knows of
+/// its connection, whether it can be used, and the bytes that were read and not taken yet.
 #[derive(Drop)]
 pub struct PgWireClient<L: Link> {
-    pub(crate) desk: Desk,
-    pub(crate) link: L,
-    pub(crate) inbox: Inbox,
-    // What its bytes are read by way of.
-    pub(crate) piece: Piece,
-    pub(crate) read: u64,
-    pub(crate) limit: u64,
-    ghost within: { read ≤ limit },
-    // A client that can be used has flushed all that it wrote.
-    ghost flushed: { desk.broken ≡ false → (L.tape link).flushed ≡ length (L.tape link).wrote },
+    pub(crate) connection: Connection<L>,
+}
+
+impl<L: Link> Model for PgWireClient<L> {
+    ghost use Rattle.std.specs.Coded.{codes, coded_list, coded_ℕ};
+    ghost use Rattle.std.specs.FinMap as map;
+    ghost use Rattle.std.specs.Ordering.{nat_cmp};
+    ghost use Rattle.std.specs.Cmp.Lexicographic.{slice_cmp};
+    ghost use Rattle.pgw_connection.specs.State.{ClientState};
+
+    ghost Value = { ClientState L };
+
+    ghost coded = { Prim.hlevel (
+      codes,
+      map.code {R = slice_cmp nat_cmp} (coded_list coded_ℕ) (coded_list coded_ℕ),
+    ) };
+
+    ghost use Rattle.pgw_connection.specs.Connection.{state_of};
+
+    ghost view = { λ client. state_of client.connection };
 }
 
 impl<L: Link> PgWireClient<L> {
     /// Whether an earlier error left the client unusable. It takes no memory.
     pub fn is_broken(&self) -> bool
-        ensures broken { result ≡ self.now.desk.broken }
+        ensures broken { result ≡ self.now.broken }
         // A client that can be used has flushed all that it wrote.
         ensures flushed { result ≡ false →
             (L.tape self.now.link).flushed ≡ length (L.tape self.now.link).wrote }
     {
-        self.desk.broken
+        self.connection.desk.broken
     }
 
     pub fn link(&self) -> &L
         ensures { result.now ≡ self.now.link }
     {
-        &self.link
+        &self.connection.link
     }
 
     /// How many bytes were read and not taken yet. It takes no memory.
     pub fn buffered(&self) -> usize
-        ensures { result ≡ length self.now.inbox }
+        ensures { result ≡ length self.now.buffer }
     {
-        self.inbox.len()
+        self.connection.inbox.len()
     }
 }
 
 impl<L: Link> Seen for PgWireClient<L> {
-    ghost sight = { λ c. link_sight (client_of c.desk) (L.tape c.link) c.desk.broken };
+    ghost sight = { λ c. link_sight c.known (L.tape c.link) c.broken };
 
     ghost faults = { λ c. L.faults c.link };
 
     ghost Own = { Kept };
 
-    ghost own = { λ c. kept c.desk.config c.inbox c.read c.limit };
+    ghost own = { λ c. kept (c.known).config c.buffer c.read c.limit };
 
     ghost Rest = { KeptRest };
 
@@ -75,71 +84,68 @@ impl<L: Link> ClientInfo for PgWireClient<L> {
     ghost use Rattle.pgw_handlers.specs.Client.{with_parameter, with_version, with_status};
 
     fn config(&self) -> &Config {
-        &self.desk.config
+        &self.connection.desk.config
     }
 
     fn server_parameters(&self) -> &Params {
-        &self.desk.parameters
+        &self.connection.desk.parameters
     }
 
     fn set_server_parameter(&mut self, name: Text, value: Text) -> Result<(), OutOfMemory>
-        ensures set { OnOk result (
-            link_sight (client_of self.new.desk) (L.tape self.new.link) self.new.desk.broken
+        ensures set { OnOk result (link_sight self.new.known (L.tape self.new.link) self.new.broken
             ≡ with_parameter name value
-            (link_sight (client_of self.old.desk) (L.tape self.old.link) self.old.desk.broken)) }
-        ensures kept { OnErr result (
-            link_sight (client_of self.new.desk) (L.tape self.new.link) self.new.desk.broken
-            ≡ link_sight (client_of self.old.desk) (L.tape self.old.link) self.old.desk.broken) }
-        ensures own { kept self.new.desk.config self.new.inbox self.new.read self.new.limit
-            ≡ kept self.old.desk.config self.old.inbox self.old.read self.old.limit }
+            (link_sight self.old.known (L.tape self.old.link) self.old.broken)) }
+        ensures kept { OnErr result (link_sight self.new.known (L.tape self.new.link)
+            self.new.broken
+            ≡ link_sight self.old.known (L.tape self.old.link) self.old.broken) }
+        ensures own { kept (self.new.known).config self.new.buffer self.new.read self.new.limit
+            ≡ kept (self.old.known).config self.old.buffer self.old.read self.old.limit }
         ensures rest { kept_rest (L.tape self.new.link) ≡ kept_rest (L.tape self.old.link) }
         ensures calm { L.faults self.new.link ≡ L.faults self.old.link }
         ensures link { self.new.link ≡ self.old.link }
     {
-        self.desk.parameters.insert(name, value)
+        self.connection.desk.parameters.insert(name, value)
     }
 
     fn process_id(&self) -> i32 {
-        self.desk.process_id
+        self.connection.desk.process_id
     }
 
     fn secret_key(&self) -> &SecretKey {
-        &self.desk.secret_key
+        &self.connection.desk.secret_key
     }
 
     fn protocol_version(&self) -> ProtocolVersion {
-        self.desk.protocol_version
+        self.connection.desk.protocol_version
     }
 
     fn set_protocol_version(&mut self, version: ProtocolVersion)
-        ensures set { link_sight (client_of self.new.desk) (L.tape self.new.link)
-            self.new.desk.broken
-            ≡ with_version version (link_sight (client_of self.old.desk) (L.tape self.old.link)
-            self.old.desk.broken) }
-        ensures own { kept self.new.desk.config self.new.inbox self.new.read self.new.limit
-            ≡ kept self.old.desk.config self.old.inbox self.old.read self.old.limit }
+        ensures set { link_sight self.new.known (L.tape self.new.link) self.new.broken
+            ≡ with_version version
+            (link_sight self.old.known (L.tape self.old.link) self.old.broken) }
+        ensures own { kept (self.new.known).config self.new.buffer self.new.read self.new.limit
+            ≡ kept (self.old.known).config self.old.buffer self.old.read self.old.limit }
         ensures rest { kept_rest (L.tape self.new.link) ≡ kept_rest (L.tape self.old.link) }
         ensures calm { L.faults self.new.link ≡ L.faults self.old.link }
         ensures link { self.new.link ≡ self.old.link }
     {
-        self.desk.protocol_version = version;
+        self.connection.desk.protocol_version = version;
     }
 
     fn transaction_status(&self) -> TransactionStatus {
-        self.desk.transaction_status
+        self.connection.desk.transaction_status
     }
 
     fn set_transaction_status(&mut self, status: TransactionStatus)
-        ensures set { link_sight (client_of self.new.desk) (L.tape self.new.link)
-            self.new.desk.broken
-            ≡ with_status status (link_sight (client_of self.old.desk) (L.tape self.old.link)
-            self.old.desk.broken) }
-        ensures own { kept self.new.desk.config self.new.inbox self.new.read self.new.limit
-            ≡ kept self.old.desk.config self.old.inbox self.old.read self.old.limit }
+        ensures set { link_sight self.new.known (L.tape self.new.link) self.new.broken
+            ≡ with_status status
+            (link_sight self.old.known (L.tape self.old.link) self.old.broken) }
+        ensures own { kept (self.new.known).config self.new.buffer self.new.read self.new.limit
+            ≡ kept (self.old.known).config self.old.buffer self.old.read self.old.limit }
         ensures rest { kept_rest (L.tape self.new.link) ≡ kept_rest (L.tape self.old.link) }
         ensures calm { L.faults self.new.link ≡ L.faults self.old.link }
         ensures link { self.new.link ≡ self.old.link }
     {
-        self.desk.transaction_status = status;
+        self.connection.desk.transaction_status = status;
     }
 }

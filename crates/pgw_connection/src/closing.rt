@@ -2,9 +2,10 @@
 ghost use Rattle.std.specs.Prelude.{◌≡◌, false};
 ghost use Rattle.pgw_handlers.specs.Handling.{HasCause};
 ghost use Rattle.pgw_connection.specs.Closing.{Leaves, Closed};
-ghost use Rattle.pgw_connection.specs.Lent.{is_broken, link_of};
+ghost use Rattle.pgw_connection.specs.State.{is_broken, link_of};
 
 use crate::client::PgWireClient;
+use crate::connection::Connection;
 use pgw_backend::client_error::{PgWireClientError, PgWireClientResult};
 use pgw_link::dialer::Dialer;
 use pgw_link::link::Link;
@@ -27,12 +28,11 @@ fn take_leave<L: Link>(broken: bool, link: &mut L) -> PgWireClientResult<()>
     }
 }
 
-impl<L: Link> PgWireClient<L> {
-    /// Gives the client up for its link, and tells the server nothing. It takes no memory.
-    pub fn into_link(self) -> L
-        ensures { result ≡ link_of self }
+impl<L: Link> Connection<L> {
+    pub(crate) fn into_link(self) -> L
+        ensures { result ≡ self.link }
     {
-        let PgWireClient {
+        let Connection {
             desk,
             link,
             inbox: _inbox,
@@ -42,6 +42,16 @@ impl<L: Link> PgWireClient<L> {
         } = self;
         drop(desk);
         link
+    }
+}
+
+impl<L: Link> PgWireClient<L> {
+    /// Gives the client up for its link, and tells the server nothing. It takes no memory.
+    pub fn into_link(self) -> L
+        ensures { result ≡ link_of self }
+    {
+        let PgWireClient { connection } = self;
+        connection.into_link()
     }
 
     /// Ends the session: writes Terminate and flushes, where the client can be used, and gives the
@@ -57,7 +67,7 @@ impl<L: Link> PgWireClient<L> {
         // The dialer's next link is the one that it was.
         ensures offer { D.foretells → D.offer dialer.new ≡ D.offer dialer.old }
     {
-        let broken = self.desk.broken;
+        let broken = self.is_broken();
         let mut link = self.into_link();
         let left = take_leave(broken, &mut link);
         dialer.close(link);

@@ -8,14 +8,16 @@ ghost use Rattle.pgw_handlers.specs.Startup.{startup, HeardAtStartup};
 ghost use Rattle.pgw_connection.specs.Talk.{end};
 ghost use Rattle.pgw_connection.specs.Desk.{client_of, first_client};
 ghost use Rattle.pgw_connection.specs.Line.{Foretold};
-ghost use Rattle.pgw_connection.specs.Lent.{line_of};
-ghost use Rattle.pgw_connection.specs.Calls.{HeardNext, Talked, Call};
-ghost use Rattle.pgw_connection.specs.Connecting.{never, LeadsTo, LacksAddress, IsRefusedBy, NoLink, LogsIn, ConnectedAt, NotConnectedAt, Connected, NotConnected};
+ghost use Rattle.pgw_connection.specs.Connection.{line_in};
+ghost use Rattle.pgw_connection.specs.Calls.{IsUsable, HeardNext, Call};
+ghost use Rattle.pgw_connection.specs.Connecting.{never, LeadsTo, LacksAddress, IsRefusedBy, NoLink, LogsIn, ConnectedAt, NotConnectedAt, Connected, NotConnected, Connects};
 ghost use Rattle.pgw_link.specs.Tape.{new_tape};
 ghost use Rattle.pgw_link.specs.Dials.{Dialled, Shut, CountsClose};
 
 use crate::client::PgWireClient;
+use crate::connection::Connection;
 use crate::desk::Desk;
+use crate::hearing::Hearer;
 use crate::reading::{Piece, new_piece};
 use bytes::BytesMut;
 use pgw_backend::client_error::{PgWireClientError, PgWireClientResult};
@@ -29,8 +31,9 @@ use pgw_link::link::Link;
 use pgw_link::sending::send;
 use pgw_types::address::Address;
 use std::alloc::Global;
+use std::marker::Model;
 
-impl<L: Link> PgWireClient<L> {
+impl<L: Link> Connection<L> {
     // Takes a message and has the handler hear it.
     fn hear_at_startup<S: StartupHandler>(
         &mut self,
@@ -45,10 +48,10 @@ impl<L: Link> PgWireClient<L> {
         ensures cause { HasCause (L.faults self.old.link) (L.faults self.new.link) false result }
         ensures foretold { L.foretells → Foretold (L.left self.old.link) (L.left self.new.link)
             (L.tape self.old.link) (L.tape self.new.link) }
-        ensures usable { OnOk result (self.new.desk.broken ≡ false) }
+        ensures usable { IsUsable never result self.new.desk.broken }
         ensures heard { HeardNext (HeardAtStartup S.exchanges S.means) never handler.old
             (client_of self.old.desk)
-            (line_of L.tape L.faults self.old) (line_of L.tape L.faults self.new)
+            (line_in L.tape L.faults self.old) (line_in L.tape L.faults self.new)
             handler.new (client_of self.new.desk) self.new.desk.broken result }
     {
         let message = match self.next_message(alloc) {
@@ -62,33 +65,6 @@ impl<L: Link> PgWireClient<L> {
         self.desk.clear();
         let answer = handler.on_message(alloc, &mut self.desk, message);
         self.follow(alloc, false, closing, answer)
-    }
-
-    // Hands messages to the handler until it has logged in.
-    fn talk_at_startup<S: StartupHandler>(
-        &mut self,
-        alloc: Global,
-        handler: &mut S,
-    ) -> PgWireClientResult<ServerInformation>
-        requires { self.old.desk.broken ≡ false }
-        ensures limit { self.new.limit ≡ self.old.limit }
-        ensures config { self.new.desk.config ≡ self.old.desk.config }
-        ensures cause { HasCause (L.faults self.old.link) (L.faults self.new.link) false result }
-        ensures foretold { L.foretells → Foretold (L.left self.old.link) (L.left self.new.link)
-            (L.tape self.old.link) (L.tape self.new.link) }
-        ensures usable { OnOk result (self.new.desk.broken ≡ false) }
-        ensures talked { Talked (HeardAtStartup S.exchanges S.means) never handler.old
-            (client_of self.old.desk)
-            (line_of L.tape L.faults self.old) (line_of L.tape L.faults self.new)
-            (end result (client_of self.new.desk) self.new.desk.broken self.new.inbox) }
-    {
-        'messages: loop {
-            match self.hear_at_startup(alloc, handler) {
-                Ok(ReadyState::Pending) => {}
-                Ok(ReadyState::Ready(information)) => return Ok(information),
-                Err(error) => return Err(error),
-            }
-        }
     }
 
     // Begins the connection, and hears the messages up to the first ReadyForQuery.
@@ -106,13 +82,13 @@ impl<L: Link> PgWireClient<L> {
         ensures usable { OnOk result (self.new.desk.broken ≡ false) }
         ensures asked { Call (λ before after answer. S.means before startup after answer)
             (HeardAtStartup S.exchanges S.means) never handler (client_of self.old.desk)
-            (line_of L.tape L.faults self.old) (line_of L.tape L.faults self.new)
+            (line_in L.tape L.faults self.old) (line_in L.tape L.faults self.new)
             (end result (client_of self.new.desk) self.new.desk.broken self.new.inbox) }
     {
         self.desk.clear();
         let opened = handler.startup(alloc, &mut self.desk);
         match self.begin(opened) {
-            Ok(()) => self.talk_at_startup(alloc, &mut handler),
+            Ok(()) => self.talk(alloc, &mut AtStartup { handler }),
             Err(error) => Err(error),
         }
     }
@@ -132,7 +108,7 @@ impl<L: Link> PgWireClient<L> {
         ensures usable { OnOk result (self.new.desk.broken ≡ false) }
         ensures logs_in { LogsIn (λ before after answer. S.means before startup after answer)
             (HeardAtStartup S.exchanges S.means) handler (client_of self.old.desk)
-            (line_of L.tape L.faults self.old) (line_of L.tape L.faults self.new)
+            (line_in L.tape L.faults self.old) (line_in L.tape L.faults self.new)
             (client_of self.new.desk) result }
     {
         let information = match self.start(alloc, handler) {
@@ -143,6 +119,34 @@ impl<L: Link> PgWireClient<L> {
             Ok(()) => Ok(()),
             Err(_) => Err(PgWireClientError::OutOfMemory),
         }
+    }
+}
+
+// A handler that logs in.
+#[derive(Drop)]
+struct AtStartup<S> {
+    handler: S,
+}
+
+impl<S> Model for AtStartup<S> {
+    ghost Value = { S };
+
+    ghost view = { λ a. a.handler };
+}
+
+impl<S: StartupHandler> Hearer for AtStartup<S> {
+    type Outcome = ServerInformation;
+
+    ghost hears = { HeardAtStartup S.exchanges S.means };
+
+    ghost goes_on = { never };
+
+    fn hear<L: Link>(
+        &mut self,
+        alloc: Global,
+        connection: &mut Connection<L>,
+    ) -> PgWireClientResult<ReadyState<ServerInformation>> {
+        connection.hear_at_startup(alloc, &mut self.handler)
     }
 }
 
@@ -190,7 +194,7 @@ fn client_over<L: Link>(
     link: L,
     piece: Piece,
     limit: u64,
-) -> PgWireClient<L>
+) -> Connection<L>
     requires { (L.tape link).flushed ≡ length (L.tape link).wrote }
     ensures client { client_of result.desk ≡ first_client config }
     ensures broken { result.desk.broken ≡ false }
@@ -199,7 +203,7 @@ fn client_over<L: Link>(
     ensures read { result.read ≡ 0 }
     ensures limit { result.limit ≡ limit }
 {
-    PgWireClient {
+    Connection {
         desk: Desk::new(alloc, config),
         link,
         inbox: Inbox::new(alloc),
@@ -229,7 +233,7 @@ pub(crate) fn dial_to<D: Dialer>(address: &Address, dialer: &mut D) -> PgWireCli
 }
 
 // Gives a client's link up.
-fn hang_up<D: Dialer>(client: PgWireClient<D::Link>, dialer: &mut D)
+fn hang_up<D: Dialer>(client: Connection<D::Link>, dialer: &mut D)
     ensures counts { CountsClose (D.faults dialer.old) (D.faults dialer.new)
         (D.Link.faults client.link) }
     ensures shut { Shut (D.tape dialer.old) (D.tape dialer.new) (D.Link.tape client.link) }
@@ -246,12 +250,12 @@ fn connect_at<D: Dialer, S: StartupHandler + Drop>(
     handler: S,
     dialer: &mut D,
     limit: u64,
-) -> PgWireClientResult<PgWireClient<D::Link>>
+) -> PgWireClientResult<Connection<D::Link>>
     ensures connected { IfOk result
         (λ client. ConnectedAt (λ before after answer. S.means before startup after answer)
         (HeardAtStartup S.exchanges S.means) handler config limit address.now
         (D.tape dialer.old) (D.tape dialer.new) (client_of client.desk)
-        (line_of D.Link.tape D.Link.faults client)) }
+        (line_in D.Link.tape D.Link.faults client)) }
     ensures failed { IfErr result
         (NotConnectedAt D.foretells (λ before after answer. S.means before startup after answer)
         (HeardAtStartup S.exchanges S.means) handler config limit address.now
@@ -282,35 +286,29 @@ fn connect_at<D: Dialer, S: StartupHandler + Drop>(
     }
 }
 
-impl<L: Link> PgWireClient<L> {
-    /// Connects to the server at the address of a configuration, and logs in as the handler does. At most `limit` bytes
-    /// are read over the link. It dials once at most, and the link is closed where the login fails.
-    pub fn connect<D: Dialer<Link = L>, S: StartupHandler + Drop>(
+impl<L: Link> Connection<L> {
+    // Connects to the server at the address of a configuration, and logs in as the handler does.
+    fn connect<D: Dialer<Link = L>, S: StartupHandler + Drop>(
         alloc: Global,
         config: Config,
         startup_handler: S,
         dialer: &mut D,
         limit: u64,
-    ) -> PgWireClientResult<PgWireClient<L>>
-        // The client stands over the link that was dialled, the handler's meaning over it ended with what the server told of
-        // itself, and that was taken in.
+    ) -> PgWireClientResult<Connection<L>>
         ensures connected { IfOk result
             (λ client. Connected (λ before after answer. S.means before startup after answer)
             (HeardAtStartup S.exchanges S.means) startup_handler config limit
             (D.tape dialer.old) (D.tape dialer.new) (client_of client.desk)
-            (line_of L.tape L.faults client)) }
-        // Else there is no address, or no link, or the login failed and its link was closed.
+            (line_in L.tape L.faults client)) }
         ensures refused { IfErr result
             (NotConnected (dialer.new ≡ dialer.old) D.foretells
             (λ before after answer. S.means before startup after answer)
             (HeardAtStartup S.exchanges S.means) startup_handler config limit
             (D.offer dialer.old) (D.offer dialer.new) (D.tape dialer.old) (D.tape dialer.new)
             (D.faults dialer.old) (D.faults dialer.new)) }
-        // Of a dialer that knows its offer: the bytes taken are its front, and the end is answered behind the last byte.
         ensures foretold { D.foretells → IfOk result
             (λ client. Foretold (D.offer dialer.old) (L.left client.link)
             new_tape (L.tape client.link)) }
-        // IoError comes only where the dialer's count rose, and Broken never.
         ensures cause { HasCause (D.faults dialer.old) (D.faults dialer.new) false result }
         ensures usable { IfOk result (λ client. client.desk.broken ≡ false) }
         ensures config { IfOk result (λ client. client.desk.config ≡ config) }
@@ -332,6 +330,26 @@ impl<L: Link> PgWireClient<L> {
                 drop(config);
                 Err(error)
             }
+        }
+    }
+}
+
+impl<L: Link> PgWireClient<L> {
+    /// Connects to the server at the address of a configuration, and logs in as the handler does. At most `limit` bytes
+    /// are read over the link. It dials once at most, and the link is closed where the login fails.
+    pub fn connect<D: Dialer<Link = L>, S: StartupHandler + Drop>(
+        alloc: Global,
+        config: Config,
+        startup_handler: S,
+        dialer: &mut D,
+        limit: u64,
+    ) -> PgWireClientResult<PgWireClient<L>>
+        ensures { Connects D.foretells D.offer D.tape D.faults L.left L.tape L.faults
+            S.exchanges S.means startup_handler config limit dialer.old dialer.new result }
+    {
+        match Connection::connect(alloc, config, startup_handler, dialer, limit) {
+            Ok(connection) => Ok(PgWireClient { connection }),
+            Err(error) => Err(error),
         }
     }
 }

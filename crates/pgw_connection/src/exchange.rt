@@ -6,14 +6,17 @@ ghost use Rattle.pgw_handlers.specs.Handling.{HasCause, IsCaused};
 ghost use Rattle.pgw_handlers.specs.Extended.{TakesRows};
 ghost use Rattle.pgw_handlers.specs.declared.client_info.ReadyState.TheVariants.{Pending};
 ghost use Rattle.pgw_connection.specs.Desk.{client_of};
-ghost use Rattle.pgw_connection.specs.Line.{Foretold};
-ghost use Rattle.pgw_connection.specs.Lent.{line_of};
+ghost use Rattle.pgw_connection.specs.Line.{Foretold, IsFlushed};
+ghost use Rattle.pgw_connection.specs.State.{line_of};
+ghost use Rattle.pgw_connection.specs.Connection.{line_in};
+ghost use Rattle.pgw_connection.specs.Lent.{Asks, both};
 ghost use Rattle.pgw_connection.specs.Calls.{IsUsable};
 ghost use Rattle.pgw_connection.specs.Talk.{is_remote};
 ghost use Rattle.pgw_connection.specs.Extended.{none_gathered, finish, is_suspended, place, as_lists, in_lists};
 ghost use Rattle.pgw_connection.specs.ExtendedSteps.{is_due, passed_answer, no_error, may_stay, Synced, Settled, HeededOne, HeededNext, Exchanged, Called, HeededOn, takes_rows};
 
 use crate::client::PgWireClient;
+use crate::connection::Connection;
 use crate::gathered::{Gathered, hand_all, nothing_gathered, take};
 use crate::reading::first_of;
 use pgw_backend::backend::PgWireBackendMessage;
@@ -80,7 +83,7 @@ fn passed_answer(error: PgWireClientError, broken: bool) -> PgWireClientResult<R
     }
 }
 
-impl<L: Link> PgWireClient<L> {
+impl<L: Link> Connection<L> {
     // Sends Sync, where it is due.
     #[tactic(auto, using(crate::proofs::ForetoldLaws::foretold_still))]
     fn sync<H: ExtendedQueryHandler>(
@@ -97,7 +100,7 @@ impl<L: Link> PgWireClient<L> {
             (L.tape self.old.link) (L.tape self.new.link) }
         ensures usable { IsUsable no_error result self.new.desk.broken }
         ensures synced { Synced H.means handler.old (client_of self.old.desk)
-            (line_of L.tape L.faults self.old) (line_of L.tape L.faults self.new)
+            (line_in L.tape L.faults self.old) (line_in L.tape L.faults self.new)
             handler.new (client_of self.new.desk) due result self.new.desk.broken }
     {
         if !due {
@@ -134,7 +137,7 @@ impl<L: Link> PgWireClient<L> {
             (L.tape self.old.link) (L.tape self.new.link) }
         ensures usable { IsUsable is_remote result self.new.desk.broken }
         ensures settled { Settled H.means due handler.old (client_of self.old.desk)
-            (line_of L.tape L.faults self.old) (line_of L.tape L.faults self.new)
+            (line_in L.tape L.faults self.old) (line_in L.tape L.faults self.new)
             error handler.new (client_of self.new.desk) result self.new.desk.broken }
     {
         match self.sync(alloc, handler, due) {
@@ -170,7 +173,7 @@ impl<L: Link> PgWireClient<L> {
         ensures usable { IsUsable is_remote result self.new.desk.broken }
         ensures heeded { HeededOne H.means kind handler.old (client_of self.old.desk)
             (as_lists H.Responses.listed gathered.old) message
-            (line_of L.tape L.faults self.old) (line_of L.tape L.faults self.new)
+            (line_in L.tape L.faults self.old) (line_in L.tape L.faults self.new)
             handler.new (client_of self.new.desk) (as_lists H.Responses.listed gathered.new)
             result self.new.desk.broken }
     {
@@ -220,7 +223,7 @@ impl<L: Link> PgWireClient<L> {
         ensures usable { IsUsable is_remote result self.new.desk.broken }
         ensures heeded { HeededNext H.means kind handler.old (client_of self.old.desk)
             (as_lists H.Responses.listed gathered.old)
-            (line_of L.tape L.faults self.old) (line_of L.tape L.faults self.new)
+            (line_in L.tape L.faults self.old) (line_in L.tape L.faults self.new)
             handler.new (client_of self.new.desk) (as_lists H.Responses.listed gathered.new)
             self.new.desk.broken result }
     {
@@ -276,7 +279,7 @@ impl<L: Link> PgWireClient<L> {
         ensures usable { IsUsable is_remote result self.new.desk.broken }
         ensures heeded { HeededOn H.means kind handler.old (client_of self.old.desk)
             (as_lists H.Responses.listed gathered.old)
-            (line_of L.tape L.faults self.old) (line_of L.tape L.faults self.new)
+            (line_in L.tape L.faults self.old) (line_in L.tape L.faults self.new)
             handler.new (client_of self.new.desk) (as_lists H.Responses.listed gathered.new)
             self.new.desk.broken result }
     {
@@ -308,7 +311,7 @@ impl<L: Link> PgWireClient<L> {
         ensures usable { IsUsable is_remote result self.new.desk.broken }
         ensures exchanged { Exchanged H.means kind handler.old (client_of self.old.desk)
             none_gathered
-            (line_of L.tape L.faults self.old) (line_of L.tape L.faults self.new)
+            (line_in L.tape L.faults self.old) (line_in L.tape L.faults self.new)
             (finish (in_lists H.Responses.listed result) handler.new (client_of self.new.desk)
             self.new.desk.broken self.new.inbox) }
     {
@@ -338,7 +341,7 @@ impl<L: Link> PgWireClient<L> {
             (L.tape self.old.link) (L.tape self.new.link) }
         ensures usable { IsUsable may_stay result self.new.desk.broken }
         ensures called { Called H.means request.now handler.old (client_of self.old.desk)
-            (line_of L.tape L.faults self.old) (line_of L.tape L.faults self.new)
+            (line_in L.tape L.faults self.old) (line_in L.tape L.faults self.new)
             (finish (in_lists H.Responses.listed result) handler.new (client_of self.new.desk)
             self.new.desk.broken self.new.inbox) }
     {
@@ -357,25 +360,7 @@ impl<L: Link> PgWireClient<L> {
         }
     }
 
-    // What becomes of a client for whose request memory was wanting.
-    pub(crate) fn starve(&mut self) -> PgWireClientError
-        ensures broken { self.old.desk.broken ≡ true → (result ≡ client.Broken) ×
-            (self.new ≡ self.old) }
-        ensures starved { self.old.desk.broken ≡ false → (result ≡ client.OutOfMemory) ×
-            (self.new.desk.broken ≡ true) }
-        ensures line { line_of L.tape L.faults self.new ≡ line_of L.tape L.faults self.old }
-        ensures link { self.new.link ≡ self.old.link }
-        ensures within { self.new.read ≤ self.new.limit }
-        ensures config { self.new.desk.config ≡ self.old.desk.config }
-    {
-        if self.desk.broken {
-            return PgWireClientError::Broken;
-        }
-        self.desk.broken = true;
-        PgWireClientError::OutOfMemory
-    }
-
-    // The same of a client that may be broken.
+    // The same of a client that may be unusable.
     #[tactic(auto, using(crate::proofs::ForetoldLaws::foretold_still))]
     pub(crate) fn ask_by<H: ExtendedQueryHandler>(
         &mut self,
@@ -396,7 +381,7 @@ impl<L: Link> PgWireClient<L> {
             self.new.desk.broken }
         ensures called { self.old.desk.broken ≡ false
             → Called H.means request.now handler.old (client_of self.old.desk)
-            (line_of L.tape L.faults self.old) (line_of L.tape L.faults self.new)
+            (line_in L.tape L.faults self.old) (line_in L.tape L.faults self.new)
             (finish (in_lists H.Responses.listed result) handler.new (client_of self.new.desk)
             self.new.desk.broken self.new.inbox) }
     {
@@ -427,7 +412,7 @@ impl<L: Link> PgWireClient<L> {
             self.new.desk.broken }
         ensures called { (q : TheRequest) → IfOk request (λ r. r ≡ q) → self.old.desk.broken ≡ false
             → Called H.means q handler.old (client_of self.old.desk)
-            (line_of L.tape L.faults self.old) (line_of L.tape L.faults self.new)
+            (line_in L.tape L.faults self.old) (line_in L.tape L.faults self.new)
             (finish (in_lists H.Responses.listed result) handler.new (client_of self.new.desk)
             self.new.desk.broken self.new.inbox) }
     {
@@ -446,5 +431,53 @@ impl<L: Link> PgWireClient<L> {
                 Err(PgWireClientError::OutOfMemory)
             }
         }
+    }
+}
+
+impl<L: Link> PgWireClient<L> {
+    // Asks a request.
+    pub(crate) fn ask_by<H: ExtendedQueryHandler>(
+        &mut self,
+        alloc: Global,
+        handler: &mut H,
+        request: &Request,
+    ) -> PgWireClientResult<(Gathered<H::Responses>, bool)>
+        ensures { Asks L.foretells L.left L.tape L.faults H.means H.Responses.listed
+            request.now both handler.old handler.new self.old self.new result }
+    {
+        self.connection.ask_by(alloc, handler, request)
+    }
+
+    // Memory was wanting for a request.
+    pub(crate) fn starve(&mut self) -> PgWireClientError
+        ensures broken { self.old.broken ≡ true → (result ≡ client.Broken) × (self.new ≡ self.old) }
+        ensures starved { self.old.broken ≡ false → (result ≡ client.OutOfMemory) ×
+            (self.new.broken ≡ true) }
+        ensures line { line_of L.tape L.faults self.new ≡ line_of L.tape L.faults self.old }
+        ensures link { self.new.link ≡ self.old.link }
+        ensures within { self.new.read ≤ self.new.limit }
+        ensures config { (self.new.known).config ≡ (self.old.known).config }
+        ensures flushed { self.old.broken ≡ false →
+            IsFlushed (line_of L.tape L.faults self.old) }
+    {
+        if self.connection.desk.broken {
+            return PgWireClientError::Broken;
+        }
+        self.connection.desk.broken = true;
+        PgWireClientError::OutOfMemory
+    }
+
+    // Asks a request that memory may have been wanting for.
+    pub(crate) fn ask<H: ExtendedQueryHandler>(
+        &mut self,
+        alloc: Global,
+        handler: &mut H,
+        request: Result<Request, OutOfMemory>,
+    ) -> PgWireClientResult<(Gathered<H::Responses>, bool)>
+        ensures { (q : TheRequest) → IfOk request (λ r. r ≡ q) →
+            Asks L.foretells L.left L.tape L.faults H.means H.Responses.listed
+            q both handler.old handler.new self.old self.new result }
+    {
+        self.connection.ask(alloc, handler, request)
     }
 }

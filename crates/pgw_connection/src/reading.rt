@@ -4,16 +4,18 @@ ghost use Rattle.pgw_link.specs.Tape.{Took, Failed, HasCause as LinkHasCause};
 ghost use Rattle.pgw_backend.specs.declared.client_error.PgWireClientError.TheVariants as client;
 ghost use Rattle.pgw_connection.specs.Desk.{client_of};
 ghost use Rattle.pgw_connection.specs.Line.{Foretold};
-ghost use Rattle.pgw_connection.specs.Lent.{line_of};
+ghost use Rattle.pgw_connection.specs.Connection.{line_in};
 ghost use Rattle.pgw_connection.specs.Reading.{ReadOnce, Came, PassedOver, awaited};
-ghost use Rattle.pgw_link.specs.Foresight.{Ends, Foreseen};
+ghost use Rattle.pgw_connection.specs.Filling.{Fills, Polls};
+ghost use Rattle.pgw_connection.specs.Calls.{Polled};
 ghost use Rattle.pgw_dialogue.specs.Wire.{IsOwn};
 ghost use Rattle.pgw_handlers.specs.declared.client_info.ReadyState.TheVariants.{Pending};
-ghost use Rattle.pgw_connection.specs.Calls.{Polled};
+ghost use Rattle.pgw_link.specs.Foresight.{Ends, Foreseen};
 ghost use Rattle.pgw_connection.specs.Talk.{passes, is_remote, in_place_of, first_of};
 ghost use Rattle.pgw_handlers.specs.Handling.{HasCause, IsCaused};
 
 use crate::client::PgWireClient;
+use crate::connection::Connection;
 use pgw_backend::backend::PgWireBackendMessage;
 use pgw_backend::client_error::{PgWireClientError, PgWireClientResult};
 use pgw_client::session::chunk_size;
@@ -87,7 +89,7 @@ pub(crate) fn first_of(error: PgWireClientError, message: PgWireBackendMessage) 
     }
 }
 
-impl<L: Link> PgWireClient<L> {
+impl<L: Link> Connection<L> {
     // Reads once, no more than the limit leaves. False at the link's end.
     pub(crate) fn read_more(&mut self) -> PgWireClientResult<bool>
         ensures desk { self.new.desk ≡ self.old.desk }
@@ -105,7 +107,7 @@ impl<L: Link> PgWireClient<L> {
         ensures ends { L.foretells → Ends (L.left self.new.link) (L.tape self.old.link)
             (L.tape self.new.link) }
         ensures reads { ReadOnce
-            (line_of L.tape L.faults self.old) (line_of L.tape L.faults self.new) result }
+            (line_in L.tape L.faults self.old) (line_in L.tape L.faults self.new) result }
     {
         if self.read >= self.limit {
             return Err(PgWireClientError::ReadLimit);
@@ -125,28 +127,22 @@ impl<L: Link> PgWireClient<L> {
         }
     }
 
-    /// Reads once, no more than 8192 bytes and no more than the limit leaves. False at the link's end.
+    // Reads once. False at the link's end.
     #[tactic(auto, using(crate::proofs::ForetoldLaws::foretold_still))]
-    pub fn fill(&mut self) -> PgWireClientResult<bool>
+    fn fill(&mut self) -> PgWireClientResult<bool>
         ensures broken { self.old.desk.broken ≡ true → (result ≡ Err client.Broken) ×
             (self.new ≡ self.old) }
-        // ReadLimit comes exactly where the limit is reached.
         ensures limited { self.old.desk.broken ≡ false → self.old.read ≡ self.old.limit → IsErrOf
             result client.ReadLimit }
         ensures below { IsErrOf result client.ReadLimit → self.old.read ≡ self.old.limit }
-        // It reads once: true comes only where bytes came.
         ensures grows { result ≡ Ok true → self.old.read < self.new.read }
-        // The link is read once, or not at all where the limit is reached. What was read stands behind what stood in the
-        // buffer; where the end is answered, it finds flushed what was flushed before.
         ensures reads { self.old.desk.broken ≡ false → ReadOnce
-            (line_of L.tape L.faults self.old) (line_of L.tape L.faults self.new) result }
+            (line_in L.tape L.faults self.old) (line_in L.tape L.faults self.new) result }
         ensures buffered { length self.new.inbox ≤ length self.old.inbox + 8192 }
         ensures cause { HasCause (L.faults self.old.link) (L.faults self.new.link)
             self.old.desk.broken result }
-        // Of a link that knows what is to come: the bytes taken are its front, and the end is answered behind the last byte.
         ensures foretold { L.foretells → Foretold (L.left self.old.link) (L.left self.new.link)
             (L.tape self.old.link) (L.tape self.new.link) }
-        // Every error leaves the client unusable.
         ensures usable { OnOk result (self.new.desk.broken ≡ false) }
         ensures unusable { OnErr result (self.new.desk.broken ≡ true) }
         ensures client { client_of self.new.desk ≡ client_of self.old.desk }
@@ -166,17 +162,12 @@ impl<L: Link> PgWireClient<L> {
         }
     }
 
-    /// Hands out the message at the buffer's front, or Pending where none is whole. It reads nothing from the link, and
-    /// takes no memory where the buffer is empty.
-    pub fn poll_next(
-        &mut self,
-        alloc: Global,
-    ) -> PgWireClientResult<ReadyState<PgWireBackendMessage>>
+    // Hands out the message at the buffer's front, or Pending where none is whole.
+    fn poll_next(&mut self, alloc: Global) -> PgWireClientResult<ReadyState<PgWireBackendMessage>>
         ensures broken { self.old.desk.broken ≡ true → (result ≡ Err client.Broken) ×
             (self.new ≡ self.old) }
         ensures polled { self.old.desk.broken ≡ false → Polled self.old.desk.protocol_version
             self.old.inbox self.new.inbox self.new.desk.broken result }
-        // Where Pending comes, fewer bytes are in the buffer than the message at its front has.
         ensures awaits { self.old.desk.broken ≡ false → result ≡ Ok Pending → length
             self.old.inbox < awaited self.old.inbox }
         ensures empty { self.old.desk.broken ≡ false → length self.old.inbox ≡ 0 →
@@ -214,7 +205,7 @@ impl<L: Link> PgWireClient<L> {
         ensures foretold { L.foretells → Foretold (L.left self.old.link) (L.left self.new.link)
             (L.tape self.old.link) (L.tape self.new.link) }
         ensures came { Came (client_of self.old.desk)
-            (line_of L.tape L.faults self.old) (line_of L.tape L.faults self.new) result }
+            (line_in L.tape L.faults self.old) (line_in L.tape L.faults self.new) result }
     {
         'reads: loop {
             match self.inbox.next_message(alloc, self.desk.protocol_version) {
@@ -251,7 +242,7 @@ impl<L: Link> PgWireClient<L> {
         ensures remote { (self.new.desk.broken ≡ true) ⊎ (result ≡ error) ⊎
             (is_remote result ≡ true) }
         ensures passed { PassedOver error (client_of self.old.desk)
-            (line_of L.tape L.faults self.old) (line_of L.tape L.faults self.new)
+            (line_in L.tape L.faults self.old) (line_in L.tape L.faults self.new)
             result (client_of self.new.desk) self.new.desk.broken }
     {
         'messages: loop {
@@ -274,5 +265,25 @@ impl<L: Link> PgWireClient<L> {
                 }
             }
         }
+    }
+}
+
+impl<L: Link> PgWireClient<L> {
+    /// Reads once, no more than 8192 bytes and no more than the limit leaves. False at the link's end.
+    pub fn fill(&mut self) -> PgWireClientResult<bool>
+        ensures { Fills L.foretells L.left L.tape L.faults self.old self.new result }
+    {
+        self.connection.fill()
+    }
+
+    /// Hands out the message at the buffer's front, or Pending where none is whole. It reads nothing from the link, and
+    /// takes no memory where the buffer is empty.
+    pub fn poll_next(
+        &mut self,
+        alloc: Global,
+    ) -> PgWireClientResult<ReadyState<PgWireBackendMessage>>
+        ensures { Polls self.old self.new result }
+    {
+        self.connection.poll_next(alloc)
     }
 }

@@ -6,10 +6,13 @@ ghost use Rattle.pgw_handlers.specs.Handling.{HasCause, IsCaused, OfError};
 ghost use Rattle.pgw_connection.specs.Talk.{passes, is_refusal};
 ghost use Rattle.pgw_connection.specs.Desk.{client_of};
 ghost use Rattle.pgw_connection.specs.Line.{Foretold};
-ghost use Rattle.pgw_connection.specs.Lent.{line_of};
-ghost use Rattle.pgw_connection.specs.Calls.{IsUsable, goes_on_if, Puts, Opens, GivesUp, Follows};
+ghost use Rattle.pgw_connection.specs.Connection.{line_in};
+ghost use Rattle.pgw_frontend.specs.Frontend.{encoding};
+ghost use Rattle.pgw_handlers.specs.Sending.{Sent, NotSent, IsSpelled, IsUsable as StaysUsable};
+ghost use Rattle.pgw_connection.specs.Calls.{IsUsable, goes_on_if, Puts, Opens, GivesUp, Follows, kept, kept_rest, link_sight};
 
 use crate::client::PgWireClient;
+use crate::connection::Connection;
 use pgw_backend::client_error::{PgWireClientError, PgWireClientResult};
 use pgw_frontend::frontend::PgWireFrontendMessage;
 use pgw_handlers::{Outgoing, ReadyState};
@@ -41,7 +44,7 @@ fn goes_on_if(some: bool, error: &PgWireClientError) -> bool
     some && passes(error)
 }
 
-impl<L: Link> PgWireClient<L> {
+impl<L: Link> Connection<L> {
     // Writes what was sent as one piece, and flushes.
     fn write_out(&mut self) -> PgWireClientResult<()>
         ensures client { client_of self.new.desk ≡ client_of self.old.desk }
@@ -84,7 +87,7 @@ impl<L: Link> PgWireClient<L> {
         ensures foretold { L.foretells → Foretold (L.left self.old.link) (L.left self.new.link)
             (L.tape self.old.link) (L.tape self.new.link) }
         ensures puts { Puts self.old.desk.out.items
-            (line_of L.tape L.faults self.old) (line_of L.tape L.faults self.new) result }
+            (line_in L.tape L.faults self.old) (line_in L.tape L.faults self.new) result }
     {
         if self.desk.out.len() == 0 {
             return Ok(());
@@ -103,7 +106,7 @@ impl<L: Link> PgWireClient<L> {
             (L.tape self.old.link) (L.tape self.new.link) }
         ensures usable { IsUsable is_refusal result self.new.desk.broken }
         ensures opens { Opens self.old.desk.broken self.old.desk.out.items
-            (line_of L.tape L.faults self.old) (line_of L.tape L.faults self.new)
+            (line_in L.tape L.faults self.old) (line_in L.tape L.faults self.new)
             opened result self.new.desk.broken }
     {
         if self.desk.broken {
@@ -139,7 +142,7 @@ impl<L: Link> PgWireClient<L> {
             (L.tape self.old.link) (L.tape self.new.link) }
         ensures usable { (self.new.desk.broken ≡ true) ⊎ (goes_on_if goes_on result ≡ true) }
         ensures gives_up { GivesUp (goes_on_if goes_on) closing (client_of self.old.desk)
-            (line_of L.tape L.faults self.old) (line_of L.tape L.faults self.new)
+            (line_in L.tape L.faults self.old) (line_in L.tape L.faults self.new)
             error result (client_of self.new.desk) self.new.desk.broken }
     {
         if !goes_on_if(goes_on, &error) {
@@ -172,7 +175,7 @@ impl<L: Link> PgWireClient<L> {
         ensures usable { IsUsable (goes_on_if goes_on) result self.new.desk.broken }
         ensures follows { Follows (goes_on_if goes_on) closing self.old.desk.broken
             self.old.desk.out.items (client_of self.old.desk)
-            (line_of L.tape L.faults self.old) (line_of L.tape L.faults self.new)
+            (line_in L.tape L.faults self.old) (line_in L.tape L.faults self.new)
             answer result (client_of self.new.desk) self.new.desk.broken }
     {
         if self.desk.broken {
@@ -189,11 +192,8 @@ impl<L: Link> PgWireClient<L> {
     }
 }
 
-impl<L: Link> Outgoing for PgWireClient<L> {
-    ghost use Rattle.pgw_frontend.specs.Frontend.{encoding};
-    ghost use Rattle.pgw_handlers.specs.Sending.{Sent, NotSent, IsSpelled, IsUsable as StaysUsable};
-    ghost use Rattle.pgw_connection.specs.Calls.{kept, kept_rest, link_sight};
-
+impl<L: Link> Connection<L> {
+    // Writes a message as one piece, and flushes.
     #[tactic(auto, using(crate::proofs::ForetoldLaws::foretold_still))]
     fn send(&mut self, message: PgWireFrontendMessage) -> PgWireClientResult<()>
         ensures sent { OnOk result (Sent (encoding message)
@@ -210,7 +210,6 @@ impl<L: Link> Outgoing for PgWireClient<L> {
         ensures rest { kept_rest (L.tape self.new.link) ≡ kept_rest (L.tape self.old.link) }
         ensures cause { HasCause (L.faults self.old.link) (L.faults self.new.link)
             self.new.desk.broken result }
-        // Nothing is read, so of a link that knows what is to come that stays.
         ensures foretold { L.foretells → Foretold (L.left self.old.link) (L.left self.new.link)
             (L.tape self.old.link) (L.tape self.new.link) }
     {
@@ -219,5 +218,29 @@ impl<L: Link> Outgoing for PgWireClient<L> {
             Ok(()) => self.write_out(),
             Err(error) => Err(error),
         }
+    }
+}
+
+impl<L: Link> Outgoing for PgWireClient<L> {
+    fn send(&mut self, message: PgWireFrontendMessage) -> PgWireClientResult<()>
+        ensures sent { OnOk result (Sent (encoding message)
+            (link_sight self.old.known (L.tape self.old.link) self.old.broken)
+            (link_sight self.new.known (L.tape self.new.link) self.new.broken)) }
+        ensures failed { IfErr result (λ e. NotSent (encoding message)
+            (link_sight self.old.known (L.tape self.old.link) self.old.broken)
+            (link_sight self.new.known (L.tape self.new.link) self.new.broken) e) }
+        ensures spelled { IsSpelled (encoding message) result }
+        ensures client { self.new.known ≡ self.old.known }
+        ensures usable { StaysUsable result self.old.broken self.new.broken }
+        ensures own { kept (self.new.known).config self.new.buffer self.new.read self.new.limit
+            ≡ kept (self.old.known).config self.old.buffer self.old.read self.old.limit }
+        ensures rest { kept_rest (L.tape self.new.link) ≡ kept_rest (L.tape self.old.link) }
+        ensures cause { HasCause (L.faults self.old.link) (L.faults self.new.link) self.new.broken
+            result }
+        // Nothing is read, so of a link that knows what is to come that stays.
+        ensures foretold { L.foretells → Foretold (L.left self.old.link) (L.left self.new.link)
+            (L.tape self.old.link) (L.tape self.new.link) }
+    {
+        self.connection.send(message)
     }
 }

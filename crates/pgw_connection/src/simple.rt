@@ -6,10 +6,13 @@ ghost use Rattle.pgw_handlers.specs.Simple.{simple_query, HeardInQuery, TakesRow
 ghost use Rattle.pgw_connection.specs.Talk.{end, passes};
 ghost use Rattle.pgw_connection.specs.Desk.{client_of};
 ghost use Rattle.pgw_connection.specs.Line.{Foretold};
-ghost use Rattle.pgw_connection.specs.Lent.{line_of};
-ghost use Rattle.pgw_connection.specs.Calls.{IsUsable, may_go_on, HeardNext, HeardOn, Talked, Call};
+ghost use Rattle.pgw_connection.specs.Connection.{line_in};
+ghost use Rattle.pgw_connection.specs.Querying.{Queries};
+ghost use Rattle.pgw_connection.specs.Calls.{IsUsable, may_go_on, HeardNext, HeardOn, Call};
 
 use crate::client::PgWireClient;
+use crate::connection::Connection;
+use crate::hearing::Hearer;
 use pgw_backend::client_error::{PgWireClientError, PgWireClientResult};
 use pgw_dialogue::inbox::Inbox;
 use pgw_dialogue::table::is_ready;
@@ -18,9 +21,10 @@ use pgw_link::link::Link;
 use pgw_types::listed::Listed;
 use pgw_types::memory::OutOfMemory;
 use std::alloc::Global;
+use std::marker::Model;
 use std::mem::replace;
 
-impl<L: Link> PgWireClient<L> {
+impl<L: Link> Connection<L> {
     // Takes a message and has the handler hear it.
     fn hear_in_query<H: SimpleQueryHandler>(
         &mut self,
@@ -38,7 +42,7 @@ impl<L: Link> PgWireClient<L> {
         ensures usable { IsUsable passes result self.new.desk.broken }
         ensures heard { HeardNext (HeardInQuery H.means) passes handler.old
             (client_of self.old.desk)
-            (line_of L.tape L.faults self.old) (line_of L.tape L.faults self.new)
+            (line_in L.tape L.faults self.old) (line_in L.tape L.faults self.new)
             handler.new (client_of self.new.desk) self.new.desk.broken result }
     {
         let message = match self.next_message(alloc) {
@@ -92,7 +96,7 @@ impl<L: Link> PgWireClient<L> {
             (L.tape self.old.link) (L.tape self.new.link) }
         ensures usable { IsUsable passes result self.new.desk.broken }
         ensures heard { HeardOn (HeardInQuery H.means) passes handler.old (client_of self.old.desk)
-            (line_of L.tape L.faults self.old) (line_of L.tape L.faults self.new)
+            (line_in L.tape L.faults self.old) (line_in L.tape L.faults self.new)
             handler.new (client_of self.new.desk) self.new.desk.broken result }
     {
         match self.take_rows_in_query(alloc, handler) {
@@ -104,60 +108,26 @@ impl<L: Link> PgWireClient<L> {
         }
     }
 
-    // Hands messages to the handler until the query ends.
-    fn talk_in_query<H: SimpleQueryHandler>(
-        &mut self,
-        alloc: Global,
-        handler: &mut H,
-    ) -> PgWireClientResult<Listed<H::QueryResponse>>
-        requires { self.old.desk.broken ≡ false }
-        ensures limit { self.new.limit ≡ self.old.limit }
-        ensures config { self.new.desk.config ≡ self.old.desk.config }
-        ensures cause { HasCause (L.faults self.old.link) (L.faults self.new.link) false result }
-        ensures foretold { L.foretells → Foretold (L.left self.old.link) (L.left self.new.link)
-            (L.tape self.old.link) (L.tape self.new.link) }
-        ensures usable { IsUsable passes result self.new.desk.broken }
-        ensures talked { Talked (HeardInQuery H.means) passes handler.old (client_of self.old.desk)
-            (line_of L.tape L.faults self.old) (line_of L.tape L.faults self.new)
-            (end result (client_of self.new.desk) self.new.desk.broken self.new.inbox) }
-    {
-        'messages: loop {
-            match self.go_on_in_query(alloc, handler) {
-                Ok(ReadyState::Pending) => {}
-                Ok(ReadyState::Ready(responses)) => return Ok(responses),
-                Err(error) => return Err(error),
-            }
-        }
-    }
-
-    /// Asks a simple query, and answers what the handler makes of the messages.
+    // Asks a simple query.
     #[tactic(auto, using(crate::proofs::ForetoldLaws::foretold_still))]
-    pub fn simple_query<H: SimpleQueryHandler + Drop>(
+    fn simple_query<H: SimpleQueryHandler + Drop>(
         &mut self,
         alloc: Global,
         mut handler: H,
         query: &str,
     ) -> PgWireClientResult<Listed<H::QueryResponse>>
-        // A client that an earlier error left unusable stays as it is.
         ensures broken { self.old.desk.broken ≡ true → (result ≡ Err client.Broken) ×
             (self.new ≡ self.old) }
-        // Else the query is opened as the handler means it, and each message is heard so up to the end of the call, over
-        // the bytes that stood in the buffer and those that were read; what it sent is what was written. It answers Ok at
-        // ReadyForQuery and at no other message.
         ensures asked { self.old.desk.broken ≡ false → Call
             (λ before after answer. H.means before (simple_query query.now) after answer)
             (HeardInQuery H.means) passes
             handler (client_of self.old.desk)
-            (line_of L.tape L.faults self.old) (line_of L.tape L.faults self.new)
+            (line_in L.tape L.faults self.old) (line_in L.tape L.faults self.new)
             (end result (client_of self.new.desk) self.new.desk.broken self.new.inbox) }
-        // IoError comes only where a call of the link failed, and Broken from no other client than the one above.
         ensures cause { HasCause (L.faults self.old.link) (L.faults self.new.link)
             self.old.desk.broken result }
-        // Of a link that knows what is to come: the bytes taken are its front, and the end is answered behind the last byte.
         ensures foretold { L.foretells → Foretold (L.left self.old.link) (L.left self.new.link)
             (L.tape self.old.link) (L.tape self.new.link) }
-        // Behind an answer the client can be used. Behind an error it can be where that is the server's or a message
-        // without place, or where the opening was refused; and behind no other.
         ensures usable { self.old.desk.broken ≡ false → IsUsable may_go_on result
             self.new.desk.broken }
         ensures within { self.new.read ≤ self.new.limit }
@@ -170,8 +140,51 @@ impl<L: Link> PgWireClient<L> {
         self.desk.clear();
         let opened = handler.simple_query(alloc, &mut self.desk, query);
         match self.begin(opened) {
-            Ok(()) => self.talk_in_query(alloc, &mut handler),
+            Ok(()) => self.talk(alloc, &mut InQuery { handler }),
             Err(error) => Err(error),
         }
+    }
+}
+
+// A handler that hears a query's answer.
+#[derive(Drop)]
+struct InQuery<H> {
+    handler: H,
+}
+
+impl<H> Model for InQuery<H> {
+    ghost Value = { H };
+
+    ghost view = { λ q. q.handler };
+}
+
+impl<H: SimpleQueryHandler> Hearer for InQuery<H> {
+    type Outcome = Listed<H::QueryResponse>;
+
+    ghost hears = { HeardInQuery H.means };
+
+    ghost goes_on = { passes };
+
+    fn hear<L: Link>(
+        &mut self,
+        alloc: Global,
+        connection: &mut Connection<L>,
+    ) -> PgWireClientResult<ReadyState<Listed<H::QueryResponse>>> {
+        connection.go_on_in_query(alloc, &mut self.handler)
+    }
+}
+
+impl<L: Link> PgWireClient<L> {
+    /// Asks a simple query, and answers what the handler makes of the messages.
+    pub fn simple_query<H: SimpleQueryHandler + Drop>(
+        &mut self,
+        alloc: Global,
+        handler: H,
+        query: &str,
+    ) -> PgWireClientResult<Listed<H::QueryResponse>>
+        ensures { Queries L.foretells L.left L.tape L.faults H.means handler query.now
+            self.old self.new result }
+    {
+        self.connection.simple_query(alloc, handler, query)
     }
 }

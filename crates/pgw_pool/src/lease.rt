@@ -2,7 +2,7 @@
 ghost use Rattle.std.specs.Prelude.{◌≡◌, ℕ, Err, true, false};
 ghost use Rattle.pgw_backend.specs.declared.client_error.PgWireClientError.TheVariants as failure;
 ghost use Rattle.pgw_handlers.specs.Handling.{HasCause};
-ghost use Rattle.pgw_connection.specs.Lent.{link_of};
+ghost use Rattle.pgw_connection.specs.State.{link_of};
 ghost use Rattle.pgw_ask.specs.Asking.{Asks};
 
 use pgw_ask::ask;

@@ -1,7 +1,7 @@
 use Rattle.std.proofs.Common.{◌≡◌, [], false, ap, refl, sym, subst, ◌∙◌}
 use Rattle.pgw_session.specs.declared.types.Request.TheVariants as request
 use Rattle.pgw_default_handlers.specs.Extended.{ExtendedMeans}
-use Rattle.pgw_connection.specs.Lent.{is_broken}
+use Rattle.pgw_connection.specs.State.{is_broken}
 use Rattle.pgw_connection.proofs.RequestLaws.{called_as}
 use Rattle.example_requests.specs.declared.asking.Question.TheVariants as question
 use Rattle.example_requests.specs.declared.asking.Reply.TheVariants as reply

@@ -1,7 +1,7 @@
 use Rattle.std.proofs.Common.{◌≡◌, Bool, List, false, ap, refl, sym, subst, ◌∙◌}
 use Rattle.pgw_query.specs.declared.data.DataRow.{DataRow}
 use Rattle.pgw_connection.specs.declared.gathered.Gathered.{Gathered}
-use Rattle.pgw_connection.specs.Lent.{is_broken}
+use Rattle.pgw_connection.specs.State.{is_broken}
 use Rattle.pgw_calls.specs.Extended.{given}
 use Rattle.pgw_ask.specs.Asking.{wants}
 use Rattle.pgw_ask.proofs.AskLaws.{adds, answered_caused, called_both, ended_caused, ends_as, extended, extended_came}

@@ -1,21 +1,16 @@
-use Rattle.pgw_handlers.specs.Simple.{simple_query, HeardInQuery}
-use Rattle.pgw_connection.specs.Talk.{passes}
-use Rattle.pgw_connection.specs.Desk.{sight_of}
-use Rattle.pgw_connection.proofs.CallLaws.{call_opened, call_closed}
-use Rattle.pgw_connection.proofs.ForetoldLaws.{foretold_on}
+use Rattle.std.proofs.Common.{refl}
 use Rattle.pgw_connection.proofs.client.PgWireClient.simple_query.Goals as goal
 
-pub returns-in-Ok-clause-asked : goal.returns-in-Ok-clause-asked
-returns-in-Ok-clause-asked g c = λ usable.
-    let o = c.simple_query-opened in
-    call_opened (λ before after answer. g.H.SimpleQueryHandler.means before (simple_query c.args.query.now) after answer) (HeardInQuery g.H.SimpleQueryHandler.means) passes c.args.handler o.new.self _ (sight_of c.clear.new.self) (sight_of o.new.client) _ _ (c.args.self.now.flushed usable) o.result
-    (c.clear.ensures.fresh usable) o.ensures.means _ _ _ _ c.in-Ok.ensures.opens c.begin.ensures.client c.talk_in_query.ensures.talked
-
-pub returns-clause-asked : goal.returns-clause-asked
-returns-clause-asked g c = λ usable.
-    let o = c.simple_query-opened in
-    call_closed (λ before after answer. g.H.SimpleQueryHandler.means before (simple_query c.args.query.now) after answer) (HeardInQuery g.H.SimpleQueryHandler.means) passes c.args.handler o.new.self _ (sight_of c.clear.new.self) (sight_of o.new.client) _ _ (c.args.self.now.flushed usable) o.result
-    (c.clear.ensures.fresh usable) o.ensures.means c.in-Err.error _ _ o.ensures.cause.failed c.in-Err.ensures.opens c.begin.ensures.client
-
-pub returns-in-Ok-clause-foretold : goal.returns-in-Ok-clause-foretold
-returns-in-Ok-clause-foretold g c = λ t. foretold_on _ _ _ _ _ _ (g.met.L.Link.knows t c.begin.new.self.link) (c.begin.ensures.foretold t) (c.talk_in_query.ensures.foretold t)
+pub returns : goal.returns
+returns g c =
+    let s = c.simple_query.ensures in
+    rw (← c.self.view_is) record {
+      broken = λ was. let b = s.broken was in (b.0, rw b.1 refl);
+      asked = s.asked;
+      cause = s.cause;
+      foretold = s.foretold;
+      usable = s.usable;
+      within = s.within;
+      limit = s.limit;
+      config = s.config;
+    }
