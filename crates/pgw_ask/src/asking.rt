@@ -4,7 +4,8 @@ ghost use Rattle.pgw_backend.specs.declared.client_error.PgWireClientError.TheVa
 ghost use Rattle.pgw_session.specs.declared.types.Request.TheVariants as kind;
 ghost use Rattle.pgw_handlers.specs.Handling.{HasCause};
 ghost use Rattle.pgw_calls.specs.Extended.{executed, given};
-ghost use Rattle.pgw_connection.specs.State.{line_of, known_by, is_broken};
+ghost use Rattle.pgw_connection.specs.Line.{Foretold};
+ghost use Rattle.pgw_connection.specs.State.{line_of, link_of, known_by, is_broken};
 ghost use Rattle.pgw_ask.specs.Asking.{Asks, answered, name_in};
 
 use pgw_calls::laws::{
@@ -99,6 +100,9 @@ fn ask_simple<L: Link>(
         (known_by client.new) (line_of L.tape L.faults client.new) (is_broken client.new) result }
     ensures cause { HasCause (line_of L.tape L.faults client.old).faults
         (line_of L.tape L.faults client.new).faults false result }
+    ensures foretold { L.foretells →
+        Foretold (L.left (link_of client.old)) (L.left (link_of client.new))
+        (L.tape (link_of client.old)) (L.tape (link_of client.new)) }
 {
     simple_queries_are_segments();
     simple_queries_follow_one_another();
@@ -121,6 +125,9 @@ fn ask_extended<L: Link>(
         (known_by client.new) (line_of L.tape L.faults client.new) (is_broken client.new) result }
     ensures cause { HasCause (line_of L.tape L.faults client.old).faults
         (line_of L.tape L.faults client.new).faults false result }
+    ensures foretold { L.foretells →
+        Foretold (L.left (link_of client.old)) (L.left (link_of client.new))
+        (L.tape (link_of client.old)) (L.tape (link_of client.new)) }
 {
     extended_queries_are_segments();
     extended_queries_follow_one_another();
@@ -156,6 +163,11 @@ pub fn ask<L: Link>(
     // one above.
     ensures cause { HasCause (line_of L.tape L.faults client.old).faults
         (line_of L.tape L.faults client.new).faults (is_broken client.old) result }
+    // Of a link that knows what is to come: the bytes taken are its front, and the end is answered
+    // behind the last byte.
+    ensures foretold { L.foretells →
+        Foretold (L.left (link_of client.old)) (L.left (link_of client.new))
+        (L.tape (link_of client.old)) (L.tape (link_of client.new)) }
 {
     if client.is_broken() {
         return Err(PgWireClientError::Broken);

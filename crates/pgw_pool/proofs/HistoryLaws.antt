@@ -1,6 +1,6 @@
 -- Histories that grow by a lease.
 use Rattle.std.proofs.Common.{◌≡◌, ◌<◌, ◌≤◌, ℕ, ◌+◌, Bool, true, false, List, [], ◌∷◌, ◌++◌, map, fold, arith, refl, sym, ◌∙◌, ap, subst, append_assoc}
-use Rattle.std.proofs.lemmas.List.{append-nil}
+use Rattle.std.proofs.lemmas.List.{append-nil, map-append}
 use Rattle.std.proofs.lemmas.List.Sums.{fold-append}
 use Rattle.pgw_query.specs.declared.response.ReadyForQuery.{ReadyForQuery}
 use Rattle.pgw_query.specs.declared.response.TransactionStatus.{TransactionStatus}
@@ -22,6 +22,11 @@ use Rattle.pgw_calls.specs.Turns.{knowing}
 use Rattle.pgw_calls.specs.Stands.{Made, made, events_of}
 use Rattle.pgw_pool.specs.Histories.{Lent, Over, History, ended, with_lease, reset, made_over, EndsIn, IsReset, AreReset, BeginsIdle, Ascend, View, StandsBy, IsIdle, AreIdle, IsLent}
 use Rattle.pgw_pool.specs.Lending.{LendsFirst}
+
+-- ---- lists
+
+pub mapped_behind : {A B : Type 0} (f : A → B) (xs now : List A) (x : A) → now ≡ xs ++ x ∷ [] → map f now ≡ map f xs ++ f x ∷ []
+mapped_behind f xs now x is = ap (map f) is ∙ map-append f xs (x ∷ [])
 
 -- ---- numbers
 

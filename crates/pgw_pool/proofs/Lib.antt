@@ -4,3 +4,4 @@ pub mod ReturnLaws
 pub mod StartLaws
 pub mod SessionLaws
 pub mod StockLaws
+pub mod LedgerLaws

@@ -6,12 +6,13 @@ use Rattle.pgw_session.specs.declared.types.Request.{Request}
 use Rattle.pgw_session.specs.declared.types.Answer.{Answer}
 use Rattle.pgw_session.specs.Events.{Event}
 use Rattle.pgw_handlers.specs.Client.{Client}
-use Rattle.pgw_connection.specs.Line.{Line, Moved, IsFlushed}
+use Rattle.pgw_connection.specs.Line.{Line, Moved, IsFlushed, Pause}
 use Rattle.pgw_calls.specs.Turns.{IsAnswered}
+use Rattle.pgw_calls.specs.Calls.{Breaks}
 use Rattle.pgw_calls.specs.Stands.{Made, made, Stands, OneMore, BrokenBehind, StandsBehind}
-use Rattle.pgw_ask.specs.Asking.{same, answered, Fails, failed, wants, Asks}
+use Rattle.pgw_ask.specs.Asking.{same, IsReason, Fails, failed, wants, Asks}
 use Rattle.pgw_pool.specs.Histories.{Lent, History, with_request, made_over, View, StandsBy, IsLent}
-use Rattle.pgw_pool.specs.Lending.{MakesOne, IsCut, Ran}
+use Rattle.pgw_pool.specs.Lending.{MakesOne, IsStarvedIn, IsCut, Ran}
 use Rattle.pgw_pool.proofs.HistoryLaws.{over_link}
 
 module _ (h : History) (l : Lent) (q : Request) (old now : View) (lease : IsLent h l old) where
@@ -51,29 +52,49 @@ module _ (h : History) (l : Lent) (q : Request) (old now : View) (lease : IsLent
       (subst (λ (c : Client). Stands h.config h.nonce (made_over h.over ++ l.made) now.line.tape.took now.line.tape.wrote c now.line.buffer) (sym client)
       (subst (λ (x : Line). Stands h.config h.nonce (made_over h.over ++ l.made) x.tape.took x.tape.wrote old.client x.buffer) (sym line) lease.stands))
 
+  -- memory was wanting
+  starves : (A : Type 0) (e : ClientError) (taken sent : List ℕ) → Moved old.line now.line taken sent
+      → Breaks {A = A} (Pause old.line now.line) q old.client (old.line.buffer ++ taken) sent now.client now.line.buffer (Err e)
+      → e ≡ client.OutOfMemory → IsStarvedIn h (made_over h.over ++ l.made) q now
+  starves A e taken sent moved breaks is = record {
+    read = old.line.tape.took;
+    wrote = old.line.tape.wrote;
+    client = old.client;
+    buffer = old.line.buffer;
+    stands = lease.stands;
+    taken = taken;
+    sent = sent;
+    took = moved.took;
+    put = moved.wrote;
+    starved = subst (λ (x : ClientError). Breaks {A = A} (Pause old.line now.line) q old.client (old.line.buffer ++ taken) sent now.client now.line.buffer (Err x)) is breaks;
+  }
+
   -- an error left the session unusable
-  pub cuts : (e : ClientError) (taken sent : List ℕ) → Moved old.line now.line taken sent → now.broken ≡ true
-      → BrokenBehind h.config h.nonce (made_over h.over ++ l.made) q (old.line.tape.took ++ taken) (old.line.tape.wrote ++ sent) now.client now.line.buffer e → IsCut h l q e now
-  cuts e taken sent moved broken behind = record {
+  pub cuts : (A : Type 0) (e : ClientError) (taken sent : List ℕ) → Moved old.line now.line taken sent → now.broken ≡ true
+      → BrokenBehind h.config h.nonce (made_over h.over ++ l.made) q (old.line.tape.took ++ taken) (old.line.tape.wrote ++ sent) now.client now.line.buffer e
+      → (more put : List ℕ) → Moved old.line now.line more put
+      → Breaks {A = A} (Pause old.line now.line) q old.client (old.line.buffer ++ more) put now.client now.line.buffer (Err e) → IsCut h l q e now
+  cuts A e taken sent moved broken behind more put went breaks = record {
     stands = over_link (λ (read wrote : List ℕ). BrokenBehind h.config h.nonce (made_over h.over ++ l.made) q read wrote now.client now.line.buffer e) old.line now.line taken sent moved behind;
+    wants = starves A e more put went breaks;
     broken = broken;
     resets = lease.resets;
   }
 
-  ran_error : (e : ClientError) (broken : Bool) → now.broken ≡ broken → answered e broken ≡ Err e → (taken sent : List ℕ) → Moved old.line now.line taken sent → (broken ≡ false → IsFlushed now.line)
+  ran_error : (e : ClientError) (broken : Bool) → now.broken ≡ broken → IsReason q old.client old.line now.client now.line broken e → (taken sent : List ℕ) → Moved old.line now.line taken sent → (broken ≡ false → IsFlushed now.line)
       → StandsBehind same h.config h.nonce (made_over h.over ++ l.made) q (old.line.tape.took ++ taken) (old.line.tape.wrote ++ sent) now.client now.line.buffer (Err e) broken
       → Ran h l q now broken (Err e)
-  ran_error e true is none taken sent moved flushed behind = cuts e taken sent moved is behind
-  ran_error (client.RemoteError e) false is none taken sent moved flushed behind = absurd (cc)
-  ran_error (client.UnexpectedMessage m) false is none taken sent moved flushed behind = makes_one _ taken sent moved is (flushed refl) behind
-  ran_error (client.PgWireError why) false is none taken sent moved flushed behind =
+  ran_error e true is r taken sent moved flushed behind = cuts Answer e taken sent moved is behind r.taken r.sent r.moved r.comes
+  ran_error (client.RemoteError e) false is r taken sent moved flushed behind = absurd (let none = r.no_answer in cc)
+  ran_error (client.UnexpectedMessage m) false is r taken sent moved flushed behind = makes_one _ taken sent moved is (flushed refl) behind
+  ran_error (client.PgWireError why) false is r taken sent moved flushed behind =
       makes_none is (flushed refl) (over_link (λ (read wrote : List ℕ). Stands h.config h.nonce (made_over h.over ++ l.made) read wrote now.client now.line.buffer) old.line now.line taken sent moved behind)
-  ran_error e false is none taken sent moved flushed behind = absurd behind
+  ran_error e false is r taken sent moved flushed behind = absurd behind
 
   ran_failed : (e : ClientError) (broken : Bool) → now.broken ≡ broken → Fails q old.client old.line now.client now.line broken e → Ran h l q now broken (Err e)
   ran_failed e broken is (failed x f) =
       let s = f.stands h.config h.nonce (made_over h.over ++ l.made) old.line.tape.took old.line.tape.wrote lease.stands in
-      ran_error x broken is f.reason.no_answer s.0 s.1 s.2 s.3 s.4
+      ran_error x broken is f.reason s.0 s.1 s.2 s.3 s.4
   ran_failed e true is (wants name there client line usable) = absurd (cc)
   ran_failed e false is (wants name there client line usable) = unchanged client line is
 

@@ -1,11 +1,11 @@
 -- The logins of a pool's sessions.
 use Rattle.std.specs.Result.{IfOk}
-use Rattle.std.proofs.Common.{◌≡◌, ◌<◌, ◌≤◌, ℕ, ◌+◌, false, List, [], ◌∷◌, ◌++◌, length, take, drop, get_or, Result, Ok, Err, arith, ◌⊎◌, inl, inr, refl, sym, ◌∙◌, ap, subst, append_assoc}
+use Rattle.std.proofs.Common.{◌≡◌, ◌<◌, ◌≤◌, ℕ, ◌+◌, false, List, [], ◌∷◌, ◌++◌, length, take, drop, get_or, Option, Result, Ok, Err, arith, ◌⊎◌, inl, inr, refl, sym, ◌∙◌, ap, subst, append_assoc}
 use Rattle.std.proofs.lemmas.List.{take_more, take_all, take-append-drop, map-append}
 use Rattle.pgw_backend.specs.declared.client_error.PgWireClientError.{PgWireClientError as ClientError}
 use Rattle.pgw_backend.specs.declared.client_error.PgWireClientError.TheVariants as client
 use Rattle.pgw_config.specs.declared.config.Config.{Config}
-use Rattle.pgw_link.specs.Tape.{Tape}
+use Rattle.pgw_link.specs.Tape.{Tape, new_tape}
 use Rattle.pgw_handlers.specs.Client.{Client}
 use Rattle.pgw_handlers.specs.Handling.{HasCause, IsCaused}
 use Rattle.pgw_handlers.specs.Startup.{HeardAtStartup, startup}
@@ -14,12 +14,12 @@ use Rattle.pgw_default_handlers.specs.declared.startup.DefaultStartupHandler.{De
 use Rattle.pgw_default_handlers.specs.Startup.{StartupMeans, exchanges}
 use Rattle.pgw_connection.specs.Talk.{end}
 use Rattle.pgw_connection.specs.Desk.{first_client, with_information}
-use Rattle.pgw_connection.specs.Line.{Line, Moved, IsFlushed}
+use Rattle.pgw_connection.specs.Line.{Line, Moved, IsFlushed, Foretold}
 use Rattle.pgw_connection.specs.Calls.{Call}
 use Rattle.pgw_connection.specs.Connecting.{new_line, Connected, NotConnected}
 use Rattle.pgw_calls.specs.Stands.{Stands}
 use Rattle.pgw_pool.specs.Histories.{History, View, new_history, IsIdle, AreIdle}
-use Rattle.pgw_pool.specs.Starting.{new_histories, handler_with, Dials, Connects, ConnectAll, no_login, login_more, NotConnects, NotStarted}
+use Rattle.pgw_pool.specs.Starting.{new_histories, handler_with, Dials, Connects, ConnectAll, no_login, login_more, ConnectForetold, nothing_offered, offer_more, NotConnects, StopsAt, WantsAt, NotStarted}
 use Rattle.pgw_pool.proofs.HistoryLaws.{idle_more}
 
 -- ---- one login
@@ -82,6 +82,10 @@ idle_first config ns vs none = subst (AreIdle 0 []) (sym none) tt
 pub connected_first : (config : Config) (limit : ℕ) (d : Dials) (ns : List (List ℕ)) (vs : List View) → vs ≡ [] → ConnectAll config limit d (take 0 ns) d vs
 connected_first config limit d ns vs none = subst (ConnectAll config limit d [] d) (sym none) no_login
 
+pub foretold_first : (config : Config) (limit : ℕ) (d : Dials) (ns : List (List ℕ)) (lefts : List (Option (List ℕ))) (vs : List View) → lefts ≡ [] → vs ≡ [] → ConnectForetold config limit d (take 0 ns) d lefts vs
+foretold_first config limit d ns lefts vs none also =
+    subst (ConnectForetold config limit d [] d lefts) (sym also) (subst (λ (l : List (Option (List ℕ))). ConnectForetold config limit d [] d l []) (sym none) nothing_offered)
+
 -- an error's cause, of a dialer whose count had risen before
 error_before : (e : ClientError) (before mid now : ℕ) → before ≤ mid → IsCaused e mid now false → IsCaused e before now false
 error_before client.IoError before mid now later rose = omega (arith, later, rose)
@@ -111,13 +115,47 @@ connected_next config limit ns i n old mid new vs now v there is grown all one =
     subst (λ (l : List View). ConnectAll config limit old (take (i + 1) ns) new l) (sym grown)
     (subst (λ (l : List (List ℕ)). ConnectAll config limit old l new (vs ++ v ∷ [])) (sym (next_taken ns i n there is)) (login_more (take i ns) n mid new vs v all one))
 
+pub foretold_next : (config : Config) (limit : ℕ) (ns : List (List ℕ)) (i : ℕ) (n : List ℕ) (old mid new : Dials) (lefts lefts_now : List (Option (List ℕ))) (left : Option (List ℕ)) (vs now : List View) (v : View)
+    → i < length ns → n ≡ get_or ns i [] → lefts_now ≡ lefts ++ left ∷ [] → now ≡ vs ++ v ∷ []
+    → ConnectForetold config limit old (take i ns) mid lefts vs → Connects config limit n mid new v → Foretold mid.offer left new_tape v.line.tape → mid.faults ≤ new.faults → ConnectForetold config limit old (take (i + 1) ns) new lefts_now now
+foretold_next config limit ns i n old mid new lefts lefts_now left vs now v there is more grown all one foretold later =
+    subst (ConnectForetold config limit old (take (i + 1) ns) new lefts_now) (sym grown)
+    (subst (λ (l : List (Option (List ℕ))). ConnectForetold config limit old (take (i + 1) ns) new l (vs ++ v ∷ [])) (sym more)
+    (subst (λ (l : List (List ℕ)). ConnectForetold config limit old l new (lefts ++ left ∷ []) (vs ++ v ∷ [])) (sym (next_taken ns i n there is)) (offer_more (take i ns) n mid new lefts left vs v all one foretold later)))
+
 pub all_taken : (ns : List (List ℕ)) (i : ℕ) → length ns ≤ i → take i ns ≡ ns
 all_taken ns i past = take_all i ns past
 
+abbrev pub Offered : Type 0 → Config → ℕ → List (List ℕ) → Dials → Dials → List View → Type 0
+Offered foretells config limit done old new vs = foretells → (lefts : List (Option (List ℕ))) × ConnectForetold config limit old done new lefts vs
+
+-- nothing was done
+pub wants_first : (foretells : Type 0) (config : Config) (limit : ℕ) (ns : List (List ℕ)) (old : Dials) → WantsAt foretells config limit ns old old
+wants_first foretells config limit ns old = record {
+  done = [];
+  behind = ns;
+  cut = refl;
+  views = [];
+  connected = no_login;
+  later = (omega arith);
+  foretold = λ t. ([], nothing_offered);
+}
+
 pub stops_next : (foretells : Type 0) (config : Config) (limit : ℕ) (ns : List (List ℕ)) (i : ℕ) (n : List ℕ) (old mid new : Dials) (vs : List View) (e : ClientError) → i < length ns → n ≡ get_or ns i []
-    → ConnectAll config limit old (take i ns) mid vs → NotConnects foretells config limit n mid new e ⊎ (e ≡ client.OutOfMemory) → NotStarted foretells config limit ns old new e
-stops_next foretells config limit ns i n old mid new vs e there is all (inr wanting) = inr wanting
-stops_next foretells config limit ns i n old mid new vs e there is all (inl refused) = inl (record {
+    → ConnectAll config limit old (take i ns) mid vs → Offered foretells config limit (take i ns) old mid vs → old.faults ≤ mid.faults → mid.faults ≤ new.faults
+    → NotConnects foretells config limit n mid new e ⊎ ((e ≡ client.OutOfMemory) × (new ≡ mid)) → NotStarted foretells config limit ns old new e
+stops_next foretells config limit ns i n old mid new vs e there is all offered before later (inr wanting) =
+    let wants : WantsAt foretells config limit ns old mid = record {
+      done = take i ns;
+      behind = drop i ns;
+      cut = sym (take-append-drop i ns);
+      views = vs;
+      connected = all;
+      later = before;
+      foretold = offered;
+    } in
+    inr (wanting.0, subst (WantsAt foretells config limit ns old) (sym wanting.1) wants)
+stops_next foretells config limit ns i n old mid new vs e there is all offered before later (inl refused) = inl (record {
   done = take i ns;
   next = n;
   behind = drop (i + 1) ns;
@@ -126,4 +164,7 @@ stops_next foretells config limit ns i n old mid new vs e there is all (inl refu
   views = vs;
   connected = all;
   refused = refused;
+  before = before;
+  later = later;
+  foretold = offered;
 })

@@ -8,7 +8,8 @@ use Rattle.pgw_pool.specs.declared.returned.Returned.{Returned}
 use Rattle.pgw_pool.specs.declared.returned.Returned.TheVariants.{Kept, Dropped}
 use Rattle.pgw_pool.specs.Histories.{History, Lent, View, lent_as, with_request, with_lease, IsLent, AreIdle}
 use Rattle.pgw_pool.specs.Lending.{IsCut, Ran, LendsFirst}
-use Rattle.pgw_pool.specs.Returning.{returned_by, idle_behind, GivesBack, GivenBack}
+use Rattle.pgw_pool.specs.declared.returned.DropCause.{DropCause}
+use Rattle.pgw_pool.specs.Returning.{cause_of, returned_by, idle_behind, GivesBack, GivenBack}
 use Rattle.pgw_pool.specs.Stocks.{Out, leased, Stock, stock, Runs, Step, lends, runs, gives_back, Steps, no_step, step_more, IsOut, AreOut, IsInOrder}
 use Rattle.pgw_pool.proofs.HistoryLaws.{lends_first}
 use Rattle.pgw_pool.proofs.RunLaws.{ran}
@@ -79,18 +80,18 @@ given_idle lent hs h l now Kept g = (hs ++ with_lease h l g.0 ∷ [], g.1)
 given_idle lent hs h l now (Dropped why) g = (hs, g.0)
 
 -- a session that an earlier error left unusable is dropped
-cut_idle : (old : View) (idle now : List View) (result : Returned) → GivesBack old idle now result → old.broken ≡ true → now ≡ idle
-cut_idle old idle now result g broken =
+pub cut_result : (old : View) (idle now : List View) (result : Returned) → GivesBack old idle now result → old.broken ≡ true → (why : DropCause) × (result ≡ Dropped why) × (now ≡ idle)
+cut_result old idle now result g broken =
     let a = (g.2.broken broken).0 in
     let is : result ≡ returned_by (Err client.Broken) (g.0).client.transaction_status (g.0).broken = g.3 ∙ ap (λ x. returned_by x (g.0).client.transaction_status (g.0).broken) a in
-    g.4 ∙ ap (idle_behind idle g.0) is
+    (cause_of client.Broken (g.0).broken, is, g.4 ∙ ap (idle_behind idle g.0) is)
 
 give_idle : (lent number : ℕ) (hs : List History) (idle now : List View) (old : View) (result : Returned) → GivesBack old idle now result → AreIdle lent hs idle → (h : History) (l : Lent) → l.number ≡ number → number ≤ lent
     → IsLent h l old ⊎ ((p : Request) × (e : ClientError) × IsCut h l p e old) → (more : List History) × AreIdle lent more now
 give_idle lent number hs idle now old result g are h l same own (inl lease) =
     given_idle lent hs h l now result (given_back lent hs h l old idle now result g are lease (subst (λ n. n ≤ lent) (sym same) own))
 give_idle lent number hs idle now old result g are h l same own (inr cut) =
-    (hs, subst (AreIdle lent hs) (sym (cut_idle old idle now result g cut.2.broken)) are)
+    (hs, subst (AreIdle lent hs) (sym (cut_result old idle now result g cut.2.broken).2) are)
 
 -- ---- calls
 

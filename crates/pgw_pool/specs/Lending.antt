@@ -5,8 +5,10 @@ use Rattle.pgw_backend.specs.declared.client_error.PgWireClientError.TheVariants
 use Rattle.pgw_session.specs.declared.types.Request.{Request}
 use Rattle.pgw_session.specs.declared.types.Answer.{Answer}
 use Rattle.pgw_session.specs.Events.{Event}
+use Rattle.pgw_handlers.specs.Client.{Client}
 use Rattle.pgw_calls.specs.Turns.{IsAnswered, IsPassedSegment}
-use Rattle.pgw_calls.specs.Stands.{BrokenBehind}
+use Rattle.pgw_calls.specs.Calls.{IsStarved}
+use Rattle.pgw_calls.specs.Stands.{Made, Stands, BrokenBehind}
 use Rattle.pgw_pool.specs.declared.pool.LendError.{LendError}
 use Rattle.pgw_pool.specs.declared.pool.LendError.TheVariants.{Empty, Exhausted}
 use Rattle.pgw_pool.specs.Histories.{History, Lent, View, lent_as, with_request, made_over, BeginsIdle, AreReset, IsLent, AreIdle}
@@ -42,11 +44,26 @@ LendsFirst (h ∷ hs) lent rest number v =
 abbrev pub MakesOne : History → Lent → Request → (List Event → Type 0) → View → Type 0
 MakesOne h l q property v = (es : List Event) × property es × IsLent h (with_request l q es) v
 
+-- Memory was wanting in a request: before it the session stood by these, and since then it read some
+-- bytes, and wrote whole messages of that request, or nothing.
+pub record IsStarvedIn (h : History) (ts : List Made) (q : Request) (v : View) : Type 0 where
+  pub read : List ℕ
+  pub wrote : List ℕ
+  pub client : Client
+  pub buffer : List ℕ
+  pub stands : Stands h.config h.nonce ts read wrote client buffer
+  pub taken : List ℕ
+  pub sent : List ℕ
+  pub took : v.line.tape.took ≡ read ++ taken
+  pub put : v.line.tape.wrote ≡ wrote ++ sent
+  pub starved : IsStarved q sent
+
 -- An error left the session unusable as this was asked: the requests before it were made, and of
--- its own segment a front. Of want of memory nothing is told.
+-- its own segment a front; or memory was wanting in it.
 pub record IsCut (h : History) (l : Lent) (q : Request) (e : ClientError) (v : View) : Type 0 where
   pub stands : BrokenBehind h.config h.nonce (made_over h.over ++ l.made) q
       v.line.tape.took v.line.tape.wrote v.client v.line.buffer e
+  pub wants : e ≡ client.OutOfMemory → IsStarvedIn h (made_over h.over ++ l.made) q v
   pub broken : v.broken ≡ true
   pub resets : AreReset h.over
 

@@ -5,3 +5,4 @@ pub mod Returning
 pub mod Starting
 pub mod Sessions
 pub mod Stocks
+pub mod Ledgers

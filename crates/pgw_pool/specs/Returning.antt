@@ -1,5 +1,5 @@
 -- What becomes of a session that is given back.
-use Rattle.std.specs.Prelude.{◌≡◌, ◌≢◌, ℕ, Bool, true, false, List, [], ◌∷◌, ◌++◌, Result, Ok, Err}
+use Rattle.std.specs.Prelude.{◌≡◌, ◌≢◌, ◌⊎◌, ℕ, Bool, true, false, List, [], ◌∷◌, ◌++◌, length, Option, Result, Ok, Err}
 use Rattle.pgw_query.specs.declared.response.TransactionStatus.{TransactionStatus}
 use Rattle.pgw_query.specs.declared.response.TransactionStatus.TheVariants.{Idle}
 use Rattle.pgw_backend.specs.declared.client_error.PgWireClientError.{PgWireClientError as ClientError}
@@ -9,7 +9,9 @@ use Rattle.pgw_session.specs.declared.types.Response.{Response}
 use Rattle.pgw_session.specs.declared.types.Answer.TheVariants as answer
 use Rattle.pgw_session.specs.Events.{Event}
 use Rattle.pgw_handlers.specs.Handling.{HasCause}
-use Rattle.pgw_connection.specs.Line.{Moved, Pause, IsFlushed}
+use Rattle.pgw_connection.specs.Line.{Moved, Pause, IsFlushed, EndedWell, Halts, AtEnd, Foretold}
+use Rattle.pgw_connection.specs.Talk.{passes}
+use Rattle.pgw_connection.specs.Calls.{IsHalted}
 use Rattle.pgw_calls.specs.Turns.{IsAnswered, IsPassedSegment}
 use Rattle.pgw_calls.specs.Calls.{Comes}
 use Rattle.pgw_calls.specs.Stands.{Made, made, Stands, StandsBehind}
@@ -52,6 +54,12 @@ pub record IsAsked (old now : View) (a : Result (List Response) ClientError) : T
       × (now.broken ≡ false → IsFlushed now.line)
       × StandsBehind answer.Responses config nonce ts reset (read ++ taken) (wrote ++ sent)
       now.client now.line.buffer a now.broken
+  -- behind any answer but IoError no call of the link failed, and all that was written is flushed
+  pub well : old.broken ≡ false → EndedWell old.line now.line ⊎ (a ≡ Err client.IoError)
+  -- the link's end was answered at most once, where a message was awaited and all was flushed, and
+  -- then it is the answer, or the error behind which messages were passed over
+  pub halts : old.broken ≡ false → Halts now.client (length now.line.tape.wrote) old.line now.line
+  pub at_end : old.broken ≡ false → AtEnd old.line now.line (IsHalted passes a now.broken)
   -- IoError comes only where a call of the link failed
   pub cause : HasCause old.line.faults now.line.faults old.broken a
 
@@ -67,6 +75,26 @@ GivesBack old idle now result =
     × (result ≡ returned_by a last.client.transaction_status last.broken)
     × (now ≡ idle_behind idle last result)
 
+-- what the links of the idle sessions have to come then
+abbrev pub lefts_behind : List (Option (List ℕ)) → Option (List ℕ) → Returned →
+    List (Option (List ℕ))
+lefts_behind lefts left Kept = lefts ++ left ∷ []
+lefts_behind lefts left (Dropped why) = lefts
+
+-- The same over a link that knows what is to come: what it gave for the reset is the front of that,
+-- and where it answered its end, nothing was left. So no other answer of the reset is the cause than
+-- one that these bytes have, or a fault of the link's, or want of memory.
+pub record GivesForetold (was : Option (List ℕ)) (old : View) (idle now : List View)
+    (lefts left_now : List (Option (List ℕ))) (result : Returned) : Type 0 where
+  pub last : View
+  pub is : Option (List ℕ)
+  pub answer : Result (List Response) ClientError
+  pub asked : IsAsked old last answer
+  pub foretold : Foretold was is old.line.tape last.line.tape
+  pub by : result ≡ returned_by answer last.client.transaction_status last.broken
+  pub idle_now : now ≡ idle_behind idle last result
+  pub lefts_now : left_now ≡ lefts_behind lefts is result
+
 -- ---- by what was done over the session
 
 -- a reset was made behind the lease, whose events are so
@@ -75,19 +103,20 @@ EndsBy h l property v =
     (es : List Event) × property es
     × StandsBy h (made_over h.over ++ (l.made ++ made reset es ∷ [])) v
 
--- the reset came to this error
+-- The reset came to this error: a message without place, behind which the others were passed over;
+-- or one that left the session unusable.
 abbrev pub FailsBy : History → Lent → View → Bool → ClientError → Type 0
 FailsBy h l v false (client.UnexpectedMessage m) = EndsBy h l (IsPassedSegment reset m) v
-FailsBy h l v false (client.PgWireError why) = StandsBy h (made_over h.over ++ l.made) v
 FailsBy h l v true e = IsCut h l reset e v
 FailsBy h l v broken e = ⊥
 
--- what a session stands for that is dropped by this cause. Of want of memory nothing is told.
+-- What a session stands for that is dropped by this cause. Want of memory is a cause of its own.
 abbrev pub IsDropped : History → Lent → DropCause → View → Type 0
 IsDropped h l (cause.Refused e) v = EndsBy h l (IsAnswered reset (answer.Remote e)) v
 IsDropped h l (cause.Status status) v = EndsBy h l (IsResetIn status) v × (status ≢ Idle)
+IsDropped h l (cause.Failed client.OutOfMemory) v = ⊥
 IsDropped h l (cause.Failed e) v = FailsBy h l v v.broken e
-IsDropped h l cause.OutOfMemory v = Unit {0}
+IsDropped h l cause.OutOfMemory v = IsCut h l reset client.OutOfMemory v
 
 -- The lease is over: its session is idle behind these; or they alone are, and it is dropped.
 abbrev pub GivenBack : ℕ → List History → History → Lent → List View → Returned → Type 0
@@ -95,3 +124,11 @@ GivenBack lent hs h l idle Kept =
     (es : List Event) × AreIdle lent (hs ++ with_lease h l es ∷ []) idle
 GivenBack lent hs h l idle (Dropped why) =
     AreIdle lent hs idle × ((last : View) × IsDropped h l why last)
+
+-- A session is dropped that stands for this; over its link the reset alone had moved bytes since the
+-- lease.
+abbrev pub DropsFrom : History → Lent → View → Returned → Type 0
+DropsFrom h l old Kept = Unit {0}
+DropsFrom h l old (Dropped why) =
+    (last : View) × IsDropped h l why last
+    × ((taken sent : List ℕ) × Moved old.line last.line taken sent)

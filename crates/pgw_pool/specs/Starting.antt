@@ -1,14 +1,16 @@
 -- How a pool is started.
-use Rattle.std.specs.Prelude.{◌≡◌, ◌⊎◌, ℕ, negsuc, pos, List, [], ◌∷◌, ◌++◌, map, Option}
+use Rattle.std.specs.Prelude.{◌≡◌, ◌⊎◌, ◌≤◌, ℕ, negsuc, pos, List, [], ◌∷◌, ◌++◌, map, Option}
 use Rattle.pgw_wire.specs.declared.secret_key.SecretKey.TheVariants.{I32}
 use Rattle.pgw_backend.specs.declared.client_error.PgWireClientError.{PgWireClientError as ClientError}
 use Rattle.pgw_backend.specs.declared.client_error.PgWireClientError.TheVariants as client
 use Rattle.pgw_config.specs.declared.config.Config.{Config}
+use Rattle.pgw_link.specs.Tape.{new_tape}
 use Rattle.pgw_link.specs.Dials.{DialTape}
 use Rattle.pgw_handlers.specs.Startup.{HeardAtStartup, startup}
 use Rattle.pgw_default_handlers.specs.declared.startup.DefaultStartupHandler.{DefaultStartupHandler}
 use Rattle.pgw_session.specs.declared.stage.Stage.TheVariants.{Starting}
 use Rattle.pgw_default_handlers.specs.Startup.{StartupMeans, exchanges}
+use Rattle.pgw_connection.specs.Line.{Foretold}
 use Rattle.pgw_connection.specs.Connecting.{Connected, NotConnected}
 use Rattle.pgw_pool.specs.Histories.{History, View, new_history}
 
@@ -50,6 +52,19 @@ pub data ConnectAll (config : Config) (limit : ℕ) (old : Dials)
       ConnectAll config limit old nonces mid vs → Connects config limit nonce mid new v →
       ConnectAll config limit old (nonces ++ nonce ∷ []) new (vs ++ v ∷ [])
 
+-- The same by a dialer that knows its offers: each login's bytes are the front of what its dial
+-- offered, and this is what the links still have to come. The count of faults never falls.
+pub data ConnectForetold (config : Config) (limit : ℕ) (old : Dials)
+    : List (List ℕ) → Dials → List (Option (List ℕ)) → List View → Type 0 where
+  nothing_offered : ConnectForetold config limit old [] old [] []
+  offer_more : (nonces : List (List ℕ)) (nonce : List ℕ) (mid new : Dials)
+      (lefts : List (Option (List ℕ))) (left : Option (List ℕ)) (vs : List View) (v : View) →
+      ConnectForetold config limit old nonces mid lefts vs →
+      Connects config limit nonce mid new v → Foretold mid.offer left new_tape v.line.tape →
+      mid.faults ≤ new.faults →
+      ConnectForetold config limit old (nonces ++ nonce ∷ []) new
+      (lefts ++ left ∷ []) (vs ++ v ∷ [])
+
 -- the login by this nonce was refused: there was no address, or no link, or it failed over one
 abbrev pub NotConnects : Type 0 → Config → ℕ → List ℕ → Dials → Dials → ClientError → Type 0
 NotConnects foretells config limit nonce old new e =
@@ -69,8 +84,25 @@ pub record StopsAt (foretells : Type 0) (config : Config) (limit : ℕ) (nonces 
   pub views : List View
   pub connected : ConnectAll config limit old done mid views
   pub refused : NotConnects foretells config limit next mid new e
+  pub before : old.faults ≤ mid.faults
+  pub later : mid.faults ≤ new.faults
+  pub foretold : foretells →
+      (lefts : List (Option (List ℕ))) × ConnectForetold config limit old done mid lefts views
 
--- why no pool was started: that; or memory was wanting
+-- Memory was wanting between logins: those by the first nonces were made, and nothing else was done.
+pub record WantsAt (foretells : Type 0) (config : Config) (limit : ℕ) (nonces : List (List ℕ))
+    (old new : Dials) : Type 0 where
+  pub done : List (List ℕ)
+  pub behind : List (List ℕ)
+  pub cut : nonces ≡ done ++ behind
+  pub views : List View
+  pub connected : ConnectAll config limit old done new views
+  pub later : old.faults ≤ new.faults
+  pub foretold : foretells →
+      (lefts : List (Option (List ℕ))) × ConnectForetold config limit old done new lefts views
+
+-- why no pool was started: that; or memory was wanting between logins
 abbrev pub NotStarted : Type 0 → Config → ℕ → List (List ℕ) → Dials → Dials → ClientError → Type 0
 NotStarted foretells config limit nonces old new e =
-    StopsAt foretells config limit nonces old new e ⊎ (e ≡ client.OutOfMemory)
+    StopsAt foretells config limit nonces old new e
+    ⊎ ((e ≡ client.OutOfMemory) × WantsAt foretells config limit nonces old new)

@@ -1,9 +1,10 @@
 -- What is seen of a pool and of a lease.
-use Rattle.std.specs.Prelude.{ℕ, List, map}
+use Rattle.std.specs.Prelude.{ℕ, List, map, Option}
+use Rattle.std.specs.VecDeque.{deque_capacity}
 use Rattle.pgw_link.specs.Tape.{Tape}
 use Rattle.pgw_link.specs.declared.link.Link as Link
 use Rattle.pgw_connection.specs.declared.client.PgWireClient.{PgWireClient}
-use Rattle.pgw_connection.specs.State.{line_of, known_by, is_broken}
+use Rattle.pgw_connection.specs.State.{line_of, link_of, known_by, is_broken}
 use Rattle.pgw_pool.specs.declared.lease.Lease.{Lease}
 use Rattle.pgw_pool.specs.declared.pool.Pool.{Pool}
 use Rattle.pgw_pool.specs.Histories.{View}
@@ -16,6 +17,11 @@ view_of tape faults c = record {
   broken = is_broken c;
 }
 
+-- what its link still has to come, where that is known
+abbrev pub left_in : {X : Type 0} {L : Link.Ghosts X} → (X → Option (List ℕ)) →
+    PgWireClient X L → Option (List ℕ)
+left_in left c = left (link_of c)
+
 -- ---- a lease
 
 abbrev pub number_of : {X : Type 0} {L : Link.Ghosts X} → Lease X L → ℕ
@@ -27,11 +33,20 @@ client_in lease = lease.client
 abbrev pub lease_view : {X : Type 0} {L : Link.Ghosts X} → (X → Tape) → (X → ℕ) → Lease X L → View
 lease_view tape faults lease = view_of tape faults lease.client
 
+abbrev pub left_of : {X : Type 0} {L : Link.Ghosts X} → (X → Option (List ℕ)) → Lease X L →
+    Option (List ℕ)
+left_of left lease = left_in left lease.client
+
 -- ---- a pool
 
 -- its idle sessions, the one first that has been idle longest
 abbrev pub idle_in : {X : Type 0} {L : Link.Ghosts X} → (X → Tape) → (X → ℕ) → Pool X L → List View
 idle_in tape faults pool = map (view_of tape faults) (pool.idle).items
+
+-- what their links still have to come
+abbrev pub lefts_in : {X : Type 0} {L : Link.Ghosts X} → (X → Option (List ℕ)) → Pool X L →
+    List (Option (List ℕ))
+lefts_in left pool = map (left_in left) (pool.idle).items
 
 -- how many leases it has lent
 abbrev pub lent_by : {X : Type 0} {L : Link.Ghosts X} → Pool X L → ℕ
@@ -40,3 +55,7 @@ lent_by pool = pool.lent
 -- how many sessions it has room for
 abbrev pub room_of : {X : Type 0} {L : Link.Ghosts X} → Pool X L → ℕ
 room_of pool = pool.room
+
+-- for how many sessions it has taken memory
+abbrev pub reserved_in : {X : Type 0} {L : Link.Ghosts X} → Pool X L → ℕ
+reserved_in pool = deque_capacity pool.idle

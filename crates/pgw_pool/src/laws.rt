@@ -1,9 +1,10 @@
 //! What holds of the sessions of a pool.
-ghost use Rattle.std.specs.Prelude.{ℕ, []};
+ghost use Rattle.std.specs.Prelude.{◌≡◌, ℕ, List, [], ◌++◌};
 ghost use Rattle.pgw_calls.specs.Stands.{AreAnswered};
 ghost use Rattle.pgw_pool.specs.Histories.{History, Lent, View, IsIdle, IsLent};
 ghost use Rattle.pgw_pool.specs.Sessions.{AreAllAnswered, IsMadeOf};
 ghost use Rattle.pgw_pool.specs.Stocks.{Stock, Steps, IsInOrder};
+ghost use Rattle.pgw_pool.specs.Ledgers.{Loan, Ledger, IsLedger, Call, calls_of, Entries};
 
 use pgw_calls::laws::clients_are_sessions;
 
@@ -20,7 +21,16 @@ pub fn sessions_are_leases()
 }
 
 /// Whatever calls are made of a pool and of its leases, in whatever order, each session that is idle has a history of
-/// leases that are over, and each that is out one with its lease so far, if these had one before.
+/// leases that are over, and each that is out one with its lease so far, if these had one before. These are the histories
+/// from before, with what each call has added: a request to its own lease, a lease and its reset to its own session.
 pub fn calls_keep_sessions_in_order()
-    ensures { (s t : Stock) → Steps s t → IsInOrder s → IsInOrder t }
+    ensures order { (s t : Stock) → Steps s t → IsInOrder s → IsInOrder t }
+    ensures entries { (s t : Stock) (steps : Steps s t) (a : Ledger) → IsLedger a s →
+        (b : Ledger) × Entries (calls_of s t steps) a b × IsLedger b t }
+{}
+
+/// A session that was dropped stays so, whatever calls are made. Only an idle one is lent.
+pub fn dropped_sessions_stay()
+    ensures { (calls : List Call) (a b : Ledger) → Entries calls a b →
+        (more : List Loan) × (b.dropped ≡ a.dropped ++ more) }
 {}

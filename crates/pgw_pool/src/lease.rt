@@ -18,7 +18,8 @@ pub struct Lease<L: Link> {
 
 impl<L: Link> Lease<L> {
     ghost use Rattle.pgw_pool.specs.Histories.{History, Lent, IsLent};
-    ghost use Rattle.pgw_pool.specs.Views.{number_of, client_in, lease_view};
+    ghost use Rattle.pgw_connection.specs.Line.{Foretold};
+    ghost use Rattle.pgw_pool.specs.Views.{number_of, client_in, left_of, lease_view};
     ghost use Rattle.pgw_pool.specs.Lending.{Ran};
 
     /// The first lease of a pool has number 1.
@@ -54,6 +55,11 @@ impl<L: Link> Lease<L> {
         ensures cause { let old = lease_view L.tape L.faults self.old in
             let new = lease_view L.tape L.faults self.new in
             HasCause old.line.faults new.line.faults old.broken result }
+        // Of a link that knows what is to come: the bytes taken are its front, and the end is answered
+        // behind the last byte.
+        ensures foretold { L.foretells → Foretold (left_of L.left self.old) (left_of L.left self.new)
+            (lease_view L.tape L.faults self.old).line.tape
+            (lease_view L.tape L.faults self.new).line.tape }
     {
         ask(alloc, &mut self.client, request)
     }

@@ -1,5 +1,5 @@
 //! A pool.
-ghost use Rattle.std.specs.Prelude.{◌≡◌, ◌<◌, ◌≤◌, List, length, ◌+◌, false, IfOk, IfErr, OnOk};
+ghost use Rattle.std.specs.Prelude.{◌≡◌, ◌≢◌, ◌<◌, ◌≤◌, List, [], ◌∷◌, ◌++◌, length, ◌+◌, false, IfOk, IfErr, IsOk, OnOk};
 ghost use Rattle.std.specs.VecDeque.{deque_len, deque_capacity};
 ghost use Rattle.pgw_handlers.specs.Handling.{HasCause};
 
@@ -33,10 +33,10 @@ pub enum LendError {
 
 impl<L: Link> Pool<L> {
     ghost use Rattle.pgw_pool.specs.Histories.{History, Lent, IsLent, AreIdle};
-    ghost use Rattle.pgw_pool.specs.Views.{idle_in, lent_by, room_of, number_of, lease_view};
-    ghost use Rattle.pgw_pool.specs.Lending.{Lends, LendsNone, LendsFirst};
-    ghost use Rattle.pgw_pool.specs.Returning.{GivesBack, GivenBack};
-    ghost use Rattle.pgw_pool.specs.Starting.{dials, new_histories, ConnectAll, NotStarted};
+    ghost use Rattle.pgw_pool.specs.Views.{view_of, left_in, idle_in, lefts_in, lent_by, room_of, reserved_in, number_of, left_of, lease_view};
+    ghost use Rattle.pgw_pool.specs.Lending.{most_leases, Lends, LendsNone, LendsFirst};
+    ghost use Rattle.pgw_pool.specs.Returning.{GivesBack, GivesForetold, GivenBack, DropsFrom};
+    ghost use Rattle.pgw_pool.specs.Starting.{dials, new_histories, ConnectAll, ConnectForetold, NotStarted};
 
     /// Connects one session for each nonce, with at most one dial each. Each nonce is to be random and
     /// used for no other. Where one fails, those before it are let go.
@@ -49,6 +49,8 @@ impl<L: Link> Pool<L> {
     ) -> PgWireClientResult<Pool<L>>
         ensures room { IfOk result (λ pool. room_of pool ≡ length nonces.now) }
         ensures none { IfOk result (λ pool. lent_by pool ≡ 0) }
+        // Memory is taken for all of them.
+        ensures reserved { IfOk result (λ pool. room_of pool ≤ reserved_in pool) }
         // All of them are idle, in the order of the nonces, and none was lent.
         ensures idle { IfOk result (λ pool. AreIdle (lent_by pool)
             (new_histories config.now nonces.now) (idle_in L.tape L.faults pool)) }
@@ -56,7 +58,12 @@ impl<L: Link> Pool<L> {
             (dials (D.tape dialer.old) (D.offer dialer.old) (D.faults dialer.old)) nonces.now
             (dials (D.tape dialer.new) (D.offer dialer.new) (D.faults dialer.new))
             (idle_in L.tape L.faults pool)) }
-        // Else the first that failed gives the error.
+        // Of a dialer that knows its offers: the bytes of each login are the front of its dial's offer.
+        ensures foretold { D.foretells → IfOk result (λ pool. ConnectForetold config.now limit
+            (dials (D.tape dialer.old) (D.offer dialer.old) (D.faults dialer.old)) nonces.now
+            (dials (D.tape dialer.new) (D.offer dialer.new) (D.faults dialer.new))
+            (lefts_in L.left pool) (idle_in L.tape L.faults pool)) }
+        // Else the first that failed gives the error; or memory was wanting between two logins.
         ensures refused { IfErr result (NotStarted D.foretells config.now limit nonces.now
             (dials (D.tape dialer.old) (D.offer dialer.old) (D.faults dialer.old))
             (dials (D.tape dialer.new) (D.offer dialer.new) (D.faults dialer.new))) }
@@ -80,6 +87,23 @@ impl<L: Link> Pool<L> {
         })
     }
 
+    // Puts a session behind all that are idle, in the room that was taken.
+    #[tactic(auto, using(crate::proofs::HistoryLaws::mapped_behind))]
+    fn keep(&mut self, client: PgWireClient<L>)
+        requires { length (idle_in L.tape L.faults self.old) < room_of self.old }
+        ensures room { room_of self.new ≡ room_of self.old }
+        ensures reserved { reserved_in self.new ≡ reserved_in self.old }
+        ensures lent { lent_by self.new ≡ lent_by self.old }
+        ensures idle { idle_in L.tape L.faults self.new
+            ≡ idle_in L.tape L.faults self.old ++ view_of L.tape L.faults client ∷ [] }
+        ensures lefts { lefts_in L.left self.new
+            ≡ lefts_in L.left self.old ++ left_in L.left client ∷ [] }
+        ensures counts { length (idle_in L.tape L.faults self.new)
+            ≡ length (idle_in L.tape L.faults self.old) + 1 }
+    {
+        self.idle.push_back_reserved(client);
+    }
+
     /// How many sessions it has room for, which are those that it was started with.
     pub fn capacity(&self) -> usize
         ensures { result ≡ room_of self.now }
@@ -91,6 +115,7 @@ impl<L: Link> Pool<L> {
     pub fn idle(&self) -> usize
         ensures counts { result ≡ length (idle_in L.tape L.faults self.now) }
         ensures fits { result ≤ room_of self.now }
+        ensures reserved { room_of self.now ≤ reserved_in self.now }
     {
         self.idle.len()
     }
@@ -98,6 +123,10 @@ impl<L: Link> Pool<L> {
     /// Lends the session that has been idle longest. It takes no memory.
     pub fn lend(&mut self) -> Result<Lease<L>, LendError>
         ensures room { room_of self.new ≡ room_of self.old }
+        ensures reserved { reserved_in self.new ≡ reserved_in self.old }
+        // Where one is idle and a number is left, it is lent: no memory is wanted for that.
+        ensures lends { idle_in L.tape L.faults self.old ≢ [] → lent_by self.old ≢ most_leases →
+            IsOk result }
         ensures lent { IfOk result (λ lease. Lends
             (idle_in L.tape L.faults self.old) (lent_by self.old)
             (idle_in L.tape L.faults self.new) (lent_by self.new)
@@ -113,6 +142,9 @@ impl<L: Link> Pool<L> {
             IfOk result (λ lease. LendsFirst hs
             (lent_by self.new) (idle_in L.tape L.faults self.new)
             (number_of lease) (lease_view L.tape L.faults lease)) }
+        // What its link has to come stays.
+        ensures foretold { IfOk result (λ lease.
+            lefts_in L.left self.old ≡ left_of L.left lease ∷ lefts_in L.left self.new) }
         // Empty comes exactly where none is idle, and else Exhausted exactly where 2^64-1 were lent.
         ensures refused { IfErr result
             (LendsNone (idle_in L.tape L.faults self.old) (lent_by self.old)) }
@@ -138,22 +170,30 @@ impl<L: Link> Pool<L> {
 
     /// Asks `DISCARD ALL` of a session whose lease is over. Where that is answered, and no transaction
     /// is open behind it, the session is idle from then on, behind all others. Else it is dropped with
-    /// its link. To keep it takes no memory of the pool's own.
+    /// its link. To keep it takes no memory of the pool's own: the room taken for the sessions stays.
     pub fn give_back(&mut self, alloc: Global, lease: Lease<L>) -> Returned
         requires { length (idle_in L.tape L.faults self.old) < room_of self.old }
         ensures room { room_of self.new ≡ room_of self.old }
+        ensures reserved { reserved_in self.new ≡ reserved_in self.old }
         ensures lent { lent_by self.new ≡ lent_by self.old }
         ensures counts { length (idle_in L.tape L.faults self.new)
             ≤ length (idle_in L.tape L.faults self.old) + 1 }
         // Kept only where that simple query is answered by responses, and the status is Idle.
         ensures gives_back { GivesBack (lease_view L.tape L.faults lease)
             (idle_in L.tape L.faults self.old) (idle_in L.tape L.faults self.new) result }
+        // Of a link that knows what is to come: the cause is one that these bytes have.
+        ensures foretold { L.foretells → GivesForetold (left_of L.left lease)
+            (lease_view L.tape L.faults lease)
+            (idle_in L.tape L.faults self.old) (idle_in L.tape L.faults self.new)
+            (lefts_in L.left self.old) (lefts_in L.left self.new) result }
         // Whatever was done over the session, the lease and the reset are made besides; and where it
         // is dropped the idle sessions are those that were idle before.
         ensures given { (hs : List History) (h : History) (l : Lent) →
             AreIdle (lent_by self.old) hs (idle_in L.tape L.faults self.old) →
             IsLent h l (lease_view L.tape L.faults lease) → l.number ≤ lent_by self.old →
             GivenBack (lent_by self.new) hs h l (idle_in L.tape L.faults self.new) result }
+        ensures dropped { (h : History) (l : Lent) → IsLent h l (lease_view L.tape L.faults lease) →
+            DropsFrom h l (lease_view L.tape L.faults lease) result }
     {
         let Lease {
             mut client,
@@ -161,7 +201,7 @@ impl<L: Link> Pool<L> {
         } = lease;
         match reset(alloc, &mut client) {
             Returned::Kept => {
-                self.idle.push_back_reserved(client);
+                self.keep(client);
                 Returned::Kept
             }
             Returned::Dropped(cause) => {

@@ -2,7 +2,8 @@
 ghost use Rattle.std.specs.Prelude.{◌≡◌, List, Result};
 ghost use Rattle.pgw_backend.specs.declared.client_error.PgWireClientError.{PgWireClientError as TheError};
 ghost use Rattle.pgw_session.specs.declared.types.Response.{Response as TheResponse};
-ghost use Rattle.pgw_pool.specs.Views.{view_of};
+ghost use Rattle.pgw_connection.specs.Line.{Foretold};
+ghost use Rattle.pgw_pool.specs.Views.{view_of, left_in};
 ghost use Rattle.pgw_pool.specs.Returning.{IsAsked, cause_of, kept_by, returned_by};
 
 use pgw_calls::laws::{simple_queries_are_segments, simple_queries_follow_one_another};
@@ -74,15 +75,35 @@ fn returned_by(
 }
 
 // Asks the reset.
-pub(crate) fn reset<L: Link>(alloc: Global, client: &mut PgWireClient<L>) -> Returned
-    ensures { (a : Result (List TheResponse) TheError) ×
-        IsAsked (view_of L.tape L.faults client.old) (view_of L.tape L.faults client.new) a ×
-        (result ≡ returned_by a (view_of L.tape L.faults client.new).client.transaction_status
-        (view_of L.tape L.faults client.new).broken) }
+fn ask_reset<L: Link>(
+    alloc: Global,
+    client: &mut PgWireClient<L>,
+) -> PgWireClientResult<Listed<Response>>
+    ensures asked { IsAsked (view_of L.tape L.faults client.old)
+        (view_of L.tape L.faults client.new) result }
+    ensures foretold { L.foretells →
+        Foretold (left_in L.left client.old) (left_in L.left client.new)
+        (view_of L.tape L.faults client.old).line.tape
+        (view_of L.tape L.faults client.new).line.tape }
 {
     simple_queries_are_segments();
     simple_queries_follow_one_another();
     let handler = DefaultSimpleQueryHandler::new(alloc);
-    let answer = client.simple_query(alloc, handler, RESET);
+    client.simple_query(alloc, handler, RESET)
+}
+
+// Asks the reset, and tells by its answer whether the session is kept.
+#[tactic(auto, using(crate::proofs::ReturnLaws::is_returned))]
+pub(crate) fn reset<L: Link>(alloc: Global, client: &mut PgWireClient<L>) -> Returned
+    ensures asked { (a : Result (List TheResponse) TheError) ×
+        IsAsked (view_of L.tape L.faults client.old) (view_of L.tape L.faults client.new) a ×
+        (result ≡ returned_by a (view_of L.tape L.faults client.new).client.transaction_status
+        (view_of L.tape L.faults client.new).broken) }
+    ensures foretold { L.foretells →
+        Foretold (left_in L.left client.old) (left_in L.left client.new)
+        (view_of L.tape L.faults client.old).line.tape
+        (view_of L.tape L.faults client.new).line.tape }
+{
+    let answer = ask_reset(alloc, client);
     returned_by(answer, client.transaction_status(), client.is_broken())
 }

@@ -1,9 +1,11 @@
 //! The logins of a pool's sessions.
 ghost use Rattle.std.specs.Prelude.{◌≡◌, ◌⊎◌, false, IfOk, IfErr};
+ghost use Rattle.pgw_link.specs.Tape.{new_tape};
+ghost use Rattle.pgw_connection.specs.Line.{Foretold};
 ghost use Rattle.pgw_backend.specs.declared.client_error.PgWireClientError.TheVariants as failure;
 ghost use Rattle.pgw_handlers.specs.Handling.{HasCause};
 ghost use Rattle.pgw_pool.specs.Histories.{IsIdle, new_history};
-ghost use Rattle.pgw_pool.specs.Views.{view_of};
+ghost use Rattle.pgw_pool.specs.Views.{view_of, left_in};
 ghost use Rattle.pgw_pool.specs.Starting.{dials, Connects, NotConnects};
 
 use pgw_calls::laws::logins_begin_a_client;
@@ -30,7 +32,11 @@ pub(crate) fn log_in<L: Link, D: Dialer<Link = L>>(
     ensures refused { IfErr result (λ e. NotConnects D.foretells config.now limit nonce
         (dials (D.tape dialer.old) (D.offer dialer.old) (D.faults dialer.old))
         (dials (D.tape dialer.new) (D.offer dialer.new) (D.faults dialer.new)) e
-        ⊎ (e ≡ failure.OutOfMemory)) }
+        ⊎ ((e ≡ failure.OutOfMemory)
+        × (dials (D.tape dialer.new) (D.offer dialer.new) (D.faults dialer.new)
+        ≡ dials (D.tape dialer.old) (D.offer dialer.old) (D.faults dialer.old)))) }
+    ensures foretold { D.foretells → IfOk result (λ client. Foretold (D.offer dialer.old)
+        (left_in L.left client) new_tape (view_of L.tape L.faults client).line.tape) }
     ensures cause { HasCause (D.faults dialer.old) (D.faults dialer.new) false result }
 {
     logins_begin_a_client();

@@ -2,6 +2,7 @@ use Rattle.std.proofs.Common.{◌≡◌, Bool, List, false, ap, refl, sym, subst
 use Rattle.pgw_query.specs.declared.data.DataRow.{DataRow}
 use Rattle.pgw_connection.specs.declared.gathered.Gathered.{Gathered}
 use Rattle.pgw_connection.specs.State.{is_broken}
+use Rattle.pgw_connection.proofs.ForetoldLaws.{foretold_still}
 use Rattle.pgw_calls.specs.Extended.{given}
 use Rattle.pgw_ask.specs.Asking.{wants}
 use Rattle.pgw_ask.proofs.AskLaws.{adds, answered_caused, called_both, ended_caused, ends_as, extended, extended_came}
@@ -52,3 +53,18 @@ returns-in-Err-request-clause-cause g c =
     let usable = subst (λ x. is_broken x ≡ false) (sym lent) c.requires.usable in
     let back : c.client-1.given.0 ≡ c.request.new.self.client.now = c.client-1.given.1 (sym (c.request.ensures.same_client ∙ c.extended_query-lent.ensures.same_client)) in
     rw (sym lent, back) (ended_caused _ _ _ c.is_broken.result c.in-Err-request.error c.answered.result usable c.answered.ensures c.in-Err-request.ensures.asks.cause)
+
+pub returns-in-Err-clause-foretold : goal.returns-in-Err-clause-foretold
+returns-in-Err-clause-foretold g c = λ t. foretold_still _ _
+
+pub returns-in-Ok-request-clause-foretold : goal.returns-in-Ok-request-clause-foretold
+returns-in-Ok-request-clause-foretold g c = λ t.
+    let lent = c.extended_query-lent.ensures.client in
+    let back : c.client-1.given.0 ≡ c.request.new.self.client.now = c.client-1.given.1 (sym (c.request.ensures.same_client ∙ c.extended_query-lent.ensures.same_client)) in
+    rw (sym lent, back) (c.in-Ok-request.ensures.asks.foretold t)
+
+pub returns-in-Err-request-clause-foretold : goal.returns-in-Err-request-clause-foretold
+returns-in-Err-request-clause-foretold g c = λ t.
+    let lent = c.extended_query-lent.ensures.client in
+    let back : c.client-1.given.0 ≡ c.request.new.self.client.now = c.client-1.given.1 (sym (c.request.ensures.same_client ∙ c.extended_query-lent.ensures.same_client)) in
+    rw (sym lent, back) (c.in-Err-request.ensures.asks.foretold t)

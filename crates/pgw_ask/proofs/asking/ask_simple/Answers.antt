@@ -24,3 +24,9 @@ returns-in-Ok-clause-cause g c = answered_caused _ _ _ c.in-Ok.responses (answer
 
 pub returns-in-Err-clause-cause : goal.returns-in-Err-clause-cause
 returns-in-Err-clause-cause g c = ended_caused _ _ _ c.is_broken.result c.in-Err.error c.answered.result c.requires c.answered.ensures c.in-Err.ensures.cause
+
+pub returns-in-Ok-clause-foretold : goal.returns-in-Ok-clause-foretold
+returns-in-Ok-clause-foretold g c = c.in-Ok.ensures.foretold
+
+pub returns-in-Err-clause-foretold : goal.returns-in-Err-clause-foretold
+returns-in-Err-clause-foretold g c = c.in-Err.ensures.foretold

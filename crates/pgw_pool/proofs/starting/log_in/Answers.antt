@@ -38,4 +38,4 @@ returns-in-Ok-clause-refused g c =
     c.connect.ensures.refused
 
 pub returns-in-Err-clause-refused : goal.returns-in-Err-clause-refused
-returns-in-Err-clause-refused g c = inr refl
+returns-in-Err-clause-refused g c = inr (refl, refl)

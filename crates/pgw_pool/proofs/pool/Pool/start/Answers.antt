@@ -1,9 +1,9 @@
-use Rattle.std.proofs.Common.{◌≡◌, List, [], ◌∷◌, ◌++◌, get_or, map, arith, refl, ◌∙◌, ap, subst}
+use Rattle.std.proofs.Common.{◌≡◌, List, [], ◌∷◌, ◌++◌, get_or, map, arith, inr, refl, ◌∙◌, ap, subst}
 use Rattle.std.proofs.lemmas.List.{map-append}
 use Rattle.pgw_pool.specs.Histories.{AreIdle}
-use Rattle.pgw_pool.specs.Views.{view_of}
-use Rattle.pgw_pool.specs.Starting.{dials, new_histories, ConnectAll}
-use Rattle.pgw_pool.proofs.StartLaws.{all_taken, caused_before, connected_first, connected_next, idle_first, idle_next, stops_next}
+use Rattle.pgw_pool.specs.Views.{view_of, left_in}
+use Rattle.pgw_pool.specs.Starting.{dials, new_histories, ConnectAll, ConnectForetold}
+use Rattle.pgw_pool.proofs.StartLaws.{all_taken, caused_before, connected_first, connected_next, foretold_first, foretold_next, idle_first, idle_next, stops_next, wants_first}
 use Rattle.pgw_pool.proofs.pool.Pool.start.Goals as goal
 
 pub loop-nonce-init : goal.loop-nonce-init
@@ -16,6 +16,7 @@ loop-nonce-init g c =
       later = (omega arith);
       idle = idle_first c.args.config.now c.args.nonces.now _ none;
       connected = connected_first c.args.config.now c.args.limit (dials (g.D.Dialer.tape d) (g.D.Dialer.offer d) (g.D.Dialer.faults d)) c.args.nonces.now _ none;
+      foretold = λ t. foretold_first c.args.config.now c.args.limit (dials (g.D.Dialer.tape d) (g.D.Dialer.offer d) (g.D.Dialer.faults d)) c.args.nonces.now _ _ (ap (map (left_in {L = g.L.Link} g.L.Link.left)) c.in-Ok.ensures.items) none;
     }
 
 pub loop-nonce-preserved : goal.loop-nonce-preserved
@@ -25,6 +26,7 @@ loop-nonce-preserved g c =
     let mid = c.loop-nonce.dialer in
     let now = c.log_in.new.dialer in
     let i = c.loop-nonce.invariant in
+    let F = left_in {L = g.L.Link} g.L.Link.left in
     let client = c.in-Ok-log_in.client in
     let grown : map V c.push_back_reserved.new.self.items ≡ map V c.loop-nonce.idle.items ++ V client ∷ [] =
     ap (map V) c.push_back_reserved.ensures.items ∙ map-append V c.loop-nonce.idle.items (client ∷ []) in
@@ -36,6 +38,10 @@ loop-nonce-preserved g c =
       connected = connected_next c.args.config.now c.args.limit c.args.nonces.now c.loop-nonce.nonce-index (get_or c.args.nonces.now c.loop-nonce.nonce-index [])
           (dials (g.D.Dialer.tape first) (g.D.Dialer.offer first) (g.D.Dialer.faults first)) (dials (g.D.Dialer.tape mid) (g.D.Dialer.offer mid) (g.D.Dialer.faults mid)) (dials (g.D.Dialer.tape now) (g.D.Dialer.offer now) (g.D.Dialer.faults now))
           (map V c.loop-nonce.idle.items) (map V c.push_back_reserved.new.self.items) (V client) c.loop-nonce-test.true refl grown i.connected c.in-Ok-log_in.ensures.connects;
+      foretold = λ t. foretold_next c.args.config.now c.args.limit c.args.nonces.now c.loop-nonce.nonce-index (get_or c.args.nonces.now c.loop-nonce.nonce-index [])
+          (dials (g.D.Dialer.tape first) (g.D.Dialer.offer first) (g.D.Dialer.faults first)) (dials (g.D.Dialer.tape mid) (g.D.Dialer.offer mid) (g.D.Dialer.faults mid)) (dials (g.D.Dialer.tape now) (g.D.Dialer.offer now) (g.D.Dialer.faults now))
+          (map F c.loop-nonce.idle.items) (map F c.push_back_reserved.new.self.items) (F client) (map V c.loop-nonce.idle.items) (map V c.push_back_reserved.new.self.items) (V client) c.loop-nonce-test.true refl
+          (ap (map F) c.push_back_reserved.ensures.items ∙ map-append F c.loop-nonce.idle.items (client ∷ [])) grown (i.foretold t) c.in-Ok-log_in.ensures.connects (c.in-Ok-log_in.ensures.foretold t) c.in-Ok-log_in.ensures.cause.later;
     }
 
 pub returns-clause-idle : goal.returns-clause-idle
@@ -51,6 +57,20 @@ returns-clause-connected g c =
     subst (λ (ns : List (List _)). ConnectAll c.args.config.now c.args.limit (dials (g.D.Dialer.tape first) (g.D.Dialer.offer first) (g.D.Dialer.faults first)) ns (dials (g.D.Dialer.tape mid) (g.D.Dialer.offer mid) (g.D.Dialer.faults mid)) (map V c.loop-nonce.idle.items))
     (all_taken c.args.nonces.now c.loop-nonce.nonce-index c.loop-nonce-test.false) c.loop-nonce.invariant.connected
 
+pub returns-clause-foretold : goal.returns-clause-foretold
+returns-clause-foretold g c = λ t.
+    let V = view_of g.L.Link.tape g.L.Link.faults in
+    let F = left_in {L = g.L.Link} g.L.Link.left in
+    let first = c.args.dialer.now in
+    let mid = c.loop-nonce.dialer in
+    subst (λ (ns : List (List _)). ConnectForetold c.args.config.now c.args.limit (dials (g.D.Dialer.tape first) (g.D.Dialer.offer first) (g.D.Dialer.faults first)) ns (dials (g.D.Dialer.tape mid) (g.D.Dialer.offer mid) (g.D.Dialer.faults mid)) (map F c.loop-nonce.idle.items) (map V c.loop-nonce.idle.items))
+    (all_taken c.args.nonces.now c.loop-nonce.nonce-index c.loop-nonce-test.false) (c.loop-nonce.invariant.foretold t)
+
+pub returns-in-Err-clause-refused : goal.returns-in-Err-clause-refused
+returns-in-Err-clause-refused g c =
+    let d = c.args.dialer.now in
+    inr (refl, wants_first g.D.Dialer.foretells c.args.config.now c.args.limit c.args.nonces.now (dials (g.D.Dialer.tape d) (g.D.Dialer.offer d) (g.D.Dialer.faults d)))
+
 pub returns-clause-cause : goal.returns-clause-cause
 returns-clause-cause g c = record { later = c.loop-nonce.invariant.later; failed = tt }
 
@@ -62,7 +82,7 @@ returns-in-Err-log_in-clause-refused g c =
     let now = c.log_in.new.dialer in
     stops_next g.D.Dialer.foretells c.args.config.now c.args.limit c.args.nonces.now c.loop-nonce.nonce-index (get_or c.args.nonces.now c.loop-nonce.nonce-index [])
     (dials (g.D.Dialer.tape first) (g.D.Dialer.offer first) (g.D.Dialer.faults first)) (dials (g.D.Dialer.tape mid) (g.D.Dialer.offer mid) (g.D.Dialer.faults mid)) (dials (g.D.Dialer.tape now) (g.D.Dialer.offer now) (g.D.Dialer.faults now))
-    (map V c.loop-nonce.idle.items) c.in-Err-log_in.error c.loop-nonce-test.true refl c.loop-nonce.invariant.connected c.in-Err-log_in.ensures.refused
+    (map V c.loop-nonce.idle.items) c.in-Err-log_in.error c.loop-nonce-test.true refl c.loop-nonce.invariant.connected (λ t. (_, c.loop-nonce.invariant.foretold t)) c.loop-nonce.invariant.later c.in-Err-log_in.ensures.cause.later c.in-Err-log_in.ensures.refused
 
 pub returns-in-Err-log_in-clause-cause : goal.returns-in-Err-log_in-clause-cause
 returns-in-Err-log_in-clause-cause g c = caused_before _ _ _ c.in-Err-log_in.error c.loop-nonce.invariant.later c.in-Err-log_in.ensures.cause

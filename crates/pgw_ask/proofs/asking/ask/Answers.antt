@@ -1,0 +1,5 @@
+use Rattle.pgw_connection.proofs.ForetoldLaws.{foretold_still}
+use Rattle.pgw_ask.proofs.asking.ask.Goals as goal
+
+pub returns-then-is_broken-clause-foretold : goal.returns-then-is_broken-clause-foretold
+returns-then-is_broken-clause-foretold g c = λ t. foretold_still _ _

@@ -1,0 +1,173 @@
+-- What any list of calls does.
+use Rattle.std.proofs.Common.{◌≡◌, ◌⊎◌, ◌≤◌, ℕ, ◌+◌, Bool, true, false, List, [], ◌∷◌, ◌++◌, Result, Ok, Err, arith, inl, inr, refl, sym, ◌∙◌, ap, subst, append_assoc}
+use Rattle.std.proofs.lemmas.List.{append-nil}
+use Rattle.pgw_backend.specs.declared.client_error.PgWireClientError.{PgWireClientError as ClientError}
+use Rattle.pgw_backend.specs.declared.client_error.PgWireClientError.TheVariants as client
+use Rattle.pgw_session.specs.declared.types.Request.{Request}
+use Rattle.pgw_session.specs.declared.types.Answer.{Answer}
+use Rattle.pgw_session.specs.Events.{Event}
+use Rattle.pgw_pool.specs.declared.returned.Returned.{Returned}
+use Rattle.pgw_pool.specs.declared.returned.Returned.TheVariants.{Kept, Dropped}
+use Rattle.pgw_pool.specs.declared.returned.DropCause.{DropCause}
+use Rattle.pgw_pool.specs.Histories.{History, Lent, View, lent_as, with_request, with_lease, ended, Over, IsReset, AreReset, BeginsIdle, IsIdle, IsLent, AreIdle}
+use Rattle.pgw_pool.specs.Lending.{Lends, LendsFirst, IsCut, Ran}
+use Rattle.pgw_pool.specs.Returning.{GivesBack, GivenBack, returned_by, idle_behind}
+use Rattle.pgw_pool.specs.Stocks.{Out, leased, Stock, stock, Runs, Step, lends, runs, gives_back, Steps, no_step, step_more}
+use Rattle.pgw_pool.specs.Ledgers.{Loan, loan, Ledger, ledger, IsLoan, AreLoans, IsLedger, Call, lent, asked, given, call_of, calls_of, Adds, answered, passed, stays, Entry, is_lent, is_asked, is_kept, is_dropped, Entries, no_entry, entry_more}
+use Rattle.pgw_pool.proofs.HistoryLaws.{lends_first}
+use Rattle.pgw_pool.proofs.RunLaws.{ran}
+use Rattle.pgw_pool.proofs.ReturnLaws.{given_back}
+use Rattle.pgw_pool.proofs.StockLaws.{cut_result}
+
+-- ---- loans
+
+loans_later : (low high : ℕ) (xs : List Loan) (os : List Out) → low ≤ high → AreLoans low xs os → AreLoans high xs os
+loans_later low high [] [] le are = tt
+loans_later low high (x ∷ xs) (o ∷ os) le are = (
+  record { number = (are.0).number; own = (let own = (are.0).own in omega arith); stands = (are.0).stands },
+  loans_later low high xs os le are.1,
+)
+loans_later low high [] (o ∷ os) le are = absurd are
+loans_later low high (x ∷ xs) [] le are = absurd are
+
+loans_append : (n : ℕ) (xs ys : List Loan) (os ps : List Out) → AreLoans n xs os → AreLoans n ys ps → AreLoans n (xs ++ ys) (os ++ ps)
+loans_append n [] ys [] ps a b = b
+loans_append n (x ∷ xs) ys (o ∷ os) ps a b = (a.0, loans_append n xs ys os ps a.1 b)
+loans_append n [] ys (o ∷ os) ps a b = absurd a
+loans_append n (x ∷ xs) ys [] ps a b = absurd a
+
+-- the loan of a lease that is out
+pub record Found (n : ℕ) (xs : List Loan) (left : List Out) (o : Out) (right : List Out) : Type 0 where
+  pub before : List Loan
+  pub behind : List Loan
+  pub at : Loan
+  pub are : xs ≡ before ++ at ∷ behind
+  pub first : AreLoans n before left
+  pub is : IsLoan n at o
+  pub last : AreLoans n behind right
+
+found : (n : ℕ) (xs : List Loan) (left : List Out) (o : Out) (right : List Out) → AreLoans n xs (left ++ o ∷ right) → Found n xs left o right
+found n [] [] o right are = absurd are
+found n (x ∷ xs) [] o right are = record { before = []; behind = xs; at = x; are = refl; first = tt; is = are.0; last = are.1 }
+found n [] (p ∷ left) o right are = absurd are
+found n (x ∷ xs) (p ∷ left) o right are =
+    let f = found n xs left o right are.1 in
+    record { before = x ∷ f.before; behind = f.behind; at = f.at; are = ap (λ (l : List Loan). x ∷ l) f.are; first = (are.0, f.first); is = f.is; last = f.last }
+
+-- ---- what one call does
+
+abbrev pub Goes : Call → Ledger → Stock → Type 0
+Goes call a t = (b : Ledger) × Entry call a b × IsLedger b t
+
+lent_goes : (before now number : ℕ) (hs : List History) (rest : List View) (v : View) (out : List Loan) (os : List Out) (gone : List Loan) → now ≡ before + 1 → number ≡ now → LendsFirst hs now rest number v → AreLoans before out os
+    → Goes (lent number) (ledger hs out gone) (stock now rest (os ++ leased number v ∷ []))
+lent_goes before now number [] rest v out os gone counted numbered first are = absurd first
+lent_goes before now number (h ∷ hs) rest v out os gone counted numbered first are =
+    let last : IsLoan now (loan h (lent_as number)) (leased number v) = record { number = refl; own = (omega arith); stands = inl first.0 } in
+    (ledger hs (out ++ loan h (lent_as number) ∷ []) gone, is_lent number h hs out gone first.1,
+    record { idle = first.2; out = loans_append now out (loan h (lent_as number) ∷ []) os (leased number v ∷ []) (loans_later before now out os (omega arith) are) (last, tt) })
+
+abbrev pub Grown : ℕ → ℕ → Request → Result Answer ClientError → History → Lent → View → Type 0
+Grown n number q result h l new = (more : Lent) × Adds q l result more × IsLoan n (loan h more) (leased number new)
+
+ran_grown : (n number : ℕ) (h : History) (l : Lent) (q : Request) (new : View) (broken : Bool) (result : Result Answer ClientError) → l.number ≡ number → number ≤ n → Ran h l q new broken result → Grown n number q result h l new
+ran_grown n number h l q new false (Ok a) same own r = (with_request l q r.0, answered a r.0 r.1, record { number = same; own = own; stands = inl r.2 })
+ran_grown n number h l q new false (Err (client.UnexpectedMessage m)) same own r = (with_request l q r.0, passed m r.0 r.1, record { number = same; own = own; stands = inl r.2 })
+ran_grown n number h l q new false (Err (client.PgWireError why)) same own r = (l, stays (client.PgWireError why), record { number = same; own = own; stands = inl r })
+ran_grown n number h l q new false (Err client.OutOfMemory) same own r = (l, stays client.OutOfMemory, record { number = same; own = own; stands = inl r })
+ran_grown n number h l q new true (Err e) same own r = (l, stays e, record { number = same; own = own; stands = inr (q, e, r) })
+ran_grown n number h l q new true (Ok a) same own r = absurd r
+ran_grown n number h l q new false (Err e) same own r = absurd r
+
+grown : (n number : ℕ) (x : Loan) (q : Request) (old new : View) (result : Result Answer ClientError) → Runs q old new result → IsLoan n x (leased number old) → Grown n number q result x.history x.lease new
+grown n number x q old new result r is = grown_by is.stands
+  where
+    grown_by : IsLent x.history x.lease old ⊎ ((p : Request) × (e : ClientError) × IsCut x.history x.lease p e old) → Grown n number q result x.history x.lease new
+    grown_by (inl lease) = ran_grown n number x.history x.lease q new new.broken result is.number is.own (ran x.history x.lease q old new lease result new.broken refl (r.asks lease.usable))
+    grown_by (inr cut) =
+        let left = r.broken cut.2.broken in
+        let same : IsLoan n x (leased number new) = record { number = is.number; own = is.own; stands = inr (cut.0, cut.1, subst (λ (v : View). IsCut x.history x.lease cut.0 cut.1 v) (sym left.1) cut.2) } in
+        (x.lease, subst (λ (y : Result Answer ClientError). Adds q x.lease y x.lease) (sym left.0) (stays client.Broken), same)
+
+-- ---- a lease that is given back
+
+reset_last : (os : List Over) (o : Over) → AreReset (os ++ o ∷ []) → IsReset o.reset
+reset_last [] o are = are.0
+reset_last (x ∷ os) o are = reset_last os o are.1
+
+idle_last : (n : ℕ) (hs : List History) (h : History) (vs : List View) → AreIdle n (hs ++ h ∷ []) vs → AreReset h.over
+idle_last n [] h [] are = absurd are
+idle_last n [] h (v ∷ vs) are = (are.0).resets
+idle_last n (x ∷ hs) h [] are = absurd are
+idle_last n (x ∷ hs) h (v ∷ vs) are = idle_last n hs h vs are.1
+
+-- the session is idle with the lease and its reset, or it is dropped
+pub data Ends (n : ℕ) (hs : List History) (h : History) (l : Lent) (now : List View) : Returned → Type 0 where
+  idle_again : (es : List Event) → IsReset es → AreIdle n (hs ++ with_lease h l es ∷ []) now → Ends n hs h l now Kept
+  gone : (why : DropCause) → AreIdle n hs now → Ends n hs h l now (Dropped why)
+
+ends_by : (n : ℕ) (hs : List History) (h : History) (l : Lent) (now : List View) (result : Returned) → GivenBack n hs h l now result → Ends n hs h l now result
+ends_by n hs h l now Kept g = idle_again g.0 (reset_last h.over (ended l g.0) (idle_last n hs (with_lease h l g.0) now g.1)) g.1
+ends_by n hs h l now (Dropped why) g = gone why g.0
+
+ended_as : (n number : ℕ) (hs : List History) (idle now : List View) (x : Loan) (old : View) (result : Returned) → GivesBack old idle now result → AreIdle n hs idle → IsLoan n x (leased number old) → Ends n hs x.history x.lease now result
+ended_as n number hs idle now x old result g are is = ended_by is.stands
+  where
+    ended_by : IsLent x.history x.lease old ⊎ ((p : Request) × (e : ClientError) × IsCut x.history x.lease p e old) → Ends n hs x.history x.lease now result
+    ended_by (inl lease) = ends_by n hs x.history x.lease now result (given_back n hs x.history x.lease old idle now result g are lease (subst (λ k. k ≤ n) (sym is.number) is.own))
+    ended_by (inr cut) =
+        let dropped = cut_result old idle now result g cut.2.broken in
+        subst (Ends n hs x.history x.lease now) (sym dropped.1) (gone dropped.0 (subst (AreIdle n hs) (sym dropped.2) are))
+
+gone_on : (n number : ℕ) (hs : List History) (now : List View) (h : History) (l : Lent) (before behind lost : List Loan) (left right : List Out) (result : Returned) → l.number ≡ number → AreLoans n before left → AreLoans n behind right
+    → Ends n hs h l now result → Goes (given number result) (ledger hs (before ++ loan h l ∷ behind) lost) (stock n now (left ++ right))
+gone_on n number hs now h l before behind lost left right Kept same first last (idle_again es is are) =
+    (ledger (hs ++ with_lease h l es ∷ []) (before ++ behind) lost,
+    subst (λ k. Entry (given k Kept) (ledger hs (before ++ loan h l ∷ behind) lost) (ledger (hs ++ with_lease h l es ∷ []) (before ++ behind) lost)) same (is_kept h l es hs before behind lost is),
+    record { idle = are; out = loans_append n before behind left right first last })
+gone_on n number hs now h l before behind lost left right (Dropped why) same first last (gone x are) =
+    (ledger hs (before ++ behind) (lost ++ loan h l ∷ []),
+    subst (λ k. Entry (given k (Dropped why)) (ledger hs (before ++ loan h l ∷ behind) lost) (ledger hs (before ++ behind) (lost ++ loan h l ∷ []))) same (is_dropped h l why hs before behind lost),
+    record { idle = are; out = loans_append n before behind left right first last })
+
+-- ---- calls
+
+one_entry : (s t : Stock) (step : Step s t) (a : Ledger) → IsLedger a s → Goes (call_of s t step) a t
+one_entry s t (lends before now number idle rest v out l) a is =
+    lent_goes before now number a.idle rest v a.out out a.dropped l.counted l.numbered (lends_first before now number a.idle idle rest v l.first l.counted l.numbered is.idle) is.out
+one_entry s t (runs n number idle left right q old new result r) a is =
+    let f = found n a.out left (leased number old) right is.out in
+    let g = grown n number f.at q old new result r f.is in
+    let h = (f.at).history in
+    let b = ledger a.idle (f.before ++ loan h g.0 ∷ f.behind) a.dropped in
+    let entry : Entry (asked number q result) (ledger a.idle (f.before ++ f.at ∷ f.behind) a.dropped) b =
+        subst (λ k. Entry (asked k q result) (ledger a.idle (f.before ++ f.at ∷ f.behind) a.dropped) b) f.is.number (is_asked h (f.at).lease g.0 q result a.idle f.before f.behind a.dropped g.1) in
+    (b, subst (λ (xs : List Loan). Entry (asked number q result) (ledger a.idle xs a.dropped) b) (sym f.are) entry,
+    record { idle = is.idle; out = loans_append n f.before (loan h g.0 ∷ f.behind) left (leased number new ∷ right) f.first (g.2, f.last) })
+one_entry s t (gives_back n number idle now left right old result g) a is =
+    let f = found n a.out left (leased number old) right is.out in
+    let ends = ended_as n number a.idle idle now f.at old result g is.idle f.is in
+    subst (λ (xs : List Loan). Goes (given number result) (ledger a.idle xs a.dropped) (stock n now (left ++ right))) (sym f.are)
+    (gone_on n number a.idle now (f.at).history (f.at).lease f.before f.behind a.dropped left right result f.is.number f.first f.last ends)
+
+pub any_entries : (s t : Stock) (steps : Steps s t) (a : Ledger) → IsLedger a s → (b : Ledger) × Entries (calls_of s t steps) a b × IsLedger b t
+any_entries s t (no_step x) a is = (a, no_entry a, is)
+any_entries s t (step_more x y z steps step) a is =
+    let first = any_entries x y steps a is in
+    let last = one_entry y z step first.0 first.2 in
+    (last.0, entry_more (calls_of x y steps) (call_of y z step) a first.0 last.0 first.1 last.1, last.2)
+
+-- ---- the dropped ones
+
+dropped_one : (call : Call) (a b : Ledger) → Entry call a b → (more : List Loan) × (b.dropped ≡ a.dropped ++ more)
+dropped_one call a b (is_lent number h idle out dropped begins) = ([], sym (append-nil dropped))
+dropped_one call a b (is_asked h l more q result idle left right dropped adds) = ([], sym (append-nil dropped))
+dropped_one call a b (is_kept h l es idle left right dropped is) = ([], sym (append-nil dropped))
+dropped_one call a b (is_dropped h l why idle left right dropped) = (loan h l ∷ [], refl)
+
+pub dropped_stay : (calls : List Call) (a b : Ledger) → Entries calls a b → (more : List Loan) × (b.dropped ≡ a.dropped ++ more)
+dropped_stay calls a b (no_entry x) = ([], sym (append-nil x.dropped))
+dropped_stay calls a b (entry_more before call x y z entries entry) =
+    let first = dropped_stay before x y entries in
+    let last = dropped_one call y z entry in
+    (first.0 ++ last.0, last.1 ∙ ap (λ (l : List Loan). l ++ last.0) first.1 ∙ append_assoc x.dropped first.0 last.0)
