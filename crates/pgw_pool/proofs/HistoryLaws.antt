@@ -20,7 +20,7 @@ use Rattle.pgw_handlers.specs.Client.{Client}
 use Rattle.pgw_connection.specs.Line.{Line, Moved, IsFlushed}
 use Rattle.pgw_calls.specs.Turns.{knowing}
 use Rattle.pgw_calls.specs.Stands.{Made, made, events_of}
-use Rattle.pgw_pool.specs.Histories.{Lent, Over, History, ended, with_lease, reset, made_over, EndsIn, IsReset, AreReset, BeginsIdle, Ascend, View, StandsBy, IsIdle, AreIdle, IsLent}
+use Rattle.pgw_pool.specs.Histories.{Lent, Over, ended, checked, History, with_lease, reset, made_in, made_over, IsOver, EndsIn, IsReset, AreReset, BeginsIdle, Ascend, View, StandsBy, IsIdle, AreIdle, IsLent}
 use Rattle.pgw_pool.specs.Lending.{LendsFirst}
 
 -- ---- lists
@@ -32,23 +32,28 @@ mapped_behind f xs now x is = ap (map f) is ∙ map-append f xs (x ∷ [])
 
 pub ascend_later : (low high later : ℕ) (os : List Over) → high ≤ later → Ascend low os high → Ascend low os later
 ascend_later low high later [] le a = omega arith
-ascend_later low high later (o ∷ os) le a = (a.0, ascend_later o.lease.number high later os le a.1)
+ascend_later low high later (ended l es ∷ os) le a = (a.0, ascend_later l.number high later os le a.1)
+ascend_later low high later (checked es ∷ os) le a = ascend_later low high later os le a
 
-pub ascend_more : (low high : ℕ) (os : List Over) (o : Over) → high < o.lease.number → Ascend low os high → Ascend low (os ++ o ∷ []) o.lease.number
-ascend_more low high [] o above a = (omega arith, omega arith)
-ascend_more low high (x ∷ os) o above a = (a.0, ascend_more x.lease.number high os o above a.1)
+pub ascend_more : (low high : ℕ) (os : List Over) (l : Lent) (es : List Event) → high < l.number → Ascend low os high → Ascend low (os ++ ended l es ∷ []) l.number
+ascend_more low high [] l es above a = (omega arith, omega arith)
+ascend_more low high (ended x fs ∷ os) l es above a = (a.0, ascend_more x.number high os l es above a.1)
+ascend_more low high (checked fs ∷ os) l es above a = ascend_more low high os l es above a
+
+pub ascend_check : (low high : ℕ) (os : List Over) (es : List Event) → Ascend low os high → Ascend low (os ++ checked es ∷ []) high
+ascend_check low high [] es a = a
+ascend_check low high (ended x fs ∷ os) es a = (a.0, ascend_check x.number high os es a.1)
+ascend_check low high (checked fs ∷ os) es a = ascend_check low high os es a
 
 -- ---- requests and their events
 
-pub resets_more : (os : List Over) (o : Over) → AreReset os → IsReset o.reset → AreReset (os ++ o ∷ [])
+pub resets_more : (os : List Over) (o : Over) → AreReset os → IsOver o → AreReset (os ++ o ∷ [])
 resets_more [] o are is = (is, tt)
 resets_more (x ∷ os) o are is = (are.0, resets_more os o are.1 is)
 
-pub made_more : (os : List Over) (o : Over) → made_over (os ++ o ∷ []) ≡ made_over os ++ (o.lease.made ++ made reset o.reset ∷ [])
-made_more [] o = refl
-made_more (x ∷ os) o =
-    ap (λ (ts : List Made). x.lease.made ++ (made reset x.reset ∷ ts)) (made_more os o)
-    ∙ sym (append_assoc x.lease.made (made reset x.reset ∷ made_over os) (o.lease.made ++ made reset o.reset ∷ []))
+pub made_more : (os : List Over) (o : Over) → made_over (os ++ o ∷ []) ≡ made_over os ++ made_in o
+made_more [] o = append-nil (made_in o)
+made_more (x ∷ os) o = ap (λ (ts : List Made). made_in x ++ ts) (made_more os o) ∙ sym (append_assoc (made_in x) (made_over os) (made_in o))
 
 events_append : (ts us : List Made) → events_of (ts ++ us) ≡ events_of ts ++ events_of us
 events_append [] us = refl
@@ -63,13 +68,15 @@ ends_behind : (status : TransactionStatus) (before es : List Event) → EndsIn s
 ends_behind status before es e =
     (before ++ e.0, e.1, ap (λ (l : List Event). before ++ l) e.2 ∙ sym (append_assoc before e.0 (Got (backend.ReadyForQuery e.1) ∷ [])), e.3)
 
+ends_one : (o : Over) → IsOver o → EndsIn Idle (events_of (made_in o))
+ends_one (ended l es) is = subst (EndsIn Idle) (sym (events_last l.made (made reset es))) (ends_behind Idle (events_of l.made) es is.2)
+ends_one (checked es) is = subst (EndsIn Idle) (sym (append-nil es)) is.1
+
 ends_over : (o : Over) (os : List Over) → AreReset (o ∷ os) → EndsIn Idle (events_of (made_over (o ∷ os)))
-ends_over o [] are =
-    subst (EndsIn Idle) (sym (events_last o.lease.made (made reset o.reset))) (ends_behind Idle (events_of o.lease.made) o.reset (are.0).2)
+ends_over o [] are = subst (λ (ts : List Made). EndsIn Idle (events_of ts)) (sym (append-nil (made_in o))) (ends_one o are.0)
 ends_over o (p ∷ os) are =
-    subst (EndsIn Idle) (sym (events_append o.lease.made (made reset o.reset ∷ made_over (p ∷ os))))
-    (ends_behind Idle (events_of o.lease.made) (o.reset ++ events_of (made_over (p ∷ os)))
-    (ends_behind Idle o.reset (events_of (made_over (p ∷ os))) (ends_over p os are.1)))
+    subst (EndsIn Idle) (sym (events_append (made_in o) (made_over (p ∷ os))))
+    (ends_behind Idle (events_of (made_in o)) (events_of (made_over (p ∷ os))) (ends_over p os are.1))
 
 pub begins_idle : (os : List Over) → AreReset os → BeginsIdle os
 begins_idle [] are = tt
@@ -134,6 +141,12 @@ idle_more lent (x ∷ hs) h (w ∷ vs) v are is = (are.0, idle_more lent hs h vs
 idle_more lent [] h (w ∷ vs) v are is = absurd are
 idle_more lent (x ∷ hs) h [] v are is = absurd are
 
+-- a session more of which none was lent
+pub idle_one_more : (low now : ℕ) (hs : List History) (h : History) (vs all : List View) (v : View) → now ≡ low → all ≡ vs ++ v ∷ [] → AreIdle low hs vs → IsIdle 0 h v → AreIdle now (hs ++ h ∷ []) all
+idle_one_more low now hs h vs all v same grown are is =
+    let last = idle_later 0 low (h ∷ []) (v ∷ []) (omega arith) (is, tt) in
+    subst (λ n. AreIdle n (hs ++ h ∷ []) all) (sym same) (subst (AreIdle low (hs ++ h ∷ [])) (sym grown) (idle_more low hs h vs v are last.0))
+
 -- ---- a lease begins and ends
 
 pub first_lent : (lent now number : ℕ) (hs : List History) (v : View) (rest : List View) → now ≡ lent + 1 → number ≡ now → AreIdle lent hs (v ∷ rest) → LendsFirst hs now rest number v
@@ -161,7 +174,7 @@ pub lease_ends : (lent : ℕ) (h : History) (l : Lent) (es : List Event) (old la
 lease_ends lent h l es old last lease own stands is usable flushed = record {
   stands = subst (λ (ts : List Made). StandsBy h ts last) (append_assoc (made_over h.over) l.made (made reset es ∷ []) ∙ sym (made_more h.over (ended l es))) stands;
   resets = resets_more h.over (ended l es) lease.resets is;
-  ascend = ascend_later 0 l.number lent (h.over ++ ended l es ∷ []) own (ascend_more 0 lease.last h.over (ended l es) lease.above lease.ascend);
+  ascend = ascend_later 0 l.number lent (h.over ++ ended l es ∷ []) own (ascend_more 0 lease.last h.over l es lease.above lease.ascend);
   usable = usable;
   flushed = flushed;
 }

@@ -9,7 +9,7 @@ use Rattle.pgw_session.specs.Events.{Event}
 use Rattle.pgw_pool.specs.declared.returned.Returned.{Returned}
 use Rattle.pgw_pool.specs.declared.returned.Returned.TheVariants.{Kept, Dropped}
 use Rattle.pgw_pool.specs.declared.returned.DropCause.{DropCause}
-use Rattle.pgw_pool.specs.Histories.{History, Lent, View, lent_as, with_request, with_lease, ended, Over, IsReset, AreReset, BeginsIdle, IsIdle, IsLent, AreIdle}
+use Rattle.pgw_pool.specs.Histories.{History, Lent, View, lent_as, with_request, with_lease, Over, ended, IsOver, IsReset, AreReset, BeginsIdle, IsIdle, IsLent, AreIdle}
 use Rattle.pgw_pool.specs.Lending.{Lends, LendsFirst, IsCut, Ran}
 use Rattle.pgw_pool.specs.Returning.{GivesBack, GivenBack, returned_by, idle_behind}
 use Rattle.pgw_pool.specs.Stocks.{Out, leased, Stock, stock, Runs, Step, lends, runs, gives_back, Steps, no_step, step_more}
@@ -91,7 +91,7 @@ grown n number x q old new result r is = grown_by is.stands
 
 -- ---- a lease that is given back
 
-reset_last : (os : List Over) (o : Over) → AreReset (os ++ o ∷ []) → IsReset o.reset
+reset_last : (os : List Over) (o : Over) → AreReset (os ++ o ∷ []) → IsOver o
 reset_last [] o are = are.0
 reset_last (x ∷ os) o are = reset_last os o are.1
 

@@ -9,8 +9,8 @@ use Rattle.pgw_session.specs.Standings.{first_standing}
 use Rattle.pgw_session.specs.Transcript.{IsTranscript, SpellsGot, EncodesSent}
 use Rattle.pgw_handlers.specs.Client.{Client}
 use Rattle.pgw_calls.specs.Stands.{Made, made, Stands, requests_of, segments_of, AreAnswered, IsSession}
-use Rattle.pgw_pool.specs.Histories.{Lent, Over, History, reset, made_over, AreReset, View, StandsBy, IsIdle, IsLent}
-use Rattle.pgw_pool.specs.Sessions.{requests_over, segments_over, AreAllAnswered, IsMadeOf}
+use Rattle.pgw_pool.specs.Histories.{Lent, Over, ended, checked, History, reset, made_in, made_over, IsOver, AreReset, View, StandsBy, IsIdle, IsLent}
+use Rattle.pgw_pool.specs.Sessions.{requests_in, requests_over, segments_in, segments_over, IsAllAnswered, AreAllAnswered, IsMadeOf}
 
 requests_append : (ts us : List Made) → requests_of (ts ++ us) ≡ requests_of ts ++ requests_of us
 requests_append [] us = refl
@@ -20,29 +20,43 @@ segments_append : (ts us : List Made) → segments_of (ts ++ us) ≡ segments_of
 segments_append [] us = refl
 segments_append (t ∷ ts) us = ap (λ (l : List (List Event)). t.events ∷ l) (segments_append ts us)
 
+requests_one : (o : Over) → requests_of (made_in o) ≡ requests_in o
+requests_one (ended l es) = requests_append l.made (made reset es ∷ [])
+requests_one (checked es) = refl
+
+segments_one : (o : Over) → segments_of (made_in o) ≡ segments_in o
+segments_one (ended l es) = segments_append l.made (made reset es ∷ [])
+segments_one (checked es) = refl
+
 requests_are : (os : List Over) (ts : List Made) → requests_of (made_over os ++ ts) ≡ requests_over os ++ requests_of ts
 requests_are [] ts = refl
 requests_are (o ∷ os) ts =
-    ap requests_of (append_assoc o.lease.made (made reset o.reset ∷ made_over os) ts)
-    ∙ requests_append o.lease.made (made reset o.reset ∷ (made_over os ++ ts))
-    ∙ ap (λ (l : List Request). requests_of o.lease.made ++ (reset ∷ l)) (requests_are os ts)
-    ∙ sym (append_assoc (requests_of o.lease.made) (reset ∷ requests_over os) (requests_of ts))
+    ap requests_of (append_assoc (made_in o) (made_over os) ts)
+    ∙ requests_append (made_in o) (made_over os ++ ts)
+    ∙ ap (λ (l : List Request). l ++ requests_of (made_over os ++ ts)) (requests_one o)
+    ∙ ap (λ (l : List Request). requests_in o ++ l) (requests_are os ts)
+    ∙ sym (append_assoc (requests_in o) (requests_over os) (requests_of ts))
 
 segments_are : (os : List Over) (ts : List Made) → segments_of (made_over os ++ ts) ≡ segments_over os ++ segments_of ts
 segments_are [] ts = refl
 segments_are (o ∷ os) ts =
-    ap segments_of (append_assoc o.lease.made (made reset o.reset ∷ made_over os) ts)
-    ∙ segments_append o.lease.made (made reset o.reset ∷ (made_over os ++ ts))
-    ∙ ap (λ (l : List (List Event)). segments_of o.lease.made ++ (o.reset ∷ l)) (segments_are os ts)
-    ∙ sym (append_assoc (segments_of o.lease.made) (o.reset ∷ segments_over os) (segments_of ts))
+    ap segments_of (append_assoc (made_in o) (made_over os) ts)
+    ∙ segments_append (made_in o) (made_over os ++ ts)
+    ∙ ap (λ (l : List (List Event)). l ++ segments_of (made_over os ++ ts)) (segments_one o)
+    ∙ ap (λ (l : List (List Event)). segments_in o ++ l) (segments_are os ts)
+    ∙ sym (append_assoc (segments_in o) (segments_over os) (segments_of ts))
 
 answered_append : (ts us : List Made) → AreAnswered ts → AreAnswered us → AreAnswered (ts ++ us)
 answered_append [] us a b = b
 answered_append (t ∷ ts) us a b = (a.0, answered_append ts us a.1 b)
 
+answered_one : (o : Over) → IsOver o → IsAllAnswered o → AreAnswered (made_in o)
+answered_one (ended l es) is own = answered_append l.made (made reset es ∷ []) own ((is.1).0, tt)
+answered_one (checked es) is own = ((is.0).0, tt)
+
 answered_over : (os : List Over) → AreReset os → AreAllAnswered os → AreAnswered (made_over os)
 answered_over [] are all = tt
-answered_over (o ∷ os) are all = answered_append o.lease.made (made reset o.reset ∷ made_over os) all.0 (((are.0).1).0, answered_over os are.1 all.1)
+answered_over (o ∷ os) are all = answered_append (made_in o) (made_over os) (answered_one o are.0 all.0) (answered_over os are.1 all.1)
 
 -- the law on clients
 abbrev pub Wholes : Type 0

@@ -8,6 +8,7 @@ use Rattle.pgw_config.specs.declared.config.Config.{Config}
 use Rattle.pgw_session.specs.declared.types.Request.{Request}
 use Rattle.pgw_session.specs.declared.types.Request.TheVariants as request
 use Rattle.pgw_session.specs.declared.types.Response.{Response}
+use Rattle.pgw_session.specs.declared.types.Response.TheVariants.{EmptyQuery}
 use Rattle.pgw_session.specs.declared.types.Answer.TheVariants as answer
 use Rattle.pgw_session.specs.Events.{Event, Got}
 use Rattle.pgw_handlers.specs.Client.{Client}
@@ -22,12 +23,13 @@ pub record Lent : Type 0 where
   pub number : ℕ
   pub made : List Made
 
--- a lease that is over, and the events of the reset behind it
-pub record Over : Type 0 where
-  pub lease : Lent
-  pub reset : List Event
+-- what was done over an idle session: a lease, with the events of the reset behind it; or a check
+-- whether it still answers, with its events
+pub data Over : Type 0 where
+  ended : (lease : Lent) (reset : List Event) → Over
+  checked : (check : List Event) → Over
 
--- a session: what it logged in with, and its leases that are over, in the order that they were lent
+-- a session: what it logged in with, and its leases that are over and its checks, in their order
 pub record History : Type 0 where
   pub config : Config
   pub nonce : List ℕ
@@ -45,9 +47,6 @@ lent_as number = record { number = number; made = [] }
 abbrev pub with_request : Lent → Request → List Event → Lent
 with_request l q es = record { number = l.number; made = l.made ++ made q es ∷ [] }
 
-abbrev pub ended : Lent → List Event → Over
-ended l es = record { lease = l; reset = es }
-
 -- the session with one more lease that is over
 abbrev pub with_lease : History → Lent → List Event → History
 with_lease h l es = record {
@@ -56,16 +55,32 @@ with_lease h l es = record {
   over = h.over ++ ended l es ∷ [];
 }
 
+-- the session with one more check
+abbrev pub with_check : History → List Event → History
+with_check h es = record {
+  config = h.config;
+  nonce = h.nonce;
+  over = h.over ++ checked es ∷ [];
+}
+
 -- ---- their requests
 
 -- what is asked at the end of a lease
 abbrev pub reset : Request
 reset = request.Simple (codes "DISCARD ALL")
 
--- those of each lease, and a reset behind them
+-- what is asked to check a session
+abbrev pub check : Request
+check = request.Simple (codes "")
+
+-- those of each lease, and a reset behind them; and those of the checks
+abbrev pub made_in : Over → List Made
+made_in (ended l es) = l.made ++ made reset es ∷ []
+made_in (checked es) = made check es ∷ []
+
 abbrev pub made_over : List Over → List Made
 made_over [] = []
-made_over (o ∷ os) = o.lease.made ++ (made reset o.reset ∷ made_over os)
+made_over (o ∷ os) = made_in o ++ made_over os
 
 -- the last message that was got is ReadyForQuery, of this status
 abbrev pub EndsIn : TransactionStatus → List Event → Type 0
@@ -81,11 +96,19 @@ IsResetIn status es =
 abbrev pub IsReset : List Event → Type 0
 IsReset es = IsResetIn Idle es
 
+-- a check was answered by one empty query, and the status behind it was Idle
+abbrev pub IsChecked : List Event → Type 0
+IsChecked es = IsAnswered check (answer.Responses (EmptyQuery ∷ [])) es × EndsIn Idle es
+
+abbrev pub IsOver : Over → Type 0
+IsOver (ended l es) = IsReset es
+IsOver (checked es) = IsChecked es
+
 abbrev pub AreReset : List Over → Type 0
 AreReset [] = Unit {0}
-AreReset (o ∷ os) = IsReset o.reset × AreReset os
+AreReset (o ∷ os) = IsOver o × AreReset os
 
--- the next lease begins with status Idle, unless it is the first
+-- the next lease begins with status Idle, unless nothing was done before it
 abbrev pub BeginsIdle : List Over → Type 0
 BeginsIdle [] = Unit {0}
 BeginsIdle (o ∷ os) = EndsIn Idle (events_of (made_over (o ∷ os)))
@@ -93,7 +116,8 @@ BeginsIdle (o ∷ os) = EndsIn Idle (events_of (made_over (o ∷ os)))
 -- the leases' numbers ascend: the first is above `low`, and none is above `high`
 abbrev pub Ascend : ℕ → List Over → ℕ → Type 0
 Ascend low [] high = low ≤ high
-Ascend low (o ∷ os) high = (low < o.lease.number) × Ascend o.lease.number os high
+Ascend low (ended l es ∷ os) high = (low < l.number) × Ascend l.number os high
+Ascend low (checked es ∷ os) high = Ascend low os high
 
 -- ---- sessions
 

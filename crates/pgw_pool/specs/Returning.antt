@@ -4,7 +4,9 @@ use Rattle.pgw_query.specs.declared.response.TransactionStatus.{TransactionStatu
 use Rattle.pgw_query.specs.declared.response.TransactionStatus.TheVariants.{Idle}
 use Rattle.pgw_backend.specs.declared.client_error.PgWireClientError.{PgWireClientError as ClientError}
 use Rattle.pgw_backend.specs.declared.client_error.PgWireClientError.TheVariants as client
+use Rattle.pgw_types.specs.Counts.{counted}
 use Rattle.pgw_config.specs.declared.config.Config.{Config}
+use Rattle.pgw_session.specs.declared.types.Request.{Request}
 use Rattle.pgw_session.specs.declared.types.Response.{Response}
 use Rattle.pgw_session.specs.declared.types.Answer.TheVariants as answer
 use Rattle.pgw_session.specs.Events.{Event}
@@ -39,20 +41,21 @@ abbrev pub returned_by : Result (List Response) ClientError → TransactionStatu
 returned_by (Ok rs) status broken = kept_by status
 returned_by (Err e) status broken = Dropped (cause_of e broken)
 
--- The reset was asked of a session, and answered so.
-pub record IsAsked (old now : View) (a : Result (List Response) ClientError) : Type 0 where
+-- A simple query was asked of a session, and answered so.
+pub record IsAskedIn (q : Request) (old now : View) (a : Result (List Response) ClientError)
+    : Type 0 where
   -- one that an earlier error left unusable is asked nothing
   pub broken : old.broken ≡ true → (a ≡ Err client.Broken) × (now ≡ old)
   -- else the answer is its own segment's, or the error has its reason
   pub comes : old.broken ≡ false → (taken sent : List ℕ) × Moved old.line now.line taken sent
-      × Comes answer.Responses (Pause old.line now.line) reset old.client
+      × Comes answer.Responses (Pause old.line now.line) q old.client
       (old.line.buffer ++ taken) sent now.client now.line.buffer a now.broken
-  -- and whatever the session stood for, it stands for the reset besides
+  -- and whatever the session stood for, it stands for the query besides
   pub stands : old.broken ≡ false → (config : Config) (nonce : List ℕ) (ts : List Made)
       (read wrote : List ℕ) → Stands config nonce ts read wrote old.client old.line.buffer →
       (taken sent : List ℕ) × Moved old.line now.line taken sent
       × (now.broken ≡ false → IsFlushed now.line)
-      × StandsBehind answer.Responses config nonce ts reset (read ++ taken) (wrote ++ sent)
+      × StandsBehind answer.Responses config nonce ts q (read ++ taken) (wrote ++ sent)
       now.client now.line.buffer a now.broken
   -- behind any answer but IoError no call of the link failed, and all that was written is flushed
   pub well : old.broken ≡ false → EndedWell old.line now.line ⊎ (a ≡ Err client.IoError)
@@ -62,6 +65,10 @@ pub record IsAsked (old now : View) (a : Result (List Response) ClientError) : T
   pub at_end : old.broken ≡ false → AtEnd old.line now.line (IsHalted passes a now.broken)
   -- IoError comes only where a call of the link failed
   pub cause : HasCause old.line.faults now.line.faults old.broken a
+
+-- so was the reset
+abbrev pub IsAsked : View → View → Result (List Response) ClientError → Type 0
+IsAsked old now a = IsAskedIn reset old now a
 
 -- a session that is kept is idle from now on, behind all others
 abbrev pub idle_behind : List View → View → Returned → List View
@@ -74,6 +81,11 @@ GivesBack old idle now result =
     (last : View) × (a : Result (List Response) ClientError) × IsAsked old last a
     × (result ≡ returned_by a last.client.transaction_status last.broken)
     × (now ≡ idle_behind idle last result)
+
+-- how many sessions were dropped then
+abbrev pub dropped_behind : ℕ → Returned → ℕ
+dropped_behind dropped Kept = dropped
+dropped_behind dropped (Dropped why) = counted dropped
 
 -- what the links of the idle sessions have to come then
 abbrev pub lefts_behind : List (Option (List ℕ)) → Option (List ℕ) → Returned →
