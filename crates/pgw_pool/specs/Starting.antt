@@ -12,7 +12,7 @@ use Rattle.pgw_session.specs.declared.stage.Stage.TheVariants.{Starting}
 use Rattle.pgw_default_handlers.specs.Startup.{StartupMeans, exchanges}
 use Rattle.pgw_connection.specs.Line.{Foretold}
 use Rattle.pgw_connection.specs.Connecting.{Connected, NotConnected}
-use Rattle.pgw_pool.specs.Histories.{History, View, new_history}
+use Rattle.pgw_pool.specs.Histories.{History, View, new_history, IsIdle}
 
 -- a session for each nonce, of which none was lent
 abbrev pub new_histories : Config → List (List ℕ) → List History
@@ -72,6 +72,22 @@ NotConnects foretells config limit nonce old new e =
     (λ before after answer. StartupMeans before startup after answer)
     (HeardAtStartup exchanges StartupMeans) (handler_with nonce) config limit
     old.offer new.offer old.tape new.tape old.faults new.faults e
+
+-- A session by this nonce, of which none was lent, is idle behind all others.
+abbrev pub Refills : Config → ℕ → List ℕ → Dials → Dials → List View → List View → Type 0
+Refills config limit nonce old new idle now =
+    (v : View) × Connects config limit nonce old new v × IsIdle 0 (new_history config nonce) v
+    × (now ≡ idle ++ v ∷ [])
+
+-- The same by a dialer that knows its offer.
+pub record RefillsForetold (config : Config) (limit : ℕ) (nonce : List ℕ) (old new : Dials)
+    (idle now : List View) (lefts left_now : List (Option (List ℕ))) : Type 0 where
+  pub last : View
+  pub left : Option (List ℕ)
+  pub connects : Connects config limit nonce old new last
+  pub foretold : Foretold old.offer left new_tape last.line.tape
+  pub idle_now : now ≡ idle ++ last ∷ []
+  pub lefts_now : left_now ≡ lefts ++ left ∷ []
 
 -- The logins by the first nonces were made, and the next one was refused so.
 pub record StopsAt (foretells : Type 0) (config : Config) (limit : ℕ) (nonces : List (List ℕ))

@@ -52,6 +52,17 @@ lefts_in left pool = map (left_in left) (pool.idle).items
 abbrev pub lent_by : {X : Type 0} {L : Link.Ghosts X} → Pool X L → ℕ
 lent_by pool = pool.lent
 
+-- how many of its leases were not given back yet
+abbrev pub out_by : {X : Type 0} {L : Link.Ghosts X} → Pool X L → ℕ
+out_by pool = pool.out
+
+-- how many sessions it has dropped, and how many it has connected
+abbrev pub dropped_by : {X : Type 0} {L : Link.Ghosts X} → Pool X L → ℕ
+dropped_by pool = pool.dropped
+
+abbrev pub connected_by : {X : Type 0} {L : Link.Ghosts X} → Pool X L → ℕ
+connected_by pool = pool.connected
+
 -- how many sessions it has room for
 abbrev pub room_of : {X : Type 0} {L : Link.Ghosts X} → Pool X L → ℕ
 room_of pool = pool.room

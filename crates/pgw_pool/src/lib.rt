@@ -10,6 +10,7 @@
 pub mod laws;
 pub mod lease;
 pub mod pool;
+mod refilling;
 pub mod returned;
 mod starting;
 

@@ -1,5 +1,5 @@
 //! A pool.
-ghost use Rattle.std.specs.Prelude.{◌≡◌, ◌≢◌, ◌<◌, ◌≤◌, List, [], ◌∷◌, ◌++◌, length, ◌+◌, false, IfOk, IfErr, IsOk, OnOk};
+ghost use Rattle.std.specs.Prelude.{◌≡◌, ◌≢◌, ◌<◌, ◌≤◌, List, [], ◌∷◌, ◌++◌, length, ◌+◌, ◌-◌, false, IfOk, IfErr, IsOk, OnOk};
 ghost use Rattle.std.specs.VecDeque.{deque_len, deque_capacity};
 ghost use Rattle.pgw_handlers.specs.Handling.{HasCause};
 
@@ -15,10 +15,14 @@ use std::collections::VecDeque;
 #[derive(Drop)]
 pub struct Pool<L: Link> {
     // The one that has been idle longest stands first.
-    idle: VecDeque<PgWireClient<L>>,
-    room: usize,
-    lent: u64,
-    ghost fits: { deque_len idle ≤ room },
+    pub(crate) idle: VecDeque<PgWireClient<L>>,
+    pub(crate) room: usize,
+    pub(crate) lent: u64,
+    // Its leases that were not given back yet.
+    pub(crate) out: usize,
+    pub(crate) dropped: u64,
+    pub(crate) connected: u64,
+    ghost fits: { deque_len idle + out ≤ room },
     ghost reserved: { room ≤ deque_capacity idle },
 }
 
@@ -33,9 +37,9 @@ pub enum LendError {
 
 impl<L: Link> Pool<L> {
     ghost use Rattle.pgw_pool.specs.Histories.{History, Lent, IsLent, AreIdle};
-    ghost use Rattle.pgw_pool.specs.Views.{view_of, left_in, idle_in, lefts_in, lent_by, room_of, reserved_in, number_of, left_of, lease_view};
+    ghost use Rattle.pgw_pool.specs.Views.{view_of, left_in, idle_in, lefts_in, lent_by, out_by, dropped_by, connected_by, room_of, reserved_in, number_of, left_of, lease_view};
     ghost use Rattle.pgw_pool.specs.Lending.{most_leases, Lends, LendsNone, LendsFirst};
-    ghost use Rattle.pgw_pool.specs.Returning.{GivesBack, GivesForetold, GivenBack, DropsFrom};
+    ghost use Rattle.pgw_pool.specs.Returning.{GivesBack, GivesForetold, GivenBack, DropsFrom, dropped_behind};
     ghost use Rattle.pgw_pool.specs.Starting.{dials, new_histories, ConnectAll, ConnectForetold, NotStarted};
 
     /// Connects one session for each nonce, with at most one dial each. Each nonce is to be random and
@@ -49,6 +53,9 @@ impl<L: Link> Pool<L> {
     ) -> PgWireClientResult<Pool<L>>
         ensures room { IfOk result (λ pool. room_of pool ≡ length nonces.now) }
         ensures none { IfOk result (λ pool. lent_by pool ≡ 0) }
+        ensures out { IfOk result (λ pool. out_by pool ≡ 0) }
+        ensures dropped { IfOk result (λ pool. dropped_by pool ≡ 0) }
+        ensures counted { IfOk result (λ pool. connected_by pool ≡ length nonces.now) }
         // Memory is taken for all of them.
         ensures reserved { IfOk result (λ pool. room_of pool ≤ reserved_in pool) }
         // All of them are idle, in the order of the nonces, and none was lent.
@@ -84,16 +91,22 @@ impl<L: Link> Pool<L> {
             idle,
             room: nonces.len(),
             lent: 0,
+            out: 0,
+            dropped: 0,
+            connected: nonces.len() as u64,
         })
     }
 
     // Puts a session behind all that are idle, in the room that was taken.
     #[tactic(auto, using(crate::proofs::HistoryLaws::mapped_behind))]
-    fn keep(&mut self, client: PgWireClient<L>)
-        requires { length (idle_in L.tape L.faults self.old) < room_of self.old }
+    pub(crate) fn keep(&mut self, client: PgWireClient<L>)
+        requires { length (idle_in L.tape L.faults self.old) + out_by self.old < room_of self.old }
         ensures room { room_of self.new ≡ room_of self.old }
         ensures reserved { reserved_in self.new ≡ reserved_in self.old }
         ensures lent { lent_by self.new ≡ lent_by self.old }
+        ensures out { out_by self.new ≡ out_by self.old }
+        ensures dropped { dropped_by self.new ≡ dropped_by self.old }
+        ensures connected { connected_by self.new ≡ connected_by self.old }
         ensures idle { idle_in L.tape L.faults self.new
             ≡ idle_in L.tape L.faults self.old ++ view_of L.tape L.faults client ∷ [] }
         ensures lefts { lefts_in L.left self.new
@@ -120,10 +133,35 @@ impl<L: Link> Pool<L> {
         self.idle.len()
     }
 
+    /// How many of its leases were not given back yet, if each lease that is given back is its own.
+    pub fn out(&self) -> usize
+        ensures counts { result ≡ out_by self.now }
+        ensures fits { length (idle_in L.tape L.faults self.now) + result ≤ room_of self.now }
+    {
+        self.out
+    }
+
+    /// How many sessions it has dropped. The count stays at the greatest u64.
+    pub fn dropped(&self) -> u64
+        ensures { result ≡ dropped_by self.now }
+    {
+        self.dropped
+    }
+
+    /// How many sessions it has connected. The count stays at the greatest u64.
+    pub fn connected(&self) -> u64
+        ensures { result ≡ connected_by self.now }
+    {
+        self.connected
+    }
+
     /// Lends the session that has been idle longest. It takes no memory.
     pub fn lend(&mut self) -> Result<Lease<L>, LendError>
         ensures room { room_of self.new ≡ room_of self.old }
         ensures reserved { reserved_in self.new ≡ reserved_in self.old }
+        ensures out { OnOk result (out_by self.new ≡ out_by self.old + 1) }
+        ensures dropped { dropped_by self.new ≡ dropped_by self.old }
+        ensures connected { connected_by self.new ≡ connected_by self.old }
         // Where one is idle and a number is left, it is lent: no memory is wanted for that.
         ensures lends { idle_in L.tape L.faults self.old ≢ [] → lent_by self.old ≢ most_leases →
             IsOk result }
@@ -159,6 +197,7 @@ impl<L: Link> Pool<L> {
         match self.idle.pop_front() {
             Some(client) => {
                 self.lent += 1;
+                self.out += 1;
                 Ok(Lease {
                     client,
                     number: self.lent,
@@ -176,6 +215,9 @@ impl<L: Link> Pool<L> {
         ensures room { room_of self.new ≡ room_of self.old }
         ensures reserved { reserved_in self.new ≡ reserved_in self.old }
         ensures lent { lent_by self.new ≡ lent_by self.old }
+        ensures out { out_by self.new ≡ out_by self.old - 1 }
+        ensures drops { dropped_by self.new ≡ dropped_behind (dropped_by self.old) result }
+        ensures connected { connected_by self.new ≡ connected_by self.old }
         ensures counts { length (idle_in L.tape L.faults self.new)
             ≤ length (idle_in L.tape L.faults self.old) + 1 }
         // Kept only where that simple query is answered by responses, and the status is Idle.
@@ -199,6 +241,7 @@ impl<L: Link> Pool<L> {
             mut client,
             number: _number,
         } = lease;
+        self.out = self.out.saturating_sub(1);
         match reset(alloc, &mut client) {
             Returned::Kept => {
                 self.keep(client);
@@ -206,6 +249,7 @@ impl<L: Link> Pool<L> {
             }
             Returned::Dropped(cause) => {
                 drop(client);
+                self.dropped = self.dropped.saturating_add(1);
                 Returned::Dropped(cause)
             }
         }

@@ -1,0 +1,27 @@
+use Rattle.std.proofs.Common.{map, refl, subst, sym, arith}
+use Rattle.pgw_pool.specs.Histories.{new_history, AreIdle}
+use Rattle.pgw_pool.specs.Views.{view_of}
+use Rattle.pgw_pool.proofs.HistoryLaws.{idle_one_more}
+use Rattle.pgw_pool.proofs.pool.Pool.refill.Goals as goal
+
+pub returns-in-Ok-clause-refills : goal.returns-in-Ok-clause-refills
+returns-in-Ok-clause-refills g c =
+    let V = view_of g.L.Link.tape g.L.Link.faults in
+    (V c.in-Ok.client, c.in-Ok.ensures.connects, c.in-Ok.ensures.idle, c.keep.ensures.idle)
+
+pub returns-in-Ok-clause-given : goal.returns-in-Ok-clause-given
+returns-in-Ok-clause-given g c = λ hs are.
+    let V = view_of g.L.Link.tape g.L.Link.faults in
+    idle_one_more c.args.self.now.lent c.keep.new.self.lent hs (new_history c.args.config.now c.args.nonce) (map V c.args.self.now.idle.items) (map V c.keep.new.self.idle.items) (V c.in-Ok.client) c.keep.ensures.lent c.keep.ensures.idle are c.in-Ok.ensures.idle
+
+pub returns-in-Ok-clause-foretold : goal.returns-in-Ok-clause-foretold
+returns-in-Ok-clause-foretold g c = λ t.
+    let V = view_of g.L.Link.tape g.L.Link.faults in
+    record {
+      last = V c.in-Ok.client;
+      left = _;
+      connects = c.in-Ok.ensures.connects;
+      foretold = c.in-Ok.ensures.foretold t;
+      idle_now = c.keep.ensures.idle;
+      lefts_now = c.keep.ensures.lefts;
+    }
