@@ -1,13 +1,15 @@
 //! A session that is lent.
-ghost use Rattle.std.specs.Prelude.{◌≡◌, ℕ, Err, true, false};
+ghost use Rattle.std.specs.Prelude.{◌≡◌, ℕ, Err, IfOk, IfErr, true, false};
 ghost use Rattle.pgw_backend.specs.declared.client_error.PgWireClientError.TheVariants as failure;
 ghost use Rattle.pgw_handlers.specs.Handling.{HasCause};
 ghost use Rattle.pgw_connection.specs.State.{link_of};
+ghost use Rattle.pgw_connection.specs.Canceling.{IsTokenOf};
+ghost use Rattle.pgw_connection.specs.Connecting.{LacksAddress};
 ghost use Rattle.pgw_ask.specs.Asking.{Asks};
 
 use pgw_ask::ask;
 use pgw_client::{Answer, Link, PgWireClientResult, Request};
-use pgw_connection::PgWireClient;
+use pgw_connection::{CancelToken, PgWireClient};
 use std::alloc::Global;
 
 /// A session that is lent, until it is given back to a pool. It cannot be let go in another way.
@@ -35,6 +37,19 @@ impl<L: Link> Lease<L> {
         self.client.link()
     }
 
+    /// What cancels what the server does for the session of this lease, to be used from anywhere.
+    pub fn cancel_token(&self, alloc: Global) -> PgWireClientResult<CancelToken>
+        ensures broken { (lease_view L.tape L.faults self.now).broken ≡ true →
+            result ≡ Err failure.Broken }
+        // It is this session's.
+        ensures token { IfOk result (IsTokenOf (lease_view L.tape L.faults self.now).client) }
+        // Else the configuration has no address, or memory was wanting.
+        ensures lacks { (lease_view L.tape L.faults self.now).broken ≡ false →
+            IfErr result (LacksAddress (lease_view L.tape L.faults self.now).client.config) }
+    {
+        self.client.cancel_token(alloc)
+    }
+
     /// Asks a request by the default handlers, and gives its answer. The server's error is an answer,
     /// where the session can go on behind it.
     pub fn run(&mut self, alloc: Global, request: &Request) -> PgWireClientResult<Answer>
@@ -55,9 +70,10 @@ impl<L: Link> Lease<L> {
         ensures cause { let old = lease_view L.tape L.faults self.old in
             let new = lease_view L.tape L.faults self.new in
             HasCause old.line.faults new.line.faults old.broken result }
-        // Of a link that knows what is to come: the bytes taken are its front, and the end is answered
-        // behind the last byte.
-        ensures foretold { L.foretells → Foretold (left_of L.left self.old) (left_of L.left self.new)
+        // Of a link that knows what is to come: the bytes taken are its front, and the end is
+        // answered behind the last byte.
+        ensures foretold { L.foretells →
+            Foretold (left_of L.left self.old) (left_of L.left self.new)
             (lease_view L.tape L.faults self.old).line.tape
             (lease_view L.tape L.faults self.new).line.tape }
     {
