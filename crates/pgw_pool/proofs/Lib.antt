@@ -5,3 +5,4 @@ pub mod StartLaws
 pub mod SessionLaws
 pub mod StockLaws
 pub mod LedgerLaws
+pub mod ClosingLaws

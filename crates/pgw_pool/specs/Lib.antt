@@ -2,6 +2,7 @@ pub mod Histories
 pub mod Views
 pub mod Lending
 pub mod Returning
+pub mod Closing
 pub mod Starting
 pub mod Sessions
 pub mod Stocks

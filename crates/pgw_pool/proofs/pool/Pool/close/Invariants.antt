@@ -1,0 +1,13 @@
+use Rattle.std.proofs.Common.{map}
+use Rattle.std.specs.VecDeque.{deque_len}
+use Rattle.pgw_pool.specs.Views.{view_of}
+use Rattle.pgw_pool.specs.Closing.{Closes}
+use Rattle.pgw_pool.proofs.pool.Pool.close.Given as goal
+
+abbrev pub decreases-sessions : goal.decreases-sessions
+decreases-sessions g l = deque_len l.idle
+
+abbrev pub invariant-sessions : goal.invariant-sessions
+invariant-sessions g l =
+    let V = view_of g.L.Link.tape g.L.Link.faults in
+    Closes (map V (l.fn.self.idle).items) (g.D.Dialer.tape l.fn.dialer) (g.D.Dialer.faults l.fn.dialer) (map V (l.idle).items) (g.D.Dialer.tape l.dialer) (g.D.Dialer.faults l.dialer) l.result
