@@ -3,6 +3,7 @@ pub mod RunLaws
 pub mod ReturnLaws
 pub mod StartLaws
 pub mod SessionLaws
+pub mod CheckLaws
 pub mod StockLaws
 pub mod LedgerLaws
 pub mod ClosingLaws

@@ -2,6 +2,7 @@ pub mod Histories
 pub mod Views
 pub mod Lending
 pub mod Returning
+pub mod Checking
 pub mod Closing
 pub mod Starting
 pub mod Sessions

@@ -7,6 +7,7 @@
 //! passed over, and one at which an error cut the session, are told as such.
 #![tactic(auto)]
 
+mod checking;
 mod closing;
 pub mod laws;
 pub mod lease;
