@@ -1,5 +1,5 @@
 -- What any list of calls does.
-use Rattle.std.proofs.Common.{◌≡◌, ◌⊎◌, ◌≤◌, ℕ, ◌+◌, Bool, true, false, List, [], ◌∷◌, ◌++◌, Result, Ok, Err, arith, inl, inr, refl, sym, ◌∙◌, ap, subst, append_assoc}
+use Rattle.std.proofs.Common.{◌≡◌, ◌⊎◌, ◌≤◌, ℕ, ◌+◌, Bool, true, false, List, [], ◌∷◌, ◌++◌, map, Result, Ok, Err, arith, inl, inr, refl, sym, ◌∙◌, ap, subst, append_assoc}
 use Rattle.std.proofs.lemmas.List.{append-nil}
 use Rattle.pgw_backend.specs.declared.client_error.PgWireClientError.{PgWireClientError as ClientError}
 use Rattle.pgw_backend.specs.declared.client_error.PgWireClientError.TheVariants as client
@@ -9,12 +9,14 @@ use Rattle.pgw_session.specs.Events.{Event}
 use Rattle.pgw_pool.specs.declared.returned.Returned.{Returned}
 use Rattle.pgw_pool.specs.declared.returned.Returned.TheVariants.{Kept, Dropped}
 use Rattle.pgw_pool.specs.declared.returned.DropCause.{DropCause}
-use Rattle.pgw_pool.specs.Histories.{History, Lent, View, lent_as, with_request, with_lease, Over, ended, IsOver, IsReset, AreReset, BeginsIdle, IsIdle, IsLent, AreIdle}
+use Rattle.pgw_pool.specs.Histories.{History, Lent, View, new_history, lent_as, with_request, with_lease, with_check, Over, ended, checked, IsOver, IsReset, IsChecked, AreReset, BeginsIdle, IsIdle, IsLent, AreIdle}
 use Rattle.pgw_pool.specs.Lending.{Lends, LendsFirst, IsCut, Ran}
 use Rattle.pgw_pool.specs.Returning.{GivesBack, GivenBack, returned_by, idle_behind}
-use Rattle.pgw_pool.specs.Stocks.{Out, leased, Stock, stock, Runs, Step, lends, runs, gives_back, Steps, no_step, step_more}
-use Rattle.pgw_pool.specs.Ledgers.{Loan, loan, Ledger, ledger, IsLoan, AreLoans, IsLedger, Call, lent, asked, given, call_of, calls_of, Adds, answered, passed, stays, Entry, is_lent, is_asked, is_kept, is_dropped, Entries, no_entry, entry_more}
-use Rattle.pgw_pool.proofs.HistoryLaws.{lends_first}
+use Rattle.pgw_pool.specs.Stocks.{Out, leased, Stock, stock, Runs, Step, lends, runs, gives_back, lends_fit, finds_none, refills, retires, Steps, no_step, step_more}
+use Rattle.pgw_pool.specs.Ledgers.{Loan, loan, unlent, Ledger, ledger, IsLoan, AreLoans, IsLedger, Call, lent, asked, given, lent_fit, none_fit, refilled, retired, call_of, calls_of, Adds, answered, passed, stays, Entry, is_lent, is_asked, is_kept, is_dropped, is_lent_fit, is_none_fit, is_refilled, is_retired, Entries, no_entry, entry_more}
+use Rattle.pgw_pool.specs.Checking.{LendsChecked}
+use Rattle.pgw_pool.proofs.HistoryLaws.{lends_first, idle_one_more}
+use Rattle.pgw_pool.proofs.CheckLaws.{lends_checked}
 use Rattle.pgw_pool.proofs.RunLaws.{ran}
 use Rattle.pgw_pool.proofs.ReturnLaws.{given_back}
 use Rattle.pgw_pool.proofs.StockLaws.{cut_result}
@@ -63,9 +65,11 @@ lent_goes : (before now number : ℕ) (hs : List History) (rest : List View) (v 
     → Goes (lent number) (ledger hs out gone) (stock now rest (os ++ leased number v ∷ []))
 lent_goes before now number [] rest v out os gone counted numbered first are = absurd first
 lent_goes before now number (h ∷ hs) rest v out os gone counted numbered first are =
-    let last : IsLoan now (loan h (lent_as number)) (leased number v) = record { number = refl; own = (omega arith); stands = inl first.0 } in
-    (ledger hs (out ++ loan h (lent_as number) ∷ []) gone, is_lent number h hs out gone first.1,
-    record { idle = first.2; out = loans_append now out (loan h (lent_as number) ∷ []) os (leased number v ∷ []) (loans_later before now out os (omega arith) are) (last, tt) })
+    let last : IsLoan now (loan h (lent_as number)) (leased number v) = record { number = refl; own = (omega arith); stands = inl first.0 } in (
+      ledger hs (out ++ loan h (lent_as number) ∷ []) gone,
+      is_lent number h hs out gone first.1,
+      record { idle = first.2; out = loans_append now out (loan h (lent_as number) ∷ []) os (leased number v ∷ []) (loans_later before now out os (omega arith) are) (last, tt) },
+    )
 
 abbrev pub Grown : ℕ → ℕ → Request → Result Answer ClientError → History → Lent → View → Type 0
 Grown n number q result h l new = (more : Lent) × Adds q l result more × IsLoan n (loan h more) (leased number new)
@@ -104,11 +108,11 @@ idle_last n (x ∷ hs) h (v ∷ vs) are = idle_last n hs h vs are.1
 -- the session is idle with the lease and its reset, or it is dropped
 pub data Ends (n : ℕ) (hs : List History) (h : History) (l : Lent) (now : List View) : Returned → Type 0 where
   idle_again : (es : List Event) → IsReset es → AreIdle n (hs ++ with_lease h l es ∷ []) now → Ends n hs h l now Kept
-  gone : (why : DropCause) → AreIdle n hs now → Ends n hs h l now (Dropped why)
+  let_go : (why : DropCause) → AreIdle n hs now → Ends n hs h l now (Dropped why)
 
 ends_by : (n : ℕ) (hs : List History) (h : History) (l : Lent) (now : List View) (result : Returned) → GivenBack n hs h l now result → Ends n hs h l now result
 ends_by n hs h l now Kept g = idle_again g.0 (reset_last h.over (ended l g.0) (idle_last n hs (with_lease h l g.0) now g.1)) g.1
-ends_by n hs h l now (Dropped why) g = gone why g.0
+ends_by n hs h l now (Dropped why) g = let_go why g.0
 
 ended_as : (n number : ℕ) (hs : List History) (idle now : List View) (x : Loan) (old : View) (result : Returned) → GivesBack old idle now result → AreIdle n hs idle → IsLoan n x (leased number old) → Ends n hs x.history x.lease now result
 ended_as n number hs idle now x old result g are is = ended_by is.stands
@@ -117,18 +121,20 @@ ended_as n number hs idle now x old result g are is = ended_by is.stands
     ended_by (inl lease) = ends_by n hs x.history x.lease now result (given_back n hs x.history x.lease old idle now result g are lease (subst (λ k. k ≤ n) (sym is.number) is.own))
     ended_by (inr cut) =
         let dropped = cut_result old idle now result g cut.2.broken in
-        subst (Ends n hs x.history x.lease now) (sym dropped.1) (gone dropped.0 (subst (AreIdle n hs) (sym dropped.2) are))
+        subst (Ends n hs x.history x.lease now) (sym dropped.1) (let_go dropped.0 (subst (AreIdle n hs) (sym dropped.2) are))
 
 gone_on : (n number : ℕ) (hs : List History) (now : List View) (h : History) (l : Lent) (before behind lost : List Loan) (left right : List Out) (result : Returned) → l.number ≡ number → AreLoans n before left → AreLoans n behind right
     → Ends n hs h l now result → Goes (given number result) (ledger hs (before ++ loan h l ∷ behind) lost) (stock n now (left ++ right))
-gone_on n number hs now h l before behind lost left right Kept same first last (idle_again es is are) =
-    (ledger (hs ++ with_lease h l es ∷ []) (before ++ behind) lost,
-    subst (λ k. Entry (given k Kept) (ledger hs (before ++ loan h l ∷ behind) lost) (ledger (hs ++ with_lease h l es ∷ []) (before ++ behind) lost)) same (is_kept h l es hs before behind lost is),
-    record { idle = are; out = loans_append n before behind left right first last })
-gone_on n number hs now h l before behind lost left right (Dropped why) same first last (gone x are) =
-    (ledger hs (before ++ behind) (lost ++ loan h l ∷ []),
-    subst (λ k. Entry (given k (Dropped why)) (ledger hs (before ++ loan h l ∷ behind) lost) (ledger hs (before ++ behind) (lost ++ loan h l ∷ []))) same (is_dropped h l why hs before behind lost),
-    record { idle = are; out = loans_append n before behind left right first last })
+gone_on n number hs now h l before behind lost left right Kept same first last (idle_again es is are) = (
+  ledger (hs ++ with_lease h l es ∷ []) (before ++ behind) lost,
+  subst (λ k. Entry (given k Kept) (ledger hs (before ++ loan h l ∷ behind) lost) (ledger (hs ++ with_lease h l es ∷ []) (before ++ behind) lost)) same (is_kept h l es hs before behind lost is),
+  record { idle = are; out = loans_append n before behind left right first last },
+)
+gone_on n number hs now h l before behind lost left right (Dropped why) same first last (let_go x are) = (
+  ledger hs (before ++ behind) (lost ++ loan h l ∷ []),
+  subst (λ k. Entry (given k (Dropped why)) (ledger hs (before ++ loan h l ∷ behind) lost) (ledger hs (before ++ behind) (lost ++ loan h l ∷ []))) same (is_dropped h l why hs before behind lost),
+  record { idle = are; out = loans_append n before behind left right first last },
+)
 
 -- ---- calls
 
@@ -141,14 +147,51 @@ one_entry s t (runs n number idle left right q old new result r) a is =
     let h = (f.at).history in
     let b = ledger a.idle (f.before ++ loan h g.0 ∷ f.behind) a.dropped in
     let entry : Entry (asked number q result) (ledger a.idle (f.before ++ f.at ∷ f.behind) a.dropped) b =
-        subst (λ k. Entry (asked k q result) (ledger a.idle (f.before ++ f.at ∷ f.behind) a.dropped) b) f.is.number (is_asked h (f.at).lease g.0 q result a.idle f.before f.behind a.dropped g.1) in
-    (b, subst (λ (xs : List Loan). Entry (asked number q result) (ledger a.idle xs a.dropped) b) (sym f.are) entry,
-    record { idle = is.idle; out = loans_append n f.before (loan h g.0 ∷ f.behind) left (leased number new ∷ right) f.first (g.2, f.last) })
+    subst (λ k. Entry (asked k q result) (ledger a.idle (f.before ++ f.at ∷ f.behind) a.dropped) b) f.is.number (is_asked h (f.at).lease g.0 q result a.idle f.before f.behind a.dropped g.1) in (
+      b,
+      subst (λ (xs : List Loan). Entry (asked number q result) (ledger a.idle xs a.dropped) b) (sym f.are) entry,
+      record { idle = is.idle; out = loans_append n f.before (loan h g.0 ∷ f.behind) left (leased number new ∷ right) f.first (g.2, f.last) },
+    )
 one_entry s t (gives_back n number idle now left right old result g) a is =
     let f = found n a.out left (leased number old) right is.out in
     let ends = ended_as n number a.idle idle now f.at old result g is.idle f.is in
     subst (λ (xs : List Loan). Goes (given number result) (ledger a.idle xs a.dropped) (stock n now (left ++ right))) (sym f.are)
     (gone_on n number a.idle now (f.at).history (f.at).lease f.before f.behind a.dropped left right result f.is.number f.first f.last ends)
+one_entry s t (lends_fit before now number was dropped idle rest v out l) a is =
+    let f = lends_checked before now number was dropped a.idle idle rest v l.next l.numbered is.idle l.takes in
+    let low : before ≤ now = (let next = l.next in omega arith) in
+    let own : number ≤ now = (let numbered = l.numbered in omega arith) in
+    let h = f.history in
+    let es = f.events in
+    let x = loan (with_check h es) (lent_as number) in
+    let last : IsLoan now x (leased number v) = record { number = refl; own = own; stands = inl f.lease } in
+    let fit : IsChecked es = reset_last h.over (checked es) (f.lease).resets in
+    let b = ledger f.others (a.out ++ x ∷ []) (a.dropped ++ map unlent f.gone) in (
+      b,
+      subst (λ (hs : List History). Entry (lent_fit number) (ledger hs a.out a.dropped) b) (sym f.are) (is_lent_fit number f.gone h es f.others a.out a.dropped fit),
+      record { idle = f.idle; out = loans_append now a.out (x ∷ []) out (leased number v ∷ []) (loans_later before now a.out out low is.out) (last, tt) },
+    )
+one_entry s t (finds_none n was dropped idle now out checks none) a is = (
+  ledger [] a.out (a.dropped ++ map unlent a.idle),
+  is_none_fit a.idle a.out a.dropped,
+  record { idle = subst (AreIdle n []) (sym none) tt; out = is.out },
+)
+one_entry s t (refills n idle now out config nonce v fresh grown) a is = (
+  ledger (a.idle ++ new_history config nonce ∷ []) a.out a.dropped,
+  is_refilled config nonce a.idle a.out a.dropped,
+  record { idle = idle_one_more n n a.idle (new_history config nonce) idle now v refl grown is.idle fresh; out = is.out },
+)
+one_entry s t (retires n number idle left right old) a is =
+    let f = found n a.out left (leased number old) right is.out in
+    let h = (f.at).history in
+    let l = (f.at).lease in
+    let b = ledger a.idle (f.before ++ f.behind) (a.dropped ++ f.at ∷ []) in
+    let entry : Entry (retired number) (ledger a.idle (f.before ++ f.at ∷ f.behind) a.dropped) b =
+    subst (λ k. Entry (retired k) (ledger a.idle (f.before ++ f.at ∷ f.behind) a.dropped) b) f.is.number (is_retired h l a.idle f.before f.behind a.dropped) in (
+      b,
+      subst (λ (xs : List Loan). Entry (retired number) (ledger a.idle xs a.dropped) b) (sym f.are) entry,
+      record { idle = is.idle; out = loans_append n f.before f.behind left right f.first f.last },
+    )
 
 pub any_entries : (s t : Stock) (steps : Steps s t) (a : Ledger) → IsLedger a s → (b : Ledger) × Entries (calls_of s t steps) a b × IsLedger b t
 any_entries s t (no_step x) a is = (a, no_entry a, is)
@@ -164,6 +207,10 @@ dropped_one call a b (is_lent number h idle out dropped begins) = ([], sym (appe
 dropped_one call a b (is_asked h l more q result idle left right dropped adds) = ([], sym (append-nil dropped))
 dropped_one call a b (is_kept h l es idle left right dropped is) = ([], sym (append-nil dropped))
 dropped_one call a b (is_dropped h l why idle left right dropped) = (loan h l ∷ [], refl)
+dropped_one call a b (is_lent_fit number gone h es idle out dropped fit) = (map unlent gone, refl)
+dropped_one call a b (is_none_fit gone out dropped) = (map unlent gone, refl)
+dropped_one call a b (is_refilled config nonce idle out dropped) = ([], sym (append-nil dropped))
+dropped_one call a b (is_retired h l idle left right dropped) = (loan h l ∷ [], refl)
 
 pub dropped_stay : (calls : List Call) (a b : Ledger) → Entries calls a b → (more : List Loan) × (b.dropped ≡ a.dropped ++ more)
 dropped_stay calls a b (no_entry x) = ([], sym (append-nil x.dropped))

@@ -6,12 +6,14 @@ use Rattle.pgw_session.specs.declared.types.Request.{Request}
 use Rattle.pgw_session.specs.declared.types.Answer.{Answer}
 use Rattle.pgw_pool.specs.declared.returned.Returned.{Returned}
 use Rattle.pgw_pool.specs.declared.returned.Returned.TheVariants.{Kept, Dropped}
-use Rattle.pgw_pool.specs.Histories.{History, Lent, View, lent_as, with_request, with_lease, IsLent, AreIdle}
+use Rattle.pgw_pool.specs.Histories.{History, Lent, View, new_history, lent_as, with_request, with_lease, with_check, IsLent, AreIdle}
 use Rattle.pgw_pool.specs.Lending.{IsCut, Ran, LendsFirst}
 use Rattle.pgw_pool.specs.declared.returned.DropCause.{DropCause}
 use Rattle.pgw_pool.specs.Returning.{cause_of, returned_by, idle_behind, GivesBack, GivenBack}
-use Rattle.pgw_pool.specs.Stocks.{Out, leased, Stock, stock, Runs, Step, lends, runs, gives_back, Steps, no_step, step_more, IsOut, AreOut, IsInOrder}
-use Rattle.pgw_pool.proofs.HistoryLaws.{lends_first}
+use Rattle.pgw_pool.specs.Stocks.{Out, leased, Stock, stock, Runs, Step, lends, runs, gives_back, lends_fit, finds_none, refills, retires, Steps, no_step, step_more, IsOut, AreOut, IsInOrder}
+use Rattle.pgw_pool.specs.Checking.{LendsChecked}
+use Rattle.pgw_pool.proofs.HistoryLaws.{lends_first, idle_one_more}
+use Rattle.pgw_pool.proofs.CheckLaws.{checks_leave, lends_checked}
 use Rattle.pgw_pool.proofs.RunLaws.{ran}
 use Rattle.pgw_pool.proofs.ReturnLaws.{given_back}
 
@@ -114,6 +116,31 @@ one_step s t (gives_back lent number idle now before behind old result g) is =
     record {
       histories = rest.0;
       idle = rest.1;
+      out = out_append lent before behind (out_before lent before (leased number old ∷ behind) is.out) at.1;
+    }
+one_step s t (lends_fit lent now number was dropped idle rest v out l) is =
+    let f = lends_checked lent now number was dropped is.histories idle rest v l.next l.numbered is.idle l.takes in
+    let low : lent ≤ now = (let next = l.next in omega arith) in
+    let own : number ≤ now = (let numbered = l.numbered in omega arith) in
+    let last : IsOut now (leased number v) = record { history = with_check f.history f.events; lease = lent_as number; number = refl; own = own; stands = inl f.lease } in
+    record {
+      histories = f.others;
+      idle = f.idle;
+      out = out_append now out (leased number v ∷ []) (out_later lent now out low is.out) (last, tt);
+    }
+one_step s t (finds_none lent was dropped idle now out checks none) is =
+    let left = checks_leave lent was is.histories idle dropped now is.idle checks in
+    record { histories = left.others; idle = left.idle; out = is.out }
+one_step s t (refills lent idle now out config nonce v fresh grown) is = record {
+  histories = is.histories ++ new_history config nonce ∷ [];
+  idle = idle_one_more lent lent is.histories (new_history config nonce) idle now v refl grown is.idle fresh;
+  out = is.out;
+}
+one_step s t (retires lent number idle before behind old) is =
+    let at = out_behind lent before (leased number old ∷ behind) is.out in
+    record {
+      histories = is.histories;
+      idle = is.idle;
       out = out_append lent before behind (out_before lent before (leased number old ∷ behind) is.out) at.1;
     }
 

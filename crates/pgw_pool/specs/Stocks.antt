@@ -6,9 +6,11 @@ use Rattle.pgw_session.specs.declared.types.Request.{Request}
 use Rattle.pgw_session.specs.declared.types.Answer.{Answer}
 use Rattle.pgw_ask.specs.Asking.{Asks}
 use Rattle.pgw_pool.specs.declared.returned.Returned.{Returned}
-use Rattle.pgw_pool.specs.Histories.{History, Lent, View, IsLent, AreIdle}
+use Rattle.pgw_config.specs.declared.config.Config.{Config}
+use Rattle.pgw_pool.specs.Histories.{History, Lent, View, new_history, IsIdle, IsLent, AreIdle}
 use Rattle.pgw_pool.specs.Lending.{Lends, IsCut}
 use Rattle.pgw_pool.specs.Returning.{GivesBack}
+use Rattle.pgw_pool.specs.Checking.{Checks, LendsFit}
 
 -- a lease that is out
 pub record Out : Type 0 where
@@ -48,6 +50,17 @@ pub data Step : Stock → Stock → Type 0 where
       (result : Returned) → GivesBack old idle now result →
       Step (stock lent idle (before ++ leased number old ∷ behind))
       (stock lent now (before ++ behind))
+  lends_fit : (lent now number was dropped : ℕ) (idle rest : List View) (v : View)
+      (out : List Out) → LendsFit idle was lent rest dropped now number v →
+      Step (stock lent idle out) (stock now rest (out ++ leased number v ∷ []))
+  finds_none : (lent was dropped : ℕ) (idle now : List View) (out : List Out) →
+      Checks idle was now dropped → now ≡ [] → Step (stock lent idle out) (stock lent now out)
+  refills : (lent : ℕ) (idle now : List View) (out : List Out) (config : Config) (nonce : List ℕ)
+      (v : View) → IsIdle 0 (new_history config nonce) v → now ≡ idle ++ v ∷ [] →
+      Step (stock lent idle out) (stock lent now out)
+  retires : (lent number : ℕ) (idle : List View) (before behind : List Out) (old : View) →
+      Step (stock lent idle (before ++ leased number old ∷ behind))
+      (stock lent idle (before ++ behind))
 
 -- any list of calls
 pub data Steps : Stock → Stock → Type 0 where
