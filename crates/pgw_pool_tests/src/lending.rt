@@ -15,17 +15,17 @@ use std::test::Fail;
 // What a server says, by the message formats of the protocol.
 const WELCOME: &[u8] = b"R\0\0\0\x08\0\0\0\0Z\0\0\0\x05I";
 
-const DONE: &[u8] = b"C\0\0\0\x07OK\0";
+pub(crate) const DONE: &[u8] = b"C\0\0\0\x07OK\0";
 
-const DISCARDED: &[u8] = b"C\0\0\0\x10DISCARD ALL\0";
+pub(crate) const DISCARDED: &[u8] = b"C\0\0\0\x10DISCARD ALL\0";
 
 const ERROR: &[u8] = b"E\0\0\0\x19SERROR\0CXX000\0Mboom\0\0";
 
 const BOUND: &[u8] = b"2\0\0\0\x04";
 
-const IDLE: &[u8] = b"Z\0\0\0\x05I";
+pub(crate) const IDLE: &[u8] = b"Z\0\0\0\x05I";
 
-const OPEN: &[u8] = b"Z\0\0\0\x05T";
+pub(crate) const OPEN: &[u8] = b"Z\0\0\0\x05T";
 
 // How a client asks for the reset.
 const RESET: &[u8] = b"Q\0\0\0\x10DISCARD ALL\0";
@@ -192,7 +192,10 @@ fn link_to(alloc: Global, pieces: &[&[u8]]) -> Result<MemoryLink, OutOfMemory>
 }
 
 // A link to each server.
-fn links_to(alloc: Global, servers: &[&[&[u8]]]) -> Result<Listed<MemoryLink>, OutOfMemory>
+pub(crate) fn links_to(
+    alloc: Global,
+    servers: &[&[&[u8]]],
+) -> Result<Listed<MemoryLink>, OutOfMemory>
     ensures { IfOk result (All IsUnused) }
 {
     let mut links = Listed::new(alloc);
@@ -203,7 +206,7 @@ fn links_to(alloc: Global, servers: &[&[&[u8]]]) -> Result<Listed<MemoryLink>, O
 }
 
 // Starts a pool with one session for each server, or tells why none was started.
-fn start(
+pub(crate) fn start(
     alloc: Global,
     servers: &[&[&[u8]]],
     fail_dials: Listed<u64>,

@@ -3,3 +3,5 @@
 
 #[cfg(test)]
 mod lending;
+#[cfg(test)]
+mod renewing;
