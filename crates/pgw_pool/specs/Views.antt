@@ -3,14 +3,13 @@ use Rattle.std.specs.Prelude.{ℕ, List, map, Option}
 use Rattle.std.specs.VecDeque.{deque_capacity}
 use Rattle.pgw_link.specs.Tape.{Tape}
 use Rattle.pgw_link.specs.declared.link.Link as Link
-use Rattle.pgw_connection.specs.declared.client.PgWireClient.{PgWireClient}
-use Rattle.pgw_connection.specs.State.{line_of, link_of, known_by, is_broken}
+use Rattle.pgw_connection.specs.State.{ClientState, line_of, link_of, known_by, is_broken}
 use Rattle.pgw_pool.specs.declared.lease.Lease.{Lease}
 use Rattle.pgw_pool.specs.declared.pool.Pool.{Pool}
 use Rattle.pgw_pool.specs.Histories.{View}
 
-abbrev pub view_of : {X : Type 0} {L : Link.Ghosts X} → (X → Tape) → (X → ℕ) →
-    PgWireClient X L → View
+abbrev pub view_of : {X : Type 0} → (X → Tape) → (X → ℕ) →
+    ClientState X → View
 view_of tape faults c = record {
   client = known_by c;
   line = line_of tape faults c;
@@ -18,22 +17,22 @@ view_of tape faults c = record {
 }
 
 -- what its link still has to come, where that is known
-abbrev pub left_in : {X : Type 0} {L : Link.Ghosts X} → (X → Option (List ℕ)) →
-    PgWireClient X L → Option (List ℕ)
+abbrev pub left_in : {X : Type 0} → (X → Option (List ℕ)) →
+    ClientState X → Option (List ℕ)
 left_in left c = left (link_of c)
 
 -- ---- a lease
 
-abbrev pub number_of : {X : Type 0} {L : Link.Ghosts X} → Lease X L → ℕ
+abbrev pub number_of : {X : Type 0} → Lease X → ℕ
 number_of lease = lease.number
 
-abbrev pub client_in : {X : Type 0} {L : Link.Ghosts X} → Lease X L → PgWireClient X L
+abbrev pub client_in : {X : Type 0} → Lease X → ClientState X
 client_in lease = lease.client
 
-abbrev pub lease_view : {X : Type 0} {L : Link.Ghosts X} → (X → Tape) → (X → ℕ) → Lease X L → View
+abbrev pub lease_view : {X : Type 0} → (X → Tape) → (X → ℕ) → Lease X → View
 lease_view tape faults lease = view_of tape faults lease.client
 
-abbrev pub left_of : {X : Type 0} {L : Link.Ghosts X} → (X → Option (List ℕ)) → Lease X L →
+abbrev pub left_of : {X : Type 0} → (X → Option (List ℕ)) → Lease X →
     Option (List ℕ)
 left_of left lease = left_in left lease.client
 

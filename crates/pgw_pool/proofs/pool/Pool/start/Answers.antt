@@ -16,7 +16,7 @@ loop-nonce-init g c =
       later = (omega arith);
       idle = idle_first c.args.config.now c.args.nonces.now _ none;
       connected = connected_first c.args.config.now c.args.limit (dials (g.D.Dialer.tape d) (g.D.Dialer.offer d) (g.D.Dialer.faults d)) c.args.nonces.now _ none;
-      foretold = λ t. foretold_first c.args.config.now c.args.limit (dials (g.D.Dialer.tape d) (g.D.Dialer.offer d) (g.D.Dialer.faults d)) c.args.nonces.now _ _ (ap (map (left_in {L = g.L.Link} g.L.Link.left)) c.in-Ok.ensures.items) none;
+      foretold = λ t. foretold_first c.args.config.now c.args.limit (dials (g.D.Dialer.tape d) (g.D.Dialer.offer d) (g.D.Dialer.faults d)) c.args.nonces.now _ _ (ap (map (left_in g.L.Link.left)) c.in-Ok.ensures.items) none;
     }
 
 pub loop-nonce-preserved : goal.loop-nonce-preserved
@@ -26,7 +26,7 @@ loop-nonce-preserved g c =
     let mid = c.loop-nonce.dialer in
     let now = c.log_in.new.dialer in
     let i = c.loop-nonce.invariant in
-    let F = left_in {L = g.L.Link} g.L.Link.left in
+    let F = left_in g.L.Link.left in
     let client = c.in-Ok-log_in.client in
     let grown : map V c.push_back_reserved.new.self.items ≡ map V c.loop-nonce.idle.items ++ V client ∷ [] =
     ap (map V) c.push_back_reserved.ensures.items ∙ map-append V c.loop-nonce.idle.items (client ∷ []) in
@@ -60,7 +60,7 @@ returns-clause-connected g c =
 pub returns-clause-foretold : goal.returns-clause-foretold
 returns-clause-foretold g c = λ t.
     let V = view_of g.L.Link.tape g.L.Link.faults in
-    let F = left_in {L = g.L.Link} g.L.Link.left in
+    let F = left_in g.L.Link.left in
     let first = c.args.dialer.now in
     let mid = c.loop-nonce.dialer in
     subst (λ (ns : List (List _)). ConnectForetold c.args.config.now c.args.limit (dials (g.D.Dialer.tape first) (g.D.Dialer.offer first) (g.D.Dialer.faults first)) ns (dials (g.D.Dialer.tape mid) (g.D.Dialer.offer mid) (g.D.Dialer.faults mid)) (map F c.loop-nonce.idle.items) (map V c.loop-nonce.idle.items))

@@ -15,5 +15,5 @@ invariant-loop-nonce g l =
       later : g.D.Dialer.faults l.fn.dialer ≤ g.D.Dialer.faults l.dialer;
       idle : AreIdle 0 (new_histories l.config (take l.nonce-index l.nonces)) (map (view_of g.L.Link.tape g.L.Link.faults) (l.idle).items);
       connected : ConnectAll l.config l.limit old (take l.nonce-index l.nonces) now (map (view_of g.L.Link.tape g.L.Link.faults) (l.idle).items);
-      foretold : g.D.Dialer.foretells → ConnectForetold l.config l.limit old (take l.nonce-index l.nonces) now (map (left_in {L = g.L.Link} g.L.Link.left) (l.idle).items) (map (view_of g.L.Link.tape g.L.Link.faults) (l.idle).items);
+      foretold : g.D.Dialer.foretells → ConnectForetold l.config l.limit old (take l.nonce-index l.nonces) now (map (left_in g.L.Link.left) (l.idle).items) (map (view_of g.L.Link.tape g.L.Link.faults) (l.idle).items);
     }
