@@ -6,22 +6,18 @@ use Rattle.std.specs.Result.{result_ok}
 use Rattle.hex.specs.Hex.{◌>>=◌, decode_of, decode_pairs, digit_or_error, hex_digit_value}
 use Rattle.hex.specs.declared.error.FromHexError.{FromHexError}
 use Rattle.pgw_script.specs.Line.{bytes_in}
-use Rattle.pgw_script.specs.ServerBytes.{Adds, digits}
+use Rattle.pgw_script.specs.ServerBytes.{Adds, digits, followed_by}
 
-abbrev digit_then : Option ℕ → (ℕ → Option (List ℕ)) → Option (List ℕ)
+abbrev pub digit_then : Option ℕ → (ℕ → Option (List ℕ)) → Option (List ℕ)
 digit_then None f = None
 digit_then (Some d) f = f d
 
-abbrev glued : List ℕ → Option (List ℕ) → Option (List ℕ)
-glued bytes None = None
-glued bytes (Some more) = Some (bytes ++ more)
-
 -- the byte of two digits, before what stands behind them
-abbrev paired : Option ℕ → Option ℕ → Option (List ℕ) → Option (List ℕ)
-paired high low more = digit_then high (λ d. digit_then low (λ e. glued ((d * 16 + e) ∷ []) more))
+abbrev pub paired : Option ℕ → Option ℕ → Option (List ℕ) → Option (List ℕ)
+paired high low more = digit_then high (λ d. digit_then low (λ e. followed_by ((d * 16 + e) ∷ []) more))
 
 -- the bytes of some digits
-abbrev pairs : List ℕ → Option (List ℕ)
+abbrev pub pairs : List ℕ → Option (List ℕ)
 pairs [] = Some []
 pairs (d ∷ []) = None
 pairs (h ∷ l ∷ rest) = paired (hex_digit_value h) (hex_digit_value l) (pairs rest)
@@ -64,7 +60,7 @@ decode_by : (ds : List ℕ) (t : Bool) → (length ds % 2 == 1) ≡ t → result
 decode_by ds true odd = rw odd (sym (odd_none ds (grind (arith, nat_tests, odd))))
 decode_by ds false even = rw even (pairs_hex 0 ds)
 
-bytes_hex : (text : List ℕ) → bytes_in text ≡ pairs (digits text)
+pub bytes_hex : (text : List ℕ) → bytes_in text ≡ pairs (digits text)
 unfolding bytes_in
 bytes_hex text = decode_by (digits text) (length (digits text) % 2 == 1) refl
 
@@ -73,25 +69,25 @@ bytes_hex text = decode_by (digits text) (length (digits text) % 2 == 1) refl
 pub record Told (start now rest text : List ℕ) : Type 0 where
   added : List ℕ
   are : now ≡ start ++ added
-  same : glued added (pairs (digits rest)) ≡ pairs (digits text)
+  same : followed_by added (pairs (digits rest)) ≡ pairs (digits text)
 
-glued_nil : (o : Option (List ℕ)) → glued [] o ≡ o
-glued_nil None = refl
-glued_nil (Some bytes) = refl
+pub followed_by_none : (o : Option (List ℕ)) → followed_by [] o ≡ o
+followed_by_none None = refl
+followed_by_none (Some bytes) = refl
 
 pub told_first : (start now text : List ℕ) → now ≡ start → Told start now text text
-told_first start now text same = record { added = []; are = same ∙ sym (append-nil start); same = glued_nil (pairs (digits text)) }
+told_first start now text same = record { added = []; are = same ∙ sym (append-nil start); same = followed_by_none (pairs (digits text)) }
 
-glued_on : (a b : List ℕ) (o : Option (List ℕ)) → glued a (glued b o) ≡ glued (a ++ b) o
-glued_on a b None = refl
-glued_on a b (Some more) = ap Some (sym (append_assoc a b more))
+pub followed_further : (a b : List ℕ) (o : Option (List ℕ)) → followed_by a (followed_by b o) ≡ followed_by (a ++ b) o
+followed_further a b None = refl
+followed_further a b (Some more) = ap Some (sym (append_assoc a b more))
 
 -- a byte whose two digits stand next
 pub told_pair : (start now new text rest more : List ℕ) (h l d e : ℕ) → Told start now rest text → digits rest ≡ h ∷ l ∷ digits more → hex_digit_value h ≡ Some d → hex_digit_value l ≡ Some e → new ≡ now ++ (d * 16 + e) ∷ [] → Told start new more text
 told_pair start now new text rest more h l d e t are high low put = record {
   added = t.added ++ (d * 16 + e) ∷ [];
   are = put ∙ ap (λ (bs : List ℕ). bs ++ (d * 16 + e) ∷ []) t.are ∙ append_assoc start t.added ((d * 16 + e) ∷ []);
-  same = sym (glued_on t.added ((d * 16 + e) ∷ []) (pairs (digits more))) ∙ (rw (are, high, low) at t.same);
+  same = sym (followed_further t.added ((d * 16 + e) ∷ []) (pairs (digits more))) ∙ (rw (are, high, low) at t.same);
 }
 
 -- a digit without a second

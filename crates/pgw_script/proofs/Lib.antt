@@ -4,5 +4,6 @@ pub mod ScriptLaws
 pub mod GrammarLaws
 pub mod SignedLaws
 pub mod HexLaws
+pub mod WorthLaws
 pub mod ServerLaws
 pub mod RelayLaws

@@ -9,6 +9,7 @@
 pub mod equality;
 pub mod expected;
 pub mod grammar;
+mod hex_digits;
 mod line;
 pub mod lines;
 pub mod number;

@@ -1,8 +1,9 @@
 //! What a script's server sends.
 ghost use Rattle.std.specs.Prelude.{◌≡◌, ◌<◌, ◌++◌, ◌∷◌, [], length, MatchOption, IfOk, IfSome, OnOk};
 ghost use Rattle.hex.specs.Hex.{hex_digit_value};
-ghost use Rattle.pgw_script.specs.ServerBytes.{Adds, digits};
+ghost use Rattle.pgw_script.specs.ServerBytes.{Adds, AddsFront, digits};
 
+use crate::hex_digits::pair_worth;
 use bytes::Bytes;
 use pgw_types::memory::OutOfMemory;
 use pgw_types::octets::Octets;
@@ -85,6 +86,33 @@ impl ServerBytes {
     /// Adds the bytes of a text of hex digits, among which spaces may stand; answers whether it is one. Of another text
     /// some bytes may have been added.
     pub fn add_hex(&mut self, text: &[u8]) -> Result<bool, OutOfMemory>
+        ensures { IfOk result (λ known. Adds known text.now self.old self.new) }
+    {
+        let rest = self.add_whole_pairs(text)?;
+        self.add_spread_pairs(rest)
+    }
+
+    // Adds bytes as long as both digits of the next one stand side by side, and answers what is left of the text.
+    fn add_whole_pairs<'a>(&mut self, text: &'a [u8]) -> Result<&'a [u8], OutOfMemory>
+        ensures { IfOk result (λ rest. AddsFront rest.now text.now self.old self.new) }
+    {
+        let mut rest = text;
+        while let [first, second, behind @ ..] = rest {
+            let byte = pair_worth(*first, *second);
+            if byte < 256 {
+                self.bytes.push(byte as u8)?;
+                rest = behind;
+            } else if *first == b' ' {
+                rest = &rest[1..];
+            } else {
+                return Ok(rest);
+            }
+        }
+        Ok(rest)
+    }
+
+    // The same of any text of digits, digit by digit.
+    fn add_spread_pairs(&mut self, text: &[u8]) -> Result<bool, OutOfMemory>
         ensures { IfOk result (λ known. Adds known text.now self.old self.new) }
     {
         let mut rest = text;

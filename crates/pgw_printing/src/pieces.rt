@@ -1,8 +1,8 @@
 //! The pieces of printed text.
-ghost use Rattle.std.specs.Prelude.{◌≡◌, ◌<◌, ◌+◌, ◌*◌, ◌++◌, ◌∷◌, [], OnOk, codes, decimal};
+ghost use Rattle.std.specs.Prelude.{◌≡◌, ◌<◌, ◌+◌, ◌*◌, ◌++◌, ◌∷◌, [], length, slice_index, OnOk, codes, decimal};
 ghost use Rattle.std.specs.Fmt.{signed_decimal};
 ghost use Rattle.std.specs.List.{flat_map};
-ghost use Rattle.hex.specs.Hex.{encode_lower};
+ghost use Rattle.hex.specs.Hex.{encode_lower, lower_digits};
 ghost use Rattle.pgw_prog.specs.Pieces.{in_hex, quoted, quoted_byte};
 
 use itoa::Buffer;
@@ -36,10 +36,29 @@ fn put_digits(out: &mut Vec<u8>, bytes: &[u8]) -> Result<(), OutOfMemory>
     // A vector holds fewer bytes than 64 bits can count, so the end is no cut-off one.
     let whole = out.len() < usize::MAX;
     prove!(whole);
-    let written = hex::encode_to_slice(bytes, &mut out[start..]);
-    let fits = written.is_ok();
-    prove!(fits);
+    write_digits(&mut out[start..], bytes);
     Ok(())
+}
+
+// The digit of a value. It is worked out, and not looked up, so that many are made at once.
+#[inline]
+fn digit(value: u8) -> u8
+    requires { value < 16 }
+    ensures { result ≡ slice_index lower_digits value }
+{
+    if value < 10 { value + 48 } else { value + 87 }
+}
+
+// Writes two digits for each byte.
+fn write_digits(out: &mut [u8], bytes: &[u8])
+    requires { length out.old ≡ 2 * length bytes.now }
+    ensures { out.new ≡ encode_lower bytes.now }
+{
+    for at in 0..bytes.len() {
+        let byte = bytes[at];
+        out[2 * at] = digit(byte / 16);
+        out[2 * at + 1] = digit(byte % 16);
+    }
 }
 
 // Where two digits for each byte end, or the greatest place of all, at which no list ends.

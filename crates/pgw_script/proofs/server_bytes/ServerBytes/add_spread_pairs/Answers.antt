@@ -1,7 +1,7 @@
 use Rattle.std.proofs.Common.{◌≡◌, ◌∷◌, ℕ, List, Some, None, ap, sym, ◌∙◌, arith}
 use Rattle.pgw_script.specs.ServerBytes.{digits}
 use Rattle.pgw_script.proofs.HexLaws.{told_first, told_pair, told_half, told_other, told_end}
-use Rattle.pgw_script.proofs.server_bytes.ServerBytes.add_hex.Goals as goal
+use Rattle.pgw_script.proofs.server_bytes.ServerBytes.add_spread_pairs.Goals as goal
 
 pub loop-first-init : goal.loop-first-init
 loop-first-init c = told_first c.args.self.now _ c.args.text.now c.self.view_is
