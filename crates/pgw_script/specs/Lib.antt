@@ -8,3 +8,5 @@ pub mod PairLine
 pub mod PairScript
 pub mod RelayLine
 pub mod RelayScript
+pub mod PoolLine
+pub mod PoolScript

@@ -3,6 +3,7 @@ ghost use Rattle.pgw_wire.specs.Equal.{IsExact};
 
 use crate::lines::ScriptFault;
 use crate::pair_script::PairPlace;
+use crate::pool_script::PoolPlace;
 use crate::relay_script::RelayPlace;
 use crate::script::Place;
 
@@ -12,4 +13,5 @@ pub fn equality_is_exact()
     ensures place { IsExact ⟦<Place as PartialEq>⟧.eq }
     ensures pair_place { IsExact ⟦<PairPlace as PartialEq>⟧.eq }
     ensures relay_place { IsExact ⟦<RelayPlace as PartialEq>⟧.eq }
+    ensures pool_place { IsExact ⟦<PoolPlace as PartialEq>⟧.eq }
 {}

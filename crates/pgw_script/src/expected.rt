@@ -1,6 +1,7 @@
 //! What a script may have at a line, in words for people.
 
 use crate::pair_script::{PairPlace, pair_may_follow};
+use crate::pool_script::{PoolPlace, pool_may_follow};
 use crate::relay_script::{RelayPlace, relay_may_follow};
 use crate::script::{Place, may_follow};
 use std::str;
@@ -220,6 +221,60 @@ pub fn expected_in_relay_at(text: &[u8], number: u64) -> (&'static str, &'static
     let expected = match relay_place_named(word) {
         Some(next) if relay_may_follow(last, next) => relay_form(word),
         _ => behind_in_relay(last),
+    };
+    (expected, found(line))
+}
+
+/// The kind of the lines of a pool script that begin with this word.
+fn pool_place_named(word: &str) -> Option<PoolPlace> {
+    match word {
+        "config" => Some(PoolPlace::Config),
+        "nonce" => Some(PoolPlace::Nonce),
+        "limit" => Some(PoolPlace::Limit),
+        "cut" => Some(PoolPlace::Cut),
+        "server" => Some(PoolPlace::Server),
+        "lend" | "run" | "back" => Some(PoolPlace::Call),
+        _ => None,
+    }
+}
+
+/// The lines of a pool script that may stand behind one of this kind.
+fn behind_in_pool(place: PoolPlace) -> &'static str {
+    match place {
+        PoolPlace::Start => "\"config TEXT\" first",
+        PoolPlace::Config => "\"nonce HEX\" after config",
+        PoolPlace::Nonce => "\"limit N\" after nonce",
+        PoolPlace::Limit => "\"cut N\" after limit",
+        PoolPlace::Cut => "\"server HEX\" after cut",
+        PoolPlace::Server => {
+            "\"server HEX\", \"lend\", \"run LEASE SQL\" or \"back LEASE\" after server"
+        }
+        PoolPlace::Call => "\"lend\", \"run LEASE SQL\" or \"back LEASE\" after a call",
+    }
+}
+
+/// The form of a line of a pool script that begins with this word.
+fn pool_form(word: &str) -> &'static str {
+    match word {
+        "config" => "\"config TEXT\", a text in UTF-8",
+        "nonce" => "\"nonce HEX\", 36 hex digits",
+        "limit" => "\"limit N\", a number of 64 bits",
+        "cut" => "\"cut N\", a number from 1 to 65536",
+        "server" => "\"server HEX\", two hex digits for each byte",
+        "lend" => "\"lend\", and nothing behind it",
+        "run" => "\"run LEASE SQL\", the number of a lease that is out and a text in UTF-8",
+        _ => "\"back LEASE\", the number of a lease that is out",
+    }
+}
+
+/// The same of a pool script, also where a lease's number is not out at that line.
+pub fn expected_in_pool_at(text: &[u8], number: u64) -> (&'static str, &'static str) {
+    let (before, line) = lines_at(text, number);
+    let last = pool_place_named(first_word(before)).unwrap_or(PoolPlace::Start);
+    let word = first_word(line);
+    let expected = match pool_place_named(word) {
+        Some(next) if pool_may_follow(last, next) => pool_form(word),
+        _ => behind_in_pool(last),
     };
     (expected, found(line))
 }

@@ -1,7 +1,8 @@
 //! Scripts: what a text of them says.
 //!
 //! To the crate that runs them it promises the whole reading: `script::parse` answers each text's one session script,
-//! `pair_script::parse_pair` its one pair script, `relay_script::parse_relay` its one relay script, or the number of its first line outside the grammar, which
+//! `pair_script::parse_pair` its one pair script, `relay_script::parse_relay` its one relay script,
+//! `pool_script::parse_pool` its one pool script, or the number of its first line outside the grammar, which
 //! `specs/Grammar` tells as a relation over a kind of scripts (`specs/Form`); `grammar::grammar_is_read` is the law that
 //! both agree. `expected::expected_at` has the words for what was expected at that line.
 #![tactic(auto)]
@@ -15,6 +16,8 @@ pub mod lines;
 pub mod number;
 mod pair_line;
 pub mod pair_script;
+mod pool_line;
+pub mod pool_script;
 mod relay_line;
 pub mod relay_script;
 mod request_line;

@@ -4,6 +4,7 @@ use Rattle.pgw_script.specs.declared.lines.ScriptFault.TheVariants as fault
 use Rattle.pgw_script.specs.declared.script.Place.TheVariants as place
 use Rattle.pgw_script.specs.declared.pair_script.PairPlace.TheVariants as pair
 use Rattle.pgw_script.specs.declared.relay_script.RelayPlace.TheVariants as relay
+use Rattle.pgw_script.specs.declared.pool_script.PoolPlace.TheVariants as pool
 use Rattle.pgw_script.proofs.equality.equality_is_exact.Goals as goal
 
 pub returns-clause-script_fault : goal.returns-clause-script_fault
@@ -46,3 +47,13 @@ returns-clause-relay_place c relay.Client relay.Client = (λ e. refl, λ e. refl
 returns-clause-relay_place c relay.Server relay.Server = (λ e. refl, λ e. refl)
 returns-clause-relay_place c relay.Turns relay.Turns = (λ e. refl, λ e. refl)
 returns-clause-relay_place c x y = (λ e. absurd cc, λ e. absurd cc)
+
+pub returns-clause-pool_place : goal.returns-clause-pool_place
+returns-clause-pool_place c pool.Start pool.Start = (λ e. refl, λ e. refl)
+returns-clause-pool_place c pool.Config pool.Config = (λ e. refl, λ e. refl)
+returns-clause-pool_place c pool.Nonce pool.Nonce = (λ e. refl, λ e. refl)
+returns-clause-pool_place c pool.Limit pool.Limit = (λ e. refl, λ e. refl)
+returns-clause-pool_place c pool.Cut pool.Cut = (λ e. refl, λ e. refl)
+returns-clause-pool_place c pool.Server pool.Server = (λ e. refl, λ e. refl)
+returns-clause-pool_place c pool.Call pool.Call = (λ e. refl, λ e. refl)
+returns-clause-pool_place c x y = (λ e. absurd cc, λ e. absurd cc)
