@@ -15,7 +15,7 @@ use Rattle.pgw_session.specs.declared.types.ExecuteResult.{ExecuteResult}
 use Rattle.pgw_session.specs.declared.types.ExecuteResult.TheVariants as executed
 use Rattle.pgw_session.specs.declared.types.Answer.{Answer}
 use Rattle.pgw_session.specs.declared.types.Answer.TheVariants as answer
-use Rattle.pgw_prog.specs.Pieces.{line_end, in_hex, quoted}
+use Rattle.pgw_printing.specs.Pieces.{line_end, in_hex, quoted}
 
 -- behind a command: where the rows are known a space and the oid where that is known, a space and the rows
 abbrev pub rows_text : Option ℕ → Option ℕ → List ℕ

@@ -12,9 +12,9 @@ use Rattle.pgw_query.specs.declared.response.TransactionStatus.{TransactionStatu
 use Rattle.pgw_query.specs.declared.response.TransactionStatus.TheVariants as status
 use Rattle.pgw_backend.specs.declared.client_error.PgWireClientError.{PgWireClientError}
 use Rattle.pgw_session.specs.declared.types.SessionReport.{SessionReport}
-use Rattle.pgw_prog.specs.AnswerLines.{numbered}
-use Rattle.pgw_prog.specs.Pieces.{line_end, in_hex, quoted}
-use Rattle.pgw_prog.specs.ErrorNames.{client_name}
+use Rattle.pgw_printing.specs.AnswerLines.{numbered}
+use Rattle.pgw_printing.specs.Pieces.{line_end, in_hex, quoted}
+use Rattle.pgw_printing.specs.ErrorNames.{client_name}
 
 -- sent HEX
 unfoldable pub sent_line : List ℕ → List ℕ

@@ -2,16 +2,16 @@
 ghost use Rattle.std.specs.Prelude.{◌≡◌, ◌++◌, ◌∷◌, [], OnOk, codes, decimal, ◌+◌, ◌<◌, ◌^◌};
 ghost use Rattle.std.specs.List.{flat_map};
 ghost use Rattle.pgw_query.specs.Runs.{lent_row};
-ghost use Rattle.pgw_prog.specs.Pieces.{line_end, quoted};
-ghost use Rattle.pgw_prog.specs.AnswerLines.{tag_text, type_number, format_number, field_line, row_line, response_lines, item_line, name_text, oid_text, oids_text, rows_lines, executed_lines, told_lines, answer_lines, numbered};
+ghost use Rattle.pgw_printing.specs.Pieces.{line_end, quoted};
+ghost use Rattle.pgw_printing.specs.AnswerLines.{tag_text, type_number, format_number, field_line, row_line, response_lines, item_line, name_text, oid_text, oids_text, rows_lines, executed_lines, told_lines, answer_lines, numbered};
 
 use crate::pieces::{put, put_decimal, put_hex, put_quoted, put_signed};
-use pgw_client::{
-    Answer, DataRowRef, DataRows, DescribeResponse, ExecuteResult, PrepareResponse, Response,
-};
+use pgw_query::data_rows::DataRows;
 use pgw_query::field_info::{FieldFormat, FieldInfo};
 use pgw_query::pg_type::PgType;
+use pgw_query::row_ref::DataRowRef;
 use pgw_query::tag::Tag;
+use pgw_session::types::{Answer, DescribeResponse, ExecuteResult, PrepareResponse, Response};
 use pgw_types::memory::OutOfMemory;
 use pgw_types::text::Text;
 
@@ -266,8 +266,9 @@ fn put_told(out: &mut Vec<u8>, answer: &Answer) -> Result<(), OutOfMemory>
     }
 }
 
+/// Appends the lines of an answer with this number.
 #[tactic(auto, unfolding(crate::specs::AnswerLines::answer_lines))]
-fn put_answer(out: &mut Vec<u8>, number: u64, answer: &Answer) -> Result<(), OutOfMemory>
+pub fn put_answer(out: &mut Vec<u8>, number: u64, answer: &Answer) -> Result<(), OutOfMemory>
     ensures { OnOk result (out.new.items ≡ out.old.items ++ answer_lines number answer.now) }
 {
     put(out, b"answer ")?;

@@ -1,6 +1,6 @@
 //! The names of errors.
 ghost use Rattle.std.specs.Prelude.{◌≡◌, ◌++◌, OnOk, string_bytes, codes};
-ghost use Rattle.pgw_prog.specs.ErrorNames.{wire_name, client_name};
+ghost use Rattle.pgw_printing.specs.ErrorNames.{wire_name, client_name};
 
 use crate::pieces::put;
 use pgw_backend::client_error::PgWireClientError;
@@ -54,12 +54,14 @@ fn wire_name(error: &PgWireError) -> &'static str
     }
 }
 
+/// Appends the name of an error of the protocol.
 pub fn put_wire_name(out: &mut Vec<u8>, error: &PgWireError) -> Result<(), OutOfMemory>
     ensures { OnOk result (out.new.items ≡ out.old.items ++ wire_name error.now) }
 {
     put(out, wire_name(error).as_bytes())
 }
 
+/// Appends the name of a client's error.
 #[tactic(auto, unfolding(crate::specs::ErrorNames::client_name))]
 pub fn put_client_name(out: &mut Vec<u8>, error: &PgWireClientError) -> Result<(), OutOfMemory>
     ensures { OnOk result (out.new.items ≡ out.old.items ++ client_name error.now) }

@@ -3,11 +3,12 @@ ghost use Rattle.std.specs.Prelude.{◌≡◌, ◌<◌, ◌+◌, ◌*◌, ◌++�
 ghost use Rattle.std.specs.Fmt.{signed_decimal};
 ghost use Rattle.std.specs.List.{flat_map};
 ghost use Rattle.hex.specs.Hex.{encode_lower, lower_digits};
-ghost use Rattle.pgw_prog.specs.Pieces.{in_hex, quoted, quoted_byte};
+ghost use Rattle.pgw_printing.specs.Pieces.{in_hex, quoted, quoted_byte};
 
 use itoa::Buffer;
 use pgw_types::memory::OutOfMemory;
 
+/// Appends a text.
 pub fn put(out: &mut Vec<u8>, text: &[u8]) -> Result<(), OutOfMemory>
     ensures { OnOk result (out.new.items ≡ out.old.items ++ text.now) }
 {
@@ -15,6 +16,7 @@ pub fn put(out: &mut Vec<u8>, text: &[u8]) -> Result<(), OutOfMemory>
     Ok(())
 }
 
+/// Appends bytes in hex, or `-` for none.
 #[tactic(auto, unfolding(crate::specs::Pieces::in_hex))]
 pub fn put_hex(out: &mut Vec<u8>, bytes: &[u8]) -> Result<(), OutOfMemory>
     ensures { OnOk result (out.new.items ≡ out.old.items ++ in_hex bytes.now) }
@@ -68,6 +70,7 @@ fn end_of(start: usize, len: usize) -> usize
     start.saturating_add(len.saturating_mul(2))
 }
 
+/// Appends a number.
 pub fn put_decimal(out: &mut Vec<u8>, number: u64) -> Result<(), OutOfMemory>
     ensures { OnOk result (out.new.items ≡ out.old.items ++ decimal number) }
 {
@@ -75,6 +78,7 @@ pub fn put_decimal(out: &mut Vec<u8>, number: u64) -> Result<(), OutOfMemory>
     put(out, buffer.format(number).as_bytes())
 }
 
+/// Appends a number with its sign.
 pub fn put_signed(out: &mut Vec<u8>, number: i32) -> Result<(), OutOfMemory>
     ensures { OnOk result (out.new.items ≡ out.old.items ++ signed_decimal number) }
 {
@@ -111,6 +115,7 @@ fn put_quoted_bytes(out: &mut Vec<u8>, bytes: &[u8]) -> Result<(), OutOfMemory>
     Ok(())
 }
 
+/// Appends a text in quotes, with a backslash before a quote and before a backslash, and control characters in hex.
 #[tactic(auto, unfolding(crate::specs::Pieces::quoted))]
 pub fn put_quoted(out: &mut Vec<u8>, text: &[u8]) -> Result<(), OutOfMemory>
     ensures { OnOk result (out.new.items ≡ out.old.items ++ quoted text.now) }

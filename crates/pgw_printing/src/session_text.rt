@@ -2,9 +2,9 @@
 ghost use Rattle.std.specs.Prelude.{◌≡◌, ◌++◌, ◌∷◌, [], OnOk, codes, decimal, string_bytes, ◌+◌, ◌<◌, ◌^◌, Ok, Err};
 ghost use Rattle.std.specs.List.{flat_map};
 ghost use Rattle.std.specs.FinMap as map;
-ghost use Rattle.pgw_prog.specs.Pieces.{quoted};
-ghost use Rattle.pgw_prog.specs.Printing.{sent_line, version_line, process_line, key_line, parameter_line, status_line, report_lines, error_line, result_text, session_text};
-ghost use Rattle.pgw_prog.specs.AnswerLines.{tag_text, type_number, format_number, field_line, row_line, response_lines, item_line, answer_lines, numbered};
+ghost use Rattle.pgw_printing.specs.Pieces.{quoted};
+ghost use Rattle.pgw_printing.specs.SessionText.{sent_line, version_line, process_line, key_line, parameter_line, status_line, report_lines, error_line, result_text, session_text};
+ghost use Rattle.pgw_printing.specs.AnswerLines.{tag_text, type_number, format_number, field_line, row_line, response_lines, item_line, answer_lines, numbered};
 
 use crate::answer_lines::put_answers;
 use crate::error_names::put_client_name;
@@ -18,8 +18,8 @@ use pgw_types::text::Text;
 use pgw_wire::params::Params;
 use pgw_wire::secret_key::SecretKey;
 
-#[tactic(auto, unfolding(crate::specs::Printing::sent_line))]
-pub fn put_sent(out: &mut Vec<u8>, bytes: &[u8]) -> Result<(), OutOfMemory>
+#[tactic(auto, unfolding(crate::specs::SessionText::sent_line))]
+fn put_sent(out: &mut Vec<u8>, bytes: &[u8]) -> Result<(), OutOfMemory>
     ensures { OnOk result (out.new.items ≡ out.old.items ++ sent_line bytes.now) }
 {
     put(out, b"sent ")?;
@@ -27,7 +27,7 @@ pub fn put_sent(out: &mut Vec<u8>, bytes: &[u8]) -> Result<(), OutOfMemory>
     put(out, b"\n")
 }
 
-#[tactic(auto, unfolding(crate::specs::Printing::version_line))]
+#[tactic(auto, unfolding(crate::specs::SessionText::version_line))]
 fn put_version(out: &mut Vec<u8>, version: ProtocolVersion) -> Result<(), OutOfMemory>
     ensures { OnOk result (out.new.items ≡ out.old.items ++ version_line version) }
 {
@@ -38,7 +38,7 @@ fn put_version(out: &mut Vec<u8>, version: ProtocolVersion) -> Result<(), OutOfM
     }
 }
 
-#[tactic(auto, unfolding(crate::specs::Printing::process_line))]
+#[tactic(auto, unfolding(crate::specs::SessionText::process_line))]
 fn put_process(out: &mut Vec<u8>, process_id: i32) -> Result<(), OutOfMemory>
     ensures { OnOk result (out.new.items ≡ out.old.items ++ process_line process_id) }
 {
@@ -47,7 +47,7 @@ fn put_process(out: &mut Vec<u8>, process_id: i32) -> Result<(), OutOfMemory>
     put(out, b"\n")
 }
 
-#[tactic(auto, unfolding(crate::specs::Printing::key_line, pgw_wire::specs::Writing::i32))]
+#[tactic(auto, unfolding(crate::specs::SessionText::key_line, pgw_wire::specs::Writing::i32))]
 fn put_key(out: &mut Vec<u8>, key: &SecretKey) -> Result<(), OutOfMemory>
     ensures { OnOk result (out.new.items ≡ out.old.items ++ key_line key.now) }
 {
@@ -65,7 +65,7 @@ fn put_key(out: &mut Vec<u8>, key: &SecretKey) -> Result<(), OutOfMemory>
     }
 }
 
-#[tactic(auto, unfolding(crate::specs::Printing::parameter_line))]
+#[tactic(auto, unfolding(crate::specs::SessionText::parameter_line))]
 fn put_parameter(out: &mut Vec<u8>, name: &Text, value: &Text) -> Result<(), OutOfMemory>
     ensures { OnOk result (out.new.items ≡ out.old.items ++ parameter_line (name.now, value.now)) }
 {
@@ -86,7 +86,7 @@ fn put_parameters(out: &mut Vec<u8>, parameters: &Params) -> Result<(), OutOfMem
     Ok(())
 }
 
-#[tactic(auto, unfolding(crate::specs::Printing::status_line))]
+#[tactic(auto, unfolding(crate::specs::SessionText::status_line))]
 fn put_status(out: &mut Vec<u8>, status: TransactionStatus) -> Result<(), OutOfMemory>
     ensures { OnOk result (out.new.items ≡ out.old.items ++ status_line status) }
 {
@@ -97,7 +97,7 @@ fn put_status(out: &mut Vec<u8>, status: TransactionStatus) -> Result<(), OutOfM
     }
 }
 
-#[tactic(auto, unfolding(crate::specs::Printing::report_lines))]
+#[tactic(auto, unfolding(crate::specs::SessionText::report_lines))]
 fn put_report(out: &mut Vec<u8>, report: &SessionReport) -> Result<(), OutOfMemory>
     ensures { OnOk result (out.new.items ≡ out.old.items ++ report_lines report.now) }
 {
@@ -109,8 +109,9 @@ fn put_report(out: &mut Vec<u8>, report: &SessionReport) -> Result<(), OutOfMemo
     put_answers(out, report.answers.as_slice())
 }
 
-#[tactic(auto, unfolding(crate::specs::Printing::error_line))]
-fn put_error(out: &mut Vec<u8>, error: &PgWireClientError) -> Result<(), OutOfMemory>
+/// Appends the line of an error.
+#[tactic(auto, unfolding(crate::specs::SessionText::error_line))]
+pub fn put_error(out: &mut Vec<u8>, error: &PgWireClientError) -> Result<(), OutOfMemory>
     ensures { OnOk result (out.new.items ≡ out.old.items ++ error_line error.now) }
 {
     put(out, b"error ")?;
@@ -132,7 +133,7 @@ pub fn put_result(
 }
 
 /// Appends what a session is printed as.
-#[tactic(auto, unfolding(crate::specs::Printing::session_text))]
+#[tactic(auto, unfolding(crate::specs::SessionText::session_text))]
 pub fn put_session(
     out: &mut Vec<u8>,
     sent: &[u8],

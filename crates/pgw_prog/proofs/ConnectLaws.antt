@@ -28,7 +28,7 @@ use Rattle.pgw_prog.specs.declared.printed.Printed.{Printed}
 use Rattle.pgw_prog.specs.Held.{Says, status_of}
 use Rattle.pgw_client.specs.OverLink.{LinkSpan, OverLink}
 use Rattle.pgw_prog.specs.Connected.{input_for, DialSpan, DialledOnce, NoLinkFor, HeldSession, Talked, LeavesFor, LeavesDialer, PrintsRefusal, PrintsTalk, PrintsAt, PrintsBy, Connects, CanConnect, PrintsReport}
-use Rattle.pgw_prog.specs.Printing.{report_lines, error_line, result_text}
+use Rattle.pgw_printing.specs.SessionText.{report_lines, error_line, result_text}
 use Rattle.pgw_prog.proofs.OverLaws.{foretold_less, from_fresh}
 use Rattle.pgw_prog.proofs.TextLaws.{error_same, not_io, no_report}
 

@@ -10,4 +10,5 @@ pub mod ProgramLaws
 pub mod PairLaws
 pub mod KindLaws
 pub mod RelayLaws
+pub mod PoolLaws
 pub mod RowCounts

@@ -14,7 +14,7 @@ use Rattle.pgw_types.specs.declared.config_error.ConfigError.{ConfigError}
 use Rattle.pgw_backend.specs.ClientError.{of_config}
 use Rattle.pgw_backend.specs.declared.client_error.PgWireClientError.TheVariants as client
 use Rattle.pgw_config.specs.declared.config.Config.{Config}
-use Rattle.pgw_prog.specs.Printing.{session_text}
+use Rattle.pgw_printing.specs.SessionText.{session_text}
 use Rattle.pgw_prog.specs.Held.{PrintsSession, PrintsOutcome, Holds, CanComplete, NamesCall, IsNear, FailsNear, input_of, making_of, completed_text}
 use Rattle.pgw_prog.specs.declared.command.Command.{Command}
 use Rattle.pgw_prog.specs.declared.command.Command.TheVariants as kind
@@ -29,6 +29,7 @@ use Rattle.pgw_prog.proofs.GenLaws.{generates}
 use Rattle.pgw_prog.proofs.KindLaws.{script_prints}
 use Rattle.pgw_prog.proofs.PairLaws.{pair_written}
 use Rattle.pgw_prog.proofs.RelayLaws.{relay_written}
+use Rattle.pgw_prog.proofs.PoolLaws.{pool_written}
 use Rattle.pgw_prog.proofs.PassfileLaws.{passfile_written}
 use Rattle.pgw_prog.proofs.SecretLaws.{secret_written}
 use Rattle.pgw_prog.proofs.TextLaws.{io_text, not_io, not_sent, no_line}
@@ -112,6 +113,7 @@ module _ (help version nonce words : List ℕ) (command : Command) (source : Sou
     generates = λ hush rows start is. generates rows start p sink.old.wrote sink.new.wrote (answers_at (kind.Gen rows start) p is answers) whole.wrote;
     pairs = λ hush is. pair_written source p sink.old.wrote sink.new.wrote (answers_at kind.Pair p is answers) whole.wrote;
     relays = λ hush is. relay_written source p sink.old.wrote sink.new.wrote (answers_at kind.Relay p is answers) whole.wrote;
+    pools = λ hush is. pool_written source p sink.old.wrote sink.new.wrote (answers_at kind.Pool p is answers) whole.wrote;
     secrets = λ hush asked is. secret_written asked.password asked.count words p sink.old.wrote sink.new.wrote (answers_at (kind.Secret asked) p is answers) whole.wrote;
     finds = λ hush asked is. passfile_written asked source p sink.old.wrote sink.new.wrote (answers_at (kind.Passfile asked) p is answers) whole.wrote;
   }
@@ -138,6 +140,7 @@ module _ (help version nonce words : List ℕ) (command : Command) (source : Sou
     generates = λ hush rows start is. absurd (hush rose);
     pairs = λ hush is text got script of. absurd (hush rose);
     relays = λ hush is text got script of. absurd (hush rose);
+    pools = λ hush is text got script of. absurd (hush rose);
     secrets = λ hush asked is. absurd (hush rose);
     finds = λ hush asked is file got. absurd (hush rose);
   }
@@ -167,6 +170,7 @@ module _ (help version nonce words : List ℕ) (command : Command) (source : Sou
         generates = λ hush rows start is. absurd (unread_by (kind.Gen rows start) is refl script);
         pairs = λ hush is text got pair of. absurd (omega (arith, got.ended, stopped.1));
         relays = λ hush is text got script of. absurd (omega (arith, got.ended, stopped.1));
+        pools = λ hush is text got script of. absurd (omega (arith, got.ended, stopped.1));
         secrets = λ hush asked is. absurd (unread_by (kind.Secret asked) is refl script);
         finds = λ hush asked is file got. absurd (omega (arith, got.ended, stopped.1));
       }
@@ -196,6 +200,7 @@ module _ (help version nonce words : List ℕ) (command : Command) (source : Sou
         generates = λ hush rows start is. inl refl;
         pairs = λ hush is text got pair of. inl refl;
         relays = λ hush is text got script of. inl refl;
+        pools = λ hush is text got script of. inl refl;
         secrets = λ hush asked is. inl refl;
         finds = λ hush asked is file got. inl refl;
       }

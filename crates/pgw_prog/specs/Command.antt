@@ -12,6 +12,7 @@ command_named word =
     if pointwise nat_eq word (codes "script") then command.Script
     else if pointwise nat_eq word (codes "pair") then command.Pair
     else if pointwise nat_eq word (codes "relay") then command.Relay
+    else if pointwise nat_eq word (codes "pool") then command.Pool
     else if pointwise nat_eq word (codes "--help") then command.Help
     else if pointwise nat_eq word (codes "--version") then command.Version
     else command.Usage
@@ -88,6 +89,7 @@ abbrev pub reads_source : Command → Bool
 reads_source command.Script = true
 reads_source command.Pair = true
 reads_source command.Relay = true
+reads_source command.Pool = true
 reads_source (command.Passfile asked) = true
 reads_source _ = false
 

@@ -6,7 +6,7 @@ use Rattle.pgw_gen.specs.Stream.{IsStream, rows_of}
 use Rattle.pgw_gen.specs.Summary.{payloads}
 use Rattle.pgw_prog.specs.declared.printed.Printed.{Printed}
 use Rattle.pgw_prog.specs.Held.{Says}
-use Rattle.pgw_prog.specs.Pieces.{in_hex, line_end}
+use Rattle.pgw_printing.specs.Pieces.{in_hex, line_end}
 
 -- rows N, bytes N, sha256 HEX
 unfoldable pub summary_text : GenSummary → ℕ → List ℕ

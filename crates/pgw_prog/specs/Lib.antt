@@ -1,7 +1,3 @@
-pub mod AnswerLines
-pub mod Pieces
-pub mod ErrorNames
-pub mod Printing
 pub mod Transfer
 pub mod Held
 pub mod Connected
@@ -12,4 +8,5 @@ pub mod Secret
 pub mod Passfile
 pub mod Pair
 pub mod Relay
+pub mod Pool
 pub mod Program

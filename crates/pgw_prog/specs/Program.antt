@@ -8,6 +8,7 @@ use Rattle.pgw_session.specs.Events.{Event}
 use Rattle.pgw_script.specs.declared.script.Script.{Script}
 use Rattle.pgw_script.specs.declared.pair_script.PairScript.{PairScript}
 use Rattle.pgw_script.specs.declared.relay_script.RelayScript.{RelayScript}
+use Rattle.pgw_script.specs.declared.pool_script.PoolScript.{PoolScript}
 use Rattle.pgw_prog.specs.declared.printed.Printed.{Printed}
 use Rattle.pgw_prog.specs.declared.command.Command.{Command}
 use Rattle.pgw_prog.specs.declared.command.Command.TheVariants as kind
@@ -21,6 +22,7 @@ use Rattle.pgw_script.specs.Grammar.{IsScriptIn, IsFaultIn}
 use Rattle.pgw_script.specs.Script.{IsScript, session_form}
 use Rattle.pgw_script.specs.PairScript.{IsPairScript, pair_form}
 use Rattle.pgw_script.specs.RelayScript.{IsRelayScript, relay_form}
+use Rattle.pgw_script.specs.PoolScript.{IsPoolScript, pool_form}
 use Rattle.pgw_prog.specs.declared.command.NewSecret.{NewSecret}
 use Rattle.pgw_prog.specs.declared.passfile.Asked.{Asked}
 use Rattle.pgw_prog.specs.Command.{reads_source}
@@ -30,9 +32,10 @@ use Rattle.pgw_prog.specs.Held.{Says, Holds, CanComplete, FailsNear, completed_t
 use Rattle.pgw_prog.specs.Pair.{PrintsPair, PrintsPairText}
 use Rattle.pgw_prog.specs.Passfile.{AnswersPassfile, PrintsFound}
 use Rattle.pgw_prog.specs.Relay.{PrintsRelay, PrintsRelayText}
+use Rattle.pgw_prog.specs.Pool.{PrintsPool, PrintsPoolText}
 use Rattle.pgw_prog.specs.Secret.{SaysSecret, PrintsSecret}
-use Rattle.pgw_prog.specs.Pieces.{line_end}
-use Rattle.pgw_prog.specs.Printing.{error_line, session_text}
+use Rattle.pgw_printing.specs.Pieces.{line_end}
+use Rattle.pgw_printing.specs.SessionText.{error_line, session_text}
 use Rattle.pgw_prog.specs.Transfer.{SourceSpan, SinkSpan, TookWhole, TookFront, TookTooMany}
 
 -- the line with this number is the first outside the grammar
@@ -46,11 +49,13 @@ AnswersText {S = S} form prints text p =
     ((script : S) × IsScriptIn form text script × prints script p)
     ⊎ ((n : ℕ) × IsFaultIn form text n × SaysLine n p)
 
--- what a text gives, read as a script of this kind: its session, its login, or what its proxy passes on
+-- what a text gives, read as a script of this kind: its session, its login, what its proxy passes on, or what its pool's
+-- calls give
 abbrev pub Gives : ScriptKind → List ℕ → Printed → Type 0
 Gives scripts.Session text p = AnswersText session_form Holds text p
 Gives scripts.Pair text p = AnswersText pair_form PrintsPair text p
 Gives scripts.Relay text p = AnswersText relay_form PrintsRelay text p
+Gives scripts.Pool text p = AnswersText pool_form PrintsPool text p
 
 -- of a source that gave a whole text, what the text gives; a script has at most 16777216 bytes
 abbrev pub AnswersScript : ScriptKind → SourceSpan → Printed → Type 0
@@ -68,6 +73,7 @@ Answers help version nonce words source dialer kind.Version p = Says p version 0
 Answers help version nonce words source dialer kind.Script p = AnswersScript scripts.Session source p
 Answers help version nonce words source dialer kind.Pair p = AnswersScript scripts.Pair source p
 Answers help version nonce words source dialer kind.Relay p = AnswersScript scripts.Relay source p
+Answers help version nonce words source dialer kind.Pool p = AnswersScript scripts.Pool source p
 Answers help version nonce words source dialer (kind.Connect asked) p = Connects nonce dialer asked p
 Answers help version nonce words source dialer (kind.Gen rows start) p = SaysGen rows start p
 Answers help version nonce words source dialer (kind.Secret asked) p =
@@ -176,6 +182,12 @@ pub record Ran (help version nonce words : List ℕ) (command : Command)
       → (text : List ℕ) → TookWhole source.old source.new text
       → (script : RelayScript) → IsRelayScript text script
       → PrintsRelayText script sink.old.wrote sink.new.wrote status
+  -- Of a pool script that was read whole, what the calls of its pool give is printed, or why no pool was started, or which
+  -- line names a lease that is not out.
+  pub pools : (Rose sink.before sink.now → ⊥) → command ≡ kind.Pool
+      → (text : List ℕ) → TookWhole source.old source.new text
+      → (script : PoolScript) → IsPoolScript text script
+      → PrintsPoolText script sink.old.wrote sink.new.wrote status
   -- Of a password and a count the secret is printed, with the first words as its salt.
   pub secrets : (Rose sink.before sink.now → ⊥) → (asked : NewSecret) → command ≡ kind.Secret asked
       → PrintsSecret asked.password asked.count words sink.old.wrote sink.new.wrote status

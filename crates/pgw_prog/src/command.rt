@@ -24,6 +24,8 @@ pub enum Command {
     Pair,
     /// Runs the proxy of a relay script.
     Relay,
+    /// Makes the calls of a pool script.
+    Pool,
     /// Holds a session with a server.
     Connect(Connection),
     /// Holds a session of so many rows that follow from a number.
@@ -61,6 +63,8 @@ fn command_named(word: &str) -> Command
         Command::Pair
     } else if word == "relay" {
         Command::Relay
+    } else if word == "pool" {
+        Command::Pool
     } else if word == "--help" {
         Command::Help
     } else if word == "--version" {

@@ -6,12 +6,12 @@ ghost use Rattle.pgw_prog.specs.Generated.{SaysGen, stream_summary, summary_text
 ghost use Rattle.pgw_prog.specs.Held.{Says};
 
 use crate::gen_session::gen_session;
-use crate::pieces::{put, put_decimal, put_hex};
 use crate::printed::Printed;
 use pgw_backend::client_error::{PgWireClientError, PgWireClientResult};
 use pgw_gen::stream::stream;
 use pgw_gen::summary::GenSummary;
 use pgw_link::memory::MemoryLink;
+use pgw_printing::pieces::{put, put_decimal, put_hex};
 use pgw_types::listed::Listed;
 use pgw_types::memory::OutOfMemory;
 use pgw_types::octets::Octets;

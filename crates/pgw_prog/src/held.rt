@@ -6,15 +6,15 @@ ghost use Rattle.pgw_session.specs.Input.{input_with};
 ghost use Rattle.pgw_link.specs.Calls.{is_reached, number_of};
 ghost use Rattle.pgw_link.specs.Memory.{memory_tape, memory_left, faults_of, making_of};
 ghost use Rattle.pgw_link.specs.Tape.{new_tape};
-ghost use Rattle.pgw_prog.specs.Printing.{session_text};
+ghost use Rattle.pgw_printing.specs.SessionText.{session_text};
 
 use crate::printed::Printed;
-use crate::printing::put_session;
 use crate::told::{told_of_outcome, told_of_refusal};
 use pgw_backend::client_error::{PgWireClientError, PgWireClientResult};
 use pgw_client::session::run_session;
 use pgw_config::config::Config;
 use pgw_link::memory::MemoryLink;
+use pgw_printing::session_text::put_session;
 use pgw_script::script::Script;
 use pgw_script::server_bytes::ServerBytes;
 use pgw_session::types::{Request, SessionReport};

@@ -7,19 +7,16 @@
 //! promises the same whatever becomes of what people are told.
 #![tactic(auto)]
 
-mod answer_lines;
 mod command;
 mod connected;
 pub mod equality;
-mod error_names;
 pub mod gen_session;
 mod generated;
 mod held;
 mod pair;
 mod passfile;
-mod pieces;
+mod pool;
 mod printed;
-mod printing;
 pub mod program;
 mod relay;
 mod secret;

@@ -6,12 +6,12 @@ ghost use Rattle.pgw_prog.specs.Passfile.{password_line, AnswersFile, AnswersPas
 ghost use Rattle.pgw_prog.specs.Program.{CountsStop};
 ghost use Rattle.pgw_prog.specs.Transfer.{source_span, TookFront};
 
-use crate::pieces::{put, put_hex};
 use crate::printed::Printed;
 use crate::program::Stop;
 use crate::told::told;
 use crate::transfer::{ReadFault, read_whole};
 use pgw_link::stream::Source;
+use pgw_printing::pieces::{put, put_hex};
 use pgw_secrets::password_file::PasswordFile;
 use pgw_types::memory::OutOfMemory;
 use pgw_types::octets::Octets;

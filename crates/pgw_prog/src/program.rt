@@ -6,9 +6,11 @@ ghost use Rattle.pgw_prog.specs.Connected.{dial_span, LeavesDialer};
 ghost use Rattle.pgw_prog.specs.Held.{Says, Holds};
 ghost use Rattle.pgw_prog.specs.Pair.{PrintsPair};
 ghost use Rattle.pgw_prog.specs.Relay.{PrintsRelay};
+ghost use Rattle.pgw_prog.specs.Pool.{PrintsPool};
 ghost use Rattle.pgw_script.specs.Script.{session_form};
 ghost use Rattle.pgw_script.specs.PairScript.{pair_form};
 ghost use Rattle.pgw_script.specs.RelayScript.{relay_form};
+ghost use Rattle.pgw_script.specs.PoolScript.{pool_form};
 ghost use Rattle.pgw_prog.specs.Program.{AnswersText, AnswersScript, Gives, Answers, Appended, CountsStop, Ran, SaysLine};
 ghost use Rattle.pgw_prog.specs.Transfer.{source_span, sink_span, TookFront};
 
@@ -18,20 +20,22 @@ use crate::generated::generate;
 use crate::held::hold;
 use crate::pair::hold_pair;
 use crate::passfile::answer_passfile;
-use crate::pieces::{put, put_decimal};
+use crate::pool::hold_pool;
 use crate::printed::Printed;
 use crate::relay::hold_relay;
 use crate::secret::make_secret;
 use crate::silence::Silence;
 use crate::told::{
     NO_MEMORY, NO_OUTPUT, NO_SCRIPT, TOO_LONG, told, told_of_line, told_of_pair_line,
-    told_of_relay_line, told_of_words,
+    told_of_pool_line, told_of_relay_line, told_of_words,
 };
 use crate::transfer::{ReadFault, read_whole, write_whole};
 use pgw_link::dialer::Dialer;
 use pgw_link::stream::{Sink, Source};
+use pgw_printing::pieces::{put, put_decimal};
 use pgw_script::lines::ScriptFault;
 use pgw_script::pair_script::parse_pair;
+use pgw_script::pool_script::parse_pool;
 use pgw_script::relay_script::parse_relay;
 use pgw_script::script::parse;
 use pgw_types::memory::OutOfMemory;
@@ -56,6 +60,9 @@ hothummei pair       reads a pair script from standard input, holds the login of
 hothummei relay      reads a relay script from standard input, runs a recording proxy
                      between the client and the server that it gives, and prints
                      what was passed on to each side, and the record
+hothummei pool       reads a pool script from standard input, starts a pool of
+                     sessions with the servers that it gives, makes its calls,
+                     and prints what each gave
 hothummei gen ROWS START
                      makes a session of ROWS rows, at most 1000000, whose
                      numbers follow from START, holds it, and prints how many
@@ -147,6 +154,19 @@ server HEX                       bytes that the server sends; any number; in bot
                                  may stand between the digits
 turns LETTERS                    whose bytes are read in each turn, c or s
 
+A pool script has these lines, in this order, by the same rules. A session is lent as
+a lease, asked in it, and given back.
+
+config TEXT                      as in a session script, with a host
+nonce HEX                        36 digits: the bytes of each login's nonce
+limit N                          the most bytes that each session reads
+cut N                            the most bytes that one call moves, 1 to 65536
+server HEX                       what the server sends in one session; one line or
+                                 more; spaces may stand between the digits
+lend, run LEASE SQL, back LEASE  a session is lent, is asked a query, is given back;
+                                 any number of these lines; LEASE is the number of a
+                                 lease that is out
+
 A file of passwords has lines host:port:database:user:password. In the first four a *
 alone matches everything, and a backslash stands for the byte after it.
 
@@ -208,6 +228,7 @@ enum ScriptKind {
     Session,
     Pair,
     Relay,
+    Pool,
 }
 
 /// Reads a session script, lets its text go, and holds its session.
@@ -258,6 +279,19 @@ fn answer_relay(alloc: Global, text: Vec<u8>) -> Result<Printed, OutOfMemory>
     }
 }
 
+/// Reads a pool script, and makes its calls.
+fn answer_pool(alloc: Global, text: Vec<u8>) -> Result<Printed, OutOfMemory>
+    ensures { IfOk result (AnswersText pool_form PrintsPool text.items) }
+{
+    match parse_pool(alloc, &text) {
+        Ok(script) => hold_pool(alloc, script, &text),
+        Err(ScriptFault::Line(number)) => {
+            says_line(alloc, number, told_of_pool_line(alloc, &text, number))
+        }
+        Err(ScriptFault::OutOfMemory) => Err(OutOfMemory),
+    }
+}
+
 fn answer_text(alloc: Global, kind: ScriptKind, text: Vec<u8>) -> Result<Printed, OutOfMemory>
     ensures { IfOk result (Gives kind text.items) }
 {
@@ -265,6 +299,7 @@ fn answer_text(alloc: Global, kind: ScriptKind, text: Vec<u8>) -> Result<Printed
         ScriptKind::Session => answer_session(alloc, text),
         ScriptKind::Pair => answer_pair(alloc, text),
         ScriptKind::Relay => answer_relay(alloc, text),
+        ScriptKind::Pool => answer_pool(alloc, text),
     }
 }
 
@@ -313,6 +348,7 @@ fn answer<I: Source, D: Dialer>(
         Command::Script => answer_script(alloc, ScriptKind::Session, input),
         Command::Pair => answer_script(alloc, ScriptKind::Pair, input),
         Command::Relay => answer_script(alloc, ScriptKind::Relay, input),
+        Command::Pool => answer_script(alloc, ScriptKind::Pool, input),
         Command::Connect(asked) => Ok(connect(alloc, &asked, dialer, nonce)?),
         Command::Gen(rows, start) => Ok(generate(alloc, rows, start, nonce)?),
         Command::Secret(asked) => {

@@ -5,10 +5,10 @@ ghost use Rattle.pgw_prog.specs.Held.{Says};
 ghost use Rattle.pgw_prog.specs.Relay.{bytes_line, fault_name, fault_line, relay_text, relay_status as status_for, IsFaultless, IsNew, WentWell, PrintsRun, PrintsRelay};
 
 use crate::held::link_of;
-use crate::pieces::{put, put_hex};
 use crate::printed::Printed;
 use crate::told::told_of_fault;
 use pgw_link::memory::MemoryLink;
+use pgw_printing::pieces::{put, put_hex};
 use pgw_proxy::fault::ProxyFault;
 use pgw_proxy::recorded::Side;
 use pgw_proxy::run::{ProxyRun, run_proxy};

@@ -52,7 +52,8 @@ fn wants_random_bytes(alloc: Global, words: &[String]) -> Result<bool, OutOfMemo
             Ok(false)
         }
         Command::Help | Command::Version | Command::Usage => Ok(false),
-        Command::Script | Command::Pair | Command::Relay | Command::Gen(..) => Ok(false),
+        Command::Script | Command::Pair | Command::Relay | Command::Pool => Ok(false),
+        Command::Gen(..) => Ok(false),
     }
 }
 

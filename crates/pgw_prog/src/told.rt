@@ -4,7 +4,9 @@ use pgw_backend::client_error::{PgWireClientError, PgWireClientResult};
 use pgw_conninfo::part::Part;
 use pgw_conninfo::text::cut;
 use pgw_proxy::fault::ProxyFault;
-use pgw_script::expected::{expected_at, expected_in_pair_at, expected_in_relay_at};
+use pgw_script::expected::{
+    expected_at, expected_in_pair_at, expected_in_pool_at, expected_in_relay_at,
+};
 use pgw_session::types::SessionReport;
 use pgw_types::memory::OutOfMemory;
 use std::alloc::{AllocError, Global};
@@ -75,7 +77,9 @@ fn words_fault(alloc: Global, words: &[String]) -> Result<String, AllocError> {
             "an empty word, or one that is not UTF-8, is no command"
         ),
         [word, next, ..] => match word.as_str() {
-            "script" | "pair" | "relay" | "--help" | "--version" => more_fault(alloc, word, next),
+            "script" | "pair" | "relay" | "pool" | "--help" | "--version" => more_fault(
+                alloc, word, next,
+            ),
             _ => no_command(alloc, word),
         },
         [word] => no_command(alloc, word),
@@ -126,6 +130,12 @@ pub fn told_of_pair_line(alloc: Global, text: &[u8], number: u64) -> String {
 /// The same of a relay script.
 pub fn told_of_relay_line(alloc: Global, text: &[u8], number: u64) -> String {
     let (expected, found) = expected_in_relay_at(text, number);
+    told_of(alloc, number, expected, found)
+}
+
+/// The same of a pool script, also where a lease's number is not out at that line.
+pub fn told_of_pool_line(alloc: Global, text: &[u8], number: u64) -> String {
+    let (expected, found) = expected_in_pool_at(text, number);
     told_of(alloc, number, expected, found)
 }
 

@@ -1,8 +1,8 @@
 use Rattle.std.proofs.Common.{◌≡◌, ℕ, List, ◌∷◌, ◌++◌, append_assoc, sym, ap, ◌∙◌}
 use Rattle.std.specs.List.{flat_map}
 use Rattle.pgw_query.specs.declared.data.DataRow.{DataRow}
-use Rattle.pgw_prog.specs.AnswerLines.{row_line}
-use Rattle.pgw_prog.proofs.answer_lines.put_rows.Goals as goal
+use Rattle.pgw_printing.specs.AnswerLines.{row_line}
+use Rattle.pgw_printing.proofs.answer_lines.put_rows.Goals as goal
 
 -- a row's line comes behind what was put, and the others' behind it
 next_put : (out new text : List ℕ) (rows rest : List DataRow) (row : DataRow) → rows ≡ row ∷ rest → new ≡ out ++ row_line row → out ++ flat_map row_line rows ≡ text → new ++ flat_map row_line rest ≡ text

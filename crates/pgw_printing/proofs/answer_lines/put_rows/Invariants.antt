@@ -1,7 +1,7 @@
 use Rattle.std.proofs.Common.{◌≡◌, ◌++◌}
 use Rattle.std.specs.List.{flat_map}
-use Rattle.pgw_prog.specs.AnswerLines.{row_line}
-use Rattle.pgw_prog.proofs.answer_lines.put_rows.Given as goal
+use Rattle.pgw_printing.specs.AnswerLines.{row_line}
+use Rattle.pgw_printing.proofs.answer_lines.put_rows.Given as goal
 
 abbrev pub invariant-loop-row : goal.invariant-loop-row
 invariant-loop-row l = record {

@@ -1,6 +1,6 @@
 use Rattle.std.proofs.Common.{◌≡◌, ◌*◌, ◌++◌, take, drop}
 use Rattle.hex.specs.Hex.{encode_lower}
-use Rattle.pgw_prog.proofs.pieces.write_digits.Given as goal
+use Rattle.pgw_printing.proofs.pieces.write_digits.Given as goal
 
 abbrev pub invariant-loop-at : goal.invariant-loop-at
 invariant-loop-at l =

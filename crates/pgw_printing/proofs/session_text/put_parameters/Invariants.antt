@@ -1,8 +1,8 @@
 use Rattle.std.proofs.Common.{◌≡◌, ◌++◌}
 use Rattle.std.specs.List.{flat_map}
 use Rattle.std.specs.FinMap as map
-use Rattle.pgw_prog.specs.Printing.{parameter_line}
-use Rattle.pgw_prog.proofs.printing.put_parameters.Given as goal
+use Rattle.pgw_printing.specs.SessionText.{parameter_line}
+use Rattle.pgw_printing.proofs.session_text.put_parameters.Given as goal
 
 abbrev pub invariant-loop-name : goal.invariant-loop-name
 invariant-loop-name l =

@@ -1,0 +1,9 @@
+use Rattle.std.proofs.Common.{inr, refl}
+use Rattle.pgw_pool_script.specs.Outcome.{new_dialer}
+use Rattle.pgw_pool_script.proofs.start.start.Goals as goal
+
+pub returns-in-Err-clause-refused : goal.returns-in-Err-clause-refused
+returns-in-Err-clause-refused c = (new_dialer c.args.servers.now, inr refl)
+
+pub returns-in-Err-links_to-clause-refused : goal.returns-in-Err-links_to-clause-refused
+returns-in-Err-links_to-clause-refused c = (new_dialer c.args.servers.now, inr refl)

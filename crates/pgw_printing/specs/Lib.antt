@@ -1,0 +1,4 @@
+pub mod AnswerLines
+pub mod Pieces
+pub mod ErrorNames
+pub mod SessionText
