@@ -52,9 +52,11 @@ pub record LendsFit (idle : List View) (was lent : ℕ) (rest : List View) (drop
   pub next : now ≡ lent + 1
   pub numbered : number ≡ now
 
--- why none is lent: none was fit, and none is idle any more; or one is idle, and all numbers are spent
+-- Why none is lent: none was fit, and none is idle any more, and a number was left if one was idle; or
+-- one is idle, and all numbers are spent.
 abbrev pub LendsNoneFit : List View → ℕ → ℕ → List View → ℕ → LendError → Type 0
-LendsNoneFit idle was lent now dropped Empty = Checks idle was now dropped × (now ≡ [])
+LendsNoneFit idle was lent now dropped Empty =
+    Checks idle was now dropped × (now ≡ []) × (idle ≢ [] → lent ≢ most_leases)
 LendsNoneFit idle was lent now dropped Exhausted =
     (idle ≢ []) × (lent ≡ most_leases) × (now ≡ idle) × (dropped ≡ was)
 

@@ -11,4 +11,4 @@ returns-in-Some-clause-checked g c = λ hs are.
     lends_checked c.args.self.now.lent _ _ _ _ hs (map V c.args.self.now.idle.items) (map V c.take_fit.new.self.idle.items) (V c.in-Some.client) (ap (λ (n : ℕ). n + 1) c.in-Some.ensures.lent) refl are c.in-Some.ensures.takes
 
 pub returns-then-is_empty-clause-refused : goal.returns-then-is_empty-clause-refused
-returns-then-is_empty-clause-refused g c = (unchecked, grind (arith, common_steps))
+returns-then-is_empty-clause-refused g c = (unchecked, grind (arith, common_steps), λ some. absurd (grind (arith, common_steps)))
