@@ -1,7 +1,7 @@
 -- The logins of a pool's sessions.
 use Rattle.std.specs.Result.{IfOk}
 use Rattle.std.proofs.Common.{◌≡◌, ◌<◌, ◌≤◌, ℕ, ◌+◌, false, List, [], ◌∷◌, ◌++◌, length, take, drop, get_or, Option, Result, Ok, Err, arith, ◌⊎◌, inl, inr, refl, sym, ◌∙◌, ap, subst, append_assoc}
-use Rattle.std.proofs.lemmas.List.{take_more, take_all, take-append-drop, map-append}
+use Rattle.std.proofs.lemmas.List.{take_more, take_all, take-append-drop, map-append, length-drop}
 use Rattle.pgw_backend.specs.declared.client_error.PgWireClientError.{PgWireClientError as ClientError}
 use Rattle.pgw_backend.specs.declared.client_error.PgWireClientError.TheVariants as client
 use Rattle.pgw_config.specs.declared.config.Config.{Config}
@@ -135,6 +135,7 @@ wants_first foretells config limit ns old = record {
   done = [];
   behind = ns;
   cut = refl;
+  more = λ some. absurd (some refl);
   views = [];
   connected = no_login;
   later = (omega arith);
@@ -149,6 +150,7 @@ stops_next foretells config limit ns i n old mid new vs e there is all offered b
       done = take i ns;
       behind = drop i ns;
       cut = sym (take-append-drop i ns);
+      more = λ some none. omega (arith, there, length-drop i ns, ap length none);
       views = vs;
       connected = all;
       later = before;

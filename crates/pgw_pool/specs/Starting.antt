@@ -1,5 +1,5 @@
 -- How a pool is started.
-use Rattle.std.specs.Prelude.{◌≡◌, ◌⊎◌, ◌≤◌, ℕ, negsuc, pos, List, [], ◌∷◌, ◌++◌, map, Option}
+use Rattle.std.specs.Prelude.{◌≡◌, ◌≢◌, ◌⊎◌, ◌≤◌, ℕ, negsuc, pos, List, [], ◌∷◌, ◌++◌, map, Option}
 use Rattle.pgw_wire.specs.declared.secret_key.SecretKey.TheVariants.{I32}
 use Rattle.pgw_backend.specs.declared.client_error.PgWireClientError.{PgWireClientError as ClientError}
 use Rattle.pgw_backend.specs.declared.client_error.PgWireClientError.TheVariants as client
@@ -105,12 +105,14 @@ pub record StopsAt (foretells : Type 0) (config : Config) (limit : ℕ) (nonces 
   pub foretold : foretells →
       (lefts : List (Option (List ℕ))) × ConnectForetold config limit old done mid lefts views
 
--- Memory was wanting between logins: those by the first nonces were made, and nothing else was done.
+-- Memory was wanting before a login: those by the first nonces were made, and nothing else was done.
+-- Where some were made, one was still to be made.
 pub record WantsAt (foretells : Type 0) (config : Config) (limit : ℕ) (nonces : List (List ℕ))
     (old new : Dials) : Type 0 where
   pub done : List (List ℕ)
   pub behind : List (List ℕ)
   pub cut : nonces ≡ done ++ behind
+  pub more : done ≢ [] → behind ≢ []
   pub views : List View
   pub connected : ConnectAll config limit old done new views
   pub later : old.faults ≤ new.faults
