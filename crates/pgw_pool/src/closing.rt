@@ -25,7 +25,7 @@ fn first_error(
 }
 
 impl<L: Link> Pool<L> {
-    ghost use Rattle.pgw_pool.specs.Views.{idle_in, lent_by, out_by, dropped_by, connected_by, room_of, reserved_in, lease_view};
+    ghost use Rattle.pgw_pool.specs.Views.{idle_in, lefts_in, lent_by, out_by, dropped_by, connected_by, room_of, reserved_in, lease_view};
     ghost use Rattle.pgw_pool.specs.Closing.{Closes};
 
     /// Ends the pool: takes leave of the server on each idle session, the longest idle one first, and
@@ -68,6 +68,7 @@ impl<L: Link> Pool<L> {
         ensures connected { connected_by self.new ≡ connected_by self.old }
         // The idle sessions are those that were idle before, so this one is never lent again.
         ensures idle { idle_in L.tape L.faults self.new ≡ idle_in L.tape L.faults self.old }
+        ensures lefts { lefts_in L.left self.new ≡ lefts_in L.left self.old }
         ensures closed { Closed (lease_view L.tape L.faults lease).broken
             (lease_view L.tape L.faults lease).line.tape
             (lease_view L.tape L.faults lease).line.faults

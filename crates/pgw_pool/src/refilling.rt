@@ -1,5 +1,5 @@
 //! Sessions in place of those that were dropped.
-ghost use Rattle.std.specs.Prelude.{◌≡◌, ◌⊎◌, ◌<◌, ◌++◌, ◌∷◌, [], List, length, ◌+◌, false, IfErr, OnOk, OnErr};
+ghost use Rattle.std.specs.Prelude.{◌≡◌, ◌⊎◌, ◌<◌, ◌++◌, ◌∷◌, [], ℕ, List, Option, length, ◌+◌, false, IfErr, OnOk, OnErr};
 ghost use Rattle.pgw_backend.specs.declared.client_error.PgWireClientError.TheVariants as failure;
 ghost use Rattle.pgw_types.specs.Counts.{counted};
 ghost use Rattle.pgw_handlers.specs.Handling.{HasCause};
@@ -36,6 +36,9 @@ impl<L: Link> Pool<L> {
             (dials (D.tape dialer.old) (D.offer dialer.old) (D.faults dialer.old))
             (dials (D.tape dialer.new) (D.offer dialer.new) (D.faults dialer.new))
             (idle_in L.tape L.faults self.old) (idle_in L.tape L.faults self.new)) }
+        // What the links of the others have to come stays.
+        ensures lefts { OnOk result ((left : Option (List ℕ)) ×
+            (lefts_in L.left self.new ≡ lefts_in L.left self.old ++ left ∷ [])) }
         // Whatever was done over the idle sessions, one more is idle behind them, of which none was
         // lent.
         ensures given { (hs : List History) →
