@@ -60,24 +60,24 @@ lent_none (Ok done) before after out all why old new none same kept put = rw (sa
 lent_none (Err e) before after out all why old new none same kept put = tt
 
 -- what is printed of a request
-abbrev pub seen : {L : Link.Ghosts MemoryLink} → Lease MemoryLink L → View
+abbrev pub seen : Lease MemoryLink → View
 seen lease = lease_view memory_tape faults_of lease
 
 abbrev the_result : Result Answer ClientError → Result Answer ClientError
 the_result r = r
 
-ran : {L : Link.Ghosts MemoryLink} (q : Request) (r : Result Answer ClientError) (before after : Lease MemoryLink L) → ((seen before).broken ≡ true → (r ≡ Err client.Broken) × (after ≡ before))
+ran : (q : Request) (r : Result Answer ClientError) (before after : Lease MemoryLink) → ((seen before).broken ≡ true → (r ≡ Err client.Broken) × (after ≡ before))
     → ((seen before).broken ≡ false → Asks q (seen before).client (seen before).line (seen after).client (seen after).line (seen after).broken r) → Runs q (seen before) (seen after) r
 ran q r before after broken asks = record { broken = λ is. let b = broken is in (b.0, ap seen b.1); asks = asks }
 
-pub told_answer : {L : Link.Ghosts MemoryLink} (r : Result Unit OutOfMemory) (q : Request) (a : Answer) (before after : Lease MemoryLink L) (n m : ℕ) (old new : List ℕ) → number_of after ≡ number_of before → ((seen before).broken ≡ true → (Ok a ≡ Err client.Broken) × (after ≡ before))
+pub told_answer : (r : Result Unit OutOfMemory) (q : Request) (a : Answer) (before after : Lease MemoryLink) (n m : ℕ) (old new : List ℕ) → number_of after ≡ number_of before → ((seen before).broken ≡ true → (Ok a ≡ Err client.Broken) × (after ≡ before))
     → ((seen before).broken ≡ false → Asks q (seen before).client (seen before).line (seen after).client (seen after).line (seen after).broken (Ok a)) → m ≡ counted n → OnOk r (new ≡ old ++ answer_lines m a)
     → OnOk r (PrintsRun q (place (number_of before) (seen before) n) (place (number_of after) (seen after) m) old new)
 told_answer (Ok done) q a before after n m old new same broken asks more put =
     rw (same, more) (answer_lines (counted n) a, answered (number_of before) n (seen before) (seen after) a (ran q (Ok a) before after broken asks), rw more at put)
 told_answer (Err e) q a before after n m old new same broken asks more put = tt
 
-pub told_error : {L : Link.Ghosts MemoryLink} (r : Result Unit OutOfMemory) (q : Request) (e : ClientError) (before after : Lease MemoryLink L) (n : ℕ) (old new : List ℕ) → number_of after ≡ number_of before → ((seen before).broken ≡ true → (the_result (Err e) ≡ Err client.Broken) × (after ≡ before))
+pub told_error : (r : Result Unit OutOfMemory) (q : Request) (e : ClientError) (before after : Lease MemoryLink) (n : ℕ) (old new : List ℕ) → number_of after ≡ number_of before → ((seen before).broken ≡ true → (the_result (Err e) ≡ Err client.Broken) × (after ≡ before))
     → ((seen before).broken ≡ false → Asks q (seen before).client (seen before).line (seen after).client (seen after).line (seen after).broken (Err e)) → OnOk r (wants_memory e ≡ false) → OnOk r (new ≡ old ++ error_line e)
     → OnOk r (PrintsRun q (place (number_of before) (seen before) n) (place (number_of after) (seen after) n) old new)
 told_error (Ok done) q e before after n old new same broken asks told put =
