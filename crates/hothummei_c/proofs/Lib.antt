@@ -1,0 +1,5 @@
+pub mod HandleLaws
+pub mod HeldLaws
+pub mod PlaceLaws
+pub mod ReadLaws
+pub mod Walks

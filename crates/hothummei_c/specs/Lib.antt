@@ -1,0 +1,11 @@
+pub mod Asks
+pub mod Codes
+pub mod Held
+pub mod Opening
+pub mod Places
+pub mod Reads
+pub mod Report
+pub mod Session
+pub mod Turns
+pub mod Values
+pub mod Handle

@@ -1,0 +1,30 @@
+-- Turns of a session.
+use Rattle.std.specs.Prelude.{◌≡◌, ◌⊎◌, ℕ, List, Some}
+use Rattle.pgw_dialogue.specs.Machine.{report_at}
+use Rattle.hothummei_c.specs.declared.held.Held.{Held}
+use Rattle.hothummei_c.specs.declared.session.Phase.{Phase}
+use Rattle.hothummei_c.specs.declared.session.Phase.TheVariants as phase
+use Rattle.hothummei_c.specs.declared.session.Session.{Session}
+use Rattle.hothummei_c.specs.declared.values.Value.{Value}
+use Rattle.hothummei_c.specs.Codes.{out_of_memory}
+use Rattle.hothummei_c.specs.Held.{dialogue_of}
+use Rattle.hothummei_c.specs.Report.{kept_of}
+use Rattle.hothummei_c.specs.Values.{Tells}
+
+-- the report is that of the dialogue, or memory was wanting
+abbrev pub Finishes : Session → Session → Held → ℕ → Type 0
+Finishes old new held result =
+    (new.out.items ≡ old.out.items)
+    × (((result ≡ 0) × (new.phase ≡ phase.Done) × (new.report ≡ Some (kept_of (report_at (dialogue_of held).notes)))) ⊎ (result ≡ out_of_memory))
+
+-- these bytes are shown, and nothing changes
+abbrev pub Shows : Session → Session → List ℕ → Value → ℕ → Type 0
+Shows old new bytes out result = (result ≡ 0) × (new ≡ old) × Tells bytes out
+
+abbrev pub phase_number : Phase → ℕ
+phase_number phase.New = 0
+phase_number phase.Asking = 1
+phase_number phase.Waiting = 2
+phase_number phase.Ready = 3
+phase_number phase.Done = 4
+phase_number phase.Failed = 5
