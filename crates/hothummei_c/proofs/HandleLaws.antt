@@ -1,5 +1,5 @@
 -- A session behind a handle.
-use Rattle.hothummei_c.proofs.Walks.{◌≡◌, ℕ, ◌<◌, ◌^◌, List, [], ◌∷◌, full_share, SProp, ent, sep, ex, id⊢, via, fst∗, snd∗, Fml, fsep, feq, fat, fact, fact_mono, refl, subst, sym, lit<, Val, ‵, ◌$◌, ◌∵◌, !, qed, done, move, use1, fsplit, fjoin, fpick, fpack, rewrite, show, lone, Is, shows, peeks, Ptr, block_ptr, Testable, Ura, Logic, sem, part_at, cell_at, single}
+use Rattle.hothummei_c.proofs.Walks.{◌≡◌, ℕ, ◌<◌, ◌^◌, List, [], ◌∷◌, full_share, SProp, ent, sep, ex, via, fst∗, snd∗, Fml, fsep, feq, fat, fact, fact_mono, refl, subst, sym, lit<, Val, ‵, ◌$◌, ◌∵◌, !, qed, done, move, use1, fsplit, fjoin, fpick, fpack, rewrite, show, lone, Is, shows, peeks, block_ptr, Testable, Ura, Logic, sem, part_at, cell_at, single}
 use denote.Memory.{part_of}
 use Rattle.hothummei_c.specs.declared.session.Session.{Session}
 use Rattle.hothummei_c.specs.contracts.session.Session.{the_row as S}

@@ -1,8 +1,7 @@
 -- Values of a row that are shown one by one.
-use Rattle.std.proofs.Common.{◌≡◌, ◌⊎◌, ◌<◌, ◌≤◌, ◌-◌, ℕ, zero, suc, List, [], ◌∷◌, ◌++◌, length, drop, Option, Some, None, Result, Ok, Err, inl, inr, refl, sym, ap, subst, ◌∙◌, arith}
+use Rattle.std.proofs.Common.{◌≡◌, ◌<◌, ◌≤◌, ◌-◌, ℕ, zero, suc, List, [], ◌∷◌, ◌++◌, length, drop, Option, Some, None, Result, Ok, Err, inl, inr, refl, sym, ap, subst, ◌∙◌, arith}
 use Rattle.pgw_rows.specs.Rows.{value_at}
 use Rattle.hothummei_c.specs.declared.values.Value.{Value}
-use Rattle.hothummei_c.specs.Codes.{out_of_memory, value_missing}
 use Rattle.hothummei_c.specs.Reads.{Pushes, PutsNext, Shown, joined, led, values_in}
 use Rattle.hothummei_c.specs.Values.{TellsAll, TellsValue}
 

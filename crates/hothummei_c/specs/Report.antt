@@ -1,5 +1,5 @@
 -- What is kept of a session's report.
-use Rattle.std.specs.Prelude.{List, [], ◌∷◌, map, Option, Some, None}
+use Rattle.std.specs.Prelude.{List, [], ◌∷◌, map, Some, None}
 use Rattle.pgw_query.specs.declared.data.DataRow.{DataRow}
 use Rattle.pgw_query.specs.declared.field_info.FieldInfo.{FieldInfo}
 use Rattle.pgw_query.specs.declared.pg_type.PgType.{PgType}

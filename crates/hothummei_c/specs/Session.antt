@@ -1,7 +1,6 @@
 -- A session behind a handle, and what its calls do.
 use Rattle.std.specs.Prelude.{◌≡◌, ◌⊎◌, ◌<◌, ℕ, List, [], ◌∷◌, ◌++◌, length, drop, Option, Some, None, Result, Ok, Err}
 use Rattle.pgw_backend.specs.declared.client_error.PgWireClientError.{PgWireClientError as ClientError}
-use Rattle.pgw_backend.specs.declared.client_error.PgWireClientError.TheVariants as client
 use Rattle.pgw_config.specs.Parse.{HasOutcome, IsParsed}
 use Rattle.pgw_backend.specs.ClientError.{of_config}
 use Rattle.pgw_types.specs.declared.config_error.ConfigError.{ConfigError}
@@ -14,7 +13,6 @@ use Rattle.pgw_dialogue.specs.Wire.{Unless}
 use Rattle.pgw_session.specs.declared.types.Request.{Request}
 use Rattle.pgw_session.specs.Input.{input_with}
 use Rattle.hothummei_c.specs.declared.held.Held.{Held}
-use Rattle.hothummei_c.specs.declared.session.Phase.{Phase}
 use Rattle.hothummei_c.specs.declared.session.Phase.TheVariants as phase
 use Rattle.hothummei_c.specs.declared.session.Session.{Session}
 use Rattle.hothummei_c.specs.Codes.{code_of, not_utf8, out_of_memory, out_of_place, out_of_range}

@@ -1,5 +1,5 @@
 -- `hothummei_c_at_end` meets its contract: a walk of its MIR, by hand.
-use Rattle.hothummei_c.proofs.Walks.{◌≡◌, ℕ, ◌<◌, [], ◌∷◌, refl, w32, MutBor, proved, full_share, SProp, ent, sep, id⊢, Lft, Fml, ftrue, flft, flent, fsep, fex, feq, named, vint, vptr, fact, tables, ‵, raw, ◌⊛◌, some, later, at_ret, ◌$◌, ◌∵◌, !, qed, done, move, keep, drop, use1, use2, use3, split, join, fsplit, fjoin, pick, await, suffices, frame, group, fpack, lit<, enter, of_opd, lit, bin, addr, stop, first, branches, skips, exec, returns, returns_within, no_more, and_then, alloc_all, pass_all, free_all, look_at, get, through, sets, lands_as, env, lft_new, lft_end, u32, yes, Is, shows, lends_ref, ref_back, uint_Makes, uint_Lawful, Ptr, RawPtr, block_ptr, null_ptr, rawptr_vals, rawptr_Tells, tests_null, Testable, MutRef, mut_vals, plain, nothing, owned, heard, peeks, calls_at, lasts, alive, on_entry, owns, triple_of, Stays, walk_of, stay_dropped, Goes-dropped, ends_at, framed, Ura, Logic, sem, Model, Running, Wired, WpFn, fact_use, part_at, mem, Body, Clauses, Contract}
+use Rattle.hothummei_c.proofs.Walks.{◌≡◌, ℕ, [], ◌∷◌, refl, w32, MutBor, proved, full_share, SProp, ent, sep, id⊢, Lft, Fml, ftrue, flft, flent, fsep, fex, feq, named, vint, vptr, fact, tables, ‵, raw, ◌⊛◌, some, later, at_ret, ◌$◌, ◌∵◌, !, qed, done, move, keep, drop, use1, use2, use3, split, join, fsplit, fjoin, pick, await, suffices, frame, group, fpack, lit<, enter, of_opd, lit, bin, addr, stop, first, branches, skips, exec, returns, returns_within, no_more, and_then, alloc_all, pass_all, free_all, look_at, get, through, sets, lands_as, env, lft_new, lft_end, u32, yes, Is, shows, lends_ref, ref_back, uint_Makes, uint_Lawful, Ptr, RawPtr, block_ptr, null_ptr, rawptr_vals, rawptr_Tells, tests_null, Testable, MutRef, mut_vals, plain, nothing, owned, heard, peeks, calls_at, lasts, alive, on_entry, owns, triple_of, Stays, walk_of, stay_dropped, Goes-dropped, ends_at, framed, Ura, Logic, sem, Model, Running, Wired, WpFn, fact_use, part_at, mem, Body, Clauses, Contract}
 use Rattle.hothummei_c.proofs.HandleLaws.{session_Testable}
 use Rattle.hothummei_c.specs.contracts.calls.hothummei_c_at_end as f
 use Rattle.hothummei_c.proofs.calls.hothummei_c_at_end.Statement.{statement}

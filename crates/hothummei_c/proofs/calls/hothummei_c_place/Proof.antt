@@ -1,5 +1,5 @@
 -- `hothummei_c_place` meets its contract: a walk of its MIR.
-use Rattle.hothummei_c.proofs.Walks.{◌≡◌, ℕ, List, [], ◌∷◌, refl, sym, proved, full_share, SProp, ent, sep, id⊢, Fml, ftrue, fsep, fex, feq, froom, fat, Val, vunit, vptr, fact, tables, ‵, raw, ◌⊛◌, some, later, ◌$◌, ◌∵◌, !, qed, done, move, keep, drop, use1, use2, split, join, fsplit, fjoin, feq_i, feq_l, pick, await, suffices, frame, group, fpack, lone, enter, of_opd, unit_lit, stop, init, assigns, returns, no_more, and_then, alloc_all, pass_all, free_all, look_at, get, through, sets, lands_as, yes, Is, shows, Ptr, RawPtr, block_ptr, null_ptr, rawptr_vals, rawptr_Tells, plain, nothing, heard, peeks, calls_at, lasts, alive, on_entry, owns, triple_of, Stays, walk_of, stay_dropped, Goes-dropped, ends_at, framed, Ura, Logic, sem, Model, Running, Wired, WpFn, part_at, Clauses, Contract, Heap, Heap_laws, heap_val, heap_Tells, Global, never, never_e, via, snd∗}
+use Rattle.hothummei_c.proofs.Walks.{ℕ, List, [], ◌∷◌, refl, proved, full_share, SProp, ent, sep, id⊢, Fml, ftrue, fsep, fex, feq, froom, Val, vunit, fact, tables, ‵, raw, ◌⊛◌, some, later, ◌$◌, ◌∵◌, !, qed, done, move, drop, use1, use2, split, join, fsplit, fjoin, feq_i, feq_l, pick, await, suffices, group, fpack, lone, enter, of_opd, unit_lit, stop, init, assigns, returns, no_more, and_then, alloc_all, pass_all, free_all, look_at, get, through, sets, lands_as, yes, Is, shows, Ptr, RawPtr, block_ptr, null_ptr, rawptr_vals, rawptr_Tells, plain, nothing, heard, peeks, calls_at, lasts, alive, on_entry, owns, triple_of, Stays, walk_of, stay_dropped, Goes-dropped, ends_at, framed, Ura, Logic, sem, Model, Running, Wired, WpFn, part_at, Clauses, Contract, Heap, Heap_laws, heap_val, heap_Tells, Global, never, never_e, via, snd∗}
 use Rattle.hothummei_c.proofs.HandleLaws.{goes_in}
 use Rattle.hothummei_c.specs.contracts.calls.hothummei_c_place as f
 use Rattle.hothummei_c.proofs.calls.hothummei_c_place.Statement.{statement}

@@ -1,6 +1,6 @@
 -- `hothummei_c_release` meets its contract: a walk of its MIR.
-use Rattle.hothummei_c.proofs.Walks.{◌≡◌, ℕ, List, [], ◌∷◌, refl, sym, ap, proved, full_share, SProp, ent, sep, id⊢, Fml, ftrue, fsep, fex, feq, froom, fat, Val, vunit, vptr, fact, tables, ‵, raw, ◌⊛◌, some, later, at_ret, ◌$◌, ◌∵◌, !, qed, done, move, keep, drop, use1, use2, split, join, fsplit, fjoin, feq_i, feq_l, pick, await, suffices, frame, group, fpack, lone, lit<, enter, of_opd, lit, bin, unit_lit, load, look, stop, forget, first, branches, skips, exec, assigns, returns, returns_within, no_more, and_then, alloc_all, pass_all, free_all, look_at, get, through, sets, lands_as, env, unit, yes, Is, shows, Ptr, RawPtr, block_ptr, null_ptr, rawptr_vals, rawptr_Tells, tests_null, Testable, plain, nothing, only, heard, peeks, calls_at, lasts, alive, on_entry, owns, triple_of, Stays, walk_of, stay_dropped, Goes-dropped, ends_at, framed, Ura, Logic, sem, Model, Running, Wired, WpFn, fact_use, part_at, Clauses, Contract, Lasts}
-use Rattle.hothummei_c.proofs.HandleLaws.{comes_out, Out, session_Testable}
+use Rattle.hothummei_c.proofs.Walks.{ℕ, List, [], ◌∷◌, refl, ap, proved, full_share, SProp, ent, sep, id⊢, ftrue, fsep, feq, fat, Val, vunit, tables, ‵, raw, ◌⊛◌, some, later, at_ret, ◌$◌, ◌∵◌, !, qed, done, move, keep, use1, use2, split, join, fsplit, fjoin, feq_i, feq_l, pick, await, suffices, group, lone, lit<, enter, of_opd, lit, bin, unit_lit, load, look, stop, forget, first, branches, skips, exec, returns, returns_within, no_more, and_then, alloc_all, pass_all, free_all, look_at, get, through, sets, lands_as, env, unit, yes, Is, shows, Ptr, RawPtr, block_ptr, null_ptr, rawptr_vals, rawptr_Tells, tests_null, Testable, plain, nothing, only, peeks, calls_at, lasts, alive, on_entry, triple_of, Stays, walk_of, stay_dropped, Goes-dropped, ends_at, framed, Ura, Logic, sem, Model, Running, Wired, WpFn, fact_use, part_at, Clauses, Contract, Lasts}
+use Rattle.hothummei_c.proofs.HandleLaws.{comes_out, session_Testable}
 use Rattle.hothummei_c.specs.contracts.calls.hothummei_c_release as f
 use Rattle.hothummei_c.proofs.calls.hothummei_c_release.Statement.{statement}
 use Rattle.hothummei_c.proofs.calls.hothummei_c_release.Code as code
@@ -9,7 +9,7 @@ use Rattle.hothummei_c.proofs.session.let_go.Met.{met}
 use Rattle.hothummei_c.specs.declared.session.Session.{Session}
 use Rattle.hothummei_c.specs.contracts.session.Session.{the_row as S}
 use Rattle.hothummei_c.proofs.session.Session.TheLaws.{the_row_laws as S_laws}
-use Rattle.hothummei_c.specs.Handle.{session_at, room_behind}
+use Rattle.hothummei_c.specs.Handle.{session_at}
 
 abbrev stayed : Stays f.ended.signature.params f.ended.kept
 stayed = (stay_dropped _ yes, tt)

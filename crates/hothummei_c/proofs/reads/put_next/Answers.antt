@@ -1,4 +1,4 @@
-use Rattle.std.proofs.Common.{None, Some, refl}
+use Rattle.std.proofs.Common.{None, Some}
 use Rattle.hothummei_c.proofs.ReadLaws.{puts}
 use Rattle.hothummei_c.proofs.reads.put_next.Goals as goal
 

@@ -1,4 +1,4 @@
-use Rattle.hothummei_c.proofs.Walks.{◌≡◌, ℕ, List, [], ◌∷◌, refl, proved, ftrue, flft, named, Val, vptr, ‵, ◌⊛◌, ◌$◌, ◌∵◌, !, qed, done, move, keep, split, join, feq_i, suffices, frame, group, whole, sub, enter, addr, stop, fld, hop, from, returns, alloc_all, pass_all, free_all, look_at, look_in_at, sets, u8, yes, block_ptr, ShrSlice, shr_slice_vals, shr_slice_Tells, plain, nothing, Stays, walk_of, says, stay_none_slice, Goes-none_slice, ends_at}
+use Rattle.hothummei_c.proofs.Walks.{List, [], ◌∷◌, refl, proved, ftrue, flft, named, Val, vptr, ‵, ◌⊛◌, ◌$◌, ◌∵◌, !, qed, done, move, keep, split, join, feq_i, suffices, frame, whole, sub, enter, addr, stop, fld, hop, from, returns, alloc_all, pass_all, free_all, look_at, look_in_at, sets, u8, yes, block_ptr, ShrSlice, shr_slice_vals, shr_slice_Tells, plain, nothing, Stays, walk_of, says, stay_none_slice, Goes-none_slice, ends_at}
 use Rattle.hothummei_c.specs.contracts.values.pointer_of as f
 use Rattle.hothummei_c.proofs.values.pointer_of.Statement.{statement}
 use Rattle.hothummei_c.proofs.values.pointer_of.Code as code

@@ -1,4 +1,4 @@
-use Rattle.std.proofs.Common.{List, ℕ, Ok, Err, refl, subst}
+use Rattle.std.proofs.Common.{List, Ok, Err, refl, subst}
 use Rattle.pgw_session.specs.declared.types.Request.{Request}
 use Rattle.pgw_session.specs.Input.{input_with}
 use Rattle.hothummei_c.specs.Opening.{Opens}
