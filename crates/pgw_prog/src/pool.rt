@@ -75,10 +75,14 @@ pub fn hold_pool(alloc: Global, script: PoolScript, text: &[u8]) -> Result<Print
     requires { 0 < script.cut }
     ensures { IfOk result (PrintsPool script) }
 {
-    let printed = match run_pool(alloc, &script) {
-        Ok(outcome) => print_outcome(alloc, script.config.as_str(), text, outcome),
-        Err(OutOfMemory) => Err(OutOfMemory),
+    let outcome = match run_pool(alloc, &script) {
+        Ok(outcome) => outcome,
+        Err(_) => {
+            drop(script);
+            return Err(OutOfMemory);
+        }
     };
+    let printed = print_outcome(alloc, script.config.as_str(), text, outcome);
     drop(script);
     printed
 }
