@@ -1,5 +1,5 @@
 -- One request, and what it comes to.
-use Rattle.std.proofs.Common.{◌≡◌, ◌≤◌, ℕ, Bool, true, false, List, ◌++◌, Result, Ok, Err, refl, sym, ◌∙◌, ap, subst}
+use Rattle.std.proofs.Common.{◌≡◌, ◌⊎◌, ◌≤◌, ℕ, Bool, true, false, List, length, ◌++◌, Result, Ok, Err, inl, inr, refl, sym, ◌∙◌, ap, subst}
 use Rattle.pgw_backend.specs.declared.client_error.PgWireClientError.{PgWireClientError as ClientError}
 use Rattle.pgw_backend.specs.declared.client_error.PgWireClientError.TheVariants as client
 use Rattle.pgw_query.specs.declared.data.DataRow.{DataRow}
@@ -18,16 +18,16 @@ use Rattle.pgw_default_handlers.specs.declared.extended.DefaultExtendedQueryHand
 use Rattle.pgw_default_handlers.specs.Simple.{QueryMeans}
 use Rattle.pgw_default_handlers.specs.Extended.{ExtendedMeans}
 use Rattle.pgw_connection.specs.declared.gathered.Gathered.{Gathered}
-use Rattle.pgw_connection.specs.Line.{Line, Moved, IsFlushed, Pause, Reasons}
-use Rattle.pgw_connection.specs.Talk.{End, Asked as TalkAsked, passes}
-use Rattle.pgw_connection.specs.Calls.{Call}
+use Rattle.pgw_connection.specs.Line.{Line, Moved, IsFlushed, Pause, Reasons, EndedWell, Halts, AtEnd}
+use Rattle.pgw_connection.specs.Talk.{End, Asked as TalkAsked, passes, is_remote}
+use Rattle.pgw_connection.specs.Calls.{Call, IsHalted}
 use Rattle.pgw_connection.specs.Extended.{Finish, finish, Requested, in_lists}
 use Rattle.pgw_connection.specs.ExtendedSteps.{Called, Answered, given as given_by}
 use Rattle.pgw_connection.specs.Lent.{both}
 use Rattle.pgw_calls.specs.Calls.{Comes, SimpleCall}
 use Rattle.pgw_calls.specs.Extended.{IsExtended, ExtendedCall, given}
 use Rattle.pgw_calls.specs.Stands.{Made, Stands, StandsBehind}
-use Rattle.pgw_ask.specs.Asking.{answered, same, Adds, Fails, Asks, failed}
+use Rattle.pgw_ask.specs.Asking.{answered, same, Adds, Fails, Asks, failed, passes_for, Ended}
 
 -- ---- what is said of an error, whatever the call gives
 
@@ -168,3 +168,51 @@ pub ended_caused : {A : Type 0} (before now : ℕ) (was shown : Bool) (e : Clien
 ended_caused before now was shown e result usable is h =
     subst (λ (r : Result Answer ClientError). HasCause before now false r) (sym is)
     (error_caused e shown before now (subst (λ (b : Bool). IsCaused e before now b) usable h.failed) h.later)
+
+-- ---- how the calls end
+
+-- what a call tells of its end
+abbrev pub EndedBy : {A : Type 0} → Request → Line → Client → Line → Bool → Result A ClientError → Type 0
+EndedBy q old after now broken r = (EndedWell old now ⊎ (r ≡ Err client.IoError)) × Halts after (length now.tape.wrote) old now × AtEnd old now (IsHalted (passes_for q) r broken)
+
+at_end_so : (F G : Type 0) (old now : Line) → (F → G) → AtEnd old now F → AtEnd old now G
+at_end_so F G old now so (inl still) = inl still
+at_end_so F G old now so (inr fact) = inr (so fact)
+
+module _ (q : Request) (old : Line) (after : Client) (now : Line) (broken : Bool) where
+  ended_as : {A : Type 0} (r : Result A ClientError) (result : Result Answer ClientError) → (r ≡ Err client.IoError → result ≡ Err client.IoError) → (IsHalted (passes_for q) r broken → IsHalted (passes_for q) result broken)
+      → EndedBy q old after now broken r → Ended q old after now broken result
+  ended_as r result faulted halted (inl w, halts, at_end) = record { well = inl w; halts = halts; at_end = at_end_so _ _ old now halted at_end }
+  ended_as r result faulted halted (inr is, halts, at_end) = record { well = inr (inl (faulted is)); halts = halts; at_end = at_end_so _ _ old now halted at_end }
+
+  -- an answer
+  pub ended_ok : {A : Type 0} (x : A) (a : Answer) → EndedBy q old after now broken (Ok x) → Ended q old after now broken (Ok a)
+  ended_ok x a by = ended_as (Ok x) (Ok a) (λ is. absurd (cc)) (λ never. never) by
+
+  failed_answered : {A : Type 0} (e : ClientError) (r : Result A ClientError) → r ≡ Err e → r ≡ Err client.IoError → answered e broken ≡ Err client.IoError
+  failed_answered client.IoError r this is = refl
+  failed_answered e r this is = absurd (cc)
+
+-- an error
+halted_answered : (A : Type 0) (goes_on : ClientError → Bool) (e : ClientError) (broken : Bool) → IsHalted {A = A} goes_on (Err e) broken → IsHalted goes_on (answered e broken) broken
+halted_answered A goes_on (client.RemoteError e) false h = absurd (let no = h.1 in cc)
+halted_answered A goes_on (client.RemoteError e) true h = h
+halted_answered A goes_on e broken h = h
+
+pub ended_error : {A : Type 0} (q : Request) (old : Line) (after : Client) (now : Line) (e : ClientError) (broken shown : Bool) (result : Result Answer ClientError) → shown ≡ broken → result ≡ answered e shown
+    → EndedBy {A = A} q old after now broken (Err e) → Ended q old after now broken result
+ended_error {A} q old after now e broken shown result same_flag is by =
+    subst (Ended q old after now broken) (sym (is ∙ ap (answered e) same_flag))
+    (ended_as q old after now broken {A = A} (Err e) (answered e broken) (failed_answered q old after now broken {A = A} e (Err e) refl) (halted_answered A (passes_for q) e broken) by)
+
+-- nothing was done
+pub ended_still : (q : Request) (old : Line) (c : Client) (broken : Bool) → Ended q old c old broken (Err client.OutOfMemory)
+ended_still q old c broken = record { well = inr (inr (refl, refl)); halts = inl refl; at_end = inl refl }
+
+halted_for : {A : Type 0} (q : Request) (r : Result A ClientError) (broken : Bool) → IsExtended q → IsHalted is_remote r broken → IsHalted (passes_for q) r broken
+halted_for (request.Simple sql) r broken is h = absurd is
+halted_for q r broken is h = h
+
+pub extended_ended : (q : Request) {h : ExtendedHandler} {c : Client} {old now : Line} {last : Finish ExtendedHandler DataRow} → IsExtended q
+    → Called ExtendedMeans q h c old now last → EndedBy q old last.info now last.broken last.answer
+extended_ended q {h} {c} {old} {now} {last} is call = (call.well, call.halts, at_end_so _ _ old now (halted_for q last.answer last.broken is) call.at_end)

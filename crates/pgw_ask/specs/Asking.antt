@@ -1,5 +1,5 @@
 -- What a client stands for behind one request of any kind.
-use Rattle.std.specs.Prelude.{◌≡◌, ℕ, Bool, false, List, Option, Some, None, ◌++◌, Result, Ok, Err}
+use Rattle.std.specs.Prelude.{◌≡◌, ◌⊎◌, ℕ, Bool, false, List, length, Option, Some, None, ◌++◌, Result, Ok, Err}
 use Rattle.pgw_backend.specs.declared.client_error.PgWireClientError.{PgWireClientError as ClientError}
 use Rattle.pgw_backend.specs.declared.client_error.PgWireClientError.TheVariants as client
 use Rattle.pgw_config.specs.declared.config.Config.{Config}
@@ -8,7 +8,9 @@ use Rattle.pgw_session.specs.declared.types.Request.TheVariants as request
 use Rattle.pgw_session.specs.declared.types.Answer.{Answer}
 use Rattle.pgw_session.specs.declared.types.Answer.TheVariants as answer
 use Rattle.pgw_handlers.specs.Client.{Client}
-use Rattle.pgw_connection.specs.Line.{Line, Moved, Pause, IsFlushed}
+use Rattle.pgw_connection.specs.Line.{Line, Moved, Pause, IsFlushed, EndedWell, Halts, AtEnd}
+use Rattle.pgw_connection.specs.Talk.{passes, is_remote}
+use Rattle.pgw_connection.specs.Calls.{IsHalted}
 use Rattle.pgw_calls.specs.Calls.{Comes}
 use Rattle.pgw_calls.specs.Turns.{IsAnswered}
 use Rattle.pgw_calls.specs.Stands.{Made, Stands, OneMore, StandsBehind}
@@ -86,3 +88,23 @@ abbrev pub Asks : Request → Client → Line → Client → Line → Bool → R
     Type 0
 Asks q before old after now broken (Ok a) = Adds q a before old after now × (broken ≡ false)
 Asks q before old after now broken (Err e) = Fails q before old after now broken e
+
+-- ---- how its call ends
+
+-- behind these errors messages are passed over: the server's, and in a simple query one of a message
+-- without place
+abbrev pub passes_for : Request → ClientError → Bool
+passes_for (request.Simple sql) = passes
+passes_for q = is_remote
+
+-- No more was asked of the link than the request wants.
+pub record Ended (q : Request) (old : Line) (after : Client) (now : Line) (broken : Bool)
+    (result : Result Answer ClientError) : Type 0 where
+  -- behind any answer but IoError no call of the link failed, and all that was written is flushed; or
+  -- memory was wanting, and nothing was done
+  pub well : EndedWell old now ⊎ ((result ≡ Err client.IoError)
+      ⊎ ((result ≡ Err client.OutOfMemory) × (now ≡ old)))
+  -- the link's end was answered at most once, where a message was awaited and all was flushed,
+  pub halts : Halts after (length now.tape.wrote) old now
+  -- and then it is the answer, or the error behind which messages were passed over
+  pub at_end : AtEnd old now (IsHalted (passes_for q) result broken)

@@ -6,7 +6,7 @@ ghost use Rattle.pgw_handlers.specs.Handling.{HasCause};
 ghost use Rattle.pgw_calls.specs.Extended.{executed, given};
 ghost use Rattle.pgw_connection.specs.Line.{Foretold};
 ghost use Rattle.pgw_connection.specs.State.{line_of, link_of, known_by, is_broken};
-ghost use Rattle.pgw_ask.specs.Asking.{Asks, answered, name_in};
+ghost use Rattle.pgw_ask.specs.Asking.{Asks, Ended, answered, name_in};
 
 use pgw_calls::laws::{
     extended_queries_are_segments, extended_queries_follow_one_another,
@@ -98,6 +98,8 @@ fn ask_simple<L: Link>(
     ensures asks { Asks (kind.Simple sql.now)
         (known_by client.old) (line_of L.tape L.faults client.old)
         (known_by client.new) (line_of L.tape L.faults client.new) (is_broken client.new) result }
+    ensures ended { Ended (kind.Simple sql.now) (line_of L.tape L.faults client.old)
+        (known_by client.new) (line_of L.tape L.faults client.new) (is_broken client.new) result }
     ensures cause { HasCause (line_of L.tape L.faults client.old).faults
         (line_of L.tape L.faults client.new).faults false result }
     ensures foretold { L.foretells →
@@ -122,6 +124,8 @@ fn ask_extended<L: Link>(
     requires extended { (sql : List ℕ) → request.now ≡ kind.Simple sql → ⊥ }
     ensures asks { Asks request.now
         (known_by client.old) (line_of L.tape L.faults client.old)
+        (known_by client.new) (line_of L.tape L.faults client.new) (is_broken client.new) result }
+    ensures ended { Ended request.now (line_of L.tape L.faults client.old)
         (known_by client.new) (line_of L.tape L.faults client.new) (is_broken client.new) result }
     ensures cause { HasCause (line_of L.tape L.faults client.old).faults
         (line_of L.tape L.faults client.new).faults false result }
@@ -159,6 +163,11 @@ pub fn ask<L: Link>(
     ensures asks { is_broken client.old ≡ false → Asks request.now
         (known_by client.old) (line_of L.tape L.faults client.old)
         (known_by client.new) (line_of L.tape L.faults client.new) (is_broken client.new) result }
+    // No more is asked of the link than the request wants: its end is answered where the answer is
+    // wanting, and behind any answer but IoError all that was written is flushed.
+    ensures ended { is_broken client.old ≡ false → Ended request.now
+        (line_of L.tape L.faults client.old) (known_by client.new)
+        (line_of L.tape L.faults client.new) (is_broken client.new) result }
     // IoError comes only where a call of the link failed, and Broken from no other client than the
     // one above.
     ensures cause { HasCause (line_of L.tape L.faults client.old).faults

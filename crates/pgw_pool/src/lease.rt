@@ -5,7 +5,7 @@ ghost use Rattle.pgw_handlers.specs.Handling.{HasCause};
 ghost use Rattle.pgw_connection.specs.State.{link_of};
 ghost use Rattle.pgw_connection.specs.Canceling.{IsTokenOf};
 ghost use Rattle.pgw_connection.specs.Connecting.{LacksAddress};
-ghost use Rattle.pgw_ask.specs.Asking.{Asks};
+ghost use Rattle.pgw_ask.specs.Asking.{Asks, Ended};
 
 use pgw_ask::ask;
 use pgw_client::{Answer, Link, PgWireClientResult, Request};
@@ -67,6 +67,11 @@ impl<L: Link> Lease<L> {
             let new = lease_view L.tape L.faults self.new in
             old.broken ≡ false →
             Asks request.now old.client old.line new.client new.line new.broken result }
+        // Nothing is read behind the end that its link answers, nor is anything left unflushed.
+        ensures ended { let old = lease_view L.tape L.faults self.old in
+            let new = lease_view L.tape L.faults self.new in
+            old.broken ≡ false →
+            Ended request.now old.line new.client new.line new.broken result }
         ensures cause { let old = lease_view L.tape L.faults self.old in
             let new = lease_view L.tape L.faults self.new in
             HasCause old.line.faults new.line.faults old.broken result }

@@ -5,7 +5,7 @@ use Rattle.pgw_connection.specs.State.{is_broken}
 use Rattle.pgw_connection.proofs.ForetoldLaws.{foretold_still}
 use Rattle.pgw_calls.specs.Extended.{given}
 use Rattle.pgw_ask.specs.Asking.{wants}
-use Rattle.pgw_ask.proofs.AskLaws.{adds, answered_caused, called_both, ended_caused, ends_as, extended, extended_came}
+use Rattle.pgw_ask.proofs.AskLaws.{adds, answered_caused, called_both, ended_caused, ended_error, ended_ok, ended_still, ends_as, extended, extended_came, extended_ended}
 use Rattle.pgw_ask.proofs.asking.ask_extended.Goals as goal
 
 pub returns-in-Err-clause-asks : goal.returns-in-Err-clause-asks
@@ -68,3 +68,28 @@ returns-in-Err-request-clause-foretold g c = λ t.
     let lent = c.extended_query-lent.ensures.client in
     let back : c.client-1.given.0 ≡ c.request.new.self.client.now = c.client-1.given.1 (sym (c.request.ensures.same_client ∙ c.extended_query-lent.ensures.same_client)) in
     rw (sym lent, back) (c.in-Err-request.ensures.asks.foretold t)
+
+pub returns-in-Err-clause-ended : goal.returns-in-Err-clause-ended
+returns-in-Err-clause-ended g c = ended_still _ _ _ _
+
+pub returns-in-Ok-request-clause-ended : goal.returns-in-Ok-request-clause-ended
+returns-in-Ok-request-clause-ended g c =
+    let lent = c.extended_query-lent.ensures.client in
+    let usable = subst (λ x. is_broken x ≡ false) (sym lent) c.requires.usable in
+    let q = c.args.request.now in
+    let x : Gathered (List DataRow) × Bool = (c.in-Ok-request.gathered, c.in-Ok-request.suspended) in
+    let call = called_both q _ (c.in-Ok-request.ensures.asks.asked usable) in
+    let back : c.client-1.given.0 ≡ c.request.new.self.client.now = c.client-1.given.1 (sym (c.request.ensures.same_client ∙ c.extended_query-lent.ensures.same_client)) in
+    rw (sym lent, back) (ended_ok q _ _ _ _ x _ (extended_ended q (extended q c.requires.extended) call))
+
+pub returns-in-Err-request-clause-ended : goal.returns-in-Err-request-clause-ended
+returns-in-Err-request-clause-ended g c =
+    let lent = c.extended_query-lent.ensures.client in
+    let usable = subst (λ x. is_broken x ≡ false) (sym lent) c.requires.usable in
+    let q = c.args.request.now in
+    let call = called_both q _ (c.in-Err-request.ensures.asks.asked usable) in
+    let back : c.client-1.given.0 ≡ c.request.new.self.client.now = c.client-1.given.1 (sym (c.request.ensures.same_client ∙ c.extended_query-lent.ensures.same_client)) in
+    rw (sym lent, back) (
+    ended_error q _ _ _ c.in-Err-request.error _ c.is_broken.result c.answered.result (c.is_broken.ensures.broken ∙ ap (λ x. is_broken x) back) c.answered.ensures
+    (extended_ended q (extended q c.requires.extended) call)
+    )

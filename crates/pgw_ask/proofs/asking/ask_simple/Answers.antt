@@ -1,7 +1,7 @@
 use Rattle.std.proofs.Common.{refl}
 use Rattle.pgw_session.specs.declared.types.Request.TheVariants as request
 use Rattle.pgw_session.specs.declared.types.Answer.TheVariants as answer
-use Rattle.pgw_ask.proofs.AskLaws.{adds, answered_caused, ended_caused, ends_as, simple_came}
+use Rattle.pgw_ask.proofs.AskLaws.{adds, answered_caused, ended_caused, ended_error, ended_ok, ends_as, simple_came}
 use Rattle.pgw_ask.proofs.asking.ask_simple.Goals as goal
 
 pub returns-in-Ok-clause-asks : goal.returns-in-Ok-clause-asks
@@ -30,3 +30,13 @@ returns-in-Ok-clause-foretold g c = c.in-Ok.ensures.foretold
 
 pub returns-in-Err-clause-foretold : goal.returns-in-Err-clause-foretold
 returns-in-Err-clause-foretold g c = c.in-Err.ensures.foretold
+
+pub returns-in-Ok-clause-ended : goal.returns-in-Ok-clause-ended
+returns-in-Ok-clause-ended g c =
+    let call = c.in-Ok.ensures.asked c.requires in
+    ended_ok (request.Simple c.args.sql.now) _ _ _ _ c.in-Ok.responses _ (call.well, call.halts, call.at_end)
+
+pub returns-in-Err-clause-ended : goal.returns-in-Err-clause-ended
+returns-in-Err-clause-ended g c =
+    let call = c.in-Err.ensures.asked c.requires in
+    ended_error (request.Simple c.args.sql.now) _ _ _ c.in-Err.error _ c.is_broken.result c.answered.result c.is_broken.ensures.broken c.answered.ensures (call.well, call.halts, call.at_end)
