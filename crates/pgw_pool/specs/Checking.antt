@@ -1,5 +1,5 @@
 -- Sessions that are checked before they are lent.
-use Rattle.std.specs.Prelude.{◌≡◌, ◌≢◌, ℕ, ◌+◌, Bool, true, false, ◌&&◌, List, [], ◌∷◌, ◌++◌, Result, Ok, Err}
+use Rattle.std.specs.Prelude.{◌≡◌, ◌≢◌, ℕ, ◌+◌, Bool, true, false, ◌&&◌, List, [], ◌∷◌, ◌++◌, Option, Result, Ok, Err}
 use Rattle.pgw_types.specs.Counts.{counted}
 use Rattle.pgw_query.specs.declared.response.TransactionStatus.{TransactionStatus}
 use Rattle.pgw_query.specs.declared.response.TransactionStatus.TheVariants.{Idle}
@@ -7,6 +7,7 @@ use Rattle.pgw_backend.specs.declared.client_error.PgWireClientError.{PgWireClie
 use Rattle.pgw_session.specs.declared.types.Response.{Response}
 use Rattle.pgw_session.specs.declared.types.Response.TheVariants.{EmptyQuery}
 use Rattle.pgw_session.specs.Events.{Event}
+use Rattle.pgw_connection.specs.Line.{Foretold}
 use Rattle.pgw_pool.specs.declared.pool.LendError.{LendError}
 use Rattle.pgw_pool.specs.declared.pool.LendError.TheVariants.{Empty, Exhausted}
 use Rattle.pgw_pool.specs.Histories.{History, Lent, View, check, lent_as, with_check, BeginsIdle, IsLent, AreIdle}
@@ -42,6 +43,31 @@ pub record TakesFit (idle : List View) (was : ℕ) (rest : List View) (dropped :
   pub answer : Result (List Response) ClientError
   pub checks : Checks idle was (old ∷ rest) dropped
   pub asked : IsAskedIn check old v answer
+  pub fit : is_fit answer v.client.transaction_status ≡ true
+
+-- The same with what each link has to come, which stays with its session. Over a link that knows it,
+-- what the link gave for its check is the front of that.
+pub data ChecksForetold (foretells : Type 0) (idle : List View) (lefts : List (Option (List ℕ)))
+    (was : ℕ) : List View → List (Option (List ℕ)) → ℕ → Type 0 where
+  none_checked : ChecksForetold foretells idle lefts was idle lefts was
+  one_unfit : (v last : View) (rest : List View) (left is : Option (List ℕ))
+      (left_rest : List (Option (List ℕ))) (dropped : ℕ) (a : Result (List Response) ClientError) →
+      ChecksForetold foretells idle lefts was (v ∷ rest) (left ∷ left_rest) dropped →
+      IsAskedIn check v last a → (foretells → Foretold left is v.line.tape last.line.tape) →
+      is_fit a last.client.transaction_status ≡ false →
+      ChecksForetold foretells idle lefts was rest left_rest (counted dropped)
+
+-- So the first that is fit is taken, and this is what its link has to come.
+pub record TakesForetold (foretells : Type 0) (idle : List View) (lefts : List (Option (List ℕ)))
+    (was : ℕ) (rest : List View) (left_rest : List (Option (List ℕ))) (dropped : ℕ) (v : View)
+    (is : Option (List ℕ)) : Type 0 where
+  pub old : View
+  pub left : Option (List ℕ)
+  pub answer : Result (List Response) ClientError
+  pub checks :
+      ChecksForetold foretells idle lefts was (old ∷ rest) (left ∷ left_rest) dropped
+  pub asked : IsAskedIn check old v answer
+  pub foretold : foretells → Foretold left is old.line.tape v.line.tape
   pub fit : is_fit answer v.client.transaction_status ≡ true
 
 -- It is lent, under the next number.

@@ -2,8 +2,9 @@
 ghost use Rattle.std.specs.Prelude.{◌≡◌, ◌<◌, ◌≤◌, List, [], length, ◌+◌, Result, IfOk, IfErr, IfSome, IfNone, OnOk};
 ghost use Rattle.pgw_backend.specs.declared.client_error.PgWireClientError.{PgWireClientError as TheError};
 ghost use Rattle.pgw_session.specs.declared.types.Response.{Response as TheResponse};
+ghost use Rattle.pgw_connection.specs.Line.{Foretold};
 ghost use Rattle.pgw_pool.specs.Histories.{check};
-ghost use Rattle.pgw_pool.specs.Views.{view_of};
+ghost use Rattle.pgw_pool.specs.Views.{view_of, left_in};
 ghost use Rattle.pgw_pool.specs.Returning.{IsAskedIn};
 ghost use Rattle.pgw_pool.specs.Checking.{is_empty_query, is_idle, is_fit};
 
@@ -20,8 +21,12 @@ fn ask_check<L: Link>(
     alloc: Global,
     client: &mut PgWireClient<L>,
 ) -> PgWireClientResult<Listed<Response>>
-    ensures { IsAskedIn check (view_of L.tape L.faults client.old)
+    ensures asked { IsAskedIn check (view_of L.tape L.faults client.old)
         (view_of L.tape L.faults client.new) result }
+    ensures foretold { L.foretells →
+        Foretold (left_in L.left client.old) (left_in L.left client.new)
+        (view_of L.tape L.faults client.old).line.tape
+        (view_of L.tape L.faults client.new).line.tape }
 {
     simple_queries_are_segments();
     simple_queries_follow_one_another();
@@ -59,9 +64,13 @@ fn is_fit(answer: PgWireClientResult<Listed<Response>>, status: TransactionStatu
 // Checks a session.
 #[tactic(auto, using(crate::proofs::CheckLaws::is_told))]
 fn answers<L: Link>(alloc: Global, client: &mut PgWireClient<L>) -> bool
-    ensures { (a : Result (List TheResponse) TheError) ×
+    ensures asked { (a : Result (List TheResponse) TheError) ×
         IsAskedIn check (view_of L.tape L.faults client.old) (view_of L.tape L.faults client.new) a
         × (result ≡ is_fit a (view_of L.tape L.faults client.new).client.transaction_status) }
+    ensures foretold { L.foretells →
+        Foretold (left_in L.left client.old) (left_in L.left client.new)
+        (view_of L.tape L.faults client.old).line.tape
+        (view_of L.tape L.faults client.new).line.tape }
 {
     let answer = ask_check(alloc, client);
     is_fit(answer, client.transaction_status())
@@ -69,8 +78,8 @@ fn answers<L: Link>(alloc: Global, client: &mut PgWireClient<L>) -> bool
 
 impl<L: Link> Pool<L> {
     ghost use Rattle.pgw_pool.specs.Histories.{History, AreIdle};
-    ghost use Rattle.pgw_pool.specs.Views.{idle_in, lent_by, out_by, connected_by, dropped_by, room_of, reserved_in, number_of, lease_view};
-    ghost use Rattle.pgw_pool.specs.Checking.{LendsNoneFit, Checks, TakesFit, LendsFit, LendsChecked};
+    ghost use Rattle.pgw_pool.specs.Views.{idle_in, lefts_in, left_of, lent_by, out_by, connected_by, dropped_by, room_of, reserved_in, number_of, lease_view};
+    ghost use Rattle.pgw_pool.specs.Checking.{LendsNoneFit, Checks, TakesFit, ChecksForetold, TakesForetold, LendsFit, LendsChecked};
 
     // Takes the first idle session that is fit; those before it are dropped.
     fn take_fit(&mut self, alloc: Global) -> Option<PgWireClient<L>>
@@ -83,11 +92,18 @@ impl<L: Link> Pool<L> {
             (idle_in L.tape L.faults self.old) (dropped_by self.old)
             (idle_in L.tape L.faults self.new) (dropped_by self.new)
             (view_of L.tape L.faults client)) }
+        ensures foretold { IfSome result (λ client. TakesForetold L.foretells
+            (idle_in L.tape L.faults self.old) (lefts_in L.left self.old) (dropped_by self.old)
+            (idle_in L.tape L.faults self.new) (lefts_in L.left self.new) (dropped_by self.new)
+            (view_of L.tape L.faults client) (left_in L.left client)) }
         ensures shorter { IfSome result (λ client. length (idle_in L.tape L.faults self.new) + 1
             ≤ length (idle_in L.tape L.faults self.old)) }
         ensures none { IfNone result (Checks
             (idle_in L.tape L.faults self.old) (dropped_by self.old)
             (idle_in L.tape L.faults self.new) (dropped_by self.new)) }
+        ensures none_foretold { IfNone result (ChecksForetold L.foretells
+            (idle_in L.tape L.faults self.old) (lefts_in L.left self.old) (dropped_by self.old)
+            (idle_in L.tape L.faults self.new) (lefts_in L.left self.new) (dropped_by self.new)) }
         ensures empty { IfNone result (idle_in L.tape L.faults self.new ≡ []) }
     {
         'sessions: while let Some(mut client) = self.idle.pop_front() {
@@ -112,6 +128,12 @@ impl<L: Link> Pool<L> {
             (idle_in L.tape L.faults self.old) (dropped_by self.old) (lent_by self.old)
             (idle_in L.tape L.faults self.new) (dropped_by self.new) (lent_by self.new)
             (number_of lease) (lease_view L.tape L.faults lease)) }
+        // What each link has to come stays with its session; and of one that knows that, a check took
+        // its front.
+        ensures foretold { IfOk result (λ lease. TakesForetold L.foretells
+            (idle_in L.tape L.faults self.old) (lefts_in L.left self.old) (dropped_by self.old)
+            (idle_in L.tape L.faults self.new) (lefts_in L.left self.new) (dropped_by self.new)
+            (lease_view L.tape L.faults lease) (left_of L.left lease)) }
         // So the pool has room for it again.
         ensures fits { OnOk result (length (idle_in L.tape L.faults self.new) < room_of self.new) }
         // Whatever was done over the idle sessions, the first of them are gone, and the next one is
@@ -126,6 +148,9 @@ impl<L: Link> Pool<L> {
         ensures refused { IfErr result (LendsNoneFit
             (idle_in L.tape L.faults self.old) (dropped_by self.old) (lent_by self.old)
             (idle_in L.tape L.faults self.new) (dropped_by self.new)) }
+        ensures none_foretold { IfErr result (λ e. ChecksForetold L.foretells
+            (idle_in L.tape L.faults self.old) (lefts_in L.left self.old) (dropped_by self.old)
+            (idle_in L.tape L.faults self.new) (lefts_in L.left self.new) (dropped_by self.new)) }
         ensures same { IfErr result (λ e. (lent_by self.new ≡ lent_by self.old)
             × (out_by self.new ≡ out_by self.old)) }
     {

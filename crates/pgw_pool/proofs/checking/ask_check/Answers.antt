@@ -3,8 +3,8 @@ use Rattle.pgw_ask.proofs.AskLaws.{simple_came}
 use Rattle.pgw_pool.specs.Views.{view_of}
 use Rattle.pgw_pool.proofs.checking.ask_check.Goals as goal
 
-pub returns : goal.returns
-returns g c =
+pub returns-clause-asked : goal.returns-clause-asked
+returns-clause-asked g c =
     let V = view_of g.L.Link.tape g.L.Link.faults in
     let asked = c.simple_query.ensures in
     record {

@@ -1,4 +1,4 @@
-use Rattle.pgw_pool.specs.Checking.{unchecked}
+use Rattle.pgw_pool.specs.Checking.{unchecked, none_checked}
 use Rattle.std.proofs.Common.{arith, ℕ, ◌+◌, map, refl, ap}
 use Rattle.std.proofs.lemmas.Grind.{common_steps}
 use Rattle.pgw_pool.specs.Views.{view_of}
@@ -12,3 +12,9 @@ returns-in-Some-clause-checked g c = λ hs are.
 
 pub returns-then-is_empty-clause-refused : goal.returns-then-is_empty-clause-refused
 returns-then-is_empty-clause-refused g c = (unchecked, grind (arith, common_steps), λ some. absurd (grind (arith, common_steps)))
+
+pub returns-then-is_empty-clause-none_foretold : goal.returns-then-is_empty-clause-none_foretold
+returns-then-is_empty-clause-none_foretold g c = none_checked
+
+pub returns-then-self-clause-none_foretold : goal.returns-then-self-clause-none_foretold
+returns-then-self-clause-none_foretold g c = none_checked
