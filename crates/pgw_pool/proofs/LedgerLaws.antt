@@ -1,5 +1,5 @@
 -- What any list of calls does.
-use Rattle.std.proofs.Common.{◌≡◌, ◌⊎◌, ◌≤◌, ℕ, ◌+◌, Bool, true, false, List, [], ◌∷◌, ◌++◌, map, Result, Ok, Err, arith, inl, inr, refl, sym, ◌∙◌, ap, subst, append_assoc}
+use Rattle.std.proofs.Common.{◌≡◌, ◌⊎◌, ◌≤◌, ℕ, ◌+◌, Bool, true, false, List, [], ◌∷◌, ◌++◌, map, Option, Some, None, Result, Ok, Err, arith, inl, inr, refl, sym, ◌∙◌, ap, subst, append_assoc}
 use Rattle.std.proofs.lemmas.List.{append-nil}
 use Rattle.pgw_backend.specs.declared.client_error.PgWireClientError.{PgWireClientError as ClientError}
 use Rattle.pgw_backend.specs.declared.client_error.PgWireClientError.TheVariants as client
@@ -9,11 +9,12 @@ use Rattle.pgw_session.specs.Events.{Event}
 use Rattle.pgw_pool.specs.declared.returned.Returned.{Returned}
 use Rattle.pgw_pool.specs.declared.returned.Returned.TheVariants.{Kept, Dropped}
 use Rattle.pgw_pool.specs.declared.returned.DropCause.{DropCause}
+use Rattle.pgw_pool.specs.declared.returned.DropCause.TheVariants as cause
 use Rattle.pgw_pool.specs.Histories.{History, Lent, View, new_history, lent_as, with_request, with_lease, with_check, Over, ended, checked, IsOver, IsReset, IsChecked, AreReset, BeginsIdle, IsIdle, IsLent, AreIdle}
 use Rattle.pgw_pool.specs.Lending.{Lends, LendsFirst, IsCut, Ran}
-use Rattle.pgw_pool.specs.Returning.{GivesBack, GivenBack, returned_by, idle_behind}
+use Rattle.pgw_pool.specs.Returning.{GivesBack, GivenBack, returned_by, idle_behind, IsDropped}
 use Rattle.pgw_pool.specs.Stocks.{Out, leased, Stock, stock, Runs, Step, lends, runs, gives_back, lends_fit, finds_none, refills, retires, Steps, no_step, step_more}
-use Rattle.pgw_pool.specs.Ledgers.{Loan, loan, unlent, Ledger, ledger, IsLoan, AreLoans, IsLedger, Call, lent, asked, given, lent_fit, none_fit, refilled, retired, call_of, calls_of, Adds, answered, passed, stays, Entry, is_lent, is_asked, is_kept, is_dropped, is_lent_fit, is_none_fit, is_refilled, is_retired, Entries, no_entry, entry_more}
+use Rattle.pgw_pool.specs.Ledgers.{Loan, loan_with, loan, cut_loan, unlent, Ledger, ledger, StandsAs, DropsBy, IsLoan, AreLoans, IsLedger, Call, lent, asked, given, lent_fit, none_fit, refilled, retired, call_of, calls_of, Adds, answered, passed, refused, wanted, cuts, stays_cut, Entry, is_lent, is_asked, is_kept, is_dropped, is_lent_fit, is_none_fit, is_refilled, is_retired, Entries, no_entry, entry_more}
 use Rattle.pgw_pool.specs.Checking.{LendsChecked}
 use Rattle.pgw_pool.proofs.HistoryLaws.{lends_first, idle_one_more}
 use Rattle.pgw_pool.proofs.CheckLaws.{lends_checked}
@@ -65,33 +66,31 @@ lent_goes : (before now number : ℕ) (hs : List History) (rest : List View) (v 
     → Goes (lent number) (ledger hs out gone) (stock now rest (os ++ leased number v ∷ []))
 lent_goes before now number [] rest v out os gone counted numbered first are = absurd first
 lent_goes before now number (h ∷ hs) rest v out os gone counted numbered first are =
-    let last : IsLoan now (loan h (lent_as number)) (leased number v) = record { number = refl; own = (omega arith); stands = inl first.0 } in (
+    let last : IsLoan now (loan h (lent_as number)) (leased number v) = record { number = refl; own = (omega arith); stands = first.0 } in (
       ledger hs (out ++ loan h (lent_as number) ∷ []) gone,
       is_lent number h hs out gone first.1,
       record { idle = first.2; out = loans_append now out (loan h (lent_as number) ∷ []) os (leased number v ∷ []) (loans_later before now out os (omega arith) are) (last, tt) },
     )
 
-abbrev pub Grown : ℕ → ℕ → Request → Result Answer ClientError → History → Lent → View → Type 0
-Grown n number q result h l new = (more : Lent) × Adds q l result more × IsLoan n (loan h more) (leased number new)
+abbrev pub Grown : ℕ → ℕ → Request → Result Answer ClientError → Loan → View → Type 0
+Grown n number q result x new = (more : Loan) × Adds q x result more × IsLoan n more (leased number new)
 
-ran_grown : (n number : ℕ) (h : History) (l : Lent) (q : Request) (new : View) (broken : Bool) (result : Result Answer ClientError) → l.number ≡ number → number ≤ n → Ran h l q new broken result → Grown n number q result h l new
-ran_grown n number h l q new false (Ok a) same own r = (with_request l q r.0, answered a r.0 r.1, record { number = same; own = own; stands = inl r.2 })
-ran_grown n number h l q new false (Err (client.UnexpectedMessage m)) same own r = (with_request l q r.0, passed m r.0 r.1, record { number = same; own = own; stands = inl r.2 })
-ran_grown n number h l q new false (Err (client.PgWireError why)) same own r = (l, stays (client.PgWireError why), record { number = same; own = own; stands = inl r })
-ran_grown n number h l q new false (Err client.OutOfMemory) same own r = (l, stays client.OutOfMemory, record { number = same; own = own; stands = inl r })
-ran_grown n number h l q new true (Err e) same own r = (l, stays e, record { number = same; own = own; stands = inr (q, e, r) })
+ran_grown : (n number : ℕ) (h : History) (l : Lent) (q : Request) (new : View) (broken : Bool) (result : Result Answer ClientError) → l.number ≡ number → number ≤ n → Ran h l q new broken result → Grown n number q result (loan h l) new
+ran_grown n number h l q new false (Ok a) same own r = (loan h (with_request l q r.0), answered h l a r.0 r.1, record { number = same; own = own; stands = r.2 })
+ran_grown n number h l q new false (Err (client.UnexpectedMessage m)) same own r = (loan h (with_request l q r.0), passed h l m r.0 r.1, record { number = same; own = own; stands = r.2 })
+ran_grown n number h l q new false (Err (client.PgWireError why)) same own r = (loan h l, refused h l why, record { number = same; own = own; stands = r })
+ran_grown n number h l q new false (Err client.OutOfMemory) same own r = (loan h l, wanted h l, record { number = same; own = own; stands = r })
+ran_grown n number h l q new true (Err e) same own r = (cut_loan h l q e, cuts h l e, record { number = same; own = own; stands = r })
 ran_grown n number h l q new true (Ok a) same own r = absurd r
 ran_grown n number h l q new false (Err e) same own r = absurd r
 
-grown : (n number : ℕ) (x : Loan) (q : Request) (old new : View) (result : Result Answer ClientError) → Runs q old new result → IsLoan n x (leased number old) → Grown n number q result x.history x.lease new
-grown n number x q old new result r is = grown_by is.stands
-  where
-    grown_by : IsLent x.history x.lease old ⊎ ((p : Request) × (e : ClientError) × IsCut x.history x.lease p e old) → Grown n number q result x.history x.lease new
-    grown_by (inl lease) = ran_grown n number x.history x.lease q new new.broken result is.number is.own (ran x.history x.lease q old new lease result new.broken refl (r.asks lease.usable))
-    grown_by (inr cut) =
-        let left = r.broken cut.2.broken in
-        let same : IsLoan n x (leased number new) = record { number = is.number; own = is.own; stands = inr (cut.0, cut.1, subst (λ (v : View). IsCut x.history x.lease cut.0 cut.1 v) (sym left.1) cut.2) } in
-        (x.lease, subst (λ (y : Result Answer ClientError). Adds q x.lease y x.lease) (sym left.0) (stays client.Broken), same)
+grown : (n number : ℕ) (h : History) (l : Lent) (cut : Option (Request × ClientError)) (q : Request) (old new : View) (result : Result Answer ClientError) → Runs q old new result → l.number ≡ number → number ≤ n → StandsAs h l cut old → Grown n number q result (loan_with h l cut) new
+grown n number h l None q old new result r same own lease = ran_grown n number h l q new new.broken result same own (ran h l q old new lease result new.broken refl (r.asks lease.usable))
+grown n number h l (Some c) q old new result r same own cut =
+    let left = r.broken cut.broken in
+    let x = loan_with h l (Some c) in
+    let still : IsLoan n x (leased number new) = record { number = same; own = own; stands = subst (λ (v : View). IsCut h l c.0 c.1 v) (sym left.1) cut } in
+    (x, subst (λ (y : Result Answer ClientError). Adds q x y x) (sym left.0) (stays_cut h l c), still)
 
 -- ---- a lease that is given back
 
@@ -106,33 +105,32 @@ idle_last n (x ∷ hs) h [] are = absurd are
 idle_last n (x ∷ hs) h (v ∷ vs) are = idle_last n hs h vs are.1
 
 -- the session is idle with the lease and its reset, or it is dropped
-pub data Ends (n : ℕ) (hs : List History) (h : History) (l : Lent) (now : List View) : Returned → Type 0 where
-  idle_again : (es : List Event) → IsReset es → AreIdle n (hs ++ with_lease h l es ∷ []) now → Ends n hs h l now Kept
-  let_go : (why : DropCause) → AreIdle n hs now → Ends n hs h l now (Dropped why)
+pub data Ends (n : ℕ) (hs : List History) (now : List View) : Loan → Returned → Type 0 where
+  idle_again : (h : History) (l : Lent) (es : List Event) → IsReset es → AreIdle n (hs ++ with_lease h l es ∷ []) now → Ends n hs now (loan h l) Kept
+  let_go : (x : Loan) (why : DropCause) → DropsBy x.history x.lease x.cut why → AreIdle n hs now → Ends n hs now x (Dropped why)
 
-ends_by : (n : ℕ) (hs : List History) (h : History) (l : Lent) (now : List View) (result : Returned) → GivenBack n hs h l now result → Ends n hs h l now result
-ends_by n hs h l now Kept g = idle_again g.0 (reset_last h.over (ended l g.0) (idle_last n hs (with_lease h l g.0) now g.1)) g.1
-ends_by n hs h l now (Dropped why) g = let_go why g.0
+ends_by : (n : ℕ) (hs : List History) (h : History) (l : Lent) (now : List View) (result : Returned) → GivenBack n hs h l now result → Ends n hs now (loan h l) result
+ends_by n hs h l now Kept g = idle_again h l g.0 (reset_last h.over (ended l g.0) (idle_last n hs (with_lease h l g.0) now g.1)) g.1
+ends_by n hs h l now (Dropped why) g = let_go (loan h l) why g.1 g.0
 
-ended_as : (n number : ℕ) (hs : List History) (idle now : List View) (x : Loan) (old : View) (result : Returned) → GivesBack old idle now result → AreIdle n hs idle → IsLoan n x (leased number old) → Ends n hs x.history x.lease now result
-ended_as n number hs idle now x old result g are is = ended_by is.stands
-  where
-    ended_by : IsLent x.history x.lease old ⊎ ((p : Request) × (e : ClientError) × IsCut x.history x.lease p e old) → Ends n hs x.history x.lease now result
-    ended_by (inl lease) = ends_by n hs x.history x.lease now result (given_back n hs x.history x.lease old idle now result g are lease (subst (λ k. k ≤ n) (sym is.number) is.own))
-    ended_by (inr cut) =
-        let dropped = cut_result old idle now result g cut.2.broken in
-        subst (Ends n hs x.history x.lease now) (sym dropped.1) (let_go dropped.0 (subst (AreIdle n hs) (sym dropped.2) are))
+ended_as : (n : ℕ) (hs : List History) (idle now : List View) (h : History) (l : Lent) (cut : Option (Request × ClientError)) (old : View) (result : Returned) → GivesBack old idle now result → AreIdle n hs idle → l.number ≤ n → StandsAs h l cut old
+    → Ends n hs now (loan_with h l cut) result
+ended_as n hs idle now h l None old result g are own lease = ends_by n hs h l now result (given_back n hs h l old idle now result g are lease own)
+ended_as n hs idle now h l (Some c) old result g are own cut =
+    let x = loan_with h l (Some c) in
+    let dropped = cut_result old idle now result g cut.broken in
+    subst (Ends n hs now x) (sym dropped.1) (let_go x dropped.0 dropped.3 (subst (AreIdle n hs) (sym dropped.2) are))
 
-gone_on : (n number : ℕ) (hs : List History) (now : List View) (h : History) (l : Lent) (before behind lost : List Loan) (left right : List Out) (result : Returned) → l.number ≡ number → AreLoans n before left → AreLoans n behind right
-    → Ends n hs h l now result → Goes (given number result) (ledger hs (before ++ loan h l ∷ behind) lost) (stock n now (left ++ right))
-gone_on n number hs now h l before behind lost left right Kept same first last (idle_again es is are) = (
+gone_on : (n number : ℕ) (hs : List History) (now : List View) (x : Loan) (before behind lost : List Loan) (left right : List Out) (result : Returned) → (x.lease).number ≡ number → AreLoans n before left → AreLoans n behind right
+    → Ends n hs now x result → Goes (given number result) (ledger hs (before ++ x ∷ behind) lost) (stock n now (left ++ right))
+gone_on n number hs now x before behind lost left right Kept same first last (idle_again h l es is are) = (
   ledger (hs ++ with_lease h l es ∷ []) (before ++ behind) lost,
   subst (λ k. Entry (given k Kept) (ledger hs (before ++ loan h l ∷ behind) lost) (ledger (hs ++ with_lease h l es ∷ []) (before ++ behind) lost)) same (is_kept h l es hs before behind lost is),
   record { idle = are; out = loans_append n before behind left right first last },
 )
-gone_on n number hs now h l before behind lost left right (Dropped why) same first last (let_go x are) = (
-  ledger hs (before ++ behind) (lost ++ loan h l ∷ []),
-  subst (λ k. Entry (given k (Dropped why)) (ledger hs (before ++ loan h l ∷ behind) lost) (ledger hs (before ++ behind) (lost ++ loan h l ∷ []))) same (is_dropped h l why hs before behind lost),
+gone_on n number hs now x before behind lost left right (Dropped why) same first last (let_go y z by are) = (
+  ledger hs (before ++ behind) (lost ++ x ∷ []),
+  subst (λ k. Entry (given k (Dropped why)) (ledger hs (before ++ x ∷ behind) lost) (ledger hs (before ++ behind) (lost ++ x ∷ []))) same (is_dropped x why hs before behind lost by),
   record { idle = are; out = loans_append n before behind left right first last },
 )
 
@@ -143,20 +141,21 @@ one_entry s t (lends before now number idle rest v out l) a is =
     lent_goes before now number a.idle rest v a.out out a.dropped l.counted l.numbered (lends_first before now number a.idle idle rest v l.first l.counted l.numbered is.idle) is.out
 one_entry s t (runs n number idle left right q old new result r) a is =
     let f = found n a.out left (leased number old) right is.out in
-    let g = grown n number f.at q old new result r f.is in
-    let h = (f.at).history in
-    let b = ledger a.idle (f.before ++ loan h g.0 ∷ f.behind) a.dropped in
+    let at = f.at in
+    let g : Grown n number q result at new = grown n number at.history at.lease at.cut q old new result r f.is.number f.is.own f.is.stands in
+    let b = ledger a.idle (f.before ++ g.0 ∷ f.behind) a.dropped in
     let entry : Entry (asked number q result) (ledger a.idle (f.before ++ f.at ∷ f.behind) a.dropped) b =
-    subst (λ k. Entry (asked k q result) (ledger a.idle (f.before ++ f.at ∷ f.behind) a.dropped) b) f.is.number (is_asked h (f.at).lease g.0 q result a.idle f.before f.behind a.dropped g.1) in (
+    subst (λ k. Entry (asked k q result) (ledger a.idle (f.before ++ f.at ∷ f.behind) a.dropped) b) f.is.number (is_asked f.at g.0 q result a.idle f.before f.behind a.dropped g.1) in (
       b,
       subst (λ (xs : List Loan). Entry (asked number q result) (ledger a.idle xs a.dropped) b) (sym f.are) entry,
-      record { idle = is.idle; out = loans_append n f.before (loan h g.0 ∷ f.behind) left (leased number new ∷ right) f.first (g.2, f.last) },
+      record { idle = is.idle; out = loans_append n f.before (g.0 ∷ f.behind) left (leased number new ∷ right) f.first (g.2, f.last) },
     )
 one_entry s t (gives_back n number idle now left right old result g) a is =
     let f = found n a.out left (leased number old) right is.out in
-    let ends = ended_as n number a.idle idle now f.at old result g is.idle f.is in
+    let at = f.at in
+    let ends : Ends n a.idle now at result = ended_as n a.idle idle now at.history at.lease at.cut old result g is.idle (subst (λ k. k ≤ n) (sym f.is.number) f.is.own) f.is.stands in
     subst (λ (xs : List Loan). Goes (given number result) (ledger a.idle xs a.dropped) (stock n now (left ++ right))) (sym f.are)
-    (gone_on n number a.idle now (f.at).history (f.at).lease f.before f.behind a.dropped left right result f.is.number f.first f.last ends)
+    (gone_on n number a.idle now at f.before f.behind a.dropped left right result f.is.number f.first f.last ends)
 one_entry s t (lends_fit before now number was dropped idle rest v out l) a is =
     let f = lends_checked before now number was dropped a.idle idle rest v l.next l.numbered is.idle l.takes in
     let low : before ≤ now = (let next = l.next in omega arith) in
@@ -164,7 +163,7 @@ one_entry s t (lends_fit before now number was dropped idle rest v out l) a is =
     let h = f.history in
     let es = f.events in
     let x = loan (with_check h es) (lent_as number) in
-    let last : IsLoan now x (leased number v) = record { number = refl; own = own; stands = inl f.lease } in
+    let last : IsLoan now x (leased number v) = record { number = refl; own = own; stands = f.lease } in
     let fit : IsChecked es = reset_last h.over (checked es) (f.lease).resets in
     let b = ledger f.others (a.out ++ x ∷ []) (a.dropped ++ map unlent f.gone) in (
       b,
@@ -183,11 +182,9 @@ one_entry s t (refills n idle now out config nonce v fresh grown) a is = (
 )
 one_entry s t (retires n number idle left right old) a is =
     let f = found n a.out left (leased number old) right is.out in
-    let h = (f.at).history in
-    let l = (f.at).lease in
     let b = ledger a.idle (f.before ++ f.behind) (a.dropped ++ f.at ∷ []) in
     let entry : Entry (retired number) (ledger a.idle (f.before ++ f.at ∷ f.behind) a.dropped) b =
-    subst (λ k. Entry (retired k) (ledger a.idle (f.before ++ f.at ∷ f.behind) a.dropped) b) f.is.number (is_retired h l a.idle f.before f.behind a.dropped) in (
+    subst (λ k. Entry (retired k) (ledger a.idle (f.before ++ f.at ∷ f.behind) a.dropped) b) f.is.number (is_retired f.at a.idle f.before f.behind a.dropped) in (
       b,
       subst (λ (xs : List Loan). Entry (retired number) (ledger a.idle xs a.dropped) b) (sym f.are) entry,
       record { idle = is.idle; out = loans_append n f.before f.behind left right f.first f.last },
@@ -204,13 +201,13 @@ any_entries s t (step_more x y z steps step) a is =
 
 dropped_one : (call : Call) (a b : Ledger) → Entry call a b → (more : List Loan) × (b.dropped ≡ a.dropped ++ more)
 dropped_one call a b (is_lent number h idle out dropped begins) = ([], sym (append-nil dropped))
-dropped_one call a b (is_asked h l more q result idle left right dropped adds) = ([], sym (append-nil dropped))
+dropped_one call a b (is_asked x more q result idle left right dropped adds) = ([], sym (append-nil dropped))
 dropped_one call a b (is_kept h l es idle left right dropped is) = ([], sym (append-nil dropped))
-dropped_one call a b (is_dropped h l why idle left right dropped) = (loan h l ∷ [], refl)
+dropped_one call a b (is_dropped x why idle left right dropped by) = (x ∷ [], refl)
 dropped_one call a b (is_lent_fit number gone h es idle out dropped fit) = (map unlent gone, refl)
 dropped_one call a b (is_none_fit gone out dropped) = (map unlent gone, refl)
 dropped_one call a b (is_refilled config nonce idle out dropped) = ([], sym (append-nil dropped))
-dropped_one call a b (is_retired h l idle left right dropped) = (loan h l ∷ [], refl)
+dropped_one call a b (is_retired x idle left right dropped) = (x ∷ [], refl)
 
 pub dropped_stay : (calls : List Call) (a b : Ledger) → Entries calls a b → (more : List Loan) × (b.dropped ≡ a.dropped ++ more)
 dropped_stay calls a b (no_entry x) = ([], sym (append-nil x.dropped))

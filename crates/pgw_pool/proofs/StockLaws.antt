@@ -9,6 +9,7 @@ use Rattle.pgw_pool.specs.declared.returned.Returned.TheVariants.{Kept, Dropped}
 use Rattle.pgw_pool.specs.Histories.{History, Lent, View, new_history, lent_as, with_request, with_lease, with_check, IsLent, AreIdle}
 use Rattle.pgw_pool.specs.Lending.{IsCut, Ran, LendsFirst}
 use Rattle.pgw_pool.specs.declared.returned.DropCause.{DropCause}
+use Rattle.pgw_pool.specs.declared.returned.DropCause.TheVariants as cause
 use Rattle.pgw_pool.specs.Returning.{cause_of, returned_by, idle_behind, GivesBack, GivenBack}
 use Rattle.pgw_pool.specs.Stocks.{Out, leased, Stock, stock, Runs, Step, lends, runs, gives_back, lends_fit, finds_none, refills, retires, Steps, no_step, step_more, IsOut, AreOut, IsInOrder}
 use Rattle.pgw_pool.specs.Checking.{LendsChecked}
@@ -82,11 +83,11 @@ given_idle lent hs h l now Kept g = (hs ++ with_lease h l g.0 ∷ [], g.1)
 given_idle lent hs h l now (Dropped why) g = (hs, g.0)
 
 -- a session that an earlier error left unusable is dropped
-pub cut_result : (old : View) (idle now : List View) (result : Returned) → GivesBack old idle now result → old.broken ≡ true → (why : DropCause) × (result ≡ Dropped why) × (now ≡ idle)
+pub cut_result : (old : View) (idle now : List View) (result : Returned) → GivesBack old idle now result → old.broken ≡ true → (why : DropCause) × (result ≡ Dropped why) × (now ≡ idle) × (why ≡ cause.Failed client.Broken)
 cut_result old idle now result g broken =
     let a = (g.2.broken broken).0 in
     let is : result ≡ returned_by (Err client.Broken) (g.0).client.transaction_status (g.0).broken = g.3 ∙ ap (λ x. returned_by x (g.0).client.transaction_status (g.0).broken) a in
-    (cause_of client.Broken (g.0).broken, is, g.4 ∙ ap (idle_behind idle g.0) is)
+    (cause_of client.Broken (g.0).broken, is, g.4 ∙ ap (idle_behind idle g.0) is, refl)
 
 give_idle : (lent number : ℕ) (hs : List History) (idle now : List View) (old : View) (result : Returned) → GivesBack old idle now result → AreIdle lent hs idle → (h : History) (l : Lent) → l.number ≡ number → number ≤ lent
     → IsLent h l old ⊎ ((p : Request) × (e : ClientError) × IsCut h l p e old) → (more : List History) × AreIdle lent more now

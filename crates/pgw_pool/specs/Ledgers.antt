@@ -1,5 +1,6 @@
 -- What any list of calls does over the sessions of a pool.
-use Rattle.std.specs.Prelude.{◌≡◌, ◌⊎◌, ◌≤◌, ℕ, List, [], ◌∷◌, ◌++◌, map, Result, Ok, Err}
+use Rattle.std.specs.Prelude.{◌≡◌, ◌≤◌, ℕ, List, [], ◌∷◌, ◌++◌, map, Option, Some, None, Result, Ok, Err}
+use Rattle.pgw_types.specs.declared.error.PgWireError.{PgWireError}
 use Rattle.pgw_backend.specs.declared.backend.PgWireBackendMessage.{PgWireBackendMessage as Backend}
 use Rattle.pgw_backend.specs.declared.client_error.PgWireClientError.{PgWireClientError as ClientError}
 use Rattle.pgw_backend.specs.declared.client_error.PgWireClientError.TheVariants as client
@@ -11,19 +12,28 @@ use Rattle.pgw_calls.specs.Turns.{IsAnswered, IsPassedSegment}
 use Rattle.pgw_pool.specs.declared.returned.Returned.{Returned}
 use Rattle.pgw_pool.specs.declared.returned.Returned.TheVariants.{Kept, Dropped}
 use Rattle.pgw_pool.specs.declared.returned.DropCause.{DropCause}
-use Rattle.pgw_pool.specs.Histories.{History, Lent, new_history, lent_as, with_request, with_lease, with_check, IsReset, IsChecked, BeginsIdle, IsLent, AreIdle}
+use Rattle.pgw_pool.specs.declared.returned.DropCause.TheVariants as cause
+use Rattle.pgw_pool.specs.Histories.{History, Lent, View, new_history, lent_as, with_request, with_lease, with_check, IsReset, IsChecked, BeginsIdle, IsLent, AreIdle}
 use Rattle.pgw_pool.specs.Lending.{IsCut}
+use Rattle.pgw_pool.specs.Returning.{IsDropped}
 use Rattle.pgw_pool.specs.Stocks.{Out, Stock, Step, lends, runs, gives_back, lends_fit, finds_none, refills, retires, Steps, no_step, step_more}
 
 -- ---- sessions
 
--- a session with its open lease
+-- a session with its open lease, and the request and the error that have left it unusable
 pub record Loan : Type 0 where
   pub history : History
   pub lease : Lent
+  pub cut : Option (Request × ClientError)
+
+abbrev pub loan_with : History → Lent → Option (Request × ClientError) → Loan
+loan_with h l cut = record { history = h; lease = l; cut = cut }
 
 abbrev pub loan : History → Lent → Loan
-loan h l = record { history = h; lease = l }
+loan h l = loan_with h l None
+
+abbrev pub cut_loan : History → Lent → Request → ClientError → Loan
+cut_loan h l q e = loan_with h l (Some (q, e))
 
 -- a session that was dropped while it was idle; the leases' numbers begin with 1
 abbrev pub unlent : History → Loan
@@ -39,12 +49,16 @@ pub record Ledger : Type 0 where
 abbrev pub ledger : List History → List Loan → List Loan → Ledger
 ledger idle out dropped = record { idle = idle; out = out; dropped = dropped }
 
--- the lease stands for what was asked in it, or an error has left its session unusable behind that
+-- a session stands for its lease, or that request has left it unusable behind that, by that error
+abbrev pub StandsAs : History → Lent → Option (Request × ClientError) → View → Type 0
+StandsAs h l None v = IsLent h l v
+StandsAs h l (Some c) v = IsCut h l c.0 c.1 v
+
+-- a lease of this pool that is out, and what its session stands for
 pub record IsLoan (lent : ℕ) (x : Loan) (o : Out) : Type 0 where
   pub number : x.lease.number ≡ o.number
   pub own : o.number ≤ lent
-  pub stands : IsLent x.history x.lease o.view
-      ⊎ ((q : Request) × (e : ClientError) × IsCut x.history x.lease q e o.view)
+  pub stands : StandsAs x.history x.lease x.cut o.view
 
 abbrev pub AreLoans : ℕ → List Loan → List Out → Type 0
 AreLoans lent [] [] = Unit {0}
@@ -84,36 +98,49 @@ calls_of s t (no_step x) = []
 calls_of s t (step_more x y z steps step) = calls_of x y steps ++ call_of y z step ∷ []
 
 -- What a request adds to its lease: itself, with its own segment, whose answer was given; or with one
--- that was passed over; or nothing, behind another error.
-pub data Adds (q : Request) (l : Lent) : Result Answer ClientError → Lent → Type 0 where
-  answered : (a : Answer) (es : List Event) → IsAnswered q a es →
-      Adds q l (Ok a) (with_request l q es)
-  passed : (m : Backend) (es : List Event) → IsPassedSegment q m es →
-      Adds q l (Err (client.UnexpectedMessage m)) (with_request l q es)
-  stays : (e : ClientError) → Adds q l (Err e) l
+-- that was passed over; or nothing, where it has no encoding or memory was wanting; or that error
+-- leaves the session unusable, which is asked nothing from then on.
+pub data Adds (q : Request) : Loan → Result Answer ClientError → Loan → Type 0 where
+  answered : (h : History) (l : Lent) (a : Answer) (es : List Event) → IsAnswered q a es →
+      Adds q (loan h l) (Ok a) (loan h (with_request l q es))
+  passed : (h : History) (l : Lent) (m : Backend) (es : List Event) → IsPassedSegment q m es →
+      Adds q (loan h l) (Err (client.UnexpectedMessage m)) (loan h (with_request l q es))
+  refused : (h : History) (l : Lent) (why : PgWireError) →
+      Adds q (loan h l) (Err (client.PgWireError why)) (loan h l)
+  wanted : (h : History) (l : Lent) → Adds q (loan h l) (Err client.OutOfMemory) (loan h l)
+  cuts : (h : History) (l : Lent) (e : ClientError) →
+      Adds q (loan h l) (Err e) (cut_loan h l q e)
+  stays_cut : (h : History) (l : Lent) (c : Request × ClientError) →
+      Adds q (loan_with h l (Some c)) (Err client.Broken) (loan_with h l (Some c))
+
+-- Why a session is dropped as its lease is given back: it stood for that end of its reset; or it was
+-- unusable before.
+abbrev pub DropsBy : History → Lent → Option (Request × ClientError) → DropCause → Type 0
+DropsBy h l None why = (last : View) × IsDropped h l why last
+DropsBy h l (Some c) why = why ≡ cause.Failed client.Broken
 
 -- What a call does. The session that is lent is the first idle one, and if it was lent before, the
 -- last that it got is ReadyForQuery of status Idle. One that is given back is idle from then on,
--- behind all others, with the lease and a reset that was answered so; or it is dropped. Of the
--- sessions that are checked the first that is fit is lent, with its check, and those before it are
--- dropped. A new one is idle behind all others. One that is retired is dropped.
+-- behind all others, with the lease and a reset that was answered so; or it is dropped by its cause.
+-- Of the sessions that are checked the first that is fit is lent, with its check, and those before it
+-- are dropped. A new one is idle behind all others. One that is retired is dropped.
 pub data Entry : Call → Ledger → Ledger → Type 0 where
   is_lent : (number : ℕ) (h : History) (idle : List History) (out dropped : List Loan) →
       BeginsIdle h.over →
       Entry (lent number) (ledger (h ∷ idle) out dropped)
       (ledger idle (out ++ loan h (lent_as number) ∷ []) dropped)
-  is_asked : (h : History) (l more : Lent) (q : Request) (result : Result Answer ClientError)
-      (idle : List History) (left right dropped : List Loan) → Adds q l result more →
-      Entry (asked l.number q result) (ledger idle (left ++ loan h l ∷ right) dropped)
-      (ledger idle (left ++ loan h more ∷ right) dropped)
+  is_asked : (x more : Loan) (q : Request) (result : Result Answer ClientError)
+      (idle : List History) (left right dropped : List Loan) → Adds q x result more →
+      Entry (asked (x.lease).number q result) (ledger idle (left ++ x ∷ right) dropped)
+      (ledger idle (left ++ more ∷ right) dropped)
   is_kept : (h : History) (l : Lent) (es : List Event) (idle : List History)
       (left right dropped : List Loan) → IsReset es →
       Entry (given l.number Kept) (ledger idle (left ++ loan h l ∷ right) dropped)
       (ledger (idle ++ with_lease h l es ∷ []) (left ++ right) dropped)
-  is_dropped : (h : History) (l : Lent) (why : DropCause) (idle : List History)
-      (left right dropped : List Loan) →
-      Entry (given l.number (Dropped why)) (ledger idle (left ++ loan h l ∷ right) dropped)
-      (ledger idle (left ++ right) (dropped ++ loan h l ∷ []))
+  is_dropped : (x : Loan) (why : DropCause) (idle : List History)
+      (left right dropped : List Loan) → DropsBy x.history x.lease x.cut why →
+      Entry (given (x.lease).number (Dropped why)) (ledger idle (left ++ x ∷ right) dropped)
+      (ledger idle (left ++ right) (dropped ++ x ∷ []))
   is_lent_fit : (number : ℕ) (gone : List History) (h : History) (es : List Event)
       (idle : List History) (out dropped : List Loan) → IsChecked es →
       Entry (lent_fit number) (ledger (gone ++ h ∷ idle) out dropped)
@@ -124,9 +151,9 @@ pub data Entry : Call → Ledger → Ledger → Type 0 where
   is_refilled : (config : Config) (nonce : List ℕ) (idle : List History) (out dropped : List Loan) →
       Entry (refilled config nonce) (ledger idle out dropped)
       (ledger (idle ++ new_history config nonce ∷ []) out dropped)
-  is_retired : (h : History) (l : Lent) (idle : List History) (left right dropped : List Loan) →
-      Entry (retired l.number) (ledger idle (left ++ loan h l ∷ right) dropped)
-      (ledger idle (left ++ right) (dropped ++ loan h l ∷ []))
+  is_retired : (x : Loan) (idle : List History) (left right dropped : List Loan) →
+      Entry (retired (x.lease).number) (ledger idle (left ++ x ∷ right) dropped)
+      (ledger idle (left ++ right) (dropped ++ x ∷ []))
 
 -- what a list of calls does
 pub data Entries : List Call → Ledger → Ledger → Type 0 where
