@@ -1,0 +1,147 @@
+//! A desk that threads share.
+ghost use Rattle.std.specs.Prelude.{◌≡◌, ◌+◌, ◌≤◌, ◌<◌, IfOk, IsTrue};
+ghost use Rattle.std.specs.Sync.Mutex.{mutex_guard_value};
+ghost use Rattle.pgw_turns.specs.Standings.{IsTurn};
+
+use crate::bells::Bells;
+use crate::desk::{Desk, Numbers};
+use crate::stock::Stock;
+use crate::waiting::JoinError;
+use std::alloc::{AllocError, Global};
+use std::sync::{Mutex, MutexGuard, Wait};
+use std::time::{Clock, Duration};
+
+/// Why nothing is lent.
+#[derive(Clone, Copy, Debug, PartialEq, Eq, Drop)]
+pub enum LendRefusal {
+    /// None came back within the time.
+    TimedOut,
+    /// As many wait as may.
+    Crowded,
+    /// The stock, or the row of those who wait, has no number left.
+    Exhausted,
+}
+
+/// A desk under a lock. Who finds nothing to be lent waits, behind those who came before.
+#[derive(Drop)]
+pub struct Turns<S: Stock> {
+    desk: Mutex<Desk<S>>,
+    bells: Bells,
+}
+
+fn refusal_of(error: JoinError) -> LendRefusal {
+    match error {
+        JoinError::Full => LendRefusal::Crowded,
+        JoinError::Exhausted => LendRefusal::Exhausted,
+    }
+}
+
+impl<S: Stock> Turns<S> {
+    pub fn new(alloc: Global, stock: S, room_to_wait: usize) -> Result<Turns<S>, AllocError>
+        requires { S.ready stock ≤ S.room stock }
+    {
+        Ok(Turns {
+            desk: Mutex::new(Desk::new(alloc, stock, room_to_wait)?),
+            bells: Bells::new(alloc)?,
+        })
+    }
+
+    /// The stock, once no thread uses it.
+    pub fn into_stock(self) -> S {
+        let Turns { desk, bells } = self;
+        drop(bells);
+        desk.into_inner().into_stock()
+    }
+
+    /// How many things there are, at one moment.
+    pub fn numbers<R: Wait>(&self, rt: &R) -> Numbers
+        ensures { result.ready + result.out ≤ result.capacity }
+    {
+        self.desk.lock(rt).numbers()
+    }
+
+    // Wakes the one whose turn it is.
+    fn tell(&self, desk: MutexGuard<'_, Desk<S>>) {
+        let due = desk.due();
+        drop(desk);
+        if let Some(ticket) = due {
+            self.bells.of(ticket).notify_all();
+        }
+    }
+
+    // Waits for a ticket's turn, and says whether it has come.
+    fn wait<'b, R: Wait + Clock>(
+        &self,
+        rt: &R,
+        desk: MutexGuard<'b, Desk<S>>,
+        ticket: u64,
+        limit: Option<Duration>,
+    ) -> (MutexGuard<'b, Desk<S>>, bool)
+        ensures { IsTrue result.1 → IsTurn ticket (mutex_guard_value result.0) }
+    {
+        match limit {
+            Some(limit) => {
+                let bell = self.bells.of(ticket);
+                let (desk, waited) = bell.wait_timeout_while(
+                    rt,
+                    desk,
+                    limit,
+                    |desk| !desk.is_turn(ticket),
+                );
+                let in_time = !waited.timed_out();
+                (desk, in_time)
+            }
+            None => {
+                let bell = self.bells.of(ticket);
+                let desk = bell.wait_while(rt, desk, |desk| !desk.is_turn(ticket));
+                (desk, true)
+            }
+        }
+    }
+
+    /// Lends one to the first who waits. Who waited longer than the limit is refused; None is no limit.
+    pub fn lend<R: Wait + Clock>(
+        &self,
+        rt: &R,
+        limit: Option<Duration>,
+    ) -> Result<S::Lent, LendRefusal>
+        ensures { IfOk result S.fresh }
+    {
+        let mut desk = self.desk.lock(rt);
+        if desk.is_free() {
+            return desk.lend_at_once().ok_or(LendRefusal::Exhausted);
+        }
+        let ticket = match desk.join() {
+            Ok(ticket) => ticket,
+            Err(error) => return Err(refusal_of(error)),
+        };
+        let (mut desk, in_time) = self.wait(rt, desk, ticket, limit);
+        if !in_time {
+            desk.leave(ticket);
+            self.tell(desk);
+            return Err(LendRefusal::TimedOut);
+        }
+        let lent = desk.lend_to(ticket);
+        self.tell(desk);
+        lent.ok_or(LendRefusal::Exhausted)
+    }
+
+    /// Takes back a thing that was out, and says whether it did. It does not where none is out, or
+    /// where the thing is none of the stock's own.
+    pub fn give_back<R: Wait>(&self, rt: &R, back: S::Back) -> bool {
+        let mut desk = self.desk.lock(rt);
+        let taken = desk.put(back);
+        self.tell(desk);
+        taken
+    }
+
+    /// A thing that was out does not come back.
+    pub fn lose<R: Wait>(&self, rt: &R) {
+        self.desk.lock(rt).lose();
+    }
+
+    /// Keeps a place for a thing that is to come, where there is one: it is given back, or lost.
+    pub fn claim<R: Wait>(&self, rt: &R) -> bool {
+        self.desk.lock(rt).claim()
+    }
+}
