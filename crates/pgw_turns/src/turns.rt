@@ -1,5 +1,5 @@
 //! A desk that threads share.
-ghost use Rattle.std.specs.Prelude.{◌≡◌, ◌+◌, ◌≤◌, ◌<◌, IfOk, IsTrue};
+ghost use Rattle.std.specs.Prelude.{◌≡◌, ◌≢◌, ◌+◌, ◌≤◌, IfOk, IfErr, IsTrue};
 ghost use Rattle.std.specs.Sync.Mutex.{mutex_guard_value};
 ghost use Rattle.pgw_turns.specs.Standings.{IsTurn};
 
@@ -29,7 +29,9 @@ pub struct Turns<S: Stock> {
     bells: Bells,
 }
 
-fn refusal_of(error: JoinError) -> LendRefusal {
+fn refusal_of(error: JoinError) -> LendRefusal
+    ensures { result ≢ LendRefusal.TimedOut }
+{
     match error {
         JoinError::Full => LendRefusal::Crowded,
         JoinError::Exhausted => LendRefusal::Exhausted,
@@ -77,7 +79,8 @@ impl<S: Stock> Turns<S> {
         ticket: u64,
         limit: Option<Duration>,
     ) -> (MutexGuard<'b, Desk<S>>, bool)
-        ensures { IsTrue result.1 → IsTurn ticket (mutex_guard_value result.0) }
+        ensures turn { IsTrue result.1 → IsTurn ticket (mutex_guard_value result.0) }
+        ensures endless { limit ≡ None → IsTrue result.1 }
     {
         match limit {
             Some(limit) => {
@@ -105,7 +108,9 @@ impl<S: Stock> Turns<S> {
         rt: &R,
         limit: Option<Duration>,
     ) -> Result<S::Lent, LendRefusal>
-        ensures { IfOk result S.fresh }
+        ensures fresh { IfOk result S.fresh }
+        // Who waits without a limit is not refused for time.
+        ensures endless { limit ≡ None → IfErr result (λ e. e ≢ LendRefusal.TimedOut) }
     {
         let mut desk = self.desk.lock(rt);
         if desk.is_free() {
