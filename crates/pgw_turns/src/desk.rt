@@ -170,8 +170,19 @@ impl<S: Stock> Desk<S> {
         taken
     }
 
-    /// A thing that was out does not come back.
+    /// A thing that was out does not come back. The stock is told, where one is out.
     pub fn lose(&mut self)
+        ensures { self.new ≡ lost self.old }
+    {
+        if self.out == 0 {
+            return;
+        }
+        self.stock.lose();
+        self.out -= 1;
+    }
+
+    /// A place that was kept is free again.
+    pub fn give_up(&mut self)
         ensures { self.new ≡ lost self.old }
     {
         self.out = self.out.saturating_sub(1);

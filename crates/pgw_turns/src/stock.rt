@@ -38,4 +38,9 @@ pub trait Stock: Drop {
         ensures room { room self.new ≡ room self.old }
         ensures counts { MatchBool result (ready self.new ≡ ready self.old + 1)
             (ready self.new ≡ ready self.old) };
+
+    /// A thing that is out does not come back.
+    fn lose(&mut self)
+        ensures room { room self.new ≡ room self.old }
+        ensures counts { ready self.new ≡ ready self.old };
 }

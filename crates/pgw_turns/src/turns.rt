@@ -145,7 +145,12 @@ impl<S: Stock> Turns<S> {
         self.desk.lock(rt).lose();
     }
 
-    /// Keeps a place for a thing that is to come, where there is one: it is given back, or lost.
+    /// A place that was kept is free again.
+    pub fn give_up<R: Wait>(&self, rt: &R) {
+        self.desk.lock(rt).give_up();
+    }
+
+    /// Keeps a place for a thing that is to come, where there is one: it is given back, or given up.
     pub fn claim<R: Wait>(&self, rt: &R) -> bool {
         self.desk.lock(rt).claim()
     }

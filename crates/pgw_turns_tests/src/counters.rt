@@ -75,4 +75,6 @@ impl Stock for Things {
         self.idle.push_back_reserved(back);
         true
     }
+
+    fn lose(&mut self) {}
 }
