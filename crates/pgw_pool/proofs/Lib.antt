@@ -7,3 +7,4 @@ pub mod CheckLaws
 pub mod StockLaws
 pub mod LedgerLaws
 pub mod ClosingLaws
+pub mod SpareLaws

@@ -6,5 +6,6 @@ pub mod Checking
 pub mod Closing
 pub mod Starting
 pub mod Sessions
+pub mod Spares
 pub mod Stocks
 pub mod Ledgers

@@ -14,8 +14,10 @@ pub mod lease;
 pub mod pool;
 mod refilling;
 pub mod returned;
+pub mod spare;
 mod starting;
 
 pub use crate::lease::Lease;
 pub use crate::pool::{LendError, Pool};
 pub use crate::returned::{DropCause, Returned};
+pub use crate::spare::Spare;

@@ -1,0 +1,32 @@
+-- Sessions that no pool holds.
+use Rattle.std.specs.Prelude.{ℕ, List, [], ◌∷◌, Result, Ok, Err}
+use Rattle.pgw_link.specs.Tape.{Tape}
+use Rattle.pgw_session.specs.Events.{Event}
+use Rattle.pgw_pool.specs.declared.spare.Spare.{Spare}
+use Rattle.pgw_pool.specs.declared.returned.Returned.{Returned}
+use Rattle.pgw_pool.specs.declared.returned.Returned.TheVariants.{Kept, Dropped}
+use Rattle.pgw_pool.specs.declared.returned.DropCause.{DropCause}
+use Rattle.pgw_pool.specs.Histories.{History, Lent, View, with_lease, IsIdle}
+use Rattle.pgw_pool.specs.Views.{view_of}
+
+-- the number of its last lease
+abbrev pub last_lease : {X : Type 0} → Spare X → ℕ
+last_lease s = s.number
+
+abbrev pub spare_view : {X : Type 0} → (X → Tape) → (X → ℕ) → Spare X → View
+spare_view tape faults s = view_of tape faults s.client
+
+-- a session that may be put into a pool, if there is one
+abbrev pub spares_in : {X : Type 0} → (X → Tape) → (X → ℕ) →
+    Result (Spare X) DropCause → List View
+spares_in tape faults (Ok s) = spare_view tape faults s ∷ []
+spares_in tape faults (Err why) = []
+
+-- what a pool would answer
+abbrev pub returned_as : {X : Type 0} → Result (Spare X) DropCause → Returned
+returned_as (Ok s) = Kept
+returned_as (Err why) = Dropped why
+
+-- its last lease was this one, and a reset was made behind it
+abbrev pub IsSpared : History → Lent → View → Type 0
+IsSpared h l v = (es : List Event) × IsIdle l.number (with_lease h l es) v
