@@ -1,0 +1,52 @@
+-- Sessions that are lent, and come back.
+use Rattle.std.proofs.Common.{◌≡◌, ◌≤◌, ℕ, List, [], ◌∷◌, ◌++◌, Result, arith, refl, inl, sym, subst}
+use Rattle.pgw_backend.specs.declared.client_error.PgWireClientError.{PgWireClientError as ClientError}
+use Rattle.pgw_session.specs.declared.types.Request.{Request}
+use Rattle.pgw_session.specs.declared.types.Answer.{Answer}
+use Rattle.pgw_pool.specs.declared.returned.Returned.TheVariants.{Kept}
+use Rattle.pgw_pool.specs.Histories.{History, View, lent_as, IsIdle, AreIdle}
+use Rattle.pgw_pool.specs.Lending.{LendsFirst}
+use Rattle.pgw_pool.specs.Returning.{GivesBack}
+use Rattle.pgw_pool.specs.Stocks.{Stock, stock, leased, IsOut, Runs, Step, runs, gives_back, Steps, no_step, step_more, IsInOrder}
+use Rattle.pgw_pool.proofs.StockLaws.{any_steps}
+use Rattle.pgw_shared_pool.specs.Shelves.{IsNewLease}
+
+-- ---- a lease begins
+
+pub begins : (now number : ℕ) (hs : List History) (rest : List View) (v : View) → LendsFirst hs now rest number v → IsOut number (leased number v)
+begins now number [] rest v first = absurd first
+begins now number (h ∷ hs) rest v first = record { history = h; lease = lent_as number; number = refl; own = omega arith; stands = inl first.0 }
+
+pub new_lease : (now number : ℕ) (hs : List History) (rest : List View) (v : View) → LendsFirst hs now rest number v → IsNewLease (leased number v)
+new_lease now number [] rest v first = absurd first
+new_lease now number (h ∷ hs) rest v first = record { history = h; stands = first.0; begins = first.1 }
+
+pub others : (now number : ℕ) (hs : List History) (rest : List View) (v : View) → LendsFirst hs now rest number v → (more : List History) × AreIdle now more rest
+others now number [] rest v first = absurd first
+others now number (h ∷ hs) rest v first = (hs, first.2)
+
+-- a shelf of which nothing was lent or put
+pub same_idle : (low now : ℕ) (vs all : List View) → now ≡ low → all ≡ vs → (hs : List History) × AreIdle low hs vs → (hs : List History) × AreIdle now hs all
+same_idle low now vs all same kept are = (are.0, subst (λ n. AreIdle n are.0 all) (sym same) (subst (AreIdle low are.0) (sym kept) are.1))
+
+-- ---- it goes on, and ends
+
+pub goes_on : (number : ℕ) (q : Request) (old new : View) (result : Result Answer ClientError) → Runs q old new result → IsOut number (leased number old) → IsOut number (leased number new)
+goes_on number q old new result r out =
+    let s = stock number [] (leased number old ∷ []) in
+    let t = stock number [] (leased number new ∷ []) in
+    let step : Step s t = runs number number [] [] [] q old new result r in
+    let is : IsInOrder t = any_steps s t (step_more s s t (no_step s) step) (record { histories = []; idle = tt; out = (out, tt) }) in
+    (is.out).0
+
+one_idle : (lent : ℕ) (hs : List History) (v : View) → AreIdle lent hs (v ∷ []) → (h : History) × IsIdle lent h v
+one_idle lent [] v are = absurd are
+one_idle lent (h ∷ hs) v are = (h, are.0)
+
+pub comes_back : (number : ℕ) (old v : View) → GivesBack old [] (v ∷ []) Kept → IsOut number (leased number old) → (h : History) × IsIdle number h v
+comes_back number old v g out =
+    let s = stock number [] (leased number old ∷ []) in
+    let t = stock number (v ∷ []) [] in
+    let step : Step s t = gives_back number number [] (v ∷ []) [] [] old Kept g in
+    let is : IsInOrder t = any_steps s t (step_more s s t (no_step s) step) (record { histories = []; idle = tt; out = (out, tt) }) in
+    one_idle number is.histories v is.idle
