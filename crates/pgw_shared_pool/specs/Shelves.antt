@@ -4,7 +4,9 @@ use Rattle.pgw_config.specs.declared.config.Config.{Config}
 use Rattle.pgw_pool.specs.declared.returned.Returned.{Returned}
 use Rattle.pgw_pool.specs.declared.returned.Returned.TheVariants as returned
 use Rattle.pgw_pool.specs.Histories.{History, View, lent_as, IsLent, BeginsIdle}
-use Rattle.pgw_pool.specs.Starting.{Dials, Connects}
+use Rattle.pgw_pool.specs.Starting.{Dials, Connects, ConnectAll, NotStarted}
+use Rattle.pgw_backend.specs.declared.client_error.PgWireClientError.{PgWireClientError as ClientError}
+use Rattle.pgw_backend.specs.declared.client_error.PgWireClientError.TheVariants as client
 use Rattle.pgw_pool.specs.Stocks.{Out}
 use Rattle.pgw_shared_pool.specs.declared.pool.GivenBack.{GivenBack}
 use Rattle.pgw_shared_pool.specs.declared.pool.GivenBack.TheVariants as given
@@ -37,3 +39,9 @@ abbrev pub IsRefilled : Config → ℕ → List ℕ → Dials → Dials → Refi
 IsRefilled config limit nonce old new Added = (v : View) × Connects config limit nonce old new v
 IsRefilled config limit nonce old new Full =
     (new ≡ old) ⊎ ((v : View) × Connects config limit nonce old new v)
+
+-- why no shared pool was started: no pool was; or its sessions were connected, and then memory was wanting
+abbrev pub NotShared : Type 0 → Config → ℕ → List (List ℕ) → Dials → Dials → ClientError → Type 0
+NotShared foretells config limit nonces old new e =
+    NotStarted foretells config limit nonces old new e
+    ⊎ ((e ≡ client.OutOfMemory) × (vs : List View) × ConnectAll config limit old nonces new vs)

@@ -42,9 +42,9 @@ pub enum Refilled {
 impl<L: Link> SharedPool<L> {
     ghost use Rattle.pgw_turns.specs.declared.turns.LendRefusal.TheVariants.{TimedOut};
     ghost use Rattle.pgw_pool.specs.Histories.{View};
-    ghost use Rattle.pgw_pool.specs.Starting.{dials, ConnectAll, NotStarted, Connects, NotConnects};
+    ghost use Rattle.pgw_pool.specs.Starting.{dials, ConnectAll, Connects, NotConnects};
     ghost use Rattle.pgw_pool.specs.Returning.{GivesBack};
-    ghost use Rattle.pgw_shared_pool.specs.Shelves.{IsNewLease, returned_by_pool, IsRefilled};
+    ghost use Rattle.pgw_shared_pool.specs.Shelves.{IsNewLease, NotShared, returned_by_pool, IsRefilled};
 
     /// Connects one session for each nonce, with at most one dial each. Each nonce is to be random and
     /// used for no other. Where one fails, those before it are let go. So many threads may wait at a
@@ -57,7 +57,8 @@ impl<L: Link> SharedPool<L> {
         dialer: &mut D,
         room_to_wait: usize,
     ) -> PgWireClientResult<SharedPool<L>>
-        ensures refused { IfErr result (NotStarted D.foretells config.now limit nonces.now
+        // Else no pool was started; or memory was wanting for those who wait, behind all logins.
+        ensures refused { IfErr result (NotShared D.foretells config.now limit nonces.now
             (dials (D.tape dialer.old) (D.offer dialer.old) (D.faults dialer.old))
             (dials (D.tape dialer.new) (D.offer dialer.new) (D.faults dialer.new))) }
         ensures connected { IfOk result (λ pool. (vs : List View) × ConnectAll config.now limit
