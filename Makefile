@@ -1,17 +1,19 @@
 # try: runs the session script crates/hothummei/stdin before anything is proved, in a minute or two.
 # run: builds the program, which proves it, and runs the same script.
 # test: the gate. live: the program against a real PostgreSQL, in a scratch cluster (live/run).
-# lib: the C library, its header and its pkg-config file, in build/c; install puts them in place (docs/C.md).
+# lib: the C library, its header and its pkg-config file, in build/c; install puts them in place (docs/C.md). check-lib runs
+# it over bytes of servers that are written down (c/canned.c), under valgrind.
 # plant: wrong bodies that a crate's contracts let through (make plant CRATE=pgw_wire).
 SHELL = /bin/bash
 PROGRAM = crates/hothummei/out/hothummei
 VISIT = crates/hothummei_visit/out/hothummei_visit
 RELAY = crates/example_relay/out/example_relay
 CLIENT = crates/example_client/out/example_client
+POOL = crates/example_pool/out/example_pool
 LIBRARY = build/c
 LOG = build.log
 
-.PHONY: try run install test program visit relay client lib live fmt plant needs-rt
+.PHONY: try run install test program visit relay client pool lib check-lib live fmt plant needs-rt
 
 needs-rt:
 	@command -v rt > /dev/null || { echo "rt is not in the PATH: install the Rattle kit that README.md names, and put its folder bin into the PATH" >&2; exit 1; }
@@ -35,20 +37,15 @@ install:
 	    install -v -D -m 644 $(LIBRARY)/libhothummei.a $(DESTDIR)$(PREFIX)/lib/libhothummei.a && \
 	    install -v -D -m 644 include/hothummei.h $(DESTDIR)$(PREFIX)/include/hothummei.h && \
 	    mkdir -p $(DESTDIR)$(PREFIX)/lib/pkgconfig && \
-	    sed 's|^prefix=.*|prefix=$(PREFIX)|' $(LIBRARY)/hothummei.pc > $(DESTDIR)$(PREFIX)/lib/pkgconfig/hothummei.pc; fi
+	    sed 's|^prefix=.*|prefix=$(PREFIX)|; s|^libdir=.*|&/lib|; s|^includedir=.*|&/include|' $(LIBRARY)/hothummei.pc > $(DESTDIR)$(PREFIX)/lib/pkgconfig/hothummei.pc; fi
 
-# The archive has the proved library, what takes a session's block from malloc and refuses nulls (c/hothummei.c), and the
-# kit's calls of malloc, realloc and free, which a program of Rattle's has too.
+# The archive, put together by c/pack, and conversations with servers that need none (c/check).
 lib: needs-rt
 	@(cd crates/hothummei_c && rt lib >> ../../$(LOG) 2>&1) || { echo "make lib: the build failed, see $(LOG)" >&2; exit 1; }
-	@mkdir -p $(LIBRARY)
-	@$(CC) -std=c11 -Wall -Wextra -O2 -fPIC -Iinclude -c c/hothummei.c -o $(LIBRARY)/hothummei.o
-	@rm -f $(LIBRARY)/libhothummei.a
-	@printf '%s\n' 'create $(LIBRARY)/libhothummei.a' 'addlib crates/hothummei_c/out/libhothummei_c.a' \
-	    "addlib $$(dirname "$$(rt doc)")/c/liblibc_c.a" 'addmod $(LIBRARY)/hothummei.o' save end | $(AR) -M
-	@cp include/hothummei.h $(LIBRARY)/hothummei.h
-	@printf '%s\n' 'prefix=$(CURDIR)' 'Name: hothummei' 'Description: sessions with a PostgreSQL server, proved' 'Version: 1.0' \
-	    'Cflags: -I$${prefix}/include' 'Libs: -L$${prefix}/lib -lhothummei' > $(LIBRARY)/hothummei.pc
+	@c/pack crates/hothummei_c/out/libhothummei_c.a $(LIBRARY)
+
+check-lib: lib
+	@c/check $(LIBRARY)
 
 test: needs-rt
 	rt ci
@@ -65,8 +62,11 @@ relay: needs-rt
 client: needs-rt
 	@(cd crates/example_client && rt run >> ../../$(LOG) 2>&1) || { echo "make client: the build failed, see $(LOG)" >&2; exit 1; }
 
-live: program visit relay client lib
-	@live/run $(PROGRAM) $(VISIT) $(RELAY) $(CLIENT) $(LIBRARY)
+pool: needs-rt
+	@(cd crates/example_pool && rt run >> ../../$(LOG) 2>&1) || { echo "make pool: the build failed, see $(LOG)" >&2; exit 1; }
+
+live: program visit relay client pool check-lib
+	@live/run $(PROGRAM) $(VISIT) $(RELAY) $(CLIENT) $(POOL) $(LIBRARY)
 
 fmt:
 	@for crate in crates/*/; do (cd $$crate && rt fmt) || exit 1; done

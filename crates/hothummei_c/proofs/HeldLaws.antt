@@ -1,13 +1,15 @@
 -- One that owns what it was made for, and the dialogue that it stands for.
-use Rattle.std.proofs.Common.{◌≡◌, ◌⊎◌, List, [], ℕ, Result, Ok, Err, inl, inr, refl, ap}
+use Rattle.std.proofs.Common.{◌≡◌, ◌∙◌, ◌⊎◌, List, [], ℕ, Bool, Result, Ok, Err, inl, inr, refl, sym, ap, subst}
 use Rattle.pgw_backend.specs.declared.client_error.PgWireClientError.{PgWireClientError as ClientError}
 use Rattle.pgw_backend.specs.declared.client_error.PgWireClientError.TheVariants as client
+use Rattle.pgw_dialogue.specs.declared.dialogue.Dialogue.{Dialogue}
 use Rattle.pgw_dialogue.specs.declared.phase.DialoguePhase.{DialoguePhase}
 use Rattle.pgw_dialogue.specs.declared.phase.DialoguePhase.TheVariants as phase
 use Rattle.pgw_dialogue.specs.declared.phase.State.TheVariants as state
-use Rattle.pgw_dialogue.specs.Answers.{state_behind}
-use Rattle.pgw_dialogue.specs.Dialogue.{input_at}
+use Rattle.pgw_dialogue.specs.Answers.{answer_behind, state_behind}
+use Rattle.pgw_dialogue.specs.Dialogue.{IsBehind, input_at}
 use Rattle.pgw_dialogue.proofs.CallLaws.{starts}
+use Rattle.pgw_dialogue.proofs.DialogueLaws.{is_behind}
 use Rattle.pgw_session.specs.Input.{Input}
 use Rattle.hothummei_c.specs.declared.held.Held.{Held}
 use Rattle.hothummei_c.specs.declared.held.HeldState.{HeldState}
@@ -45,3 +47,7 @@ broken_of s (inr is) = inr (ap state_of is)
 pub held_starts : (input : Input) (limit : ℕ) (h : Held) (old new : List ℕ) → Opens input old new (Ok h.notes) → input_at (dialogue_of h) ≡ input → h.inbox ≡ [] → h.room ≡ limit → h.state ≡ held.Going
     → HeldStarts input limit old new (Ok h)
 held_starts input limit h old new opened made empty room going = starts input limit (dialogue_of h) opened.0 old new opened.1 opened.2 made empty room (ap state_of going)
+
+-- where a dialogue is behind an answer
+pub is_behind_answer : (d : Dialogue) (fed : Result Bool ClientError) (answer : Result DialoguePhase ClientError) → d.state ≡ state_behind answer → answer ≡ answer_behind fed d.room (d.notes).closed → IsBehind d answer
+is_behind_answer d fed answer to is = subst (IsBehind d) (sym is) (is_behind d fed (to ∙ ap state_behind is))

@@ -1,5 +1,6 @@
 -- Values of a row that are shown one by one.
 use Rattle.std.proofs.Common.{◌≡◌, ◌<◌, ◌≤◌, ◌-◌, ℕ, zero, suc, List, [], ◌∷◌, ◌++◌, length, drop, Option, Some, None, Result, Ok, Err, inl, inr, refl, sym, ap, subst, ◌∙◌, arith}
+use Rattle.std.specs.Prelude.{slice_get}
 use Rattle.pgw_rows.specs.Rows.{value_at}
 use Rattle.hothummei_c.specs.declared.values.Value.{Value}
 use Rattle.hothummei_c.specs.Reads.{Pushes, PutsNext, Shown, joined, led, values_in}
@@ -81,3 +82,10 @@ pub puts : (value : Option (List ℕ)) (shown : Value) (next : ℕ) (old new : L
 puts value shown next old new row at (Ok n) p is within tells =
     (value, shown, is ∙ ap (λ (k : ℕ). Some (value, drop k row)) (sym p.0), subst (λ (k : ℕ). k ≤ length row) (sym p.0) within, p.1, tells)
 puts value shown next old new row at (Err code) p is within tells = inr p
+
+-- behind the first of a list one more is passed over
+pub one_later : {A : Type 0} (x : A) (xs : List A) (n : ℕ) → (n ≡ 0 → ⊥) → slice_get (x ∷ xs) n ≡ slice_get xs (n - 1)
+one_later x xs zero more = absurd (more refl)
+one_later x xs (suc n) more =
+    let less : suc n - 1 ≡ n = omega arith in
+    ap (slice_get xs) (sym less)

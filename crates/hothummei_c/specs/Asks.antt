@@ -6,7 +6,7 @@ use Rattle.pgw_session.specs.declared.types.Request.TheVariants as request
 use Rattle.pgw_session.specs.declared.types.Target.{Target}
 use Rattle.pgw_session.specs.declared.types.Target.TheVariants as target
 use Rattle.hothummei_c.specs.declared.session.Session.{Session}
-use Rattle.hothummei_c.specs.Session.{Asks, UnreadOrFar}
+use Rattle.hothummei_c.specs.Session.{AsksWithin}
 use Rattle.hothummei_c.specs.Codes.{out_of_memory}
 use Rattle.pgw_wire.specs.Reading.{name_of}
 
@@ -17,7 +17,7 @@ AddsRequest old new (Ok request) result =
 AddsRequest old new (Err e) result = (result ≡ out_of_memory) × (new ≡ old)
 
 abbrev pub AsksRows : Session → Session → List ℕ → ℕ → ℕ → Type 0
-AsksRows old new portal rows result = Asks old new (UnreadOrFar portal (2147483647 < rows)) (request.Execute (name_of portal) (pos rows)) result
+AsksRows old new portal rows result = AsksWithin old new (2147483647 < rows) portal (request.Execute (name_of portal) (pos rows)) result
 
 -- a statement or a portal
 abbrev pub target_of : ℕ → Option (List ℕ) → Target

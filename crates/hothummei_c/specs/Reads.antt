@@ -18,6 +18,7 @@ use Rattle.std.specs.FinMap as map
 use Rattle.std.specs.Int.{w32, cast_unsigned}
 use Rattle.hothummei_c.specs.declared.infos.AnswerInfo.{AnswerInfo}
 use Rattle.hothummei_c.specs.declared.infos.ColumnInfo.{ColumnInfo}
+use Rattle.hothummei_c.specs.declared.infos.Pair.{Pair}
 use Rattle.hothummei_c.specs.declared.infos.ResultInfo.{ResultInfo}
 use Rattle.hothummei_c.specs.declared.infos.RowInfo.{RowInfo}
 use Rattle.hothummei_c.specs.declared.infos.Summary.{Summary}
@@ -113,6 +114,18 @@ SummedOf (Some report) out result = (result ≡ 0) × Summed report out
 abbrev pub SumsUp : Session → Session → Summary → ℕ → Type 0
 SumsUp old new out result = (new ≡ old) × SummedOf old.report out result
 
+-- a parameter of the server, by its number in the order of their names
+abbrev pub TellsPair : Pair → List ℕ × List ℕ → Type 0
+TellsPair out pair = Tells pair.0 out.name × Tells pair.1 out.value
+
+abbrev PairOf : Option Report → ℕ → Pair → ℕ → Type 0
+PairOf None index out result = result ≡ out_of_place
+PairOf (Some report) index out result =
+    Found (slice_get (map.entries report.parameters) index) (TellsPair out) result
+
+abbrev pub FindsPair : Session → Session → ℕ → Pair → ℕ → Type 0
+FindsPair old new index out result = (new ≡ old) × PairOf old.report index out result
+
 -- ---- answers
 
 abbrev pub TellsAnswer : AnswerInfo → Told → Type 0
@@ -175,11 +188,17 @@ abbrev pub count_of : Option Tag → Option ℕ
 count_of None = None
 count_of (Some tag) = tag.rows
 
+-- the tag's number of rows, and whether it has one
+abbrev pub CountsAs : Option ℕ → ℕ → ℕ → Type 0
+CountsAs None count counted = (count ≡ 0) × (counted ≡ 0)
+CountsAs (Some n) count counted = (count ≡ n) × (counted ≡ 1)
+
 pub record TellsResult (found : CommandResult) (out : ResultInfo) : Type 0 where
   pub kind_is : out.kind ≡ shape_number found.kind
   pub columns_are : out.columns ≡ length found.fields
   pub rows_are : out.rows ≡ length found.rows
   pub command_is : TellsCommand found.tag out.command
+  pub count_is : CountsAs (count_of found.tag) out.count out.counted
 
 abbrev pub FindsResult : Session → Session → ℕ → ℕ → ResultInfo → ℕ → Type 0
 FindsResult old new answer index out result = (new ≡ old) × Found (result_in old answer index) (λ found. TellsResult found out) result
@@ -231,7 +250,7 @@ abbrev pub PutsValues : List Value → ℕ → List ℕ → ℕ → Type 0
 PutsValues values count row result = Shown (values_in count row) values result
 
 abbrev ShownRow : Option DataRow → Session → RowInfo → ℕ → Type 0
-ShownRow None new out result = (result ≡ no_such_index) ⊎ (result ≡ out_of_place)
+ShownRow None new out result = result ≡ no_such_index
 ShownRow (Some row) new out result = Shown (values_in (counted row.field_count) row.payload) new.values.items result × (out.count ≡ length new.values.items)
 
 -- the row's values stand in the session, and nothing else of it changes

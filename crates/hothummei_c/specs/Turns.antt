@@ -1,21 +1,10 @@
 -- Turns of a session.
-use Rattle.std.specs.Prelude.{◌≡◌, ◌⊎◌, ℕ, List, Some}
-use Rattle.pgw_dialogue.specs.Machine.{report_at}
-use Rattle.hothummei_c.specs.declared.held.Held.{Held}
+use Rattle.std.specs.Prelude.{◌≡◌, ℕ, List}
 use Rattle.hothummei_c.specs.declared.session.Phase.{Phase}
 use Rattle.hothummei_c.specs.declared.session.Phase.TheVariants as phase
 use Rattle.hothummei_c.specs.declared.session.Session.{Session}
 use Rattle.hothummei_c.specs.declared.values.Value.{Value}
-use Rattle.hothummei_c.specs.Codes.{out_of_memory}
-use Rattle.hothummei_c.specs.Held.{dialogue_of}
-use Rattle.hothummei_c.specs.Report.{kept_of}
 use Rattle.hothummei_c.specs.Values.{Tells}
-
--- the report is that of the dialogue, or memory was wanting
-abbrev pub Finishes : Session → Session → Held → ℕ → Type 0
-Finishes old new held result =
-    (new.out.items ≡ old.out.items)
-    × (((result ≡ 0) × (new.phase ≡ phase.Done) × (new.report ≡ Some (kept_of (report_at (dialogue_of held).notes)))) ⊎ (result ≡ out_of_memory))
 
 -- these bytes are shown, and nothing changes
 abbrev pub Shows : Session → Session → List ℕ → Value → ℕ → Type 0

@@ -3,7 +3,7 @@ ghost use Rattle.std.specs.Prelude.{◌≡◌, ◌<◌, ◌↔◌, [], IfOk, IsT
 ghost use Rattle.pgw_wire.specs.Reading.{name_of};
 ghost use Rattle.pgw_session.specs.declared.types.Request.TheVariants as request;
 ghost use Rattle.hothummei_c.specs.Asks.{AddsParameter, AddsRequest, AsksRows, target_of};
-ghost use Rattle.hothummei_c.specs.Session.{Asks, Connects, Unread, UnreadOne, UnreadOrFar};
+ghost use Rattle.hothummei_c.specs.Session.{Asks, AsksWith, AsksWithin, Connects, Unread, UnreadOne};
 ghost use Rattle.hothummei_c.specs.declared.session.Phase.TheVariants as phase;
 
 use crate::codes::{NOT_UTF8, OK, OUT_OF_MEMORY, OUT_OF_PLACE, OUT_OF_RANGE};
@@ -135,7 +135,7 @@ fn bind_of(
 
 /// A portal of a statement, with the parameters that stand ready.
 pub fn bind(session: &mut Session, portal: &[u8], statement: &[u8]) -> u32
-    ensures { Asks session.old session.new (UnreadOne portal.now statement.now)
+    ensures { AsksWith session.old session.new (UnreadOne portal.now statement.now)
         (request.Bind (name_of portal.now) (name_of statement.now) session.old.parameters [])
         result }
 {
@@ -158,11 +158,11 @@ pub fn bind(session: &mut Session, portal: &[u8], statement: &[u8]) -> u32
 pub fn execute(session: &mut Session, portal: &[u8], rows: u32) -> u32
     ensures { AsksRows session.old session.new portal.now rows result }
 {
-    let Ok(portal) = str::from_utf8(portal) else {
-        return NOT_UTF8;
-    };
     let Ok(rows) = i32::try_from(rows) else {
         return OUT_OF_RANGE;
+    };
+    let Ok(portal) = str::from_utf8(portal) else {
+        return NOT_UTF8;
     };
     if !is_asking(session) {
         return OUT_OF_PLACE;
@@ -197,15 +197,15 @@ fn close_of(alloc: Global, kind: u32, name: &str) -> Result<Request, OutOfMemory
 
 /// Describes a statement (0) or a portal (1).
 pub fn describe(session: &mut Session, kind: u32, name: &[u8]) -> u32
-    ensures { Asks session.old session.new (UnreadOrFar name.now (1 < kind))
+    ensures { AsksWithin session.old session.new (1 < kind) name.now
         (request.Describe (target_of kind (name_of name.now))) result }
 {
-    let Ok(name) = str::from_utf8(name) else {
-        return NOT_UTF8;
-    };
     if kind > 1 {
         return OUT_OF_RANGE;
     }
+    let Ok(name) = str::from_utf8(name) else {
+        return NOT_UTF8;
+    };
     if !is_asking(session) {
         return OUT_OF_PLACE;
     }
@@ -215,15 +215,15 @@ pub fn describe(session: &mut Session, kind: u32, name: &[u8]) -> u32
 
 /// Closes a statement (0) or a portal (1).
 pub fn close(session: &mut Session, kind: u32, name: &[u8]) -> u32
-    ensures { Asks session.old session.new (UnreadOrFar name.now (1 < kind))
+    ensures { AsksWithin session.old session.new (1 < kind) name.now
         (request.Close (target_of kind (name_of name.now))) result }
 {
-    let Ok(name) = str::from_utf8(name) else {
-        return NOT_UTF8;
-    };
     if kind > 1 {
         return OUT_OF_RANGE;
     }
+    let Ok(name) = str::from_utf8(name) else {
+        return NOT_UTF8;
+    };
     if !is_asking(session) {
         return OUT_OF_PLACE;
     }
@@ -250,7 +250,7 @@ fn query_of(
 
 /// A query with the parameters that stand ready.
 pub fn query(session: &mut Session, sql: &[u8]) -> u32
-    ensures { Asks session.old session.new (Unread sql.now)
+    ensures { AsksWith session.old session.new (Unread sql.now)
         (request.Query sql.now [] session.old.parameters) result }
 {
     let Ok(sql) = str::from_utf8(sql) else {

@@ -8,8 +8,8 @@ ghost use Rattle.pgw_session.specs.declared.types.Request.TheVariants as request
 ghost use Rattle.pgw_wire.specs.Reading.{name_of};
 ghost use Rattle.hothummei_c.specs.Asks.{AddsParameter, AsksRows, target_of};
 ghost use Rattle.hothummei_c.specs.Handle.{behind, room_at_start, room_behind, session_at};
-ghost use Rattle.hothummei_c.specs.Reads.{FindsAnswer, FindsColumn, FindsFault, FindsField, FindsResult, FindsRow, FindsType, SumsUp};
-ghost use Rattle.hothummei_c.specs.Session.{Asks, Begins, Connects, EndsAt, IsNew, Sends, TakesBytes, Unread, UnreadOne, UnreadOrFar};
+ghost use Rattle.hothummei_c.specs.Reads.{FindsAnswer, FindsColumn, FindsFault, FindsField, FindsPair, FindsResult, FindsRow, FindsType, SumsUp};
+ghost use Rattle.hothummei_c.specs.Session.{Asks, AsksWith, AsksWithin, Begins, Connects, EndsAt, IsNew, Sends, TakesBytes, Unread, UnreadOne};
 ghost use Rattle.hothummei_c.specs.Turns.{Shows, phase_number};
 
 use crate::codes::NULL_POINTER;
@@ -109,7 +109,7 @@ pub unsafe extern "C" fn hothummei_c_bind(
 ) -> u32
     ghost of: { Session }
     requires* { sem 𝓛 (session_at handle of) }
-    ensures* { sem 𝓛 (behind handle (λ s. Asks of s (UnreadOne portal.now statement.now)
+    ensures* { sem 𝓛 (behind handle (λ s. AsksWith of s (UnreadOne portal.now statement.now)
         (request.Bind (name_of portal.now) (name_of statement.now) of.parameters []) result)
         (result ≡ 1)) }
 {
@@ -137,7 +137,7 @@ pub unsafe extern "C" fn hothummei_c_execute(handle: *mut Handle, portal: &[u8],
 pub unsafe extern "C" fn hothummei_c_describe(handle: *mut Handle, kind: u32, name: &[u8]) -> u32
     ghost of: { Session }
     requires* { sem 𝓛 (session_at handle of) }
-    ensures* { sem 𝓛 (behind handle (λ s. Asks of s (UnreadOrFar name.now (1 < kind))
+    ensures* { sem 𝓛 (behind handle (λ s. AsksWithin of s (1 < kind) name.now
         (request.Describe (target_of kind (name_of name.now))) result) (result ≡ 1)) }
 {
     if handle.is_null() {
@@ -151,7 +151,7 @@ pub unsafe extern "C" fn hothummei_c_describe(handle: *mut Handle, kind: u32, na
 pub unsafe extern "C" fn hothummei_c_close(handle: *mut Handle, kind: u32, name: &[u8]) -> u32
     ghost of: { Session }
     requires* { sem 𝓛 (session_at handle of) }
-    ensures* { sem 𝓛 (behind handle (λ s. Asks of s (UnreadOrFar name.now (1 < kind))
+    ensures* { sem 𝓛 (behind handle (λ s. AsksWithin of s (1 < kind) name.now
         (request.Close (target_of kind (name_of name.now))) result) (result ≡ 1)) }
 {
     if handle.is_null() {
@@ -165,7 +165,7 @@ pub unsafe extern "C" fn hothummei_c_close(handle: *mut Handle, kind: u32, name:
 pub unsafe extern "C" fn hothummei_c_query(handle: *mut Handle, sql: &[u8]) -> u32
     ghost of: { Session }
     requires* { sem 𝓛 (session_at handle of) }
-    ensures* { sem 𝓛 (behind handle (λ s. Asks of s (Unread sql.now) (request.Query sql.now []
+    ensures* { sem 𝓛 (behind handle (λ s. AsksWith of s (Unread sql.now) (request.Query sql.now []
         of.parameters) result) (result ≡ 1)) }
 {
     if handle.is_null() {
@@ -316,7 +316,7 @@ pub unsafe extern "C" fn hothummei_c_server_parameter(
 ) -> u32
     ghost of: { Session }
     requires* { sem 𝓛 (session_at handle of) }
-    ensures* { sem 𝓛 (behind handle (λ s. s ≡ of) (result ≡ 1)) }
+    ensures* { sem 𝓛 (behind handle (λ s. FindsPair of s index out.new result) (result ≡ 1)) }
 {
     if handle.is_null() {
         return NULL_POINTER;

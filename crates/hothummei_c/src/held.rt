@@ -1,7 +1,9 @@
 //! A dialogue that owns what it was made for.
-ghost use Rattle.std.specs.Prelude.{◌≡◌, ◌↔◌, IsTrue, take};
+ghost use Rattle.std.specs.Prelude.{◌≡◌, ◌↔◌, IfSome, IsTrue, take};
+ghost use Rattle.pgw_session.specs.Demands.{refused_config};
 ghost use Rattle.pgw_session.specs.Input.{input_with};
 ghost use Rattle.pgw_dialogue.specs.Answers.{answer_behind, waiting_answer};
+ghost use Rattle.pgw_dialogue.specs.Demands.{Refuses};
 ghost use Rattle.pgw_dialogue.specs.Machine.{notes_end, report_at};
 ghost use Rattle.pgw_dialogue.specs.Wire.{IsEnd, Unless};
 ghost use Rattle.hothummei_c.specs.Opening.{Opens, held_behind};
@@ -69,12 +71,13 @@ impl Drop for Held {
 
 // Puts out the message that logs in.
 fn open(alloc: Global, input: &Input<'_>, out: &mut BytesMut) -> PgWireClientResult<Notes>
-    ensures { Opens (input_with input.now.config.now input.now.requests.now input.now.nonce.now)
-        out.old.items out.new.items result }
+    ensures refused { IfSome (refused_config input.now.config.now) (λ key. Refuses key result) }
+    ensures opens { Opens (input_with input.now.config.now input.now.requests.now
+        input.now.nonce.now) out.old.items out.new.items result }
 {
     match check_config(alloc, input.config) {
         Ok(()) => {}
-        Err(e) => return Err(e),
+        Err(refused) => return Err(refused),
     }
     let mut opening = BytesMut::new(alloc);
     let notes = match machine::start(alloc, input, &mut opening) {
@@ -142,7 +145,7 @@ fn state_behind(answer: &PgWireClientResult<DialoguePhase>) -> HeldState
 }
 
 impl Held {
-    ghost use Rattle.pgw_dialogue.specs.Dialogue.{Awaits, IsDone, Takes};
+    ghost use Rattle.pgw_dialogue.specs.Dialogue.{Awaits, IsBehind, IsDone, Takes};
     ghost use Rattle.hothummei_c.specs.Held.{HeldStarts, dialogue_of};
 
     /// Begins a session: puts out the message that logs in.
@@ -154,10 +157,12 @@ impl Held {
         limit: u64,
         out: &mut BytesMut,
     ) -> PgWireClientResult<Held>
+        // A configuration that demands what this client can't do is refused by that key, or memory is wanting.
+        ensures refused { IfSome (refused_config config) (λ key. Refuses key result) }
         // It stands for no bytes given, and for the startup message put out. Else nothing is put out, and the error has its
         // cause.
-        ensures { HeldStarts (input_with config requests nonce) limit out.old.items out.new.items
-            result }
+        ensures starts { HeldStarts (input_with config requests nonce) limit out.old.items
+            out.new.items result }
     {
         let input = Input {
             config: &config,
@@ -185,8 +190,10 @@ impl Held {
 
     /// Takes bytes that came from the server, and puts out what is to be sent then.
     pub fn take(&mut self, piece: &[u8], out: &mut BytesMut) -> PgWireClientResult<DialoguePhase>
-        ensures { Takes (dialogue_of self.old) (dialogue_of self.new) piece.now out.old.items
+        ensures takes { Takes (dialogue_of self.old) (dialogue_of self.new) piece.now out.old.items
             out.new.items result }
+        // It awaits more bytes, or is done, or broken, as it answers.
+        ensures after { IsBehind (dialogue_of self.new) result }
     {
         match self.state {
             HeldState::Going => {}

@@ -1,8 +1,9 @@
 //! What is read of a session's report.
-ghost use Rattle.std.specs.Prelude.{◌≡◌, ◌≤◌, length};
+ghost use Rattle.std.specs.Prelude.{◌≡◌, ◌≤◌, length, slice_get};
+ghost use Rattle.std.specs.FinMap as map;
 ghost use Rattle.std.specs.Option.{option_copied};
 ghost use Rattle.pgw_rows.specs.Cuts.{HasLength, Locates};
-ghost use Rattle.hothummei_c.specs.Reads.{FindsAnswer, FindsColumn, FindsFault, FindsField, FindsResult, FindsRow, FindsType, PutsField, Pushes, PutsNext, PutsValues, SumsUp, Summed, TellsColumn, TellsCommand, TellsResult, answer_in, count_of, counted, first_field, kind_number, result_in, shape_number, status_number};
+ghost use Rattle.hothummei_c.specs.Reads.{CountsAs, FindsAnswer, FindsColumn, FindsFault, FindsField, FindsPair, FindsResult, FindsRow, FindsType, Found, PutsField, Pushes, PutsNext, PutsValues, SumsUp, Summed, TellsColumn, TellsCommand, TellsPair, TellsResult, answer_in, count_of, counted, first_field, kind_number, result_in, shape_number, status_number};
 
 use crate::codes::{NO_SUCH_INDEX, OK, OUT_OF_MEMORY, OUT_OF_PLACE};
 use crate::infos::{AnswerInfo, ColumnInfo, Pair, ResultInfo, RowInfo, Summary, TypeInfo};
@@ -14,6 +15,7 @@ use pgw_query::field_info::{FieldFormat, FieldInfo};
 use pgw_query::response::{ErrorResponse, TransactionStatus};
 use pgw_query::tag::Tag;
 use pgw_types::text::Text;
+use pgw_wire::params::Params;
 
 const VALUE_MISSING: u32 = 19;
 
@@ -56,22 +58,38 @@ pub fn summary(session: &mut Session, out: &mut Summary) -> u32
     }
 }
 
+fn pair_of(name: &Text, value: &Text) -> Pair
+    ensures { TellsPair result (name.now, value.now) }
+{
+    Pair {
+        name: value_of(name.as_str().as_bytes()),
+        value: value_of(value.as_str().as_bytes()),
+    }
+}
+
+// A parameter by its number.
+#[tactic(auto, using(crate::proofs::ReadLaws::one_later))]
+fn put_pair(parameters: &Params, index: usize, out: &mut Pair) -> u32
+    ensures { Found (slice_get (map.entries parameters.now) index) (TellsPair out.new) result }
+{
+    let mut left = index;
+    for (name, value) in parameters.iter() {
+        if left == 0 {
+            *out = pair_of(name, value);
+            return OK;
+        }
+        left -= 1;
+    }
+    NO_SUCH_INDEX
+}
+
 /// A parameter of the server by its number, in the order of their names.
 pub fn server_parameter(session: &mut Session, index: usize, out: &mut Pair) -> u32
-    ensures { session.new ≡ session.old }
+    ensures { FindsPair session.old session.new index out.new result }
 {
-    let Some(report) = &session.report else {
-        return OUT_OF_PLACE;
-    };
-    match report.parameters.iter().nth(index) {
-        Some((name, value)) => {
-            *out = Pair {
-                name: value_of(name.as_str().as_bytes()),
-                value: value_of(value.as_str().as_bytes()),
-            };
-            OK
-        }
-        None => NO_SUCH_INDEX,
+    match &session.report {
+        None => OUT_OF_PLACE,
+        Some(report) => put_pair(&report.parameters, index, out),
     }
 }
 
@@ -226,17 +244,27 @@ fn count_of(tag: &Option<Tag>) -> Option<usize>
     }
 }
 
+// The number, and 1; or zeros.
+fn told_count(count: Option<usize>) -> (u64, u32)
+    ensures { CountsAs count result.0 result.1 }
+{
+    match count {
+        None => (0, 0),
+        Some(number) => (number as u64, 1),
+    }
+}
+
 fn info_of(found: &CommandResult) -> ResultInfo
     ensures { TellsResult found.now result }
 {
-    let count = count_of(&found.tag);
+    let (count, counted) = told_count(count_of(&found.tag));
     ResultInfo {
         kind: shape_number(found.kind),
         columns: found.fields.len(),
         rows: found.rows.len(),
         command: command_of(&found.tag),
-        count: count.unwrap_or(0) as u64,
-        counted: if count.is_some() { 1 } else { 0 },
+        count,
+        counted,
     }
 }
 
@@ -377,7 +405,7 @@ pub fn row(
 {
     let Session { report, values, .. } = session;
     let Some(report) = report else {
-        return OUT_OF_PLACE;
+        return NO_SUCH_INDEX;
     };
     let Some(told) = report.answers.as_slice().get(answer) else {
         return NO_SUCH_INDEX;

@@ -1,7 +1,7 @@
 //! The turns of a session: bytes that came, and bytes that are to be sent.
 ghost use Rattle.std.specs.Prelude.{◌≡◌, string_bytes};
-ghost use Rattle.hothummei_c.specs.Session.{Begins, EndsAt, Sends, TakesBytes};
-ghost use Rattle.hothummei_c.specs.Turns.{Finishes, Shows, phase_number};
+ghost use Rattle.hothummei_c.specs.Session.{Began, Begins, EndsAt, Finishes, Sends, TakesBytes};
+ghost use Rattle.hothummei_c.specs.Turns.{Shows, phase_number};
 
 use crate::codes::{OK, OUT_OF_MEMORY, OUT_OF_PLACE, OUT_OF_RANGE};
 use crate::held::Held;
@@ -13,17 +13,10 @@ use pgw_dialogue::DialoguePhase;
 use pgw_types::listed::Listed;
 use std::mem::replace;
 
-/// Begins the session: the message that logs in is to be sent.
-pub fn start(session: &mut Session, limit: u64) -> u32
-    ensures { Begins session.old session.new limit result }
+// Begins the session, of all that it is made for.
+fn begin(session: &mut Session, limit: u64) -> u32
+    ensures { Began session.old session.new limit result }
 {
-    match session.phase {
-        Phase::Asking => {}
-        _ => return OUT_OF_PLACE,
-    }
-    if limit == 0 {
-        return OUT_OF_RANGE;
-    }
     let alloc = session.alloc;
     let config = replace(&mut session.config, Config::new(alloc));
     let requests = replace(&mut session.requests, Listed::new(alloc));
@@ -36,6 +29,20 @@ pub fn start(session: &mut Session, limit: u64) -> u32
         }
         Err(e) => session.fail(e),
     }
+}
+
+/// Begins the session: the message that logs in is to be sent.
+pub fn start(session: &mut Session, limit: u64) -> u32
+    ensures { Begins session.old session.new limit result }
+{
+    match session.phase {
+        Phase::Asking => {}
+        _ => return OUT_OF_PLACE,
+    }
+    if limit == 0 {
+        return OUT_OF_RANGE;
+    }
+    begin(session, limit)
 }
 
 // Makes the report of a dialogue that is done.
@@ -125,6 +132,7 @@ pub fn at_end(session: &mut Session) -> u32
         return OUT_OF_PLACE;
     }
     let e = held.at_end();
+    session.held = None;
     session.fail(e)
 }
 

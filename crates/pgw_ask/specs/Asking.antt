@@ -97,7 +97,7 @@ abbrev pub passes_for : Request → ClientError → Bool
 passes_for (request.Simple sql) = passes
 passes_for q = is_remote
 
--- No more was asked of the link than the request wants.
+-- What is flushed behind the request, and where the link's end is met.
 pub record Ended (q : Request) (old : Line) (after : Client) (now : Line) (broken : Bool)
     (result : Result Answer ClientError) : Type 0 where
   -- behind any answer but IoError no call of the link failed, and all that was written is flushed; or

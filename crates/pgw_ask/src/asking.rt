@@ -163,8 +163,8 @@ pub fn ask<L: Link>(
     ensures asks { is_broken client.old ≡ false → Asks request.now
         (known_by client.old) (line_of L.tape L.faults client.old)
         (known_by client.new) (line_of L.tape L.faults client.new) (is_broken client.new) result }
-    // No more is asked of the link than the request wants: its end is answered where the answer is
-    // wanting, and behind any answer but IoError all that was written is flushed.
+    // The link's end is answered where the answer is wanting, and behind any answer but IoError all
+    // that was written is flushed.
     ensures ended { is_broken client.old ≡ false → Ended request.now
         (line_of L.tape L.faults client.old) (known_by client.new)
         (line_of L.tape L.faults client.new) (is_broken client.new) result }

@@ -1,3 +1,4 @@
+pub mod Asynchronous
 pub mod Backend
 pub mod ClientError
 pub mod Texts

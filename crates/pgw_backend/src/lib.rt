@@ -4,6 +4,7 @@
 //! refusal, or nothing whole yet, whatever follows it; and the bytes that each message is written as.
 #![tactic(auto)]
 
+pub mod asynchronous;
 pub mod backend;
 pub mod client_error;
 pub mod equality;

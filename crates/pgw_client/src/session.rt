@@ -1,5 +1,5 @@
 //! A session over a link.
-ghost use Rattle.std.specs.Prelude.{◌≡◌, ◌<◌, ◌≤◌, length, min, IfOk, IfErr, IfSome, IsErrOf, OnOk, OnErr};
+ghost use Rattle.std.specs.Prelude.{◌≡◌, ◌<◌, ◌≤◌, [], length, min, IfOk, IfErr, IfSome, IsErrOf, OnOk, OnErr};
 ghost use Rattle.std.specs.Io.KnownBytes.{Keeps};
 ghost use Rattle.pgw_link.specs.Tape.{HasCause};
 ghost use Rattle.pgw_link.specs.Foresight.{Ends, Foreseen};
@@ -28,14 +28,17 @@ use std::alloc::Global;
 /// The most bytes that one read asks for.
 pub const CHUNK: usize = 8192;
 
-// Takes the messages at the buffer's front, and sends what falls due.
+// Takes the messages at the buffer's front, and sends what falls due, by way of a buffer that keeps its room.
 fn take_all<L: Link>(
     alloc: Global,
     link: &mut L,
     input: &Input<'_>,
     notes: &mut Notes,
     buffer: &mut Inbox,
+    out: &mut BytesMut,
 ) -> PgWireClientResult<bool>
+    requires { out.old.items ≡ [] }
+    ensures emptied { OnOk result (out.new.items ≡ []) }
     ensures cause { IoHasCause (L.faults link.old) (L.faults link.new) result }
     ensures talk { IfErr result IsNoDemand }
     ensures clean { (IsErrOf result PgWireClientError.IoError → ⊥) → L.faults link.new
@@ -47,9 +50,8 @@ fn take_all<L: Link>(
         TookAll (input_of input.now) notes.old notes.new (L.tape link.old) (L.tape link.new)
         buffer.old buffer.new result }
 {
-    let mut out = BytesMut::new(alloc);
     'messages: loop {
-        match advance(alloc, input, notes, buffer, &mut out) {
+        match advance(alloc, input, notes, buffer, out) {
             Ok(Progress::More) => return Ok(false),
             Ok(Progress::Went) => {
                 if out.len() > 0 {
@@ -126,9 +128,10 @@ fn converse<L: Link>(
 {
     let mut buffer = Inbox::new(alloc);
     let mut piece = [0u8; CHUNK];
+    let mut out = BytesMut::new(alloc);
     let mut read: u64 = 0;
     'reads: loop {
-        let done = match take_all(alloc, link, input, notes, &mut buffer) {
+        let done = match take_all(alloc, link, input, notes, &mut buffer, &mut out) {
             Ok(done) => done,
             Err(e) => return Err(e),
         };

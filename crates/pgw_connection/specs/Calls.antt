@@ -15,6 +15,7 @@ use Rattle.pgw_handlers.specs.Handling.{Standing, standing, Answer}
 use Rattle.pgw_handlers.specs.declared.client_info.ReadyState.{ReadyState}
 use Rattle.pgw_handlers.specs.declared.client_info.ReadyState.TheVariants.{Pending, Ready}
 use Rattle.pgw_connection.specs.Talk.{fresh, Next, End, end, Hearing, Talk, Asked, IsCut, passes, is_refusal}
+use Rattle.pgw_connection.specs.State.{ClientState}
 use Rattle.pgw_connection.specs.Line.{Line, Pause, IsFlushed, EndedWell, NotEnded, Halts, AtEnd, Moved}
 use Rattle.pgw_connection.specs.Reading.{GoesOn, PassedOver}
 
@@ -26,21 +27,33 @@ pub record Kept : Type 0 where
   pub read : ℕ
   pub limit : ℕ
 
-abbrev pub kept : Config → List ℕ → ℕ → ℕ → Kept
-kept config buffer read limit = record { config = config; buffer = buffer; read = read; limit = limit }
-
 -- of the link
 pub record KeptRest : Type 0 where
   pub took : List ℕ
   pub ended : List ℕ
   pub reads : ℕ
 
-abbrev pub kept_rest : Tape → KeptRest
-kept_rest tape = record { took = tape.took; ended = tape.ended; reads = tape.reads }
-
 -- what is seen of a client over its link
 abbrev pub link_sight : Client → Tape → Bool → Sight
 link_sight c tape broken = record { client = c; wrote = tape.wrote; flushed = tape.flushed; broken = broken }
+
+-- what a client tells of itself, by what its link tells
+module _ {X : Type 0} where
+  abbrev pub sight_in : (X → Tape) → ClientState X → Sight
+  sight_in tape c = link_sight c.known (tape c.link) c.broken
+
+  abbrev pub faults_in : (X → ℕ) → ClientState X → ℕ
+  faults_in faults c = faults c.link
+
+  abbrev pub own_in : ClientState X → Kept
+  own_in c = record { config = c.known.config; buffer = c.buffer; read = c.read; limit = c.limit }
+
+  abbrev pub rest_in : (X → Tape) → ClientState X → KeptRest
+  rest_in tape c = record {
+    took = (tape c.link).took;
+    ended = (tape c.link).ended;
+    reads = (tape c.link).reads;
+  }
 
 -- ---- whether a client can be used behind an answer, told or not
 

@@ -46,7 +46,7 @@ pub data NotSentOnce (foretells : Type 0) (address : Address) (bytes : List ℕ)
 pub data Cancels (same foretells : Type 0) (address : Address) (spelled : Result (List ℕ) PgWireError)
     (was is : Option (List ℕ)) (old new : DialTape) (before now : ℕ)
     : Result (Unit {0}) ClientError → Type 0 where
-  sent : (bytes : List ℕ) → spelled ≡ Ok bytes → SentOnce address bytes old new →
+  sent : (bytes : List ℕ) → spelled ≡ Ok bytes → SentOnce address bytes old new → now ≡ before →
       Cancels same foretells address spelled was is old new before now (Ok tt)
   unsent : (bytes : List ℕ) (e : ClientError) → spelled ≡ Ok bytes →
       NotSentOnce foretells address bytes was is old new before now e →

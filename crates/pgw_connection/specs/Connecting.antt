@@ -1,5 +1,5 @@
 -- What a connect and a cancel do to their dialer, and what they answer.
-use Rattle.std.specs.Prelude.{◌≡◌, ◌≢◌, ◌⊎◌, ◌<◌, ◌≤◌, ℕ, Bool, true, false, List, [], ◌∷◌, ◌++◌, Option, Some, None, Result, Ok, Err, IfOk, IfErr}
+use Rattle.std.specs.Prelude.{◌≡◌, ◌≢◌, ◌⊎◌, ◌<◌, ◌≤◌, ℕ, Bool, true, false, List, [], ◌∷◌, ◌++◌, Option, Some, None, Result, Ok, Err, IfOk, IfErr, OnOk}
 use Rattle.pgw_types.specs.declared.config_error.ConfigError.{ConfigError}
 use Rattle.pgw_backend.specs.ClientError.{of_config}
 use Rattle.pgw_backend.specs.declared.client_error.PgWireClientError.{PgWireClientError as ClientError}
@@ -122,5 +122,8 @@ pub record Connects {Y X S : Type 0} (foretells : Type 0) (offer : Y → Option 
   -- IoError comes only where the dialer's count rose, and Broken never
   pub cause : HasCause (failed old) (failed new) false result
   pub usable : IfOk result (λ client. client.broken ≡ false)
+  -- No call of the dialer or of the link failed, and the reads are within the limit.
+  pub calm : OnOk result (failed new ≡ failed old)
+  pub within : IfOk result (λ client. client.read ≤ client.limit)
   pub config_is : IfOk result (λ client. (client.known).config ≡ config)
   pub limit_is : IfOk result (λ client. client.limit ≡ limit)

@@ -37,9 +37,6 @@ described g suspended = record { param_types = g.types; fields = g.columns }
 abbrev pub all_responses : {S : Type 0} → Gathered S → Bool → S
 all_responses g suspended = g.responses
 
-abbrev pub all_gathered : {S : Type 0} → Gathered S → Bool → Gathered S
-all_gathered g suspended = g
-
 -- ---- a call
 
 -- A request was asked by a client, with a handler, and this came of it. `listed` says which list the handler's responses

@@ -37,6 +37,7 @@ pub struct CancelToken {
 fn send_once<D: Dialer>(bytes: &[u8], address: &Address, dialer: &mut D) -> PgWireClientResult<()>
     ensures sent { OnOk result
         (SentOnce address.now bytes.now (D.tape dialer.old) (D.tape dialer.new)) }
+    ensures calm { OnOk result (D.faults dialer.new ≡ D.faults dialer.old) }
     ensures failed { IfErr result
         (NotSentOnce D.foretells address.now bytes.now (D.offer dialer.old) (D.offer dialer.new)
         (D.tape dialer.old) (D.tape dialer.new) (D.faults dialer.old) (D.faults dialer.new)) }
@@ -74,7 +75,7 @@ impl CancelToken {
     /// Asks the server to cancel what it does for the client: over a link of its own, which is closed
     /// behind that. It dials once at most.
     pub fn cancel<D: Dialer>(&self, alloc: Global, dialer: &mut D) -> PgWireClientResult<()>
-        // One request was written to a link to the address and flushed; or why not.
+        // One request was written to a link to the address and flushed, and no call failed; or why not.
         ensures cancels { Cancels (dialer.new ≡ dialer.old) D.foretells self.now.address
             (cancel_bytes self.now.process_id self.now.secret_key)
             (D.offer dialer.old) (D.offer dialer.new) (D.tape dialer.old) (D.tape dialer.new)

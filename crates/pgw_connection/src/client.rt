@@ -1,6 +1,6 @@
 //! A client over a link.
 ghost use Rattle.std.specs.Prelude.{◌≡◌, ℕ, false, length};
-ghost use Rattle.pgw_connection.specs.Calls.{Kept, KeptRest, kept, kept_rest, link_sight};
+ghost use Rattle.pgw_connection.specs.Calls.{Kept, KeptRest, sight_in, faults_in, own_in, rest_in};
 
 use crate::connection::Connection;
 use pgw_config::config::Config;
@@ -66,17 +66,17 @@ impl<L: Link> PgWireClient<L> {
 }
 
 impl<L: Link> Seen for PgWireClient<L> {
-    ghost sight = { λ c. link_sight c.known (L.tape c.link) c.broken };
+    ghost sight = { sight_in L.tape };
 
-    ghost faults = { λ c. L.faults c.link };
+    ghost faults = { faults_in L.faults };
 
     ghost Own = { Kept };
 
-    ghost own = { λ c. kept (c.known).config c.buffer c.read c.limit };
+    ghost own = { own_in };
 
     ghost Rest = { KeptRest };
 
-    ghost rest = { λ c. kept_rest (L.tape c.link) };
+    ghost rest = { rest_in L.tape };
 }
 
 impl<L: Link> ClientInfo for PgWireClient<L> {
@@ -92,15 +92,11 @@ impl<L: Link> ClientInfo for PgWireClient<L> {
     }
 
     fn set_server_parameter(&mut self, name: Text, value: Text) -> Result<(), OutOfMemory>
-        ensures set { OnOk result (link_sight self.new.known (L.tape self.new.link) self.new.broken
-            ≡ with_parameter name value
-            (link_sight self.old.known (L.tape self.old.link) self.old.broken)) }
-        ensures kept { OnErr result (link_sight self.new.known (L.tape self.new.link)
-            self.new.broken
-            ≡ link_sight self.old.known (L.tape self.old.link) self.old.broken) }
-        ensures own { kept (self.new.known).config self.new.buffer self.new.read self.new.limit
-            ≡ kept (self.old.known).config self.old.buffer self.old.read self.old.limit }
-        ensures rest { kept_rest (L.tape self.new.link) ≡ kept_rest (L.tape self.old.link) }
+        ensures set { OnOk result (sight_in L.tape self.new
+            ≡ with_parameter name value (sight_in L.tape self.old)) }
+        ensures kept { OnErr result (sight_in L.tape self.new ≡ sight_in L.tape self.old) }
+        ensures own { own_in self.new ≡ own_in self.old }
+        ensures rest { rest_in L.tape self.new ≡ rest_in L.tape self.old }
         ensures calm { L.faults self.new.link ≡ L.faults self.old.link }
         ensures link { self.new.link ≡ self.old.link }
     {
@@ -120,12 +116,9 @@ impl<L: Link> ClientInfo for PgWireClient<L> {
     }
 
     fn set_protocol_version(&mut self, version: ProtocolVersion)
-        ensures set { link_sight self.new.known (L.tape self.new.link) self.new.broken
-            ≡ with_version version
-            (link_sight self.old.known (L.tape self.old.link) self.old.broken) }
-        ensures own { kept (self.new.known).config self.new.buffer self.new.read self.new.limit
-            ≡ kept (self.old.known).config self.old.buffer self.old.read self.old.limit }
-        ensures rest { kept_rest (L.tape self.new.link) ≡ kept_rest (L.tape self.old.link) }
+        ensures set { sight_in L.tape self.new ≡ with_version version (sight_in L.tape self.old) }
+        ensures own { own_in self.new ≡ own_in self.old }
+        ensures rest { rest_in L.tape self.new ≡ rest_in L.tape self.old }
         ensures calm { L.faults self.new.link ≡ L.faults self.old.link }
         ensures link { self.new.link ≡ self.old.link }
     {
@@ -137,12 +130,9 @@ impl<L: Link> ClientInfo for PgWireClient<L> {
     }
 
     fn set_transaction_status(&mut self, status: TransactionStatus)
-        ensures set { link_sight self.new.known (L.tape self.new.link) self.new.broken
-            ≡ with_status status
-            (link_sight self.old.known (L.tape self.old.link) self.old.broken) }
-        ensures own { kept (self.new.known).config self.new.buffer self.new.read self.new.limit
-            ≡ kept (self.old.known).config self.old.buffer self.old.read self.old.limit }
-        ensures rest { kept_rest (L.tape self.new.link) ≡ kept_rest (L.tape self.old.link) }
+        ensures set { sight_in L.tape self.new ≡ with_status status (sight_in L.tape self.old) }
+        ensures own { own_in self.new ≡ own_in self.old }
+        ensures rest { rest_in L.tape self.new ≡ rest_in L.tape self.old }
         ensures calm { L.faults self.new.link ≡ L.faults self.old.link }
         ensures link { self.new.link ≡ self.old.link }
     {

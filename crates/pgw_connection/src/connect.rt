@@ -266,6 +266,8 @@ fn connect_at<D: Dialer, S: StartupHandler + Drop>(
         new_tape (D.Link.tape client.link)) }
     ensures cause { HasCause (D.faults dialer.old) (D.faults dialer.new) false result }
     ensures usable { IfOk result (λ client. client.desk.broken ≡ false) }
+    ensures calm { OnOk result (D.faults dialer.new ≡ D.faults dialer.old) }
+    ensures within { IfOk result (λ client. client.read ≤ client.limit) }
     ensures config { IfOk result (λ client. client.desk.config ≡ config) }
     ensures limit { IfOk result (λ client. client.limit ≡ limit) }
 {
@@ -311,6 +313,8 @@ impl<L: Link> Connection<L> {
             new_tape (L.tape client.link)) }
         ensures cause { HasCause (D.faults dialer.old) (D.faults dialer.new) false result }
         ensures usable { IfOk result (λ client. client.desk.broken ≡ false) }
+        ensures calm { OnOk result (D.faults dialer.new ≡ D.faults dialer.old) }
+        ensures within { IfOk result (λ client. client.read ≤ client.limit) }
         ensures config { IfOk result (λ client. client.desk.config ≡ config) }
         ensures limit { IfOk result (λ client. client.limit ≡ limit) }
     {

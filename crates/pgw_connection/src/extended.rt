@@ -4,7 +4,7 @@ ghost use Rattle.std.specs.Option.{option_copied};
 ghost use Rattle.pgw_session.specs.declared.types.Request.{Request as TheRequest};
 ghost use Rattle.pgw_session.specs.declared.types.Request.TheVariants as kind;
 ghost use Rattle.pgw_connection.specs.Targets.{target_of};
-ghost use Rattle.pgw_connection.specs.Lent.{Asks, both, prepared, no_answer, executed, described, all_responses, all_gathered};
+ghost use Rattle.pgw_connection.specs.Lent.{Asks, both, prepared, no_answer, executed, described, all_responses};
 
 use crate::client::PgWireClient;
 use crate::gathered::Gathered;
@@ -211,28 +211,6 @@ impl<'a, L: Link, H: ExtendedQueryHandler> ExtendedQueryClient<'a, L, H> {
     {
         match self.ask(alloc, requests::query(alloc, sql, param_types, params)) {
             Ok((gathered, _)) => Ok(gathered.responses),
-            Err(error) => Err(error),
-        }
-    }
-
-    /// Prepares, binds and runs a query without names, in one round trip as `query` does, and gives
-    /// what the handler makes of its rows with their columns.
-    pub fn fetch(
-        &mut self,
-        alloc: Global,
-        sql: &str,
-        param_types: &[u32],
-        params: Listed<Option<Octets>>,
-    ) -> PgWireClientResult<Gathered<H::Responses>>
-        ensures asks { Asks L.foretells L.left L.tape L.faults H.means
-            H.Responses.listed (kind.Query sql.now param_types.now params) all_gathered
-            self.old.handler.now
-            self.new.handler.now self.old.client.now self.new.client.now result }
-        ensures same_client { self.new.client.ghost_name ≡ self.old.client.ghost_name }
-        ensures same_handler { self.new.handler.ghost_name ≡ self.old.handler.ghost_name }
-    {
-        match self.ask(alloc, requests::query(alloc, sql, param_types, params)) {
-            Ok((gathered, _)) => Ok(gathered),
             Err(error) => Err(error),
         }
     }

@@ -2,14 +2,14 @@
 ghost use Rattle.std.specs.Prelude.{◌≡◌, ◌⊎◌, ◌≤◌, true, false, length, IfErr, OnOk, OnErr};
 ghost use Rattle.pgw_backend.specs.declared.client_error.PgWireClientError.TheVariants as client;
 ghost use Rattle.pgw_link.specs.Sending.{Wrote, WroteSome};
-ghost use Rattle.pgw_handlers.specs.Handling.{HasCause, IsCaused, OfError};
+ghost use Rattle.pgw_handlers.specs.Handling.{HasCause, IsCaused, OfError, Leaves};
 ghost use Rattle.pgw_connection.specs.Talk.{passes, is_refusal};
 ghost use Rattle.pgw_connection.specs.Desk.{client_of};
 ghost use Rattle.pgw_connection.specs.Line.{Foretold};
-ghost use Rattle.pgw_connection.specs.Connection.{line_in};
+ghost use Rattle.pgw_connection.specs.Connection.{line_in, state_of};
 ghost use Rattle.pgw_frontend.specs.Frontend.{encoding};
 ghost use Rattle.pgw_handlers.specs.Sending.{Sent, NotSent, IsSpelled, IsUsable as StaysUsable};
-ghost use Rattle.pgw_connection.specs.Calls.{IsUsable, goes_on_if, Puts, Opens, GivesUp, Follows, kept, kept_rest, link_sight};
+ghost use Rattle.pgw_connection.specs.Calls.{IsUsable, goes_on_if, Puts, Opens, GivesUp, Follows, sight_in, faults_in, own_in, rest_in};
 
 use crate::client::PgWireClient;
 use crate::connection::Connection;
@@ -197,19 +197,14 @@ impl<L: Link> Connection<L> {
     #[tactic(auto, using(crate::proofs::ForetoldLaws::foretold_still))]
     fn send(&mut self, message: PgWireFrontendMessage) -> PgWireClientResult<()>
         ensures sent { OnOk result (Sent (encoding message)
-            (link_sight (client_of self.old.desk) (L.tape self.old.link) self.old.desk.broken)
-            (link_sight (client_of self.new.desk) (L.tape self.new.link) self.new.desk.broken)) }
+            (sight_in L.tape (state_of self.old)) (sight_in L.tape (state_of self.new))) }
         ensures failed { IfErr result (λ e. NotSent (encoding message)
-            (link_sight (client_of self.old.desk) (L.tape self.old.link) self.old.desk.broken)
-            (link_sight (client_of self.new.desk) (L.tape self.new.link) self.new.desk.broken) e) }
+            (sight_in L.tape (state_of self.old)) (sight_in L.tape (state_of self.new)) e) }
         ensures spelled { IsSpelled (encoding message) result }
         ensures client { client_of self.new.desk ≡ client_of self.old.desk }
         ensures usable { StaysUsable result self.old.desk.broken self.new.desk.broken }
-        ensures own { kept self.new.desk.config self.new.inbox self.new.read self.new.limit
-            ≡ kept self.old.desk.config self.old.inbox self.old.read self.old.limit }
-        ensures rest { kept_rest (L.tape self.new.link) ≡ kept_rest (L.tape self.old.link) }
-        ensures cause { HasCause (L.faults self.old.link) (L.faults self.new.link)
-            self.new.desk.broken result }
+        ensures leaves { Leaves own_in (rest_in L.tape) (faults_in L.faults) (sight_in L.tape)
+            (state_of self.old) (state_of self.new) result }
         ensures foretold { L.foretells → Foretold (L.left self.old.link) (L.left self.new.link)
             (L.tape self.old.link) (L.tape self.new.link) }
     {
@@ -224,19 +219,14 @@ impl<L: Link> Connection<L> {
 impl<L: Link> Outgoing for PgWireClient<L> {
     fn send(&mut self, message: PgWireFrontendMessage) -> PgWireClientResult<()>
         ensures sent { OnOk result (Sent (encoding message)
-            (link_sight self.old.known (L.tape self.old.link) self.old.broken)
-            (link_sight self.new.known (L.tape self.new.link) self.new.broken)) }
+            (sight_in L.tape self.old) (sight_in L.tape self.new)) }
         ensures failed { IfErr result (λ e. NotSent (encoding message)
-            (link_sight self.old.known (L.tape self.old.link) self.old.broken)
-            (link_sight self.new.known (L.tape self.new.link) self.new.broken) e) }
+            (sight_in L.tape self.old) (sight_in L.tape self.new) e) }
         ensures spelled { IsSpelled (encoding message) result }
         ensures client { self.new.known ≡ self.old.known }
         ensures usable { StaysUsable result self.old.broken self.new.broken }
-        ensures own { kept (self.new.known).config self.new.buffer self.new.read self.new.limit
-            ≡ kept (self.old.known).config self.old.buffer self.old.read self.old.limit }
-        ensures rest { kept_rest (L.tape self.new.link) ≡ kept_rest (L.tape self.old.link) }
-        ensures cause { HasCause (L.faults self.old.link) (L.faults self.new.link) self.new.broken
-            result }
+        ensures leaves { Leaves own_in (rest_in L.tape) (faults_in L.faults) (sight_in L.tape)
+            self.old self.new result }
         // Nothing is read, so of a link that knows what is to come that stays.
         ensures foretold { L.foretells → Foretold (L.left self.old.link) (L.left self.new.link)
             (L.tape self.old.link) (L.tape self.new.link) }

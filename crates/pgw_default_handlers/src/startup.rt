@@ -5,7 +5,7 @@ ghost use Rattle.pgw_session.specs.declared.stage.Stage.TheVariants.{Starting};
 ghost use Rattle.pgw_session.specs.Segments.{startup_message};
 ghost use Rattle.pgw_session.specs.Table.{after as table};
 ghost use Rattle.pgw_dialogue.specs.Input.{input_of};
-ghost use Rattle.pgw_handlers.specs.Handling.{standing, pending, ready, HasCause};
+ghost use Rattle.pgw_handlers.specs.Handling.{standing, pending, ready, Leaves};
 ghost use Rattle.pgw_default_handlers.specs.Causes.{RefusesCaused};
 ghost use Rattle.pgw_default_handlers.specs.Startup.{Follows, GivesInformation, SendsReply, closes, login_input};
 
@@ -42,10 +42,7 @@ fn send_reply<C: Outgoing>(
     reply: Option<PgWireFrontendMessage>,
 ) -> PgWireClientResult<()>
     ensures sends { SendsReply reply (C.sight client.old) (C.sight client.new) result }
-    ensures own { C.own client.new ≡ C.own client.old }
-    ensures rest { C.rest client.new ≡ C.rest client.old }
-    ensures cause { HasCause (C.faults client.old) (C.faults client.new) (C.sight client.new).broken
-        result }
+    ensures leaves { Leaves C.own C.rest C.faults C.sight client.old client.new result }
 {
     match reply {
         Some(message) => client.send(message),
@@ -145,10 +142,7 @@ impl DefaultStartupHandler {
         requires { RefusesCaused next }
         ensures follows { Follows next message (standing self.old (C.sight client.old))
             (standing self.new (C.sight client.new)) (pending result) }
-        ensures own { C.own client.new ≡ C.own client.old }
-        ensures rest { C.rest client.new ≡ C.rest client.old }
-        ensures cause { HasCause (C.faults client.old) (C.faults client.new)
-            (C.sight client.new).broken result }
+        ensures leaves { Leaves C.own C.rest C.faults C.sight client.old client.new result }
     {
         match next {
             Next::Goes(stage, reply) => {

@@ -1,7 +1,7 @@
 -- What is taken from a front of some bytes is taken from all of them.
 use Rattle.std.specs.Int.{w32, from_be_bytes}
-use Rattle.std.proofs.Common.{◌≡◌, ◌≤◌, ◌+◌, ◌-◌, [], ◌++◌, ℕ, List, length, take, drop, true, Option, Some, None, Result, Ok, Err, arith, ap, refl, sym, subst, ◌∙◌, take_at, length-drop, length-take-le, take-append-drop}
-use Rattle.std.proofs.lemmas.List.{drop-append-le, drop_all, take-append-le, take-take}
+use Rattle.std.proofs.Common.{◌≡◌, ◌≤◌, ◌+◌, ◌-◌, [], ◌∷◌, ◌++◌, ℕ, List, length, take, drop, true, Option, Some, None, Result, Ok, Err, arith, ap, refl, sym, subst, ◌∙◌, take_at, length-drop, length-take-le, take-append-drop}
+use Rattle.std.proofs.lemmas.List.{append-nil, drop-append-le, drop_all, take-append-le, take-take}
 use Rattle.std.specs.Option.{is_some}
 use Rattle.pgw_wire.specs.Header.{EndsAt, IsWhole, typed_end}
 use Rattle.pgw_query.specs.declared.run.Span.{Span}
@@ -27,6 +27,12 @@ refused_more v front rest more e d = (
 
 pub decoded_of : (v : ProtocolVersion) (old new other_old other_new : List ℕ) (r : Result (Option Backend) ClientError) → old ≡ other_old → new ≡ other_new → Decoded v old new r → Decoded v other_old other_new r
 decoded_of v old new other_old other_new r was is d = subst (λ (o : List ℕ). Decoded v o other_new r) was (subst (λ (n : List ℕ). Decoded v old n r) is d)
+
+-- nothing is whole at a front, and nothing stands behind it
+pub none_alone : (v : ProtocolVersion) (front rest more : List ℕ) → length more ≡ 0 → Decoded v front rest (Ok None) → Decoded v (front ++ more) (rest ++ more) (Ok None)
+none_alone v front rest [] none d =
+    decoded_of v front rest (front ++ []) (rest ++ []) (Ok None) (sym (append-nil front)) (sym (append-nil rest)) d
+none_alone v front rest (b ∷ more) none d = absurd (cc)
 
 -- ---- rows
 

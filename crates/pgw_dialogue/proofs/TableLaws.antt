@@ -118,7 +118,7 @@ misplaced_good : (b : Bool) → IsGood (misplaced b)
 misplaced_good true = tt
 misplaced_good false = tt
 
-role_good : (k : Kind) (r : Role) → IsGood (by_role k r)
+pub role_good : (k : Kind) (r : Role) → IsGood (by_role k r)
 role_good k (Taken rows) = tt
 role_good k Closing = tt
 role_good k Completing = tt

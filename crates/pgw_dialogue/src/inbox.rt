@@ -87,7 +87,12 @@ impl Inbox {
     {
         match decode(alloc, version, &mut self.front) {
             Ok(Some(message)) => Ok(Some(message)),
-            Ok(None) => take_behind(alloc, version, &mut self.front, &mut self.tail),
+            Ok(None) => {
+                if self.tail.len() == 0 {
+                    return Ok(None);
+                }
+                take_behind(alloc, version, &mut self.front, &mut self.tail)
+            }
             Err(e) => Err(e),
         }
     }

@@ -3,7 +3,8 @@ ghost use Rattle.std.specs.Prelude.{◌≡◌, [], ◌++◌, false, suc, length,
 ghost use Rattle.pgw_frontend.specs.Frontend.{encodings};
 ghost use Rattle.pgw_session.specs.Standings.{standing_by};
 ghost use Rattle.pgw_session.specs.Segments.{is_ready, sends, startup_message, startup_parameters, with_set};
-ghost use Rattle.pgw_session.specs.Table.{after};
+ghost use Rattle.pgw_session.specs.Requests.{role};
+ghost use Rattle.pgw_session.specs.Table.{after, by_role};
 ghost use Rattle.pgw_session.specs.Machine.{answered, moves_by, opens_next, sending, turn_by};
 ghost use Rattle.pgw_session.specs.Notes.{answer_for, notes_book};
 ghost use Rattle.pgw_dialogue.specs.Wire.{IsEnd, IsOwn, Unless, PutOut};
@@ -13,7 +14,7 @@ ghost use Rattle.pgw_dialogue.specs.Machine.{Advanced, IsGood, Moved, Passed, Sh
 use crate::inbox::Inbox;
 use crate::input::Input;
 use crate::rows::{take_rows, takes_rows};
-use crate::table::{after, is_ready};
+use crate::table::{after, by_role, is_ready, role};
 use crate::wire::put_all;
 use crate::{answers, requests, standings};
 use bytes::BytesMut;
@@ -21,7 +22,7 @@ use pgw_backend::backend::PgWireBackendMessage;
 use pgw_backend::client_error::{PgWireClientError, unexpected};
 use pgw_frontend::frontend::PgWireFrontendMessage;
 use pgw_session::notes::Notes;
-use pgw_session::stage::{Next, Stage};
+use pgw_session::stage::{Kind, Next, Role, Stage};
 use pgw_session::tally::Tally;
 use pgw_session::types::{Answer, Request, SessionReport};
 use pgw_startup::startup::Startup;
@@ -355,6 +356,34 @@ fn follow(
     }
 }
 
+// Takes a message of a request's segment, which most are.
+fn answer(
+    alloc: Global,
+    input: &Input<'_>,
+    notes: &mut Notes,
+    kind: Kind,
+    rows: bool,
+    message: PgWireBackendMessage,
+    out: &mut BytesMut,
+) -> Result<bool, PgWireClientError>
+    requires clean { notes.old.first_passed ≡ None }
+    ensures own { IfErr result IsOwn }
+    ensures moved { Moved (moves_by notes_book (input_of input.now) notes.old message
+        (by_role kind (role kind rows message))) notes.new out.old.items out.new.items result }
+{
+    match role(kind, rows, &message) {
+        Role::Taken(rows) => {
+            let stage = Stage::Answering(kind, rows);
+            go_on(alloc, notes, message, stage, None, out)
+        }
+        Role::Closing => close_and_open(alloc, input, notes, message, out),
+        role => {
+            let next = by_role(kind, role);
+            follow(alloc, input, notes, message, next, out)
+        }
+    }
+}
+
 // Takes a message where none has been passed over.
 fn step(
     alloc: Global,
@@ -369,6 +398,10 @@ fn step(
         (after (input_of input.now) notes.old.stage message)) notes.new out.old.items out.new.items
         result }
 {
+    if let Stage::Answering(kind, rows) = &notes.stage {
+        let (kind, rows) = (*kind, *rows);
+        return answer(alloc, input, notes, kind, rows, message, out);
+    }
     match after(alloc, input, &notes.stage, &message) {
         Ok(next) => follow(alloc, input, notes, message, next, out),
         Err(_) => {

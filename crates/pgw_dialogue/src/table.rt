@@ -48,9 +48,6 @@ pub fn role(kind: Kind, rows: bool, message: &PgWireBackendMessage) -> Role
     ensures { result ≡ role kind rows message.now }
 {
     match message {
-        PgWireBackendMessage::NoticeResponse(_) | PgWireBackendMessage::ParameterStatus(_) => {
-            Role::Taken(rows)
-        }
         PgWireBackendMessage::ErrorResponse(_) => Role::Failing,
         PgWireBackendMessage::RowDescription(_) => match kind {
             Kind::Simple => Role::Taken(true),
@@ -110,7 +107,13 @@ pub fn role(kind: Kind, rows: bool, message: &PgWireBackendMessage) -> Role
             Kind::DescribePortal => Role::Closing,
             _ => Role::Misplaced,
         },
-        _ => Role::Misplaced,
+        _ => {
+            if message.is_asynchronous() {
+                Role::Taken(rows)
+            } else {
+                Role::Misplaced
+            }
+        }
     }
 }
 
@@ -124,8 +127,8 @@ pub fn behind_error(kind: Kind) -> Option<PgWireFrontendMessage>
     }
 }
 
-// What a message of a role does to a request's segment.
-fn by_role(kind: Kind, role: Role) -> Next
+/// What a message of a role does to a request's segment.
+pub fn by_role(kind: Kind, role: Role) -> Next
     ensures { result ≡ by_role kind role }
 {
     match role {
@@ -151,11 +154,9 @@ fn is_news(message: &PgWireBackendMessage) -> bool
             Authentication::Ok => true,
             _ => false,
         },
-        PgWireBackendMessage::ParameterStatus(_)
-        | PgWireBackendMessage::BackendKeyData(_)
-        | PgWireBackendMessage::NoticeResponse(_) => true,
+        PgWireBackendMessage::BackendKeyData(_) => true,
         PgWireBackendMessage::NegotiateProtocolVersion(m) => negotiated_version(m).is_some(),
-        _ => false,
+        _ => message.is_asynchronous(),
     }
 }
 

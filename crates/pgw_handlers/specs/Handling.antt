@@ -1,5 +1,5 @@
 -- What a handler means, and what holds of each of its calls.
-use Rattle.std.specs.Prelude.{◌≡◌, ◌≤◌, ℕ, Bool, true, Result, Ok, Err}
+use Rattle.std.specs.Prelude.{◌≡◌, ◌≤◌, ℕ, Bool, true, false, Result, Ok, Err}
 use Rattle.pgw_types.specs.Counts.{Rose}
 use Rattle.pgw_startup.specs.declared.parameter_status.ParameterStatus.{ParameterStatus}
 use Rattle.pgw_query.specs.declared.notification.NotificationResponse.{NotificationResponse}
@@ -79,3 +79,18 @@ OfError (Err e) before now broken = IsCaused e before now broken
 pub record HasCause {T : Type 0} (before now : ℕ) (broken : Bool) (result : Result T ClientError) : Type 0 where
   pub later : before ≤ now
   pub failed : OfError result before now broken
+
+-- of a call that sees no client: its error is not of a link that failed, nor of a client that is unusable
+abbrev pub HasOwnCause : {T : Type 0} → Result T ClientError → Type 0
+HasOwnCause result = (faults : ℕ) → HasCause faults faults false result
+
+-- What a call leaves of a client, by what the client tells of itself before and behind it.
+pub record Leaves {C Own Rest T : Type 0} (own_of : C → Own) (rest_of : C → Rest)
+    (faults : C → ℕ) (sight : C → Sight) (old new : C) (result : Result T ClientError)
+    : Type 0 where
+  -- what no handler changes of the client itself is as it was,
+  pub own : own_of new ≡ own_of old
+  -- and of its link too.
+  pub rest : rest_of new ≡ rest_of old
+  -- The count of faults does not fall, and an error has its cause.
+  pub cause : HasCause (faults old) (faults new) (sight new).broken result

@@ -49,7 +49,7 @@ pub trait ClientInfo: Seen {
     fn config(&self) -> &Config
         ensures { result.now ≡ (Self.sight self.now).client.config };
 
-    /// Each parameter that the server reported, with its last value.
+    /// Each parameter that a call noted of the server's, with its last value.
     fn server_parameters(&self) -> &Params
         ensures { result.now ≡ (Self.sight self.now).client.parameters };
 

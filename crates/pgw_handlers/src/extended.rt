@@ -1,12 +1,12 @@
 //! What a client asks extended queries by.
-ghost use Rattle.std.specs.Prelude.{◌≡◌, ℕ, false, Ok, Err, IfOk, OnErr};
+ghost use Rattle.std.specs.Prelude.{◌≡◌, Ok, Err, IfOk, OnErr};
 ghost use Rattle.pgw_query.specs.declared.response.NoticeResponse.{NoticeResponse as TheNotice};
 ghost use Rattle.pgw_query.specs.declared.notification.NotificationResponse.{NotificationResponse as TheNotification};
 ghost use Rattle.pgw_backend.specs.declared.backend.PgWireBackendMessage.TheVariants as backend;
 ghost use Rattle.pgw_backend.specs.declared.client_error.PgWireClientError.{PgWireClientError as ClientError};
 ghost use Rattle.pgw_backend.specs.ClientError.{IsUnexpected};
 ghost use Rattle.pgw_handlers.specs.Client.{Sight};
-ghost use Rattle.pgw_handlers.specs.Handling.{Standing, standing, HasCause};
+ghost use Rattle.pgw_handlers.specs.Handling.{Standing, standing, Leaves, HasOwnCause};
 ghost use Rattle.pgw_handlers.specs.Extended.{ExtendedCall, parse, bind, execute, describe, close, sync, flush, on_parameter_description, on_row_description, on_data_row, on_command_complete, on_portal_suspended, on_notice, on_notification, Given, nothing, done, of_types, of_columns, of_response, of_tag, TakesRows};
 
 use crate::causes::misplaced;
@@ -47,10 +47,7 @@ pub trait ExtendedQueryHandler {
     ) -> PgWireClientResult<()>
         ensures means { means (standing self.old (C.sight client.old)) (parse message)
             (standing self.new (C.sight client.new)) (done result) }
-        ensures own { C.own client.new ≡ C.own client.old }
-        ensures rest { C.rest client.new ≡ C.rest client.old }
-        ensures cause { HasCause (C.faults client.old) (C.faults client.new)
-            (C.sight client.new).broken result };
+        ensures leaves { Leaves C.own C.rest C.faults C.sight client.old client.new result };
 
     fn bind<C: ClientInfo + Outgoing>(
         &mut self,
@@ -60,10 +57,7 @@ pub trait ExtendedQueryHandler {
     ) -> PgWireClientResult<()>
         ensures means { means (standing self.old (C.sight client.old)) (bind message)
             (standing self.new (C.sight client.new)) (done result) }
-        ensures own { C.own client.new ≡ C.own client.old }
-        ensures rest { C.rest client.new ≡ C.rest client.old }
-        ensures cause { HasCause (C.faults client.old) (C.faults client.new)
-            (C.sight client.new).broken result };
+        ensures leaves { Leaves C.own C.rest C.faults C.sight client.old client.new result };
 
     fn execute<C: ClientInfo + Outgoing>(
         &mut self,
@@ -73,10 +67,7 @@ pub trait ExtendedQueryHandler {
     ) -> PgWireClientResult<()>
         ensures means { means (standing self.old (C.sight client.old)) (execute message)
             (standing self.new (C.sight client.new)) (done result) }
-        ensures own { C.own client.new ≡ C.own client.old }
-        ensures rest { C.rest client.new ≡ C.rest client.old }
-        ensures cause { HasCause (C.faults client.old) (C.faults client.new)
-            (C.sight client.new).broken result };
+        ensures leaves { Leaves C.own C.rest C.faults C.sight client.old client.new result };
 
     fn describe<C: ClientInfo + Outgoing>(
         &mut self,
@@ -86,10 +77,7 @@ pub trait ExtendedQueryHandler {
     ) -> PgWireClientResult<()>
         ensures means { means (standing self.old (C.sight client.old)) (describe message)
             (standing self.new (C.sight client.new)) (done result) }
-        ensures own { C.own client.new ≡ C.own client.old }
-        ensures rest { C.rest client.new ≡ C.rest client.old }
-        ensures cause { HasCause (C.faults client.old) (C.faults client.new)
-            (C.sight client.new).broken result };
+        ensures leaves { Leaves C.own C.rest C.faults C.sight client.old client.new result };
 
     fn close<C: ClientInfo + Outgoing>(
         &mut self,
@@ -99,10 +87,7 @@ pub trait ExtendedQueryHandler {
     ) -> PgWireClientResult<()>
         ensures means { means (standing self.old (C.sight client.old)) (close message)
             (standing self.new (C.sight client.new)) (done result) }
-        ensures own { C.own client.new ≡ C.own client.old }
-        ensures rest { C.rest client.new ≡ C.rest client.old }
-        ensures cause { HasCause (C.faults client.old) (C.faults client.new)
-            (C.sight client.new).broken result };
+        ensures leaves { Leaves C.own C.rest C.faults C.sight client.old client.new result };
 
     fn sync<C: ClientInfo + Outgoing>(
         &mut self,
@@ -112,10 +97,7 @@ pub trait ExtendedQueryHandler {
     ) -> PgWireClientResult<()>
         ensures means { means (standing self.old (C.sight client.old)) sync
             (standing self.new (C.sight client.new)) (done result) }
-        ensures own { C.own client.new ≡ C.own client.old }
-        ensures rest { C.rest client.new ≡ C.rest client.old }
-        ensures cause { HasCause (C.faults client.old) (C.faults client.new)
-            (C.sight client.new).broken result };
+        ensures leaves { Leaves C.own C.rest C.faults C.sight client.old client.new result };
 
     fn flush<C: ClientInfo + Outgoing>(
         &mut self,
@@ -125,10 +107,7 @@ pub trait ExtendedQueryHandler {
     ) -> PgWireClientResult<()>
         ensures means { means (standing self.old (C.sight client.old)) flush
             (standing self.new (C.sight client.new)) (done result) }
-        ensures own { C.own client.new ≡ C.own client.old }
-        ensures rest { C.rest client.new ≡ C.rest client.old }
-        ensures cause { HasCause (C.faults client.old) (C.faults client.new)
-            (C.sight client.new).broken result };
+        ensures leaves { Leaves C.own C.rest C.faults C.sight client.old client.new result };
 
     /// The types of the parameters.
     fn on_parameter_description(
@@ -138,7 +117,7 @@ pub trait ExtendedQueryHandler {
     ) -> PgWireClientResult<Listed<PgType>>
         ensures means { (seen : Sight) → means (standing self.old seen)
             (on_parameter_description message) (standing self.new seen) (of_types result) }
-        ensures cause { (faults : ℕ) → HasCause faults faults false result };
+        ensures cause { HasOwnCause result };
 
     /// The columns.
     fn on_row_description(
@@ -148,7 +127,7 @@ pub trait ExtendedQueryHandler {
     ) -> PgWireClientResult<Listed<FieldInfo>>
         ensures means { (seen : Sight) → means (standing self.old seen) (on_row_description message)
             (standing self.new seen) (of_columns result) }
-        ensures cause { (faults : ℕ) → HasCause faults faults false result };
+        ensures cause { HasOwnCause result };
 
     /// What is made of a row.
     fn on_data_row(
@@ -158,7 +137,7 @@ pub trait ExtendedQueryHandler {
     ) -> PgWireClientResult<Self::QueryResponse>
         ensures means { (seen : Sight) → means (standing self.old seen) (on_data_row message)
             (standing self.new seen) (of_response result) }
-        ensures cause { (faults : ℕ) → HasCause faults faults false result };
+        ensures cause { HasOwnCause result };
 
     /// Takes rows that stand whole at the front of some bytes, as many as it likes, hears them as
     /// `on_data_row` hears each, and keeps what it makes of them; answers how many. A client calls it
@@ -187,18 +166,18 @@ pub trait ExtendedQueryHandler {
     ) -> PgWireClientResult<Tag>
         ensures means { (seen : Sight) → means (standing self.old seen)
             (on_command_complete message) (standing self.new seen) (of_tag result) }
-        ensures cause { (faults : ℕ) → HasCause faults faults false result };
+        ensures cause { HasOwnCause result };
 
     fn on_portal_suspended(&mut self, alloc: Global) -> PgWireClientResult<()>
         ensures means { (seen : Sight) → means (standing self.old seen) on_portal_suspended
             (standing self.new seen) (done result) }
-        ensures cause { (faults : ℕ) → HasCause faults faults false result };
+        ensures cause { HasOwnCause result };
 
     /// Hears a notice of the server's, and does nothing with it.
     fn on_notice(&mut self, alloc: Global, message: NoticeResponse) -> PgWireClientResult<()>
         ensures means { (seen : Sight) → means (standing self.old seen) (on_notice message)
             (standing self.new seen) (done result) }
-        ensures cause { (faults : ℕ) → HasCause faults faults false result }
+        ensures cause { HasOwnCause result }
     {
         drop(message);
         Ok(())
@@ -213,7 +192,7 @@ pub trait ExtendedQueryHandler {
     ) -> PgWireClientResult<()>
         ensures means { (seen : Sight) → means (standing self.old seen) (on_notification message)
             (standing self.new seen) (done result) }
-        ensures cause { (faults : ℕ) → HasCause faults faults false result }
+        ensures cause { HasOwnCause result }
     {
         let message = PgWireBackendMessage::NotificationResponse(message);
         Err(misplaced(alloc, message))

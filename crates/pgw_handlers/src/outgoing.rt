@@ -2,7 +2,7 @@
 ghost use Rattle.std.specs.Prelude.{◌≡◌, OnOk, IfErr};
 ghost use Rattle.pgw_frontend.specs.Frontend.{encoding};
 ghost use Rattle.pgw_handlers.specs.Sending.{Sent, NotSent, IsSpelled, IsUsable};
-ghost use Rattle.pgw_handlers.specs.Handling.{HasCause};
+ghost use Rattle.pgw_handlers.specs.Handling.{Leaves};
 
 use crate::client_info::Seen;
 use pgw_backend::client_error::PgWireClientResult;
@@ -20,8 +20,6 @@ pub trait Outgoing: Seen {
         ensures spelled { IsSpelled (encoding message) result }
         ensures client { (Self.sight self.new).client ≡ (Self.sight self.old).client }
         ensures usable { IsUsable result (Self.sight self.old).broken (Self.sight self.new).broken }
-        ensures own { Self.own self.new ≡ Self.own self.old }
-        ensures rest { Self.rest self.new ≡ Self.rest self.old }
-        ensures cause { HasCause (Self.faults self.old) (Self.faults self.new)
-            (Self.sight self.new).broken result };
+        ensures leaves { Leaves Self.own Self.rest Self.faults Self.sight self.old self.new
+            result };
 }

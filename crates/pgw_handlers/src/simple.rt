@@ -3,7 +3,7 @@ ghost use Rattle.std.specs.Prelude.{◌≡◌, List, IfOk, OnErr};
 ghost use Rattle.pgw_startup.specs.declared.parameter_status.ParameterStatus.{ParameterStatus as TheStatus};
 ghost use Rattle.pgw_query.specs.declared.response.NoticeResponse.{NoticeResponse as TheNotice};
 ghost use Rattle.pgw_query.specs.declared.notification.NotificationResponse.{NotificationResponse as TheNotification};
-ghost use Rattle.pgw_handlers.specs.Handling.{Standing, standing, Answer, pending, ready, EndsAtReady, Keeps, Passes, Misplaces, HasCause};
+ghost use Rattle.pgw_handlers.specs.Handling.{Standing, standing, Answer, pending, ready, EndsAtReady, Keeps, Passes, Misplaces, Leaves};
 ghost use Rattle.pgw_handlers.specs.Simple.{SimpleCall, simple_query, on_row_description, on_data_row, on_command_complete, on_empty_query, on_parameter_status, on_notice, on_notification, on_ready_for_query, HeardInQuery, TakesRows};
 
 use crate::causes::misplaced;
@@ -37,10 +37,7 @@ pub trait SimpleQueryHandler {
     ) -> PgWireClientResult<()>
         ensures means { means (standing self.old (C.sight client.old)) (simple_query query.now)
             (standing self.new (C.sight client.new)) (pending result) }
-        ensures own { C.own client.new ≡ C.own client.old }
-        ensures rest { C.rest client.new ≡ C.rest client.old }
-        ensures cause { HasCause (C.faults client.old) (C.faults client.new)
-            (C.sight client.new).broken result };
+        ensures leaves { Leaves C.own C.rest C.faults C.sight client.old client.new result };
 
     /// Hears a message: hands it to its function, and sets the status that a ReadyForQuery tells before that.
     fn on_message<C: ClientInfo + Outgoing>(
@@ -52,10 +49,7 @@ pub trait SimpleQueryHandler {
         ensures means { HeardInQuery means (standing self.old (C.sight client.old)) message
             (standing self.new (C.sight client.new)) result }
         ensures ready { IfOk result (EndsAtReady message) }
-        ensures own { C.own client.new ≡ C.own client.old }
-        ensures rest { C.rest client.new ≡ C.rest client.old }
-        ensures cause { HasCause (C.faults client.old) (C.faults client.new)
-            (C.sight client.new).broken result }
+        ensures leaves { Leaves C.own C.rest C.faults C.sight client.old client.new result }
     {
         match message {
             PgWireBackendMessage::RowDescription(m) => {
@@ -104,10 +98,7 @@ pub trait SimpleQueryHandler {
     ) -> PgWireClientResult<()>
         ensures means { means (standing self.old (C.sight client.old)) (on_row_description message)
             (standing self.new (C.sight client.new)) (pending result) }
-        ensures own { C.own client.new ≡ C.own client.old }
-        ensures rest { C.rest client.new ≡ C.rest client.old }
-        ensures cause { HasCause (C.faults client.old) (C.faults client.new)
-            (C.sight client.new).broken result };
+        ensures leaves { Leaves C.own C.rest C.faults C.sight client.old client.new result };
 
     fn on_data_row<C: ClientInfo + Outgoing>(
         &mut self,
@@ -117,10 +108,7 @@ pub trait SimpleQueryHandler {
     ) -> PgWireClientResult<()>
         ensures means { means (standing self.old (C.sight client.old)) (on_data_row message)
             (standing self.new (C.sight client.new)) (pending result) }
-        ensures own { C.own client.new ≡ C.own client.old }
-        ensures rest { C.rest client.new ≡ C.rest client.old }
-        ensures cause { HasCause (C.faults client.old) (C.faults client.new)
-            (C.sight client.new).broken result };
+        ensures leaves { Leaves C.own C.rest C.faults C.sight client.old client.new result };
 
     /// Takes rows that stand whole at the front of some bytes, as many as it likes, and hears them as
     /// `on_data_row` hears each; answers how many. A client calls it before it takes a message. It sees
@@ -142,10 +130,7 @@ pub trait SimpleQueryHandler {
     ) -> PgWireClientResult<()>
         ensures means { means (standing self.old (C.sight client.old)) (on_command_complete message)
             (standing self.new (C.sight client.new)) (pending result) }
-        ensures own { C.own client.new ≡ C.own client.old }
-        ensures rest { C.rest client.new ≡ C.rest client.old }
-        ensures cause { HasCause (C.faults client.old) (C.faults client.new)
-            (C.sight client.new).broken result };
+        ensures leaves { Leaves C.own C.rest C.faults C.sight client.old client.new result };
 
     fn on_empty_query<C: ClientInfo + Outgoing>(
         &mut self,
@@ -155,10 +140,7 @@ pub trait SimpleQueryHandler {
     ) -> PgWireClientResult<()>
         ensures means { means (standing self.old (C.sight client.old)) (on_empty_query message)
             (standing self.new (C.sight client.new)) (pending result) }
-        ensures own { C.own client.new ≡ C.own client.old }
-        ensures rest { C.rest client.new ≡ C.rest client.old }
-        ensures cause { HasCause (C.faults client.old) (C.faults client.new)
-            (C.sight client.new).broken result };
+        ensures leaves { Leaves C.own C.rest C.faults C.sight client.old client.new result };
 
     /// Leaves a parameter that the server reports to the client.
     fn on_parameter_status<C: ClientInfo + Outgoing>(
@@ -169,10 +151,7 @@ pub trait SimpleQueryHandler {
     ) -> PgWireClientResult<()>
         ensures means { means (standing self.old (C.sight client.old)) (on_parameter_status message)
             (standing self.new (C.sight client.new)) (pending result) }
-        ensures own { C.own client.new ≡ C.own client.old }
-        ensures rest { C.rest client.new ≡ C.rest client.old }
-        ensures cause { HasCause (C.faults client.old) (C.faults client.new)
-            (C.sight client.new).broken result }
+        ensures leaves { Leaves C.own C.rest C.faults C.sight client.old client.new result }
     {
         let ParameterStatus { name, value } = message;
         client.set_server_parameter(name, value)?;
@@ -188,10 +167,7 @@ pub trait SimpleQueryHandler {
     ) -> PgWireClientResult<()>
         ensures means { means (standing self.old (C.sight client.old)) (on_notice message)
             (standing self.new (C.sight client.new)) (pending result) }
-        ensures own { C.own client.new ≡ C.own client.old }
-        ensures rest { C.rest client.new ≡ C.rest client.old }
-        ensures cause { HasCause (C.faults client.old) (C.faults client.new)
-            (C.sight client.new).broken result }
+        ensures leaves { Leaves C.own C.rest C.faults C.sight client.old client.new result }
     {
         drop(message);
         Ok(())
@@ -207,10 +183,7 @@ pub trait SimpleQueryHandler {
     ) -> PgWireClientResult<()>
         ensures means { means (standing self.old (C.sight client.old)) (on_notification message)
             (standing self.new (C.sight client.new)) (pending result) }
-        ensures own { C.own client.new ≡ C.own client.old }
-        ensures rest { C.rest client.new ≡ C.rest client.old }
-        ensures cause { HasCause (C.faults client.old) (C.faults client.new)
-            (C.sight client.new).broken result }
+        ensures leaves { Leaves C.own C.rest C.faults C.sight client.old client.new result }
     {
         let message = PgWireBackendMessage::NotificationResponse(message);
         Err(misplaced(alloc, message))
@@ -225,10 +198,7 @@ pub trait SimpleQueryHandler {
     ) -> PgWireClientResult<Listed<Self::QueryResponse>>
         ensures means { means (standing self.old (C.sight client.old)) (on_ready_for_query message)
             (standing self.new (C.sight client.new)) (ready result) }
-        ensures own { C.own client.new ≡ C.own client.old }
-        ensures rest { C.rest client.new ≡ C.rest client.old }
-        ensures cause { HasCause (C.faults client.old) (C.faults client.new)
-            (C.sight client.new).broken result };
+        ensures leaves { Leaves C.own C.rest C.faults C.sight client.old client.new result };
 
     /// The handler may do as the trait's own bodies: leave a parameter to the client,
     ghost keeps: { (before after : Standing Self) (m : TheStatus)

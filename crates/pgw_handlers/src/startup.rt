@@ -5,7 +5,7 @@ ghost use Rattle.pgw_startup.specs.declared.parameter_status.ParameterStatus.{Pa
 ghost use Rattle.pgw_query.specs.declared.response.NoticeResponse.{NoticeResponse as TheNotice};
 ghost use Rattle.pgw_query.specs.declared.notification.NotificationResponse.{NotificationResponse as TheNotification};
 ghost use Rattle.pgw_handlers.specs.declared.client_info.ServerInformation.{ServerInformation as TheInformation};
-ghost use Rattle.pgw_handlers.specs.Handling.{Standing, standing, Answer, pending, ready, EndsAtReady, Keeps, Passes, Misplaces, HasCause};
+ghost use Rattle.pgw_handlers.specs.Handling.{Standing, standing, Answer, pending, ready, EndsAtReady, Keeps, Passes, Misplaces, Leaves};
 ghost use Rattle.pgw_handlers.specs.Startup.{StartupCall, startup, on_authentication, on_negotiate_protocol_version, on_parameter_status, on_notice, on_notification, on_backend_key, on_ready_for_query, Settles, HeardAtStartup};
 
 use crate::causes::{admitted, misplaced};
@@ -40,10 +40,7 @@ pub trait StartupHandler {
     ) -> PgWireClientResult<()>
         ensures means { means (standing self.old (C.sight client.old)) startup
             (standing self.new (C.sight client.new)) (pending result) }
-        ensures own { C.own client.new ≡ C.own client.old }
-        ensures rest { C.rest client.new ≡ C.rest client.old }
-        ensures cause { HasCause (C.faults client.old) (C.faults client.new)
-            (C.sight client.new).broken result };
+        ensures leaves { Leaves C.own C.rest C.faults C.sight client.old client.new result };
 
     /// Hears a message: hands it to its function, and sets the status that a ReadyForQuery tells before that. Within a
     /// login exchange only an authentication request and an error have one.
@@ -56,10 +53,7 @@ pub trait StartupHandler {
         ensures means { HeardAtStartup exchanges means (standing self.old (C.sight client.old))
             message (standing self.new (C.sight client.new)) result }
         ensures ready { IfOk result (EndsAtReady message) }
-        ensures own { C.own client.new ≡ C.own client.old }
-        ensures rest { C.rest client.new ≡ C.rest client.old }
-        ensures cause { HasCause (C.faults client.old) (C.faults client.new)
-            (C.sight client.new).broken result }
+        ensures leaves { Leaves C.own C.rest C.faults C.sight client.old client.new result }
     {
         let message = admitted(alloc, self.in_exchange(), message)?;
         match message {
@@ -105,10 +99,7 @@ pub trait StartupHandler {
     ) -> PgWireClientResult<()>
         ensures means { means (standing self.old (C.sight client.old)) (on_authentication message)
             (standing self.new (C.sight client.new)) (pending result) }
-        ensures own { C.own client.new ≡ C.own client.old }
-        ensures rest { C.rest client.new ≡ C.rest client.old }
-        ensures cause { HasCause (C.faults client.old) (C.faults client.new)
-            (C.sight client.new).broken result };
+        ensures leaves { Leaves C.own C.rest C.faults C.sight client.old client.new result };
 
     /// Settles on the version that the server offers, where the client knows it.
     fn on_negotiate_protocol_version<C: ClientInfo + Outgoing>(
@@ -120,10 +111,7 @@ pub trait StartupHandler {
         ensures means { means (standing self.old (C.sight client.old))
             (on_negotiate_protocol_version message) (standing self.new (C.sight client.new))
             (pending result) }
-        ensures own { C.own client.new ≡ C.own client.old }
-        ensures rest { C.rest client.new ≡ C.rest client.old }
-        ensures cause { HasCause (C.faults client.old) (C.faults client.new)
-            (C.sight client.new).broken result }
+        ensures leaves { Leaves C.own C.rest C.faults C.sight client.old client.new result }
     {
         match negotiated_version(&message) {
             Some(version) => {
@@ -146,10 +134,7 @@ pub trait StartupHandler {
     ) -> PgWireClientResult<()>
         ensures means { means (standing self.old (C.sight client.old)) (on_parameter_status message)
             (standing self.new (C.sight client.new)) (pending result) }
-        ensures own { C.own client.new ≡ C.own client.old }
-        ensures rest { C.rest client.new ≡ C.rest client.old }
-        ensures cause { HasCause (C.faults client.old) (C.faults client.new)
-            (C.sight client.new).broken result }
+        ensures leaves { Leaves C.own C.rest C.faults C.sight client.old client.new result }
     {
         let ParameterStatus { name, value } = message;
         client.set_server_parameter(name, value)?;
@@ -165,10 +150,7 @@ pub trait StartupHandler {
     ) -> PgWireClientResult<()>
         ensures means { means (standing self.old (C.sight client.old)) (on_notice message)
             (standing self.new (C.sight client.new)) (pending result) }
-        ensures own { C.own client.new ≡ C.own client.old }
-        ensures rest { C.rest client.new ≡ C.rest client.old }
-        ensures cause { HasCause (C.faults client.old) (C.faults client.new)
-            (C.sight client.new).broken result }
+        ensures leaves { Leaves C.own C.rest C.faults C.sight client.old client.new result }
     {
         drop(message);
         Ok(())
@@ -184,10 +166,7 @@ pub trait StartupHandler {
     ) -> PgWireClientResult<()>
         ensures means { means (standing self.old (C.sight client.old)) (on_notification message)
             (standing self.new (C.sight client.new)) (pending result) }
-        ensures own { C.own client.new ≡ C.own client.old }
-        ensures rest { C.rest client.new ≡ C.rest client.old }
-        ensures cause { HasCause (C.faults client.old) (C.faults client.new)
-            (C.sight client.new).broken result }
+        ensures leaves { Leaves C.own C.rest C.faults C.sight client.old client.new result }
     {
         let message = PgWireBackendMessage::NotificationResponse(message);
         Err(misplaced(alloc, message))
@@ -201,10 +180,7 @@ pub trait StartupHandler {
     ) -> PgWireClientResult<()>
         ensures means { means (standing self.old (C.sight client.old)) (on_backend_key message)
             (standing self.new (C.sight client.new)) (pending result) }
-        ensures own { C.own client.new ≡ C.own client.old }
-        ensures rest { C.rest client.new ≡ C.rest client.old }
-        ensures cause { HasCause (C.faults client.old) (C.faults client.new)
-            (C.sight client.new).broken result };
+        ensures leaves { Leaves C.own C.rest C.faults C.sight client.old client.new result };
 
     /// What the server told of itself.
     fn on_ready_for_query<C: ClientInfo + Outgoing>(
@@ -215,10 +191,7 @@ pub trait StartupHandler {
     ) -> PgWireClientResult<ServerInformation>
         ensures means { means (standing self.old (C.sight client.old)) (on_ready_for_query message)
             (standing self.new (C.sight client.new)) (ready result) }
-        ensures own { C.own client.new ≡ C.own client.old }
-        ensures rest { C.rest client.new ≡ C.rest client.old }
-        ensures cause { HasCause (C.faults client.old) (C.faults client.new)
-            (C.sight client.new).broken result };
+        ensures leaves { Leaves C.own C.rest C.faults C.sight client.old client.new result };
 
     /// The handler may do as the trait's own bodies: settle on a version,
     ghost settles: { (before after : Standing Self) (m : TheOffer)

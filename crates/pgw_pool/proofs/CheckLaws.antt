@@ -1,5 +1,5 @@
 -- Sessions that are checked.
-use Rattle.std.proofs.Common.{◌≡◌, ◌<◌, ◌≤◌, ℕ, ◌+◌, Bool, true, false, ◌&&◌, List, [], ◌∷◌, ◌++◌, length, Result, Ok, Err, arith, refl, sym, ◌∙◌, ap, subst, append_assoc}
+use Rattle.std.proofs.Common.{◌≡◌, ◌<◌, ℕ, Bool, true, false, List, [], ◌∷◌, ◌++◌, Result, Ok, Err, if◌then◌else◌, arith, refl, sym, ◌∙◌, ap, subst}
 use Rattle.std.proofs.lemmas.List.{append-nil}
 use Rattle.pgw_query.specs.declared.response.TransactionStatus.{TransactionStatus}
 use Rattle.pgw_query.specs.declared.response.TransactionStatus.TheVariants.{Idle, Transaction, Error}
@@ -9,17 +9,35 @@ use Rattle.pgw_session.specs.declared.types.Response.TheVariants.{EmptyQuery, Qu
 use Rattle.pgw_session.specs.declared.types.Answer.TheVariants as answer
 use Rattle.pgw_session.specs.Events.{Event}
 use Rattle.pgw_connection.specs.Line.{Moved, IsFlushed}
-use Rattle.pgw_calls.specs.Turns.{IsAnswered}
-use Rattle.pgw_calls.specs.Stands.{Made, made, Stands, OneMore, StandsBehind}
-use Rattle.pgw_pool.specs.Histories.{History, Over, checked, View, check, lent_as, with_check, made_in, made_over, EndsIn, IsChecked, BeginsIdle, StandsBy, IsIdle, IsLent, AreIdle}
+use Rattle.pgw_calls.specs.Stands.{Made, made, Stands, StandsBehind}
+use Rattle.pgw_pool.specs.Histories.{History, checked, View, check, lent_as, with_check, made_over, IsChecked, BeginsIdle, StandsBy, IsIdle, IsLent, AreIdle}
 use Rattle.pgw_pool.specs.Returning.{IsAskedIn}
-use Rattle.pgw_pool.specs.Checking.{is_empty_query, is_idle, is_fit, Checks, unchecked, unfit, TakesFit, LendsFit, LendsChecked}
+use Rattle.pgw_pool.specs.declared.checking.Unfit.{Unfit}
+use Rattle.pgw_pool.specs.declared.checking.Unfit.TheVariants.{Answered}
+use Rattle.pgw_pool.specs.declared.checking.CheckError.{CheckError}
+use Rattle.pgw_pool.specs.declared.checking.CheckError.TheVariants as refusal
+use Rattle.pgw_pool.specs.Checking.{is_empty_query, fit_by_status, fit_by, ChecksFirst, LendsFit, LendsNoneFit, LendsChecked, StayChecked}
 use Rattle.pgw_pool.proofs.HistoryLaws.{ascend_check, resets_more, made_more, begins_idle, simple_ends, status_known, idle_later, over_link}
 
-pub is_told : (old last : View) (a : Result (List Response) ClientError) (status : TransactionStatus) (result : Bool)
-    → IsAskedIn check old last a → status ≡ last.client.transaction_status → result ≡ is_fit a status
-    → (x : Result (List Response) ClientError) × IsAskedIn check old last x × (result ≡ is_fit x last.client.transaction_status)
-is_told old last a status result asked told is = (a, asked, is ∙ ap (is_fit a) told)
+-- what comes of a check by its answer
+abbrev pub IsToldBy : View → View → Result (Unit {0}) Unfit → Type 0
+IsToldBy old last fit =
+    (a : Result (List Response) ClientError) × IsAskedIn check old last a
+    × (fit ≡ fit_by a last.client.transaction_status last.broken)
+
+pub is_told : (old last : View) (a : Result (List Response) ClientError) (status : TransactionStatus)
+    (broken : Bool) (fit : Result (Unit {0}) Unfit) → IsAskedIn check old last a
+    → status ≡ last.client.transaction_status → broken ≡ last.broken
+    → fit ≡ fit_by a status broken → IsToldBy old last fit
+is_told old last a status broken fit asked told known is =
+    let by_status = ap (λ (s : TransactionStatus). fit_by a s broken) told in
+    let by_broken = ap (λ (b : Bool). fit_by a last.client.transaction_status b) known in
+    (a, asked, is ∙ by_status ∙ by_broken)
+
+pub checks_first : (old last : View) (idle rest : List View) (fit : Result (Unit {0}) Unfit)
+    → idle ≡ old ∷ rest → IsToldBy old last fit → ChecksFirst idle rest last fit
+checks_first old last idle rest fit first told =
+    record { old = old; answer = told.0; first = first; asked = told.1; by = told.2 }
 
 -- ---- what a fit session answered
 
@@ -30,21 +48,23 @@ empty_is (EmptyQuery ∷ r ∷ rs) is = absurd (cc)
 empty_is (Query tag fields rows ∷ rs) is = absurd (cc)
 empty_is (Execution tag ∷ rs) is = absurd (cc)
 
-idle_is : (status : TransactionStatus) → is_idle status ≡ true → status ≡ Idle
+idle_is : (status : TransactionStatus) → Ok tt ≡ fit_by_status status → status ≡ Idle
 idle_is Idle is = refl
 idle_is Transaction is = absurd (cc)
 idle_is Error is = absurd (cc)
 
-both_true : (x y : Bool) → (x && y) ≡ true → (x ≡ true) × (y ≡ true)
-both_true true true is = (refl, refl)
-both_true true false is = absurd (cc)
-both_true false y is = absurd (cc)
+responses_fit : (rs : List Response) (status : TransactionStatus) (empty : Bool) → is_empty_query rs ≡ empty
+    → Ok tt ≡ (if empty then fit_by_status status else Err (Answered rs))
+    → (rs ≡ EmptyQuery ∷ []) × (status ≡ Idle)
+responses_fit rs status true empty is = (empty_is rs empty, idle_is status is)
+responses_fit rs status false empty is = absurd (cc)
 
-fit_is : (a : Result (List Response) ClientError) (status : TransactionStatus) → is_fit a status ≡ true → (a ≡ Ok (EmptyQuery ∷ [])) × (status ≡ Idle)
-fit_is (Ok rs) status is =
-    let b = both_true (is_empty_query rs) (is_idle status) is in
-    (ap (λ (l : List Response). Ok l) (empty_is rs b.0), idle_is status b.1)
-fit_is (Err e) status is = absurd (cc)
+fit_is : (a : Result (List Response) ClientError) (status : TransactionStatus) (broken : Bool)
+    → Ok tt ≡ fit_by a status broken → (a ≡ Ok (EmptyQuery ∷ [])) × (status ≡ Idle)
+fit_is (Ok rs) status broken is =
+    let f = responses_fit rs status (is_empty_query rs) refl is in
+    (ap (λ (l : List Response). Ok l) f.0, f.1)
+fit_is (Err e) status broken is = absurd (cc)
 
 -- ---- it is lent
 
@@ -82,48 +102,40 @@ module _ (low now : ℕ) (h : History) (old last : View) (is : IsIdle low h old)
       let told = status_known h (made_over h.over) check es r.0 r.1 last stands r.2 in
       lent_by es (one.1, (r.0, r.1, r.2, sym told ∙ idle)) stands known (flushed refl)
 
-  fit_lent : (a : Result (List Response) ClientError) → IsAskedIn check old last a → is_fit a last.client.transaction_status ≡ true → Lent
+  fit_lent : (a : Result (List Response) ClientError) → IsAskedIn check old last a
+      → Ok tt ≡ fit_by a last.client.transaction_status last.broken → Lent
   fit_lent a asked fit =
-      let f = fit_is a last.client.transaction_status fit in
+      let f = fit_is a last.client.transaction_status last.broken fit in
       let s = asked.stands is.usable h.config h.nonce (made_over h.over) old.line.tape.took old.line.tape.wrote is.stands in
       behind last.broken refl f.1 s.0 s.1 s.2 s.3
       (subst (λ (x : Result (List Response) ClientError). StandsBehind answer.Responses h.config h.nonce (made_over h.over) check (old.line.tape.took ++ s.0) (old.line.tape.wrote ++ s.1) last.client last.line.buffer x last.broken) f.0 s.4)
 
--- ---- those before it
+-- ---- of all that are idle
 
-pub record Left (low : ℕ) (hs : List History) (rest : List View) : Type 0 where
-  pub gone : List History
-  pub others : List History
-  pub are : hs ≡ gone ++ others
-  pub idle : AreIdle low others rest
-
-one_gone : (low : ℕ) (hs : List History) (v : View) (rest : List View) → Left low hs (v ∷ rest) → Left low hs rest
-one_gone low hs v rest l = gone_by l.others l.are l.idle
+pub lends_checked : (low now number : ℕ) (hs : List History) (idle rest : List View) (v : View)
+    → LendsFit idle low rest now number v → AreIdle low hs idle → LendsChecked hs now rest number v
+lends_checked low now number hs idle rest v l are =
+    let c = l.checks in
+    lent_as_first hs (subst (AreIdle low hs) c.first are)
   where
-    gone_by : (others : List History) → hs ≡ l.gone ++ others → AreIdle low others (v ∷ rest) → Left low hs rest
-    gone_by [] are idle = absurd idle
-    gone_by (h ∷ others) are idle = record { gone = l.gone ++ h ∷ []; others = others; are = are ∙ sym (append_assoc l.gone (h ∷ []) others); idle = idle.1 }
+    lent_as_first : (hs : List History) → AreIdle low hs (l.checks.old ∷ rest) → LendsChecked hs now rest number v
+    lent_as_first [] are = absurd are
+    lent_as_first (h ∷ hs) are =
+        let next = l.next in
+        let numbered = l.numbered in
+        let c = l.checks in
+        let f = fit_lent low number h c.old v are.0 (omega arith) c.answer c.asked c.by in
+        (f.0, f.1, f.2, idle_later low now hs rest (omega arith) are.1)
 
-pub checks_leave : (low was : ℕ) (hs : List History) (idle : List View) (dropped : ℕ) (rest : List View) → AreIdle low hs idle → Checks idle was rest dropped → Left low hs rest
-checks_leave low was hs idle dropped rest are unchecked = record { gone = []; others = hs; are = refl; idle = are }
-checks_leave low was hs idle dropped rest are (unfit v last x before a checks asked not) = one_gone low hs v rest (checks_leave low was hs idle before (v ∷ rest) are checks)
+rest_stays : (low : ℕ) (why : Unfit) (hs : List History) (v : View) (rest : List View)
+    → AreIdle low hs (v ∷ rest) → StayChecked (refusal.Unfit why) hs low rest
+rest_stays low why [] v rest are = absurd are
+rest_stays low why (h ∷ hs) v rest are = are.1
 
-pub lends_checked : (low now number was dropped : ℕ) (hs : List History) (idle rest : List View) (v : View) → now ≡ low + 1 → number ≡ now → AreIdle low hs idle → TakesFit idle was rest dropped v → LendsChecked hs now rest number v
-lends_checked low now number was dropped hs idle rest v next numbered are t =
-    let l = checks_leave low was hs idle dropped (t.old ∷ rest) are t.checks in
-    lent_as_first l.gone l.others l.are l.idle
-  where
-    lent_as_first : (gone others : List History) → hs ≡ gone ++ others → AreIdle low others (t.old ∷ rest) → LendsChecked hs now rest number v
-    lent_as_first gone [] are idle = absurd idle
-    lent_as_first gone (h ∷ others) are idle =
-        let f = fit_lent low number h t.old v idle.0 (omega arith) t.answer t.asked t.fit in
-        record {
-          gone = gone;
-          history = h;
-          others = others;
-          are = are;
-          events = f.0;
-          lease = f.1;
-          begins = f.2;
-          idle = idle_later low now others rest (omega arith) idle.1;
-        }
+pub stay_checked : (e : CheckError) (low was dropped : ℕ) (hs : List History) (idle now : List View)
+    → LendsNoneFit idle was low now dropped e → AreIdle low hs idle → StayChecked e hs low now
+stay_checked refusal.Empty low was dropped hs idle now none are = subst (AreIdle low hs) (sym none.1) are
+stay_checked refusal.Exhausted low was dropped hs idle now none are = subst (AreIdle low hs) (sym none.2) are
+stay_checked (refusal.Unfit why) low was dropped hs idle now none are =
+    let c = (none.1).1 in
+    rest_stays low why hs c.old now (subst (AreIdle low hs) c.first are)

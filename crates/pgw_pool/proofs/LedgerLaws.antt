@@ -1,5 +1,5 @@
 -- What any list of calls does.
-use Rattle.std.proofs.Common.{◌≡◌, ◌⊎◌, ◌≤◌, ℕ, ◌+◌, Bool, true, false, List, [], ◌∷◌, ◌++◌, map, Option, Some, None, Result, Ok, Err, arith, inl, inr, refl, sym, ◌∙◌, ap, subst, append_assoc}
+use Rattle.std.proofs.Common.{◌≡◌, ◌≤◌, ℕ, ◌+◌, Bool, true, false, List, [], ◌∷◌, ◌++◌, Option, Some, None, Result, Ok, Err, arith, refl, sym, ◌∙◌, ap, subst, append_assoc}
 use Rattle.std.proofs.lemmas.List.{append-nil}
 use Rattle.pgw_backend.specs.declared.client_error.PgWireClientError.{PgWireClientError as ClientError}
 use Rattle.pgw_backend.specs.declared.client_error.PgWireClientError.TheVariants as client
@@ -9,12 +9,12 @@ use Rattle.pgw_session.specs.Events.{Event}
 use Rattle.pgw_pool.specs.declared.returned.Returned.{Returned}
 use Rattle.pgw_pool.specs.declared.returned.Returned.TheVariants.{Kept, Dropped}
 use Rattle.pgw_pool.specs.declared.returned.DropCause.{DropCause}
-use Rattle.pgw_pool.specs.declared.returned.DropCause.TheVariants as cause
-use Rattle.pgw_pool.specs.Histories.{History, Lent, View, new_history, lent_as, with_request, with_lease, with_check, Over, ended, checked, IsOver, IsReset, IsChecked, AreReset, BeginsIdle, IsIdle, IsLent, AreIdle}
-use Rattle.pgw_pool.specs.Lending.{Lends, LendsFirst, IsCut, Ran}
-use Rattle.pgw_pool.specs.Returning.{GivesBack, GivenBack, returned_by, idle_behind, IsDropped}
-use Rattle.pgw_pool.specs.Stocks.{Out, leased, Stock, stock, Runs, Step, lends, runs, gives_back, lends_fit, finds_none, refills, retires, Steps, no_step, step_more}
-use Rattle.pgw_pool.specs.Ledgers.{Loan, loan_with, loan, cut_loan, unlent, Ledger, ledger, StandsAs, DropsBy, IsLoan, AreLoans, IsLedger, Call, lent, asked, given, lent_fit, none_fit, refilled, retired, call_of, calls_of, Adds, answered, passed, refused, wanted, cuts, stays_cut, Entry, is_lent, is_asked, is_kept, is_dropped, is_lent_fit, is_none_fit, is_refilled, is_retired, Entries, no_entry, entry_more}
+use Rattle.pgw_pool.specs.declared.checking.Unfit.{Unfit}
+use Rattle.pgw_pool.specs.Histories.{History, Lent, View, new_history, lent_as, with_request, with_lease, with_check, Over, ended, checked, IsOver, IsReset, IsChecked, AreReset, AreIdle}
+use Rattle.pgw_pool.specs.Lending.{LendsFirst, IsCut, Ran}
+use Rattle.pgw_pool.specs.Returning.{GivesBack, GivenBack}
+use Rattle.pgw_pool.specs.Stocks.{Out, leased, Stock, stock, Runs, Step, lends, runs, gives_back, lends_fit, drops_unfit, refills, retires, Steps, no_step, step_more}
+use Rattle.pgw_pool.specs.Ledgers.{Loan, loan_with, loan, cut_loan, unlent, Ledger, ledger, StandsAs, DropsBy, IsLoan, AreLoans, IsLedger, Call, lent, asked, given, lent_fit, unfit, retired, call_of, calls_of, Adds, answered, passed, refused, wanted, cuts, stays_cut, Entry, is_lent, is_asked, is_kept, is_dropped, is_lent_fit, is_unfit, is_refilled, is_retired, Entries, no_entry, entry_more}
 use Rattle.pgw_pool.specs.Checking.{LendsChecked}
 use Rattle.pgw_pool.proofs.HistoryLaws.{lends_first, idle_one_more}
 use Rattle.pgw_pool.proofs.CheckLaws.{lends_checked}
@@ -134,6 +134,34 @@ gone_on n number hs now x before behind lost left right (Dropped why) same first
   record { idle = are; out = loans_append n before behind left right first last },
 )
 
+-- ---- a session that is checked
+
+fit_goes : (before now number : ℕ) (hs : List History) (rest : List View) (v : View) (out : List Loan)
+    (os : List Out) (gone : List Loan) → now ≡ before + 1 → number ≡ now
+    → LendsChecked hs now rest number v → AreLoans before out os
+    → Goes (lent_fit number) (ledger hs out gone) (stock now rest (os ++ leased number v ∷ []))
+fit_goes before now number [] rest v out os gone counted numbered first are = absurd first
+fit_goes before now number (h ∷ hs) rest v out os gone counted numbered first are =
+    let es = first.0 in
+    let x = loan (with_check h es) (lent_as number) in
+    let last : IsLoan now x (leased number v) = record { number = refl; own = (omega arith); stands = first.1 } in
+    let fit : IsChecked es = reset_last h.over (checked es) (first.1).resets in
+    let later = loans_later before now out os (omega arith) are in (
+      ledger hs (out ++ x ∷ []) gone,
+      is_lent_fit number h es hs out gone fit,
+      record {
+        idle = first.3;
+        out = loans_append now out (x ∷ []) os (leased number v ∷ []) later (last, tt);
+      },
+    )
+
+unfit_goes : (n : ℕ) (hs : List History) (v : View) (rest : List View) (why : Unfit) (out : List Loan)
+    (os : List Out) (gone : List Loan) → AreIdle n hs (v ∷ rest) → AreLoans n out os
+    → Goes (unfit why) (ledger hs out gone) (stock n rest os)
+unfit_goes n [] v rest why out os gone are loans = absurd are
+unfit_goes n (h ∷ hs) v rest why out os gone are loans =
+    (ledger hs out (gone ++ unlent h ∷ []), is_unfit h why hs out gone, record { idle = are.1; out = loans })
+
 -- ---- calls
 
 one_entry : (s t : Stock) (step : Step s t) (a : Ledger) → IsLedger a s → Goes (call_of s t step) a t
@@ -156,25 +184,12 @@ one_entry s t (gives_back n number idle now left right old result g) a is =
     let ends : Ends n a.idle now at result = ended_as n a.idle idle now at.history at.lease at.cut old result g is.idle (subst (λ k. k ≤ n) (sym f.is.number) f.is.own) f.is.stands in
     subst (λ (xs : List Loan). Goes (given number result) (ledger a.idle xs a.dropped) (stock n now (left ++ right))) (sym f.are)
     (gone_on n number a.idle now at f.before f.behind a.dropped left right result f.is.number f.first f.last ends)
-one_entry s t (lends_fit before now number was dropped idle rest v out l) a is =
-    let f = lends_checked before now number was dropped a.idle idle rest v l.next l.numbered is.idle l.takes in
-    let low : before ≤ now = (let next = l.next in omega arith) in
-    let own : number ≤ now = (let numbered = l.numbered in omega arith) in
-    let h = f.history in
-    let es = f.events in
-    let x = loan (with_check h es) (lent_as number) in
-    let last : IsLoan now x (leased number v) = record { number = refl; own = own; stands = f.lease } in
-    let fit : IsChecked es = reset_last h.over (checked es) (f.lease).resets in
-    let b = ledger f.others (a.out ++ x ∷ []) (a.dropped ++ map unlent f.gone) in (
-      b,
-      subst (λ (hs : List History). Entry (lent_fit number) (ledger hs a.out a.dropped) b) (sym f.are) (is_lent_fit number f.gone h es f.others a.out a.dropped fit),
-      record { idle = f.idle; out = loans_append now a.out (x ∷ []) out (leased number v ∷ []) (loans_later before now a.out out low is.out) (last, tt) },
-    )
-one_entry s t (finds_none n was dropped idle now out checks none) a is = (
-  ledger [] a.out (a.dropped ++ map unlent a.idle),
-  is_none_fit a.idle a.out a.dropped,
-  record { idle = subst (AreIdle n []) (sym none) tt; out = is.out },
-)
+one_entry s t (lends_fit before now number idle rest v out l) a is =
+    let first = lends_checked before now number a.idle idle rest v l is.idle in
+    fit_goes before now number a.idle rest v a.out out a.dropped l.next l.numbered first is.out
+one_entry s t (drops_unfit n idle rest last why out checks) a is =
+    let idle_is = subst (AreIdle n a.idle) checks.first is.idle in
+    unfit_goes n a.idle checks.old rest why a.out out a.dropped idle_is is.out
 one_entry s t (refills n idle now out config nonce v fresh grown) a is = (
   ledger (a.idle ++ new_history config nonce ∷ []) a.out a.dropped,
   is_refilled config nonce a.idle a.out a.dropped,
@@ -204,8 +219,8 @@ dropped_one call a b (is_lent number h idle out dropped begins) = ([], sym (appe
 dropped_one call a b (is_asked x more q result idle left right dropped adds) = ([], sym (append-nil dropped))
 dropped_one call a b (is_kept h l es idle left right dropped is) = ([], sym (append-nil dropped))
 dropped_one call a b (is_dropped x why idle left right dropped by) = (x ∷ [], refl)
-dropped_one call a b (is_lent_fit number gone h es idle out dropped fit) = (map unlent gone, refl)
-dropped_one call a b (is_none_fit gone out dropped) = (map unlent gone, refl)
+dropped_one call a b (is_lent_fit number h es idle out dropped fit) = ([], sym (append-nil dropped))
+dropped_one call a b (is_unfit h why idle out dropped) = (unlent h ∷ [], refl)
 dropped_one call a b (is_refilled config nonce idle out dropped) = ([], sym (append-nil dropped))
 dropped_one call a b (is_retired x idle left right dropped) = (x ∷ [], refl)
 

@@ -19,7 +19,6 @@ use Rattle.pgw_calls.specs.Calls.{IsRefused, Comes}
 use Rattle.pgw_calls.specs.Stands.{Made, made, Stands, OneMore, StandsBehind}
 use Rattle.pgw_pool.specs.declared.returned.Returned.{Returned}
 use Rattle.pgw_pool.specs.declared.returned.Returned.TheVariants.{Kept, Dropped}
-use Rattle.pgw_pool.specs.declared.returned.DropCause.{DropCause}
 use Rattle.pgw_pool.specs.Histories.{Lent, History, reset, with_lease, made_over, IsResetIn, View, StandsBy, AreIdle, IsLent}
 use Rattle.pgw_pool.specs.Returning.{cause_of, kept_by, returned_by, IsAsked, idle_behind, lefts_behind, GivesBack, GivesForetold, EndsBy, FailsBy, IsDropped, GivenBack, DropsFrom}
 use Rattle.pgw_pool.proofs.HistoryLaws.{simple_ends, status_known, idle_more, lease_ends, over_link}

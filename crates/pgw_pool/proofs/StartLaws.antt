@@ -19,7 +19,7 @@ use Rattle.pgw_connection.specs.Calls.{Call}
 use Rattle.pgw_connection.specs.Connecting.{new_line, Connected, NotConnected}
 use Rattle.pgw_calls.specs.Stands.{Stands}
 use Rattle.pgw_pool.specs.Histories.{History, View, new_history, IsIdle, AreIdle}
-use Rattle.pgw_pool.specs.Starting.{new_histories, handler_with, Dials, Connects, ConnectAll, no_login, login_more, ConnectForetold, nothing_offered, offer_more, NotConnects, StopsAt, WantsAt, NotStarted}
+use Rattle.pgw_pool.specs.Starting.{new_histories, handler_with, Dials, Connects, ConnectAll, no_login, login_more, ConnectForetold, nothing_offered, offer_more, NotConnects, WantsAt, NotStarted}
 use Rattle.pgw_pool.proofs.HistoryLaws.{idle_more}
 
 -- ---- one login

@@ -11,10 +11,10 @@ use Rattle.pgw_pool.specs.Lending.{IsCut, Ran, LendsFirst}
 use Rattle.pgw_pool.specs.declared.returned.DropCause.{DropCause}
 use Rattle.pgw_pool.specs.declared.returned.DropCause.TheVariants as cause
 use Rattle.pgw_pool.specs.Returning.{cause_of, returned_by, idle_behind, GivesBack, GivenBack}
-use Rattle.pgw_pool.specs.Stocks.{Out, leased, Stock, stock, Runs, Step, lends, runs, gives_back, lends_fit, finds_none, refills, retires, Steps, no_step, step_more, IsOut, AreOut, IsInOrder}
+use Rattle.pgw_pool.specs.Stocks.{Out, leased, Stock, stock, Runs, Step, lends, runs, gives_back, lends_fit, drops_unfit, refills, retires, Steps, no_step, step_more, IsOut, AreOut, IsInOrder}
 use Rattle.pgw_pool.specs.Checking.{LendsChecked}
 use Rattle.pgw_pool.proofs.HistoryLaws.{lends_first, idle_one_more}
-use Rattle.pgw_pool.proofs.CheckLaws.{checks_leave, lends_checked}
+use Rattle.pgw_pool.proofs.CheckLaws.{lends_checked}
 use Rattle.pgw_pool.proofs.RunLaws.{ran}
 use Rattle.pgw_pool.proofs.ReturnLaws.{given_back}
 
@@ -56,6 +56,31 @@ lent_in_order lent now number (h ∷ hs) rest v out counted numbered first are =
       idle = first.2;
       out = out_append now out (leased number v ∷ []) (out_later lent now out (omega arith) are) (last, tt);
     }
+
+-- ---- check
+
+fit_in_order : (lent now number : ℕ) (hs : List History) (rest : List View) (v : View) (out : List Out)
+    → now ≡ lent + 1 → number ≡ now → LendsChecked hs now rest number v → AreOut lent out
+    → IsInOrder (stock now rest (out ++ leased number v ∷ []))
+fit_in_order lent now number [] rest v out counted numbered first are = absurd first
+fit_in_order lent now number (h ∷ hs) rest v out counted numbered first are =
+    let last : IsOut now (leased number v) = record {
+      history = with_check h first.0;
+      lease = lent_as number;
+      number = refl;
+      own = (omega arith);
+      stands = inl first.1;
+    } in
+    record {
+      histories = hs;
+      idle = first.3;
+      out = out_append now out (leased number v ∷ []) (out_later lent now out (omega arith) are) (last, tt);
+    }
+
+rest_in_order : (lent : ℕ) (hs : List History) (v : View) (rest : List View) (out : List Out)
+    → AreIdle lent hs (v ∷ rest) → AreOut lent out → IsInOrder (stock lent rest out)
+rest_in_order lent [] v rest out are leases = absurd are
+rest_in_order lent (h ∷ hs) v rest out are leases = record { histories = hs; idle = are.1; out = leases }
 
 -- ---- run
 
@@ -119,19 +144,12 @@ one_step s t (gives_back lent number idle now before behind old result g) is =
       idle = rest.1;
       out = out_append lent before behind (out_before lent before (leased number old ∷ behind) is.out) at.1;
     }
-one_step s t (lends_fit lent now number was dropped idle rest v out l) is =
-    let f = lends_checked lent now number was dropped is.histories idle rest v l.next l.numbered is.idle l.takes in
-    let low : lent ≤ now = (let next = l.next in omega arith) in
-    let own : number ≤ now = (let numbered = l.numbered in omega arith) in
-    let last : IsOut now (leased number v) = record { history = with_check f.history f.events; lease = lent_as number; number = refl; own = own; stands = inl f.lease } in
-    record {
-      histories = f.others;
-      idle = f.idle;
-      out = out_append now out (leased number v ∷ []) (out_later lent now out low is.out) (last, tt);
-    }
-one_step s t (finds_none lent was dropped idle now out checks none) is =
-    let left = checks_leave lent was is.histories idle dropped now is.idle checks in
-    record { histories = left.others; idle = left.idle; out = is.out }
+one_step s t (lends_fit lent now number idle rest v out l) is =
+    let first = lends_checked lent now number is.histories idle rest v l is.idle in
+    fit_in_order lent now number is.histories rest v out l.next l.numbered first is.out
+one_step s t (drops_unfit lent idle rest last why out checks) is =
+    let idle_is = subst (AreIdle lent is.histories) checks.first is.idle in
+    rest_in_order lent is.histories checks.old rest out idle_is is.out
 one_step s t (refills lent idle now out config nonce v fresh grown) is = record {
   histories = is.histories ++ new_history config nonce ∷ [];
   idle = idle_one_more lent lent is.histories (new_history config nonce) idle now v refl grown is.idle fresh;

@@ -1,5 +1,5 @@
 -- What any list of calls does over the sessions of a pool.
-use Rattle.std.specs.Prelude.{◌≡◌, ◌≤◌, ℕ, List, [], ◌∷◌, ◌++◌, map, Option, Some, None, Result, Ok, Err}
+use Rattle.std.specs.Prelude.{◌≡◌, ◌≤◌, ℕ, List, [], ◌∷◌, ◌++◌, Option, Some, None, Result, Ok, Err}
 use Rattle.pgw_types.specs.declared.error.PgWireError.{PgWireError}
 use Rattle.pgw_backend.specs.declared.backend.PgWireBackendMessage.{PgWireBackendMessage as Backend}
 use Rattle.pgw_backend.specs.declared.client_error.PgWireClientError.{PgWireClientError as ClientError}
@@ -13,10 +13,11 @@ use Rattle.pgw_pool.specs.declared.returned.Returned.{Returned}
 use Rattle.pgw_pool.specs.declared.returned.Returned.TheVariants.{Kept, Dropped}
 use Rattle.pgw_pool.specs.declared.returned.DropCause.{DropCause}
 use Rattle.pgw_pool.specs.declared.returned.DropCause.TheVariants as cause
+use Rattle.pgw_pool.specs.declared.checking.Unfit.{Unfit}
 use Rattle.pgw_pool.specs.Histories.{History, Lent, View, new_history, lent_as, with_request, with_lease, with_check, IsReset, IsChecked, BeginsIdle, IsLent, AreIdle}
 use Rattle.pgw_pool.specs.Lending.{IsCut}
 use Rattle.pgw_pool.specs.Returning.{IsDropped}
-use Rattle.pgw_pool.specs.Stocks.{Out, Stock, Step, lends, runs, gives_back, lends_fit, finds_none, refills, retires, Steps, no_step, step_more}
+use Rattle.pgw_pool.specs.Stocks.{Out, Stock, Step, lends, runs, gives_back, lends_fit, drops_unfit, refills, retires, Steps, no_step, step_more}
 
 -- ---- sessions
 
@@ -73,14 +74,14 @@ pub record IsLedger (a : Ledger) (s : Stock) : Type 0 where
 -- ---- calls
 
 -- a lease was lent; in a lease a request was asked, and came to this; a lease was given back; one was
--- lent behind a check, or no session was fit; a session was connected in place of a lost one; a
+-- lent behind a check, or its session was not fit; a session was connected in place of a lost one; a
 -- lease's session was retired
 pub data Call : Type 0 where
   lent : (number : ℕ) → Call
   asked : (number : ℕ) (q : Request) (result : Result Answer ClientError) → Call
   given : (number : ℕ) (result : Returned) → Call
   lent_fit : (number : ℕ) → Call
-  none_fit : Call
+  unfit : (why : Unfit) → Call
   refilled : (config : Config) (nonce : List ℕ) → Call
   retired : (number : ℕ) → Call
 
@@ -88,8 +89,8 @@ abbrev pub call_of : (s t : Stock) → Step s t → Call
 call_of s t (lends before now number idle rest v out l) = lent number
 call_of s t (runs before number idle left right q old new result r) = asked number q result
 call_of s t (gives_back before number idle now left right old result g) = given number result
-call_of s t (lends_fit before now number was dropped idle rest v out l) = lent_fit number
-call_of s t (finds_none n was dropped idle now out checks none) = none_fit
+call_of s t (lends_fit before now number idle rest v out l) = lent_fit number
+call_of s t (drops_unfit n idle rest last why out checks) = unfit why
 call_of s t (refills n idle now out config nonce v is grown) = refilled config nonce
 call_of s t (retires n number idle left right old) = retired number
 
@@ -122,8 +123,8 @@ DropsBy h l (Some c) why = why ≡ cause.Failed client.Broken
 -- What a call does. The session that is lent is the first idle one, and if it was lent before, the
 -- last that it got is ReadyForQuery of status Idle. One that is given back is idle from then on,
 -- behind all others, with the lease and a reset that was answered so; or it is dropped by its cause.
--- Of the sessions that are checked the first that is fit is lent, with its check, and those before it
--- are dropped. A new one is idle behind all others. One that is retired is dropped.
+-- The first idle session that is checked is lent, with its check, or it is not fit, and is dropped. A
+-- new one is idle behind all others. One that is retired is dropped.
 pub data Entry : Call → Ledger → Ledger → Type 0 where
   is_lent : (number : ℕ) (h : History) (idle : List History) (out dropped : List Loan) →
       BeginsIdle h.over →
@@ -141,13 +142,12 @@ pub data Entry : Call → Ledger → Ledger → Type 0 where
       (left right dropped : List Loan) → DropsBy x.history x.lease x.cut why →
       Entry (given (x.lease).number (Dropped why)) (ledger idle (left ++ x ∷ right) dropped)
       (ledger idle (left ++ right) (dropped ++ x ∷ []))
-  is_lent_fit : (number : ℕ) (gone : List History) (h : History) (es : List Event)
-      (idle : List History) (out dropped : List Loan) → IsChecked es →
-      Entry (lent_fit number) (ledger (gone ++ h ∷ idle) out dropped)
-      (ledger idle (out ++ loan (with_check h es) (lent_as number) ∷ [])
-      (dropped ++ map unlent gone))
-  is_none_fit : (gone : List History) (out dropped : List Loan) →
-      Entry none_fit (ledger gone out dropped) (ledger [] out (dropped ++ map unlent gone))
+  is_lent_fit : (number : ℕ) (h : History) (es : List Event) (idle : List History)
+      (out dropped : List Loan) → IsChecked es →
+      Entry (lent_fit number) (ledger (h ∷ idle) out dropped)
+      (ledger idle (out ++ loan (with_check h es) (lent_as number) ∷ []) dropped)
+  is_unfit : (h : History) (why : Unfit) (idle : List History) (out dropped : List Loan) →
+      Entry (unfit why) (ledger (h ∷ idle) out dropped) (ledger idle out (dropped ++ unlent h ∷ []))
   is_refilled : (config : Config) (nonce : List ℕ) (idle : List History) (out dropped : List Loan) →
       Entry (refilled config nonce) (ledger idle out dropped)
       (ledger (idle ++ new_history config nonce ∷ []) out dropped)

@@ -10,7 +10,8 @@ use Rattle.pgw_config.specs.declared.config.Config.{Config}
 use Rattle.pgw_pool.specs.Histories.{History, Lent, View, new_history, IsIdle, IsLent, AreIdle}
 use Rattle.pgw_pool.specs.Lending.{Lends, IsCut}
 use Rattle.pgw_pool.specs.Returning.{GivesBack}
-use Rattle.pgw_pool.specs.Checking.{Checks, LendsFit}
+use Rattle.pgw_pool.specs.declared.checking.Unfit.{Unfit}
+use Rattle.pgw_pool.specs.Checking.{ChecksFirst, LendsFit}
 
 -- a lease that is out
 pub record Out : Type 0 where
@@ -50,11 +51,11 @@ pub data Step : Stock → Stock → Type 0 where
       (result : Returned) → GivesBack old idle now result →
       Step (stock lent idle (before ++ leased number old ∷ behind))
       (stock lent now (before ++ behind))
-  lends_fit : (lent now number was dropped : ℕ) (idle rest : List View) (v : View)
-      (out : List Out) → LendsFit idle was lent rest dropped now number v →
+  lends_fit : (lent now number : ℕ) (idle rest : List View) (v : View) (out : List Out) →
+      LendsFit idle lent rest now number v →
       Step (stock lent idle out) (stock now rest (out ++ leased number v ∷ []))
-  finds_none : (lent was dropped : ℕ) (idle now : List View) (out : List Out) →
-      Checks idle was now dropped → now ≡ [] → Step (stock lent idle out) (stock lent now out)
+  drops_unfit : (lent : ℕ) (idle rest : List View) (last : View) (why : Unfit) (out : List Out) →
+      ChecksFirst idle rest last (Err why) → Step (stock lent idle out) (stock lent rest out)
   refills : (lent : ℕ) (idle now : List View) (out : List Out) (config : Config) (nonce : List ℕ)
       (v : View) → IsIdle 0 (new_history config nonce) v → now ≡ idle ++ v ∷ [] →
       Step (stock lent idle out) (stock lent now out)

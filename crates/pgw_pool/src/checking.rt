@@ -1,20 +1,42 @@
 //! Sessions that are checked before they are lent.
-ghost use Rattle.std.specs.Prelude.{◌≡◌, ◌<◌, ◌≤◌, List, [], length, ◌+◌, Result, IfOk, IfErr, IfSome, IfNone, OnOk};
+ghost use Rattle.std.specs.Prelude.{◌≡◌, ◌<◌, List, length, ◌+◌, Result, IfOk, IfErr, OnOk, OnErr};
 ghost use Rattle.pgw_backend.specs.declared.client_error.PgWireClientError.{PgWireClientError as TheError};
 ghost use Rattle.pgw_session.specs.declared.types.Response.{Response as TheResponse};
 ghost use Rattle.pgw_connection.specs.Line.{Foretold};
 ghost use Rattle.pgw_pool.specs.Histories.{check};
 ghost use Rattle.pgw_pool.specs.Views.{view_of, left_in};
 ghost use Rattle.pgw_pool.specs.Returning.{IsAskedIn};
-ghost use Rattle.pgw_pool.specs.Checking.{is_empty_query, is_idle, is_fit};
+ghost use Rattle.pgw_pool.specs.Checking.{is_empty_query, fit_by_status, fit_by};
 
 use crate::lease::Lease;
-use crate::pool::{LendError, Pool};
+use crate::pool::Pool;
+use crate::returned::{DropCause, cause_of};
 use pgw_calls::laws::{simple_queries_are_segments, simple_queries_follow_one_another};
 use pgw_client::{Link, Listed, PgWireClientResult, Response, TransactionStatus};
 use pgw_connection::{ClientInfo, PgWireClient};
 use pgw_default_handlers::DefaultSimpleQueryHandler;
 use std::alloc::Global;
+
+/// Why a session is not fit to be lent.
+#[derive(Debug, Drop)]
+pub enum Unfit {
+    /// The empty query was answered by something else than one empty query.
+    Answered(Listed<Response>),
+    /// For this a session that is given back would be dropped too.
+    Dropped(DropCause),
+}
+
+/// Why no session that still answers is lent.
+#[derive(Debug, Drop)]
+pub enum CheckError {
+    /// None is idle.
+    Empty,
+    /// 18446744073709551615 leases were lent.
+    Exhausted,
+    /// The one that had been idle longest is not fit, and is dropped with its link. The next one may
+    /// be tried.
+    Unfit(Unfit),
+}
 
 // Asks an empty query.
 fn ask_check<L: Link>(
@@ -43,125 +65,112 @@ fn is_empty_query(responses: &Listed<Response>) -> bool
     }
 }
 
-fn is_idle(status: TransactionStatus) -> bool
-    ensures { result ≡ is_idle status }
+fn fit_by_status(status: TransactionStatus) -> Result<(), Unfit>
+    ensures { result ≡ fit_by_status status }
 {
     match status {
-        TransactionStatus::Idle => true,
-        _ => false,
+        TransactionStatus::Idle => Ok(()),
+        other => Err(Unfit::Dropped(DropCause::Status(other))),
     }
 }
 
-fn is_fit(answer: PgWireClientResult<Listed<Response>>, status: TransactionStatus) -> bool
-    ensures { result ≡ is_fit answer status }
+fn fit_by(
+    answer: PgWireClientResult<Listed<Response>>,
+    status: TransactionStatus,
+    broken: bool,
+) -> Result<(), Unfit>
+    ensures { result ≡ fit_by answer status broken }
 {
     match answer {
-        Ok(responses) => is_empty_query(&responses) && is_idle(status),
-        Err(_) => false,
+        Ok(responses) => {
+            if is_empty_query(&responses) {
+                drop(responses);
+                fit_by_status(status)
+            } else {
+                Err(Unfit::Answered(responses))
+            }
+        }
+        Err(error) => Err(Unfit::Dropped(cause_of(error, broken))),
     }
 }
 
-// Checks a session.
+// Checks whether a session is fit.
 #[tactic(auto, using(crate::proofs::CheckLaws::is_told))]
-fn answers<L: Link>(alloc: Global, client: &mut PgWireClient<L>) -> bool
+fn look_at<L: Link>(alloc: Global, client: &mut PgWireClient<L>) -> Result<(), Unfit>
     ensures asked { (a : Result (List TheResponse) TheError) ×
         IsAskedIn check (view_of L.tape L.faults client.old) (view_of L.tape L.faults client.new) a
-        × (result ≡ is_fit a (view_of L.tape L.faults client.new).client.transaction_status) }
+        × (result ≡ fit_by a (view_of L.tape L.faults client.new).client.transaction_status
+        (view_of L.tape L.faults client.new).broken) }
     ensures foretold { L.foretells →
         Foretold (left_in L.left client.old) (left_in L.left client.new)
         (view_of L.tape L.faults client.old).line.tape
         (view_of L.tape L.faults client.new).line.tape }
 {
     let answer = ask_check(alloc, client);
-    is_fit(answer, client.transaction_status())
+    fit_by(answer, client.transaction_status(), client.is_broken())
 }
 
 impl<L: Link> Pool<L> {
+    ghost use Rattle.std.specs.Prelude.{Ok};
     ghost use Rattle.pgw_pool.specs.Histories.{History, AreIdle};
     ghost use Rattle.pgw_pool.specs.Views.{idle_in, lefts_in, left_of, lent_by, out_by, connected_by, dropped_by, room_of, reserved_in, number_of, lease_view};
-    ghost use Rattle.pgw_pool.specs.Checking.{LendsNoneFit, Checks, TakesFit, ChecksForetold, TakesForetold, LendsFit, LendsChecked};
+    ghost use Rattle.pgw_pool.specs.Checking.{ChecksForetold, LendsFit, LendsNoneFit, NoneForetold, LendsChecked, StayChecked};
 
-    // Takes the first idle session that is fit; those before it are dropped.
-    fn take_fit(&mut self, alloc: Global) -> Option<PgWireClient<L>>
-        ensures room { room_of self.new ≡ room_of self.old }
-        ensures reserved { reserved_in self.new ≡ reserved_in self.old }
-        ensures lent { lent_by self.new ≡ lent_by self.old }
-        ensures out { out_by self.new ≡ out_by self.old }
-        ensures connected { connected_by self.new ≡ connected_by self.old }
-        ensures takes { IfSome result (λ client. TakesFit
-            (idle_in L.tape L.faults self.old) (dropped_by self.old)
-            (idle_in L.tape L.faults self.new) (dropped_by self.new)
-            (view_of L.tape L.faults client)) }
-        ensures foretold { IfSome result (λ client. TakesForetold L.foretells
-            (idle_in L.tape L.faults self.old) (lefts_in L.left self.old) (dropped_by self.old)
-            (idle_in L.tape L.faults self.new) (lefts_in L.left self.new) (dropped_by self.new)
-            (view_of L.tape L.faults client) (left_in L.left client)) }
-        ensures shorter { IfSome result (λ client. length (idle_in L.tape L.faults self.new) + 1
-            ≤ length (idle_in L.tape L.faults self.old)) }
-        ensures none { IfNone result (Checks
-            (idle_in L.tape L.faults self.old) (dropped_by self.old)
-            (idle_in L.tape L.faults self.new) (dropped_by self.new)) }
-        ensures none_foretold { IfNone result (ChecksForetold L.foretells
-            (idle_in L.tape L.faults self.old) (lefts_in L.left self.old) (dropped_by self.old)
-            (idle_in L.tape L.faults self.new) (lefts_in L.left self.new) (dropped_by self.new)) }
-        ensures empty { IfNone result (idle_in L.tape L.faults self.new ≡ []) }
-    {
-        'sessions: while let Some(mut client) = self.idle.pop_front() {
-            if answers(alloc, &mut client) {
-                return Some(client);
-            }
-            drop(client);
-            self.dropped = self.dropped.saturating_add(1);
-        }
-        None
-    }
-
-    /// Lends the session that has been idle longest of those that still answer: each is asked an empty
-    /// query first. One that does not answer it by one empty query, with no transaction open behind
-    /// it, is dropped with its link, and the next is tried.
-    pub fn lend_checked(&mut self, alloc: Global) -> Result<Lease<L>, LendError>
+    /// Lends the session that has been idle longest, if it still answers: it is asked an empty query
+    /// first. Where it does not answer that by one empty query, with no transaction open behind it, it
+    /// is dropped with its link, and why is told.
+    pub fn lend_checked(&mut self, alloc: Global) -> Result<Lease<L>, CheckError>
         ensures room { room_of self.new ≡ room_of self.old }
         ensures reserved { reserved_in self.new ≡ reserved_in self.old }
         ensures connected { connected_by self.new ≡ connected_by self.old }
+        ensures dropped { OnOk result (dropped_by self.new ≡ dropped_by self.old) }
         ensures out { OnOk result (out_by self.new ≡ out_by self.old + 1) }
         ensures lent { IfOk result (λ lease. LendsFit
-            (idle_in L.tape L.faults self.old) (dropped_by self.old) (lent_by self.old)
-            (idle_in L.tape L.faults self.new) (dropped_by self.new) (lent_by self.new)
+            (idle_in L.tape L.faults self.old) (lent_by self.old)
+            (idle_in L.tape L.faults self.new) (lent_by self.new)
             (number_of lease) (lease_view L.tape L.faults lease)) }
-        // What each link has to come stays with its session; and of one that knows that, a check took
-        // its front.
-        ensures foretold { IfOk result (λ lease. TakesForetold L.foretells
-            (idle_in L.tape L.faults self.old) (lefts_in L.left self.old) (dropped_by self.old)
-            (idle_in L.tape L.faults self.new) (lefts_in L.left self.new) (dropped_by self.new)
-            (lease_view L.tape L.faults lease) (left_of L.left lease)) }
+        // What each link has to come stays with its session; and of one that knows that, the check
+        // took its front.
+        ensures foretold { IfOk result (λ lease. ChecksForetold L.foretells
+            (idle_in L.tape L.faults self.old) (lefts_in L.left self.old)
+            (idle_in L.tape L.faults self.new) (lefts_in L.left self.new)
+            (lease_view L.tape L.faults lease) (left_of L.left lease) (Ok tt)) }
         // So the pool has room for it again.
         ensures fits { OnOk result (length (idle_in L.tape L.faults self.new) < room_of self.new) }
-        // Whatever was done over the idle sessions, the first of them are gone, and the next one is
-        // lent with a check more, in a lease in which nothing was asked.
+        // Whatever was done over the idle sessions, the first is lent with a check more, in a lease in
+        // which nothing was asked.
         ensures checked { (hs : List History) →
             AreIdle (lent_by self.old) hs (idle_in L.tape L.faults self.old) →
             IfOk result (λ lease. LendsChecked hs
             (lent_by self.new) (idle_in L.tape L.faults self.new)
             (number_of lease) (lease_view L.tape L.faults lease)) }
-        // Exhausted comes where one is idle and all numbers are spent, and then nothing was done. Else
-        // Empty comes where none was fit: none is idle any more.
+        // Empty comes exactly where none is idle, and else Exhausted where all numbers are spent; then
+        // nothing was done. Else the first was asked, and this is why it was not fit.
         ensures refused { IfErr result (LendsNoneFit
             (idle_in L.tape L.faults self.old) (dropped_by self.old) (lent_by self.old)
             (idle_in L.tape L.faults self.new) (dropped_by self.new)) }
-        ensures none_foretold { IfErr result (λ e. ChecksForetold L.foretells
-            (idle_in L.tape L.faults self.old) (lefts_in L.left self.old) (dropped_by self.old)
-            (idle_in L.tape L.faults self.new) (lefts_in L.left self.new) (dropped_by self.new)) }
-        ensures same { IfErr result (λ e. (lent_by self.new ≡ lent_by self.old)
+        // Of a link that knows what is to come: the cause is one that these bytes have.
+        ensures none_foretold { IfErr result (NoneForetold L.foretells
+            (idle_in L.tape L.faults self.old) (lefts_in L.left self.old)
+            (idle_in L.tape L.faults self.new) (lefts_in L.left self.new)) }
+        ensures stay { (hs : List History) →
+            AreIdle (lent_by self.old) hs (idle_in L.tape L.faults self.old) →
+            IfErr result (λ e. StayChecked e hs (lent_by self.new)
+            (idle_in L.tape L.faults self.new)) }
+        ensures same { OnErr result ((lent_by self.new ≡ lent_by self.old)
             × (out_by self.new ≡ out_by self.old)) }
     {
         if self.idle.is_empty() {
-            return Err(LendError::Empty);
+            return Err(CheckError::Empty);
         }
         if self.lent == u64::MAX {
-            return Err(LendError::Exhausted);
+            return Err(CheckError::Exhausted);
         }
-        match self.take_fit(alloc) {
-            Some(client) => {
+        let Some(mut client) = self.idle.pop_front() else {
+            return Err(CheckError::Empty);
+        };
+        match look_at(alloc, &mut client) {
+            Ok(()) => {
                 self.lent += 1;
                 self.out += 1;
                 Ok(Lease {
@@ -169,7 +178,11 @@ impl<L: Link> Pool<L> {
                     number: self.lent,
                 })
             }
-            None => Err(LendError::Empty),
+            Err(why) => {
+                drop(client);
+                self.dropped = self.dropped.saturating_add(1);
+                Err(CheckError::Unfit(why))
+            }
         }
     }
 }

@@ -7,7 +7,7 @@
 //! passed over, and one at which an error cut the session, are told as such.
 #![tactic(auto)]
 
-mod checking;
+pub mod checking;
 mod closing;
 pub mod laws;
 pub mod lease;
@@ -17,6 +17,7 @@ pub mod returned;
 pub mod spare;
 mod starting;
 
+pub use crate::checking::{CheckError, Unfit};
 pub use crate::lease::Lease;
 pub use crate::pool::{LendError, Pool};
 pub use crate::returned::{DropCause, Returned};

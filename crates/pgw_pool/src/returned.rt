@@ -36,7 +36,7 @@ pub enum DropCause {
     OutOfMemory,
 }
 
-fn cause_of(error: PgWireClientError, broken: bool) -> DropCause
+pub(crate) fn cause_of(error: PgWireClientError, broken: bool) -> DropCause
     ensures { result ≡ cause_of error broken }
 {
     match error {

@@ -19,7 +19,7 @@ pub(crate) const DONE: &[u8] = b"C\0\0\0\x07OK\0";
 
 pub(crate) const DISCARDED: &[u8] = b"C\0\0\0\x10DISCARD ALL\0";
 
-const ERROR: &[u8] = b"E\0\0\0\x19SERROR\0CXX000\0Mboom\0\0";
+pub(crate) const ERROR: &[u8] = b"E\0\0\0\x19SERROR\0CXX000\0Mboom\0\0";
 
 const BOUND: &[u8] = b"2\0\0\0\x04";
 
@@ -105,7 +105,7 @@ fn came_name(came: &PgWireClientResult<Answer>) -> &'static str {
     }
 }
 
-fn cause_name(cause: &DropCause) -> &'static str {
+pub(crate) fn cause_name(cause: &DropCause) -> &'static str {
     match cause {
         DropCause::Failed(_) => "Failed",
         DropCause::Refused(_) => "Refused",

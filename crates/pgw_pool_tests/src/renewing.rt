@@ -1,8 +1,8 @@
 //! Sessions that are checked, replaced and closed, over links in memory.
 
-use crate::lending::{DISCARDED, DONE, IDLE, OPEN, links_to, start};
+use crate::lending::{DISCARDED, DONE, ERROR, IDLE, OPEN, cause_name, links_to, start};
 use pgw_client::{Config, Listed, MemoryDialer, MemoryLink, Request};
-use pgw_pool::{Lease, Pool};
+use pgw_pool::{CheckError, Lease, Pool, Unfit};
 use std::alloc::Global;
 use std::process::Abort;
 use std::test::Fail;
@@ -14,20 +14,46 @@ const CHECK: &[u8] = b"Q\0\0\0\x05\0";
 
 const TERMINATE: &[u8] = b"X\0\0\0\x04";
 
-// Takes a lease of a session that answers, and gives it back: its number, how its last query was
-// written, and whether it is idle again.
-fn checked_once(alloc: Global, pool: &mut Pool<MemoryLink>) -> (u64, bool, bool) {
+// Why a session is not fit, by name.
+fn unfit_name(unfit: &Unfit) -> &'static str {
+    match unfit {
+        Unfit::Answered(_) => "answered",
+        Unfit::Dropped(cause) => cause_name(cause),
+    }
+}
+
+// Takes a lease of a session that answers, and gives it back: its number, and whether the empty query
+// was its last one and it is idle again; or why none is lent.
+fn checked_once(alloc: Global, pool: &mut Pool<MemoryLink>) -> (u64, &'static str) {
     match pool.lend_checked(alloc) {
         Ok(lease) => {
             let number = lease.number();
             let asked = lease.link().written().ends_with(CHECK);
             let before = pool.idle();
             drop(pool.give_back(alloc, lease));
-            (number, asked, before < pool.idle())
+            let is_kept = asked && before < pool.idle();
+            (number, if is_kept { "kept" } else { "lost" })
         }
-        Err(_) => (0, false, false),
+        Err(CheckError::Empty) => (0, "empty"),
+        Err(CheckError::Exhausted) => (0, "exhausted"),
+        Err(CheckError::Unfit(why)) => {
+            let name = unfit_name(&why);
+            drop(why);
+            (0, name)
+        }
     }
 }
+
+// What comes of the sessions of these servers, one call after the other.
+const CHECKED: &[(u64, &str)] = &[
+    (0, "Failed"),
+    (0, "Status"),
+    (0, "answered"),
+    (0, "Refused"),
+    (1, "kept"),
+    (2, "lost"),
+    (0, "empty"),
+];
 
 #[test]
 fn a_session_that_answers_is_lent(rt: HostRuntime) -> Result<(), Fail> {
@@ -36,17 +62,17 @@ fn a_session_that_answers_is_lent(rt: HostRuntime) -> Result<(), Fail> {
         &[],
         &[EMPTY, OPEN],
         &[DONE, IDLE],
+        &[ERROR, IDLE],
         &[EMPTY, IDLE, DISCARDED, IDLE, EMPTY, IDLE],
     ];
     match start(alloc, servers, Listed::new(alloc))? {
         Ok(mut pool) => {
-            assert_eq!(rt; checked_once(alloc, &mut pool), (1, true, true));
-            assert_eq!(rt; pool.dropped(), 3);
+            for wanted in CHECKED {
+                assert_eq!(rt; checked_once(alloc, &mut pool), *wanted);
+            }
+            assert_eq!(rt; pool.dropped(), 5);
             assert_eq!(rt; pool.out(), 0);
-            assert_eq!(rt; checked_once(alloc, &mut pool), (2, true, false));
-            assert_eq!(rt; checked_once(alloc, &mut pool), (0, false, false));
-            assert_eq!(rt; pool.dropped(), 4);
-            assert_eq!(rt; pool.connected(), 4);
+            assert_eq!(rt; pool.connected(), 5);
         }
         Err(name) => assert_eq!(rt; name, "started"),
     }

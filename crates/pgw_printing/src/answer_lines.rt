@@ -15,6 +15,9 @@ use pgw_session::types::{Answer, DescribeResponse, ExecuteResult, PrepareRespons
 use pgw_types::memory::OutOfMemory;
 use pgw_types::text::Text;
 
+/// How many bytes the numbers of a command take at most, with the spaces before them.
+const TAG_ROOM: usize = 32;
+
 #[tactic(auto, unfolding(crate::specs::AnswerLines::type_number))]
 fn number_of(datatype: PgType) -> u32
     ensures { result ≡ type_number datatype }
@@ -93,7 +96,8 @@ fn put_spaced(out: &mut Vec<u8>, number: u64) -> Result<(), OutOfMemory>
 fn put_quoted_tag(out: &mut Vec<u8>, tag: &Tag) -> Result<(), OutOfMemory>
     ensures { OnOk result (out.new.items ≡ out.old.items ++ quoted (tag_text tag.now)) }
 {
-    let mut text = Vec::new(*out.allocator());
+    let room = tag.command.len().saturating_add(TAG_ROOM);
+    let mut text = Vec::with_capacity(*out.allocator(), room)?;
     put_tag_text(&mut text, tag)?;
     put_quoted(out, &text)
 }

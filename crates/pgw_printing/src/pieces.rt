@@ -1,5 +1,6 @@
 //! The pieces of printed text.
 ghost use Rattle.std.specs.Prelude.{◌≡◌, ◌<◌, ◌+◌, ◌*◌, ◌++◌, ◌∷◌, [], length, slice_index, OnOk, codes, decimal};
+ghost use Rattle.std.specs.Bool.{OnTrue};
 ghost use Rattle.std.specs.Fmt.{signed_decimal};
 ghost use Rattle.std.specs.List.{flat_map};
 ghost use Rattle.hex.specs.Hex.{encode_lower, lower_digits};
@@ -106,7 +107,39 @@ fn put_escape(out: &mut Vec<u8>, byte: u8) -> Result<(), OutOfMemory>
     put_hex(out, &[byte])
 }
 
+// Whether a byte stands for itself in a quoted text.
+#[tactic(auto, unfolding(crate::specs::Pieces::quoted_byte))]
+fn is_plain(byte: u8) -> bool
+    ensures { OnTrue result (quoted_byte byte ≡ byte ∷ []) }
+{
+    match byte {
+        b'"' | b'\\' | 0..=31 | 127 => false,
+        _ => true,
+    }
+}
+
+fn are_plain(bytes: &[u8]) -> bool
+    ensures { OnTrue result (flat_map quoted_byte bytes.now ≡ bytes.now) }
+{
+    for byte in bytes {
+        if !is_plain(*byte) {
+            return false;
+        }
+    }
+    true
+}
+
+// Most texts are put as they are, in one piece.
 fn put_quoted_bytes(out: &mut Vec<u8>, bytes: &[u8]) -> Result<(), OutOfMemory>
+    ensures { OnOk result (out.new.items ≡ out.old.items ++ flat_map quoted_byte bytes.now) }
+{
+    if are_plain(bytes) {
+        return put(out, bytes);
+    }
+    put_escaped_bytes(out, bytes)
+}
+
+fn put_escaped_bytes(out: &mut Vec<u8>, bytes: &[u8]) -> Result<(), OutOfMemory>
     ensures { OnOk result (out.new.items ≡ out.old.items ++ flat_map quoted_byte bytes.now) }
 {
     for byte in bytes {

@@ -11,6 +11,9 @@ use rand::rngs::StdRng;
 use std::alloc::Global;
 use std::{env, io};
 
+/// So many words tell one command from another. Those behind them are more queries of a session with a server.
+const TELLING_WORDS: usize = 6;
+
 /// Runs the command that the words behind the program's name ask for, and says with which status to end.
 pub fn start(rt: &HostRuntime) -> u8 {
     match words_of(rt) {
@@ -38,7 +41,7 @@ fn words_of(rt: &HostRuntime) -> io::Result<Vec<String>> {
 
 /// Whether the command that these words ask for wants random bytes: only a session with a server and a new secret do.
 fn wants_random_bytes(alloc: Global, words: &[String]) -> Result<bool, OutOfMemory> {
-    match command_of(alloc, words)? {
+    match command_of(alloc, &words[..words.len().min(TELLING_WORDS)])? {
         Command::Connect(asked) => {
             drop(asked);
             Ok(true)

@@ -1,10 +1,10 @@
 //! Command tags.
-ghost use Rattle.std.specs.Prelude.{◌≡◌, IfOk, None, Some, string_bytes};
+ghost use Rattle.std.specs.Prelude.{◌≡◌, IfOk, None, Some};
 ghost use Rattle.pgw_types.specs.Numbers.{number_in};
-ghost use Rattle.pgw_query.specs.Tags.{ended, words as words_of, counted_tag, inserted_tag, tag_of, tag_text};
+ghost use Rattle.pgw_query.specs.Tags.{plain_tag, counted_tag, inserted_tag, tag_of, tag_text};
 
 use crate::response::CommandComplete;
-use pgw_types::listed::{Duplicate, Listed};
+use pgw_types::listed::Duplicate;
 use pgw_types::memory::OutOfMemory;
 use pgw_types::text::Text;
 use std::alloc::Global;
@@ -17,44 +17,16 @@ pub struct Tag {
     pub rows: Option<usize>,
 }
 
-// The words, and the one that ends here.
-fn with_word(words: Listed<Text>, word: String) -> Result<Listed<Text>, OutOfMemory>
-    ensures { IfOk result (λ all. all ≡ ended (words, string_bytes word)) }
-{
-    let mut words = words;
-    if !word.is_empty() {
-        words.push(Text::from_string(word))?;
-    }
-    Ok(words)
-}
-
-// The longest runs of characters that are not white space.
-fn words_in(alloc: Global, text: &str) -> Result<Listed<Text>, OutOfMemory>
-    ensures { IfOk result (λ words. words ≡ words_of text.now) }
-{
-    let mut words = Listed::new(alloc);
-    let mut word = String::new(alloc);
-    for c in text.chars() {
-        if c.is_whitespace() {
-            words = with_word(words, word)?;
-            word = String::new(alloc);
-        } else {
-            word.push(c)?;
-        }
-    }
-    with_word(words, word)
-}
-
-fn rows_in(text: &Text) -> Option<usize>
+fn rows_in(text: &str) -> Option<usize>
     ensures { result ≡ number_in 64 text.now }
 {
-    text.as_str().parse::<usize>().ok()
+    text.parse::<usize>().ok()
 }
 
-fn oid_in(text: &Text) -> Option<u32>
+fn oid_in(text: &str) -> Option<u32>
     ensures { result ≡ number_in 32 text.now }
 {
-    text.as_str().parse::<u32>().ok()
+    text.parse::<u32>().ok()
 }
 
 impl Tag {
@@ -102,11 +74,19 @@ impl Tag {
     pub fn parse(alloc: Global, text: &str) -> Result<Tag, OutOfMemory>
         ensures { IfOk result (λ tag. tag ≡ tag_of text.now) }
     {
-        let words = words_in(alloc, text)?;
-        match words.as_slice() {
-            [command, rows] => Tag::counted(alloc, text, command, rows_in(rows)),
-            [command, oid, rows] => Tag::inserted(alloc, text, command, oid_in(oid), rows_in(rows)),
-            _ => Ok(Tag::new(Text::from_str(alloc, text)?)),
+        let mut words = text.split_whitespace();
+        let Some(command) = words.next() else {
+            return Tag::plain(alloc, text);
+        };
+        let Some(second) = words.next() else {
+            return Tag::plain(alloc, text);
+        };
+        let Some(third) = words.next() else {
+            return Tag::counted(alloc, text, command, rows_in(second));
+        };
+        match words.next() {
+            Some(_) => Tag::plain(alloc, text),
+            None => Tag::inserted(alloc, text, command, oid_in(second), rows_in(third)),
         }
     }
 
@@ -128,18 +108,25 @@ impl Tag {
         })
     }
 
+    // The whole text.
+    fn plain(alloc: Global, text: &str) -> Result<Tag, OutOfMemory>
+        ensures { IfOk result (λ tag. tag ≡ plain_tag text.now) }
+    {
+        Ok(Tag::new(Text::from_str(alloc, text)?))
+    }
+
     // A command and its rows, or the whole text.
     fn counted(
         alloc: Global,
         text: &str,
-        command: &Text,
+        command: &str,
         rows: Option<usize>,
     ) -> Result<Tag, OutOfMemory>
         ensures { IfOk result (λ tag. tag ≡ counted_tag text.now command.now rows) }
     {
         match rows {
-            Some(rows) => Ok(Tag::new(command.duplicate()?).with_rows(rows)),
-            None => Ok(Tag::new(Text::from_str(alloc, text)?)),
+            Some(rows) => Ok(Tag::new(Text::from_str(alloc, command)?).with_rows(rows)),
+            None => Tag::plain(alloc, text),
         }
     }
 
@@ -147,7 +134,7 @@ impl Tag {
     fn inserted(
         alloc: Global,
         text: &str,
-        command: &Text,
+        command: &str,
         oid: Option<u32>,
         rows: Option<usize>,
     ) -> Result<Tag, OutOfMemory>
@@ -155,9 +142,10 @@ impl Tag {
     {
         match (oid, rows) {
             (Some(oid), Some(rows)) => {
-                Ok(Tag::new(command.duplicate()?).with_oid(oid).with_rows(rows))
+                let tag = Tag::new(Text::from_str(alloc, command)?);
+                Ok(tag.with_oid(oid).with_rows(rows))
             }
-            _ => Ok(Tag::new(Text::from_str(alloc, text)?)),
+            _ => Tag::plain(alloc, text),
         }
     }
 }

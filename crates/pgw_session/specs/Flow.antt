@@ -3,6 +3,7 @@
 use Rattle.std.specs.Prelude.{◌≡◌, ℕ, suc, pos, Bool, true, false, not, if◌then◌else◌, ◌||◌, ◌&&◌, ◌==◌, List, [], ◌∷◌, ◌++◌, Option, Some, None}
 use Rattle.std.specs.List.{list_any}
 use Rattle.std.specs.Ordering.{int_eq}
+use Rattle.pgw_backend.specs.Asynchronous.{is_asynchronous}
 use Rattle.pgw_backend.specs.declared.backend.PgWireBackendMessage.{PgWireBackendMessage as Backend}
 use Rattle.pgw_backend.specs.declared.backend.PgWireBackendMessage.TheVariants as backend
 use Rattle.pgw_frontend.specs.declared.frontend.PgWireFrontendMessage.{PgWireFrontendMessage as Frontend}
@@ -20,12 +21,10 @@ use Rattle.pgw_session.specs.Segments.{is_ready}
 
 -- ---- which messages
 
--- at any time; and an error in place of each answer
-abbrev pub is_asynchronous : Backend → Bool
-is_asynchronous (backend.NoticeResponse m) = true
-is_asynchronous (backend.ParameterStatus m) = true
-is_asynchronous (backend.ErrorResponse m) = true
-is_asynchronous m = false
+-- in place of each answer
+abbrev pub is_error : Backend → Bool
+is_error (backend.ErrorResponse m) = true
+is_error m = false
 
 -- an answer to this message of the client's, who takes part in no COPY; S, which is 83, is a statement
 abbrev pub is_answer_to : Backend → Frontend → Bool
@@ -60,8 +59,11 @@ abbrev pub is_row_without : Request → Bool → Backend → Bool
 is_row_without (request.Simple query) false (backend.DataRow m) = true
 is_row_without q described m = false
 
+-- what may come at any time, an error, or an answer
 abbrev pub may_come : Request → Bool → Backend → Bool
-may_come q described m = not (is_row_without q described m) && (is_taken_besides q m || (is_asynchronous m || list_any (is_answer_to m) (sends_of q)))
+may_come q described m =
+    not (is_row_without q described m)
+    && (is_taken_besides q m || (is_asynchronous m || (is_error m || list_any (is_answer_to m) (sends_of q))))
 
 -- a message that is taken, or ends the answer
 abbrev pub is_placed : Role → Bool
@@ -101,10 +103,6 @@ abbrev pub completes_portal : Request → Backend → Bool
 completes_portal (request.Execute portal max_rows) (backend.CommandComplete m) = true
 completes_portal (request.Execute portal max_rows) (backend.EmptyQueryResponse m) = true
 completes_portal q m = false
-
-abbrev pub is_error : Backend → Bool
-is_error (backend.ErrorResponse m) = true
-is_error m = false
 
 -- whether a description stands behind the message: in a simple query RowDescription gives one for the rows up to
 -- CommandComplete

@@ -2,6 +2,7 @@
 use Rattle.std.specs.Prelude.{ℕ, pos, Bool, true, false, List, [], ◌∷◌, Option, Some, None}
 use Rattle.pgw_backend.specs.declared.backend.PgWireBackendMessage.{PgWireBackendMessage as Backend}
 use Rattle.pgw_backend.specs.declared.backend.PgWireBackendMessage.TheVariants as backend
+use Rattle.pgw_backend.specs.Asynchronous.{is_asynchronous}
 use Rattle.pgw_frontend.specs.declared.frontend.PgWireFrontendMessage.{PgWireFrontendMessage as Frontend}
 use Rattle.pgw_frontend.specs.declared.frontend.PgWireFrontendMessage.TheVariants as frontend
 use Rattle.pgw_session.specs.declared.types.Target.TheVariants.{Statement, Portal}
@@ -63,10 +64,13 @@ passes_over k = false
 
 -- ---- takes
 
--- Notices and parameters come at any time; rows behind a description alone in a simple query.
+-- what has no place in a row is taken where it may come at any time
+abbrev pub anywhere : Bool → Bool → Role
+anywhere true rows = Taken rows
+anywhere false rows = Misplaced
+
+-- Rows come behind a description alone in a simple query.
 abbrev pub role : Kind → Bool → Backend → Role
-role k rows (backend.NoticeResponse m) = Taken rows
-role k rows (backend.ParameterStatus m) = Taken rows
 role k rows (backend.ErrorResponse m) = Failing
 role kind.Simple rows (backend.RowDescription m) = Taken true
 role kind.Simple true (backend.DataRow m) = Taken true
@@ -99,4 +103,4 @@ role kind.Query rows (backend.DataRow m) = Taken rows
 role kind.Query rows (backend.CommandComplete m) = Taken rows
 role kind.Query rows (backend.EmptyQueryResponse m) = Taken rows
 role kind.Query rows (backend.ReadyForQuery m) = Closing
-role k rows m = Misplaced
+role k rows m = anywhere (is_asynchronous m) rows

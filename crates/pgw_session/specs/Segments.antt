@@ -8,6 +8,7 @@ use Rattle.pgw_startup.specs.Negotiate.{negotiated_version}
 use Rattle.pgw_startup.specs.declared.authentication.Authentication.TheVariants as authentication
 use Rattle.pgw_query.specs.declared.response.ReadyForQuery.{ReadyForQuery}
 use Rattle.pgw_backend.specs.declared.backend.PgWireBackendMessage.{PgWireBackendMessage as Backend}
+use Rattle.pgw_backend.specs.Asynchronous.{is_asynchronous}
 use Rattle.pgw_backend.specs.declared.backend.PgWireBackendMessage.TheVariants as backend
 use Rattle.pgw_frontend.specs.declared.frontend.PgWireFrontendMessage.{PgWireFrontendMessage as Frontend}
 use Rattle.pgw_frontend.specs.declared.frontend.PgWireFrontendMessage.TheVariants as frontend
@@ -71,14 +72,12 @@ abbrev pub is_known : Option ProtocolVersion → Bool
 is_known None = false
 is_known (Some version) = true
 
--- what a server may say at any time of the startup segment, but within a login block
+-- what a server may say in all of the startup segment, but within a login block: what may come at any time, and its own
 abbrev pub is_news : Backend → Bool
 is_news (backend.Authentication authentication.Ok) = true
-is_news (backend.ParameterStatus m) = true
 is_news (backend.BackendKeyData m) = true
-is_news (backend.NoticeResponse m) = true
 is_news (backend.NegotiateProtocolVersion m) = is_known (negotiated_version m.newest_minor_protocol)
-is_news m = false
+is_news m = is_asynchronous m
 
 -- before a login block: AuthenticationOk is not among it where a login must be bound
 abbrev pub is_early : Bool → Backend → Bool

@@ -34,7 +34,7 @@ returned_by_pool given.Kept = returned.Kept
 returned_by_pool (given.Dropped why) = returned.Dropped why
 returned_by_pool given.Foreign = returned.Kept
 
--- a session was logged in; or no place was free, and nothing was dialled, or the place was lost
+-- a session was logged in; or no place was free, and nothing was dialled, or none was by then
 abbrev pub IsRefilled : Config → ℕ → List ℕ → Dials → Dials → Refilled → Type 0
 IsRefilled config limit nonce old new Added = (v : View) × Connects config limit nonce old new v
 IsRefilled config limit nonce old new Full =

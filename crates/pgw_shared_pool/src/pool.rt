@@ -158,7 +158,7 @@ impl<L: Link> SharedPool<L> {
         }
         match Spare::connect(alloc, config, nonce, limit, dialer) {
             Ok(spare) => {
-                if self.turns.give_back(rt, Ready { spare }) {
+                if self.turns.fill(rt, Ready { spare }) {
                     Ok(Refilled::Added)
                 } else {
                     Ok(Refilled::Full)

@@ -170,6 +170,19 @@ impl<S: Stock> Desk<S> {
         taken
     }
 
+    /// Fills a place that was kept, and says whether it did. Where the stock does not take the thing
+    /// the place is free again.
+    pub fn fill(&mut self, back: S::Back) -> bool
+        ensures { MatchBool result ((0 < self.old.out) × (self.new ≡ put self.old))
+            (self.new ≡ lost self.old) }
+    {
+        let filled = self.put(back);
+        if !filled {
+            self.give_up();
+        }
+        filled
+    }
+
     /// A thing that was out does not come back. The stock is told, where one is out.
     pub fn lose(&mut self)
         ensures { self.new ≡ lost self.old }

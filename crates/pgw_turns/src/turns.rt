@@ -140,6 +140,15 @@ impl<S: Stock> Turns<S> {
         taken
     }
 
+    /// Fills a place that was kept, and says whether it did. Where the stock does not take the thing
+    /// the place is free again.
+    pub fn fill<R: Wait>(&self, rt: &R, back: S::Back) -> bool {
+        let mut desk = self.desk.lock(rt);
+        let filled = desk.fill(back);
+        self.tell(desk);
+        filled
+    }
+
     /// A thing that was out does not come back.
     pub fn lose<R: Wait>(&self, rt: &R) {
         self.desk.lock(rt).lose();
@@ -150,7 +159,7 @@ impl<S: Stock> Turns<S> {
         self.desk.lock(rt).give_up();
     }
 
-    /// Keeps a place for a thing that is to come, where there is one: it is given back, or given up.
+    /// Keeps a place for a thing that is to come, where there is one: it is filled, or given up.
     pub fn claim<R: Wait>(&self, rt: &R) -> bool {
         self.desk.lock(rt).claim()
     }

@@ -101,6 +101,7 @@ returns-then-n-eq0-clause-ends g c t =
 pub reads-preserved : goal.reads-preserved
 reads-preserved g c = record {
   read_in = omega (arith, c.in-Ok-fill.ensures.bound);
+  empty = c.in-Ok.ensures.emptied;
   kept = c.fill.ensures.kept ∙ c.take_all.ensures.kept ∙ c.reads.invariant.kept;
   later = omega (arith, c.reads.invariant.later, c.take_all.ensures.cause.later, c.fill.ensures.cause.later);
   clean = c.fill.ensures.clean (not_io c.in-Ok-fill.is) ∙ c.take_all.ensures.clean (not_io c.in-Ok.is) ∙ c.reads.invariant.clean;

@@ -1,4 +1,4 @@
-use Rattle.std.proofs.Common.{◌≡◌, ◌≤◌, ◌-◌, length}
+use Rattle.std.proofs.Common.{◌≡◌, ◌≤◌, ◌-◌, [], length}
 use Rattle.pgw_link.specs.Foresight.{Ends, Foreseen}
 use Rattle.pgw_dialogue.specs.Input.{input_of}
 use Rattle.pgw_client.specs.SessionSteps.{Reading}
@@ -7,6 +7,7 @@ use Rattle.pgw_client.proofs.session.converse.Given as goal
 abbrev pub invariant-reads : goal.invariant-reads
 invariant-reads g l = record {
   read_in : l.read ≤ l.fn.limit;
+  empty : l.out.items ≡ [];
   kept : g.L.Link.plan l.link ≡ g.L.Link.plan l.fn.link;
   later : g.L.Link.faults l.fn.link ≤ g.L.Link.faults l.link;
   clean : g.L.Link.faults l.link ≡ g.L.Link.faults l.fn.link;

@@ -1,5 +1,6 @@
 use Rattle.pgw_connection.specs.Canceling.{cut, no_link}
-use Rattle.pgw_connection.proofs.ConnectLaws.{once, rose_once}
+use Rattle.std.proofs.Common.{◌∙◌}
+use Rattle.pgw_connection.proofs.ConnectLaws.{counts_from, once, rose_once}
 use Rattle.pgw_connection.proofs.canceling.send_once.Goals as goal
 
 pub returns-in-Ok-sent-clause-sent : goal.returns-in-Ok-sent-clause-sent
@@ -12,3 +13,7 @@ returns-in-Err-sent-clause-failed g c =
 
 pub returns-in-Err-clause-failed : goal.returns-in-Err-clause-failed
 returns-in-Err-clause-failed g c = no_link c.in-Err.error c.in-Err.ensures.failed
+
+pub returns-in-Ok-sent-clause-calm : goal.returns-in-Ok-sent-clause-calm
+returns-in-Ok-sent-clause-calm g c =
+    (counts_from _ _ _ _ c.in-Ok.ensures.calm c.close.ensures.counts).clean (c.in-Ok-sent.ensures.clean ∙ c.in-Ok.ensures.faultless)

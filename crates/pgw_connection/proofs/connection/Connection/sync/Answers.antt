@@ -15,4 +15,4 @@ pub returns-in-Err-clause-synced : goal.returns-in-Err-clause-synced
 returns-in-Err-clause-synced g c =
     let s = c.sync-synced in
     sync_ill g.H.ExtendedQueryHandler.means c.args.handler.now s.new.self (client_of c.args.self.now.desk) _ (sight_of c.clear.new.self) (sight_of s.new.client) _ _ c.args.due s.result c.in-Err.error _
-    c.if-not-due.false (c.clear.ensures.fresh c.requires.usable) s.ensures.means s.ensures.cause.failed c.in-Err.ensures.opens c.begin.ensures.client
+    c.if-not-due.false (c.clear.ensures.fresh c.requires.usable) s.ensures.means s.ensures.leaves.cause.failed c.in-Err.ensures.opens c.begin.ensures.client

@@ -1,4 +1,4 @@
-use Rattle.std.proofs.Common.{[], ◌∷◌, ◌≡◌, ◌++◌, map, List, sym, subst, arith}
+use Rattle.std.proofs.Common.{map}
 use Rattle.pgw_pool.specs.Views.{view_of}
 use Rattle.pgw_pool.proofs.SpareLaws.{idle_joins}
 use Rattle.pgw_pool.proofs.pool.Pool.put.Goals as goal

@@ -1,5 +1,5 @@
-use Rattle.std.proofs.Common.{map, refl, subst, sym, arith}
-use Rattle.pgw_pool.specs.Histories.{new_history, AreIdle}
+use Rattle.std.proofs.Common.{map}
+use Rattle.pgw_pool.specs.Histories.{new_history}
 use Rattle.pgw_pool.specs.Views.{view_of}
 use Rattle.pgw_pool.proofs.HistoryLaws.{idle_one_more}
 use Rattle.pgw_pool.proofs.pool.Pool.refill.Goals as goal

@@ -1,0 +1,4 @@
+pub mod Help
+pub mod Options
+pub mod Parting
+pub mod Words

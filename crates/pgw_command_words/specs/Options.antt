@@ -1,0 +1,94 @@
+-- The options in front of a command's other words.
+use Rattle.std.specs.Prelude.{ℕ, List, [], ◌∷◌, Bool, true, false, nat_eq, nat_lt, codes, Option}
+use Rattle.std.specs.Prelude.{Some, None, if◌then◌else◌}
+use Rattle.std.specs.List.{starts_with}
+use Rattle.std.specs.Cmp.Lexicographic.{pointwise}
+use Rattle.pgw_types.specs.Numbers.{number_in}
+use Rattle.pgw_output.specs.declared.printer.RowFormat.{RowFormat}
+use Rattle.pgw_output.specs.declared.printer.RowFormat.TheVariants as format
+use Rattle.pgw_command_words.specs.declared.options.Options.{Options}
+use Rattle.pgw_command_words.specs.declared.options.Flag.{Flag}
+use Rattle.pgw_command_words.specs.declared.options.Flag.TheVariants as flag
+
+-- what a word is, as an option
+unfoldable pub flag_of : List ℕ → Flag
+flag_of word =
+    if pointwise nat_eq word (codes "--passfile") then flag.Passfile
+    else if pointwise nat_eq word (codes "--timeout") then flag.Timeout
+    else if pointwise nat_eq word (codes "--csv") then flag.Format format.Csv
+    else if pointwise nat_eq word (codes "--json") then flag.Format format.Json
+    else if pointwise nat_eq word (codes "--table") then flag.Format format.Table
+    else if starts_with nat_eq word (codes "--") then flag.Unknown
+    else flag.NoOption
+
+abbrev pub one_or_more : Option ℕ → Option ℕ
+one_or_more None = None
+one_or_more (Some n) = if nat_lt 0 n then Some n else None
+
+-- a number of 32 bits, 1 or more
+unfoldable pub seconds_in : List ℕ → Option ℕ
+seconds_in word = one_or_more (number_in 32 word)
+
+abbrev pub no_options : Options
+no_options = record { passfile = None; timeout = None; format = None }
+
+-- ---- what stands behind an option: what it says, and the words behind that
+
+abbrev pub Parts : Type 0
+Parts = Options × List (List ℕ)
+
+abbrev pub with_timeout : Options → List (List ℕ) → Option ℕ → Option Parts
+with_timeout options rest None = None
+with_timeout options rest (Some seconds) = Some (record options { timeout = Some seconds }, rest)
+
+abbrev pub taken : Options → Flag → List (List ℕ) → Option Parts
+taken options (flag.Format f) rest = Some (record options { format = Some f }, rest)
+taken options flag.Passfile [] = None
+taken options flag.Passfile (path ∷ rest) = Some (record options { passfile = Some path }, rest)
+taken options flag.Timeout [] = None
+taken options flag.Timeout (number ∷ rest) = with_timeout options rest (seconds_in number)
+taken options flag.Unknown rest = None
+taken options flag.NoOption rest = None
+
+-- ---- the options in front of words, and the words behind them; none where they are outside the
+-- grammar
+
+-- what a word is read as: the next option or other word, or what an option before it says
+pub data Awaits : Type 0 where
+  any : Awaits
+  path : Awaits
+  number : Awaits
+
+-- whether a word is no option
+abbrev pub is_no_option : Flag → Bool
+is_no_option flag.NoOption = true
+is_no_option flag.Passfile = false
+is_no_option flag.Timeout = false
+is_no_option (flag.Format f) = false
+is_no_option flag.Unknown = false
+
+-- the options so far go on with what stands behind, which the last argument reads
+abbrev pub going_on : Options → List ℕ → List (List ℕ) → Flag → (Awaits → Options
+    → Option Parts) → Option Parts
+going_on options word rest (flag.Format f) more = more any (record options { format = Some f })
+going_on options word rest flag.Passfile more = more path options
+going_on options word rest flag.Timeout more = more number options
+going_on options word rest flag.Unknown more = None
+going_on options word rest flag.NoOption more = Some (options, word ∷ rest)
+
+abbrev pub timed : Options → Option ℕ → (Options → Option Parts) → Option Parts
+timed options None more = None
+timed options (Some seconds) more = more (record options { timeout = Some seconds })
+
+unfoldable pub read_as : Awaits → Options → List (List ℕ) → Option Parts
+read_as any options [] = Some (options, [])
+read_as any options (word ∷ rest) =
+    going_on options word rest (flag_of word) (λ next o. read_as next o rest)
+read_as path options [] = None
+read_as path options (word ∷ rest) = read_as any (record options { passfile = Some word }) rest
+read_as number options [] = None
+read_as number options (word ∷ rest) =
+    timed options (seconds_in word) (λ o. read_as any o rest)
+
+abbrev pub parted : Options → List (List ℕ) → Option Parts
+parted options words = read_as any options words

@@ -1,0 +1,4 @@
+pub mod CsvLaws
+pub mod PrinterLaws
+pub mod ReadBackLaws
+pub mod RowLaws

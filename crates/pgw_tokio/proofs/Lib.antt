@@ -1,0 +1,6 @@
+mod StreamLaws
+mod UnderLaws
+mod OverLaws
+mod ContractLaws
+mod EngineLaws
+mod FutureLaws
