@@ -1,5 +1,6 @@
 //! Command tags.
-ghost use Rattle.std.specs.Prelude.{◌≡◌, IfOk, None, Some};
+ghost use Rattle.std.specs.Prelude.{◌≡◌, IfOk, IfSome, None, Some, string_bytes, take};
+ghost use Rattle.std.specs.String.Boundary.{IsSplitPoint};
 ghost use Rattle.pgw_types.specs.Numbers.{number_in};
 ghost use Rattle.pgw_query.specs.Tags.{plain_tag, counted_tag, inserted_tag, tag_of, tag_text};
 
@@ -27,6 +28,116 @@ fn oid_in(text: &str) -> Option<u32>
     ensures { result ≡ number_in 32 text.now }
 {
     text.parse::<u32>().ok()
+}
+
+// ---- the words of a text
+
+// A tag whose command is a part of the text.
+#[derive(Drop)]
+struct Words<'a> {
+    command: &'a str,
+    oid: Option<u32>,
+    rows: Option<usize>,
+}
+
+// The whole text.
+fn plain(text: &str) -> Words<'_>
+    ensures { plain_tag text.now ≡ record {
+      command = result.command.now;
+      oid = result.oid;
+      rows = result.rows;
+    } }
+{
+    Words {
+        command: text,
+        oid: None,
+        rows: None,
+    }
+}
+
+// A command and its rows, or the whole text.
+fn counted<'a>(text: &'a str, command: &'a str, rows: Option<usize>) -> Words<'a>
+    ensures { counted_tag text.now command.now rows ≡ record {
+      command = result.command.now;
+      oid = result.oid;
+      rows = result.rows;
+    } }
+{
+    match rows {
+        Some(_) => Words {
+            command,
+            oid: None,
+            rows,
+        },
+        None => plain(text),
+    }
+}
+
+// A command, an object and its rows, or the whole text.
+fn inserted<'a>(text: &'a str, command: &'a str, oid: Option<u32>, rows: Option<usize>) -> Words<'a>
+    ensures { inserted_tag text.now command.now oid rows ≡ record {
+      command = result.command.now;
+      oid = result.oid;
+      rows = result.rows;
+    } }
+{
+    match (oid, rows) {
+        (Some(_), Some(_)) => Words { command, oid, rows },
+        _ => plain(text),
+    }
+}
+
+#[tactic(auto, unfolding(crate::specs::Tags::tag_of))]
+fn words_of(text: &str) -> Words<'_>
+    ensures { tag_of text.now ≡ record {
+      command = result.command.now;
+      oid = result.oid;
+      rows = result.rows;
+    } }
+{
+    let mut words = text.split_whitespace();
+    let Some(command) = words.next() else {
+        return plain(text);
+    };
+    let Some(second) = words.next() else {
+        return plain(text);
+    };
+    let Some(third) = words.next() else {
+        return counted(text, command, rows_in(second));
+    };
+    match words.next() {
+        Some(_) => plain(text),
+        None => inserted(text, command, oid_in(second), rows_in(third)),
+    }
+}
+
+// Where the command ends in a text that begins with it, and the numbers behind it.
+#[derive(Clone, Copy, Drop)]
+struct Cut {
+    len: usize,
+    oid: Option<u32>,
+    rows: Option<usize>,
+}
+
+// The cut of a text that begins with its command.
+fn cut_of(text: &String) -> Option<Cut>
+    ensures at { IfSome result (λ cut. IsSplitPoint (string_bytes text.now) cut.len) }
+    ensures tag { IfSome result (λ cut. tag_of (string_bytes text.now) ≡ record {
+      command = take cut.len (string_bytes text.now);
+      oid = cut.oid;
+      rows = cut.rows;
+    }) }
+{
+    let words = words_of(text.as_str());
+    let len = words.command.len();
+    if !text.as_bytes().starts_with(words.command.as_bytes()) || !text.is_char_boundary(len) {
+        return None;
+    }
+    Some(Cut {
+        len,
+        oid: words.oid,
+        rows: words.rows,
+    })
 }
 
 impl Tag {
@@ -70,24 +181,31 @@ impl Tag {
     }
 
     /// What the text of a CommandComplete says.
-    #[tactic(auto, unfolding(crate::specs::Tags::tag_of))]
     pub fn parse(alloc: Global, text: &str) -> Result<Tag, OutOfMemory>
         ensures { IfOk result (λ tag. tag ≡ tag_of text.now) }
     {
-        let mut words = text.split_whitespace();
-        let Some(command) = words.next() else {
-            return Tag::plain(alloc, text);
+        let words = words_of(text);
+        Ok(Tag {
+            command: Text::from_str(alloc, words.command)?,
+            oid: words.oid,
+            rows: words.rows,
+        })
+    }
+
+    /// The same of a text that is kept: it takes no memory where the text begins with the command.
+    pub fn from_text(alloc: Global, text: Text) -> Result<Tag, OutOfMemory>
+        ensures { IfOk result (λ tag. tag ≡ tag_of text) }
+    {
+        let mut text = text.into_string();
+        let Some(cut) = cut_of(&text) else {
+            return Tag::parse(alloc, text.as_str());
         };
-        let Some(second) = words.next() else {
-            return Tag::plain(alloc, text);
-        };
-        let Some(third) = words.next() else {
-            return Tag::counted(alloc, text, command, rows_in(second));
-        };
-        match words.next() {
-            Some(_) => Tag::plain(alloc, text),
-            None => Tag::inserted(alloc, text, command, oid_in(second), rows_in(third)),
-        }
+        text.truncate(cut.len);
+        Ok(Tag {
+            command: Text::from_string(text),
+            oid: cut.oid,
+            rows: cut.rows,
+        })
     }
 
     /// The message whose text is the tag's.
@@ -106,47 +224,6 @@ impl Tag {
         Ok(CommandComplete {
             tag: Text::from_string(text),
         })
-    }
-
-    // The whole text.
-    fn plain(alloc: Global, text: &str) -> Result<Tag, OutOfMemory>
-        ensures { IfOk result (λ tag. tag ≡ plain_tag text.now) }
-    {
-        Ok(Tag::new(Text::from_str(alloc, text)?))
-    }
-
-    // A command and its rows, or the whole text.
-    fn counted(
-        alloc: Global,
-        text: &str,
-        command: &str,
-        rows: Option<usize>,
-    ) -> Result<Tag, OutOfMemory>
-        ensures { IfOk result (λ tag. tag ≡ counted_tag text.now command.now rows) }
-    {
-        match rows {
-            Some(rows) => Ok(Tag::new(Text::from_str(alloc, command)?).with_rows(rows)),
-            None => Tag::plain(alloc, text),
-        }
-    }
-
-    // A command, an object and its rows, or the whole text.
-    fn inserted(
-        alloc: Global,
-        text: &str,
-        command: &str,
-        oid: Option<u32>,
-        rows: Option<usize>,
-    ) -> Result<Tag, OutOfMemory>
-        ensures { IfOk result (λ tag. tag ≡ inserted_tag text.now command.now oid rows) }
-    {
-        match (oid, rows) {
-            (Some(oid), Some(rows)) => {
-                let tag = Tag::new(Text::from_str(alloc, command)?);
-                Ok(tag.with_oid(oid).with_rows(rows))
-            }
-            _ => Tag::plain(alloc, text),
-        }
     }
 }
 
