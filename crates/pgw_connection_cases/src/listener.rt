@@ -232,7 +232,7 @@ impl ExtendedQueryHandler for Listener {
         alloc: Global,
         message: CommandComplete,
     ) -> PgWireClientResult<Tag> {
-        Ok(Tag::parse(alloc, message.tag.as_str())?)
+        Ok(Tag::from_text(alloc, message.tag)?)
     }
 
     fn on_portal_suspended(&mut self, _alloc: Global) -> PgWireClientResult<()> {

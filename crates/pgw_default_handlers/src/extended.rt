@@ -151,7 +151,7 @@ impl ExtendedQueryHandler for DefaultExtendedQueryHandler {
         alloc: Global,
         message: CommandComplete,
     ) -> PgWireClientResult<Tag> {
-        let tag = Tag::parse(alloc, message.tag.as_str())?;
+        let tag = Tag::from_text(alloc, message.tag)?;
         self.last_tag = Some(tag.duplicate()?);
         Ok(tag)
     }

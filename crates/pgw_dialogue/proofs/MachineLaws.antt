@@ -1,6 +1,7 @@
 -- What the client's steps do, by the machine of a session.
 use Rattle.std.proofs.Common.{◌≡◌, ◌<◌, ◌-◌, ℕ, zero, suc, List, [], ◌∷◌, ◌++◌, Bool, true, false, Option, Some, None, Result, Ok, Err, arith, refl, ap, sym, subst, ◌∙◌, slice_get}
 use Rattle.std.proofs.lemmas.List.{append-nil}
+use Rattle.std.specs.Option.{is_some}
 use Rattle.pgw_types.specs.declared.error.PgWireError.{PgWireError}
 use Rattle.pgw_backend.specs.ClientError.{IsUnexpected}
 use Rattle.pgw_frontend.specs.Frontend.{encodings}
@@ -104,11 +105,13 @@ passed_moved input n new m first out (Err e) is p = (
 )
 
 -- none was passed over
-pub clean_moved : (input : Input) (n new : Notes) (m : Backend) (old_out new_out : List ℕ) (r : Result Bool ClientError) → n.first_passed ≡ None
-    → Moved (moves_by notes_book input (record n { first_passed = None }) m (after input n.stage m)) new old_out new_out r → Moved (turn_by notes_book input n m n.first_passed) new old_out new_out r
-clean_moved input n new m old_out new_out r clean moved =
-    let same : record n { first_passed = None } ≡ n = ap (λ f. record n { first_passed = f }) (sym clean) in
-    subst (λ move. Moved move new old_out new_out r) (ap (λ (y : Notes). moves_by notes_book input y m (after input n.stage m)) same ∙ ap (turn_by notes_book input n m) (sym clean)) moved
+pub clean_moved : (input : Input) (n new : Notes) (m : Backend) (old_out new_out : List ℕ) (r : Result Bool ClientError) → is_some n.first_passed ≡ false
+    → Moved (moves_by notes_book input n m (after input n.stage m)) new old_out new_out r → Moved (turn_by notes_book input n m n.first_passed) new old_out new_out r
+clean_moved input n new m old_out new_out r clean moved = go n.first_passed clean
+  where
+    go : (passed : Option Backend) → is_some passed ≡ false → Moved (turn_by notes_book input n m passed) new old_out new_out r
+    go None is = moved
+    go (Some first) is = absurd cc
 
 -- ---- the startup message
 

@@ -1,5 +1,5 @@
 -- What the codec's calls answer, with the client's errors.
-use Rattle.std.proofs.Common.{◌≡◌, ◌⊎◌, inl, inr, subst, ◌<◌, ℕ, ◌+◌, suc, List, ◌∷◌, ◌++◌, length, take, drop, get_or, add-one, drop-cons, Option, Some, None, Result, Ok, Err, refl, ap, sym, ◌∙◌, append_assoc}
+use Rattle.std.proofs.Common.{◌≡◌, ◌⊎◌, inl, inr, subst, ◌<◌, ℕ, ◌+◌, suc, List, [], ◌∷◌, ◌++◌, length, take, drop, get_or, add-one, drop-cons, Option, Some, None, Result, Ok, Err, refl, ap, sym, ◌∙◌, append_assoc}
 use Rattle.std.proofs.Math.Seq.{take-append_seam}
 use Rattle.pgw_types.specs.declared.error.PgWireError.{PgWireError}
 use Rattle.pgw_types.specs.declared.error.PgWireError.TheVariants as wire
@@ -73,4 +73,11 @@ pub put_refused : (ms : List Frontend) (at : ℕ) (m : Frontend) (old d now : Li
 put_refused ms at m old d now e within is put are r = (
   ap (take (length old)) are ∙ take-append_seam old d,
   λ ne. let t = told_of (encoding m) e r ne in (t.0, one_refused ms at m d t.0 within is put t.1, t.2),
+)
+
+-- one message alone is refused, and nothing was put out
+pub alone_refused : (m : Frontend) (old now : List ℕ) (e : PgWireError) → now ≡ old → Refuses e (encoding m) → PutOut (encodings (m ∷ [])) old now (Err (of_wire e))
+alone_refused m old now e same r = (
+  same,
+  λ ne. let t = told_of (encoding m) e r ne in (t.0, ap (λ (one : Result (List ℕ) PgWireError). both one (Ok [])) t.1, t.2),
 )

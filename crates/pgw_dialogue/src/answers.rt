@@ -121,11 +121,11 @@ fn suspend(alloc: Global, tally: &mut Tally)
 fn response_of(
     alloc: Global,
     opened: Option<Opened>,
-    command: &CommandComplete,
+    command: CommandComplete,
 ) -> Result<Response, OutOfMemory>
-    ensures { IfOk result (λ response. response ≡ response_of opened command.now.tag) }
+    ensures { IfOk result (λ response. response ≡ response_of opened command.tag) }
 {
-    let tag = Tag::parse(alloc, command.tag.as_str())?;
+    let tag = Tag::from_text(alloc, command.tag)?;
     match opened {
         Some(Opened { fields, rows }) => Ok(Response::Query(tag, fields, rows)),
         None => Ok(Response::Execution(tag)),
@@ -140,7 +140,7 @@ fn note_command(
     ensures { OnOk result (tally.new ≡ noted tally.old
         (PgWireBackendMessage.CommandComplete command)) }
 {
-    let response = response_of(alloc, tally.opened.take(), &command)?;
+    let response = response_of(alloc, tally.opened.take(), command)?;
     tally.responses.push(response)?;
     complete(alloc, tally);
     Ok(())
@@ -266,14 +266,16 @@ fn result_of(alloc: Global, request: &Request, tally: &mut Tally) -> Result<Answ
     }
 }
 
-/// The answer of a request whose segment has closed.
-pub fn answer_by(alloc: Global, request: &Request, mut tally: Tally) -> Result<Answer, OutOfMemory>
-    ensures { IfOk result (λ answer. answer ≡ answer_by request.now tally) }
+/// Takes the answer of a request whose segment has closed out of its tally.
+pub(crate) fn answer_by(
+    alloc: Global,
+    request: &Request,
+    tally: &mut Tally,
+) -> Result<Answer, OutOfMemory>
+    ensures { IfOk result (λ answer. answer ≡ answer_by request.now tally.old) }
 {
-    let answer = match tally.remote.take() {
+    match tally.remote.take() {
         Some(error) => Ok(Answer::Remote(error)),
-        None => result_of(alloc, request, &mut tally),
-    };
-    drop(tally);
-    answer
+        None => result_of(alloc, request, tally),
+    }
 }

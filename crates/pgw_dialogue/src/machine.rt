@@ -187,20 +187,16 @@ fn keep_answer(
     alloc: Global,
     input: &Input<'_>,
     closed: usize,
-    tally: Tally,
+    tally: &mut Tally,
     answers: &mut Listed<Answer>,
 ) -> Result<(), OutOfMemory>
     ensures { OnOk result (answers.new ≡ answers.old
-        ++ answer_for (answered (input_of input.now) closed) tally) }
+        ++ answer_for (answered (input_of input.now) closed) tally.old) }
 {
     if closed > 0 {
         if let Some(request) = input.requests.get(closed - 1) {
             answers.push(answers::answer_by(alloc, request, tally)?)?;
-        } else {
-            drop(tally);
         }
-    } else {
-        drop(tally);
     }
     Ok(())
 }
@@ -217,8 +213,15 @@ fn close(
         { closed = notes.old.closed }) }
 {
     note(alloc, notes, message, Stage::Starting)?;
-    let tally = replace(&mut notes.tally, answers::no_tally(alloc));
-    keep_answer(alloc, input, notes.closed, tally, &mut notes.answers)
+    keep_answer(
+        alloc,
+        input,
+        notes.closed,
+        &mut notes.tally,
+        &mut notes.answers,
+    )?;
+    notes.tally = answers::no_tally(alloc);
+    Ok(())
 }
 
 // Opens the next request, if there is one; answers that there is none.
@@ -236,11 +239,7 @@ fn open_next(
     match requests.get(notes.closed) {
         None => Ok(true),
         Some(request) => {
-            let sends = match requests::sends_of(alloc, request) {
-                Ok(sends) => sends,
-                Err(_) => return Err(PgWireClientError::OutOfMemory),
-            };
-            match put_all(&sends, out) {
+            match requests::put_request(alloc, request, out) {
                 Ok(()) => {}
                 Err(e) => return Err(e),
             }
@@ -423,10 +422,11 @@ fn take(
     ensures moved { Moved (turn_by notes_book (input_of input.now) notes.old message
         notes.old.first_passed) notes.new out.old.items out.new.items result }
 {
-    match notes.first_passed.take() {
-        Some(first) => pass_over(alloc, notes, first, message),
-        None => step(alloc, input, notes, message, out),
+    if notes.first_passed.is_none() {
+        return step(alloc, input, notes, message, out);
     }
+    let first = notes.first_passed.take().unwrap();
+    pass_over(alloc, notes, first, message)
 }
 
 // Takes the message at the buffer's front, and puts out what falls due then.

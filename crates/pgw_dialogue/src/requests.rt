@@ -1,7 +1,12 @@
 //! What each request sends.
-ghost use Rattle.std.specs.Prelude.{◌≡◌, [], ◌∷◌, pos, None, IfOk};
+ghost use Rattle.std.specs.Prelude.{◌≡◌, [], ◌∷◌, pos, None, IfErr, IfOk};
+ghost use Rattle.pgw_frontend.specs.Frontend.{encodings};
 ghost use Rattle.pgw_session.specs.Requests.{kind_of, sends_of};
+ghost use Rattle.pgw_dialogue.specs.Wire.{IsOwn, PutOut};
 
+use crate::wire::{put_all, put_query};
+use bytes::BytesMut;
+use pgw_backend::client_error::PgWireClientError;
 use pgw_ext::extendedquery::{
     Bind, Close, Describe, Execute, Flush, Parse, Sync, TARGET_TYPE_BYTE_PORTAL,
     TARGET_TYPE_BYTE_STATEMENT,
@@ -218,5 +223,23 @@ pub fn sends_of(alloc: Global, request: &Request) -> Result<Sends, OutOfMemory>
         Request::Describe(target) => of_describe(alloc, target),
         Request::Close(target) => of_close(alloc, target),
         Request::Query(query, types, parameters) => of_query(alloc, query, types, parameters),
+    }
+}
+
+/// Puts out the messages that open a request's segment. A simple query is copied nowhere else.
+pub fn put_request(
+    alloc: Global,
+    request: &Request,
+    out: &mut BytesMut,
+) -> Result<(), PgWireClientError>
+    ensures own { IfErr result IsOwn }
+    ensures put { PutOut (encodings (sends_of request.now)) out.old.items out.new.items result }
+{
+    if let Request::Simple(query) = request {
+        return put_query(query, out);
+    }
+    match sends_of(alloc, request) {
+        Ok(sends) => put_all(&sends, out),
+        Err(_) => Err(PgWireClientError::OutOfMemory),
     }
 }

@@ -1,5 +1,5 @@
 //! Messages from and to buffers, with the client's errors.
-ghost use Rattle.std.specs.Prelude.{◌≡◌, IfErr};
+ghost use Rattle.std.specs.Prelude.{◌≡◌, ◌∷◌, [], IfErr};
 ghost use Rattle.pgw_backend.specs.Front.{typed_phase};
 ghost use Rattle.pgw_frontend.specs.Frontend.{encodings};
 ghost use Rattle.pgw_dialogue.specs.Wire.{Decoded, PutOut, IsOwn};
@@ -8,7 +8,9 @@ use bytes::BytesMut;
 use pgw_backend::backend::PgWireBackendMessage;
 use pgw_backend::client_error::PgWireClientError;
 use pgw_frontend::frontend::PgWireFrontendMessage;
+use pgw_query::simplequery::encode_query;
 use pgw_types::context::{DecodeContext, ProtocolVersion};
+use pgw_types::text::Text;
 use pgw_wire::buffer::Buffer;
 use std::alloc::Global;
 
@@ -61,4 +63,17 @@ pub fn put_all(
         at += 1;
     }
     Ok(())
+}
+
+/// Appends the encoding of a query that is kept, or nothing.
+#[tactic(auto, unfolding(pgw_frontend::specs::Frontend::encoding))]
+pub fn put_query(query: &Text, out: &mut BytesMut) -> Result<(), PgWireClientError>
+    ensures own { IfErr result IsOwn }
+    ensures put { PutOut (encodings (PgWireFrontendMessage.Query (record { query = query.now }) ∷ []))
+        out.old.items out.new.items result }
+{
+    match encode_query(query, out) {
+        Ok(()) => Ok(()),
+        Err(e) => Err(PgWireClientError::from(e)),
+    }
 }

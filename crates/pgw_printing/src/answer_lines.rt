@@ -2,10 +2,11 @@
 ghost use Rattle.std.specs.Prelude.{◌≡◌, ◌++◌, ◌∷◌, [], OnOk, codes, decimal, ◌+◌, ◌<◌, ◌^◌};
 ghost use Rattle.std.specs.List.{flat_map};
 ghost use Rattle.pgw_query.specs.Runs.{lent_row};
-ghost use Rattle.pgw_printing.specs.Pieces.{line_end, quoted};
-ghost use Rattle.pgw_printing.specs.AnswerLines.{tag_text, type_number, format_number, field_line, row_line, response_lines, item_line, name_text, oid_text, oids_text, rows_lines, executed_lines, told_lines, answer_lines, numbered};
+ghost use Rattle.pgw_printing.specs.Pieces.{line_end, quoted, quoted_byte};
+ghost use Rattle.pgw_printing.specs.AnswerLines.{rows_text, tag_text, type_number, format_number, field_line, row_line, response_lines, item_line, name_text, oid_text, oids_text, rows_lines, executed_lines, told_lines, answer_lines, numbered};
 
-use crate::pieces::{put, put_decimal, put_hex, put_quoted, put_signed};
+use crate::pieces::{put, put_decimal, put_hex, put_quoted, put_quoted_bytes, put_signed};
+use itoa::Buffer;
 use pgw_query::data_rows::DataRows;
 use pgw_query::field_info::{FieldFormat, FieldInfo};
 use pgw_query::pg_type::PgType;
@@ -14,9 +15,6 @@ use pgw_query::tag::Tag;
 use pgw_session::types::{Answer, DescribeResponse, ExecuteResult, PrepareResponse, Response};
 use pgw_types::memory::OutOfMemory;
 use pgw_types::text::Text;
-
-/// How many bytes the numbers of a command take at most, with the spaces before them.
-const TAG_ROOM: usize = 32;
 
 #[tactic(auto, unfolding(crate::specs::AnswerLines::type_number))]
 fn number_of(datatype: PgType) -> u32
@@ -71,35 +69,45 @@ fn put_row(out: &mut Vec<u8>, row: DataRowRef<'_>) -> Result<(), OutOfMemory>
     put(out, b"\n")
 }
 
-#[tactic(auto, unfolding(crate::specs::AnswerLines::tag_text))]
-fn put_tag_text(out: &mut Vec<u8>, tag: &Tag) -> Result<(), OutOfMemory>
-    ensures { OnOk result (out.new.items ≡ out.old.items ++ tag_text tag.now) }
+// A space and a number, as they stand in quotes.
+#[tactic(auto, using(crate::proofs::PieceLaws::quoted_behind))]
+fn put_quoted_number(out: &mut Vec<u8>, number: u64) -> Result<(), OutOfMemory>
+    ensures { OnOk result (out.new.items ≡ out.old.items
+        ++ flat_map quoted_byte (codes " " ++ decimal number)) }
 {
-    put(out, tag.command.as_str().as_bytes())?;
-    match (tag.oid, tag.rows) {
+    let mut buffer = Buffer::new();
+    put_quoted_bytes(out, b" ")?;
+    put_quoted_bytes(out, buffer.format(number).as_bytes())
+}
+
+// What stands behind a command, as it stands in quotes.
+#[tactic(auto, using(crate::proofs::PieceLaws::quoted_behind))]
+fn put_quoted_rows(
+    out: &mut Vec<u8>,
+    oid: Option<u32>,
+    rows: Option<usize>,
+) -> Result<(), OutOfMemory>
+    ensures { OnOk result (out.new.items ≡ out.old.items
+        ++ flat_map quoted_byte (rows_text oid rows)) }
+{
+    match (oid, rows) {
         (_, None) => Ok(()),
-        (None, Some(rows)) => put_spaced(out, rows as u64),
+        (None, Some(rows)) => put_quoted_number(out, rows as u64),
         (Some(oid), Some(rows)) => {
-            put_spaced(out, u64::from(oid))?;
-            put_spaced(out, rows as u64)
+            put_quoted_number(out, u64::from(oid))?;
+            put_quoted_number(out, rows as u64)
         }
     }
 }
 
-fn put_spaced(out: &mut Vec<u8>, number: u64) -> Result<(), OutOfMemory>
-    ensures { OnOk result (out.new.items ≡ out.old.items ++ (codes " " ++ decimal number)) }
-{
-    put(out, b" ")?;
-    put_decimal(out, number)
-}
-
+#[tactic(auto, unfolding(crate::specs::AnswerLines::tag_text, crate::specs::Pieces::quoted), using(crate::proofs::PieceLaws::quoted_behind))]
 fn put_quoted_tag(out: &mut Vec<u8>, tag: &Tag) -> Result<(), OutOfMemory>
     ensures { OnOk result (out.new.items ≡ out.old.items ++ quoted (tag_text tag.now)) }
 {
-    let room = tag.command.len().saturating_add(TAG_ROOM);
-    let mut text = Vec::with_capacity(*out.allocator(), room)?;
-    put_tag_text(&mut text, tag)?;
-    put_quoted(out, &text)
+    put(out, b"\"")?;
+    put_quoted_bytes(out, tag.command.as_str().as_bytes())?;
+    put_quoted_rows(out, tag.oid, tag.rows)?;
+    put(out, b"\"")
 }
 
 fn put_fields(out: &mut Vec<u8>, fields: &[FieldInfo]) -> Result<(), OutOfMemory>

@@ -129,8 +129,8 @@ fn are_plain(bytes: &[u8]) -> bool
     true
 }
 
-// Most texts are put as they are, in one piece.
-fn put_quoted_bytes(out: &mut Vec<u8>, bytes: &[u8]) -> Result<(), OutOfMemory>
+// A part of a text in quotes. Most are put as they are, in one piece.
+pub(crate) fn put_quoted_bytes(out: &mut Vec<u8>, bytes: &[u8]) -> Result<(), OutOfMemory>
     ensures { OnOk result (out.new.items ≡ out.old.items ++ flat_map quoted_byte bytes.now) }
 {
     if are_plain(bytes) {

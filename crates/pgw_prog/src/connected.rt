@@ -20,6 +20,7 @@ use pgw_session::types::SessionReport;
 use pgw_types::address::Address;
 use pgw_types::memory::OutOfMemory;
 use std::alloc::Global;
+use std::mem::forget;
 
 /// Holds the session over a link to the address, and closes the link.
 fn talk<D: Dialer>(
@@ -60,7 +61,8 @@ fn print_outcome(
     Ok(Printed { text, status, told })
 }
 
-// The same of an outcome that is let go then.
+// The same of an outcome that is used up. The program ends with it: what a report keeps is left to the system, which
+// takes it back at once, and not let go of piece by piece.
 fn print_result(
     alloc: Global,
     outcome: PgWireClientResult<SessionReport>,
@@ -70,7 +72,7 @@ fn print_result(
 {
     let told = told_of_outcome(alloc, &outcome);
     let printed = print_outcome(alloc, &outcome, told);
-    drop(outcome);
+    forget(outcome);
     printed
 }
 

@@ -40,6 +40,7 @@ use pgw_script::relay_script::parse_relay;
 use pgw_script::script::parse;
 use pgw_types::memory::OutOfMemory;
 use std::alloc::Global;
+use std::mem::forget;
 
 const VERSION: &str = "hothummei 0.2.0\n";
 
@@ -349,7 +350,11 @@ fn answer<I: Source, D: Dialer>(
         Command::Pair => answer_script(alloc, ScriptKind::Pair, input),
         Command::Relay => answer_script(alloc, ScriptKind::Relay, input),
         Command::Pool => answer_script(alloc, ScriptKind::Pool, input),
-        Command::Connect(asked) => Ok(connect(alloc, &asked, dialer, nonce)?),
+        Command::Connect(asked) => {
+            let printed = connect(alloc, &asked, dialer, nonce);
+            forget(asked);
+            Ok(printed?)
+        }
         Command::Gen(rows, start) => Ok(generate(alloc, rows, start, nonce)?),
         Command::Secret(asked) => {
             Ok(make_secret(alloc, asked.password.as_str(), asked.count, words32)?)

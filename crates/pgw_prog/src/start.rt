@@ -9,6 +9,7 @@ use pgw_types::memory::OutOfMemory;
 use rand::RngExt;
 use rand::rngs::StdRng;
 use std::alloc::Global;
+use std::mem::forget;
 use std::{env, io};
 
 /// So many words tell one command from another. Those behind them are more queries of a session with a server.
@@ -17,7 +18,12 @@ const TELLING_WORDS: usize = 6;
 /// Runs the command that the words behind the program's name ask for, and says with which status to end.
 pub fn start(rt: &HostRuntime) -> u8 {
     match words_of(rt) {
-        Ok(words) => run(rt, &words),
+        Ok(words) => {
+            let status = run(rt, &words);
+            // The program ends: the system takes the words back at once.
+            forget(words);
+            status
+        }
         Err(error) if error.kind() == io::ErrorKind::OutOfMemory => told(rt, NO_MEMORY, 4),
         // A word that is no text is no command.
         Err(_) => run(rt, &[String::new(rt.alloc())]),
