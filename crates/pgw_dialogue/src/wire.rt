@@ -69,7 +69,8 @@ pub fn put_all(
 #[tactic(auto, unfolding(pgw_frontend::specs::Frontend::encoding))]
 pub fn put_query(query: &Text, out: &mut BytesMut) -> Result<(), PgWireClientError>
     ensures own { IfErr result IsOwn }
-    ensures put { PutOut (encodings (PgWireFrontendMessage.Query (record { query = query.now }) ∷ []))
+    ensures put { PutOut
+        (encodings (PgWireFrontendMessage.Query (record { query = query.now }) ∷ []))
         out.old.items out.new.items result }
 {
     match encode_query(query, out) {
