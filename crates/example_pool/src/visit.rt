@@ -59,9 +59,13 @@ fn look(alloc: Global, lease: &mut Lease) -> Result<i64> {
     }
 }
 
-/// Looks what is there of a former lease, and gives how many things that are; then makes some.
+/// Looks what is there of a former lease, and gives how many things that are; where nothing is, makes some.
 pub(crate) fn visit(alloc: Global, lease: &mut Lease) -> Result<i64> {
     let found = look(alloc, lease)?;
+    // They would be refused, since there are such already.
+    if found != 0 {
+        return Ok(found);
+    }
     ask(alloc, lease, &Request::simple(alloc, TABLE)?)?;
     ask(alloc, lease, &Request::simple(alloc, SETTING)?)?;
     ask(

@@ -76,7 +76,8 @@ impl<L: Link> SharedPool<L> {
         }
     }
 
-    /// The pool, once no thread shares it. Leases that are out may be given back to it.
+    /// The pool, once no thread shares it. Its leases are to be given back before: a shared lease goes to a shared pool
+    /// alone.
     pub fn into_pool(self) -> Pool<L> {
         let SharedPool { turns } = self;
         let Sessions { pool } = turns.into_stock();
