@@ -1,5 +1,6 @@
 -- One request, and what it comes to.
 use Rattle.std.proofs.Common.{◌≡◌, ◌⊎◌, ◌≤◌, ℕ, Bool, true, false, List, length, ◌++◌, Result, Ok, Err, inl, inr, refl, sym, ◌∙◌, ap, subst}
+use Rattle.std.specs.Prelude.{IfOk}
 use Rattle.pgw_backend.specs.declared.client_error.PgWireClientError.{PgWireClientError as ClientError}
 use Rattle.pgw_backend.specs.declared.client_error.PgWireClientError.TheVariants as client
 use Rattle.pgw_query.specs.declared.data.DataRow.{DataRow}
@@ -27,7 +28,7 @@ use Rattle.pgw_connection.specs.Lent.{both}
 use Rattle.pgw_calls.specs.Calls.{Comes, SimpleCall}
 use Rattle.pgw_calls.specs.Extended.{IsExtended, ExtendedCall, given}
 use Rattle.pgw_calls.specs.Stands.{Made, Stands, StandsBehind}
-use Rattle.pgw_ask.specs.Asking.{answered, same, Adds, Fails, Asks, failed, passes_for, Ended}
+use Rattle.pgw_ask.specs.Asking.{answered, same, Came, Adds, Fails, Asks, failed, passes_for, Ended}
 
 -- ---- what is said of an error, whatever the call gives
 
@@ -73,6 +74,20 @@ module _ {A : Type 0} (give : A → Answer) (q : Request) (before : Client) (old
   adds x false usable b = λ config nonce ts read wrote stands.
       let f = b config nonce ts read wrote stands in
       record { taken = f.0; sent = f.1; moved = f.2; flushed = f.3 refl; stands = f.4 }
+
+  -- the same of any client
+  pub came : (x : A) (broken : Bool) → broken ≡ false → CameTo give q before old after now (Ok x) broken → Came q (give x) before old after now
+  came x true usable c = absurd (let no : true ≡ false = usable in cc)
+  came x false usable c = record { taken = c.0; sent = c.1; moved = c.2; segment = c.3 }
+
+  came_error : (e : ClientError) (broken : Bool) → CameTo give q before old after now (Err e) broken → IfOk (answered e broken) (λ a. Came q a before old after now)
+  came_error (client.RemoteError e) false c = record { taken = c.0; sent = c.1; moved = c.2; segment = c.3 }
+  came_error (client.RemoteError e) true c = tt
+  came_error e broken c = tt
+
+  pub came_as : (e : ClientError) (broken shown : Bool) (result : Result Answer ClientError) → shown ≡ broken → result ≡ answered e shown → CameTo give q before old after now (Err e) broken
+      → IfOk result (λ a. Came q a before old after now)
+  came_as e broken shown result same_flag is c = subst (λ (r : Result Answer ClientError). IfOk r (λ a. Came q a before old after now)) (sym (is ∙ ap (answered e) same_flag)) (came_error e broken c)
 
   adds_remote : (e : ErrorResponse) → Behind give q before old after now (Err (client.RemoteError e)) false → Adds q (answer.Remote e) before old after now
   adds_remote e b = λ config nonce ts read wrote stands.

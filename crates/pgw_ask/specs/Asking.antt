@@ -12,7 +12,7 @@ use Rattle.pgw_connection.specs.Line.{Line, Moved, Pause, IsFlushed, EndedWell, 
 use Rattle.pgw_connection.specs.Talk.{passes, is_remote}
 use Rattle.pgw_connection.specs.Calls.{IsHalted}
 use Rattle.pgw_calls.specs.Calls.{Comes}
-use Rattle.pgw_calls.specs.Turns.{IsAnswered}
+use Rattle.pgw_calls.specs.Turns.{Does, IsAnswered}
 use Rattle.pgw_calls.specs.Stands.{Made, Stands, OneMore, StandsBehind}
 
 -- the server's error is an answer, where the client can still be used
@@ -40,6 +40,15 @@ pub record Asked (config : Config) (nonce : List ℕ) (ts : List Made) (read wro
   pub flushed : IsFlushed now
   pub stands : OneMore config nonce ts q (IsAnswered q a) (read ++ taken) (wrote ++ sent)
       after now.buffer
+
+-- Whatever was done over the client before: from its buffer and what was read for the request, by what
+-- it knew, the segment of this answer was taken, and what that sends was sent.
+pub record Came (q : Request) (a : Answer) (before : Client) (old : Line) (after : Client)
+    (now : Line) : Type 0 where
+  pub taken : List ℕ
+  pub sent : List ℕ
+  pub moved : Moved old now taken sent
+  pub segment : Does (IsAnswered q a) before (old.buffer ++ taken) sent after now.buffer
 
 -- So does one that stood for any.
 abbrev pub Adds : Request → Answer → Client → Line → Client → Line → Type 0

@@ -6,7 +6,7 @@ ghost use Rattle.pgw_handlers.specs.Handling.{HasCause};
 ghost use Rattle.pgw_calls.specs.Extended.{executed, given};
 ghost use Rattle.pgw_connection.specs.Line.{Foretold};
 ghost use Rattle.pgw_connection.specs.State.{line_of, link_of, known_by, is_broken};
-ghost use Rattle.pgw_ask.specs.Asking.{Asks, Ended, answered, name_in};
+ghost use Rattle.pgw_ask.specs.Asking.{Asks, Came, Ended, answered, name_in};
 
 use pgw_calls::laws::{
     extended_queries_are_segments, extended_queries_follow_one_another,
@@ -98,6 +98,9 @@ fn ask_simple<L: Link>(
     ensures asks { Asks (kind.Simple sql.now)
         (known_by client.old) (line_of L.tape L.faults client.old)
         (known_by client.new) (line_of L.tape L.faults client.new) (is_broken client.new) result }
+    ensures came { IfOk result (λ a. Came (kind.Simple sql.now) a
+        (known_by client.old) (line_of L.tape L.faults client.old)
+        (known_by client.new) (line_of L.tape L.faults client.new)) }
     ensures ended { Ended (kind.Simple sql.now) (line_of L.tape L.faults client.old)
         (known_by client.new) (line_of L.tape L.faults client.new) (is_broken client.new) result }
     ensures cause { HasCause (line_of L.tape L.faults client.old).faults
@@ -125,6 +128,9 @@ fn ask_extended<L: Link>(
     ensures asks { Asks request.now
         (known_by client.old) (line_of L.tape L.faults client.old)
         (known_by client.new) (line_of L.tape L.faults client.new) (is_broken client.new) result }
+    ensures came { IfOk result (λ a. Came request.now a
+        (known_by client.old) (line_of L.tape L.faults client.old)
+        (known_by client.new) (line_of L.tape L.faults client.new)) }
     ensures ended { Ended request.now (line_of L.tape L.faults client.old)
         (known_by client.new) (line_of L.tape L.faults client.new) (is_broken client.new) result }
     ensures cause { HasCause (line_of L.tape L.faults client.old).faults
@@ -163,6 +169,11 @@ pub fn ask<L: Link>(
     ensures asks { is_broken client.old ≡ false → Asks request.now
         (known_by client.old) (line_of L.tape L.faults client.old)
         (known_by client.new) (line_of L.tape L.faults client.new) (is_broken client.new) result }
+    // Whatever was done over the client before, by whichever calls: an answer comes from the segment
+    // that was taken for it, as the client then knew.
+    ensures came { is_broken client.old ≡ false → IfOk result (λ a. Came request.now a
+        (known_by client.old) (line_of L.tape L.faults client.old)
+        (known_by client.new) (line_of L.tape L.faults client.new)) }
     // The link's end is answered where the answer is wanting, and behind any answer but IoError all
     // that was written is flushed.
     ensures ended { is_broken client.old ≡ false → Ended request.now

@@ -5,7 +5,7 @@ use Rattle.pgw_connection.specs.State.{is_broken}
 use Rattle.pgw_connection.proofs.ForetoldLaws.{foretold_still}
 use Rattle.pgw_calls.specs.Extended.{given}
 use Rattle.pgw_ask.specs.Asking.{wants}
-use Rattle.pgw_ask.proofs.AskLaws.{adds, answered_caused, called_both, ended_caused, ended_error, ended_ok, ended_still, ends_as, extended, extended_came, extended_ended}
+use Rattle.pgw_ask.proofs.AskLaws.{adds, answered_caused, came, came_as, called_both, ended_caused, ended_error, ended_ok, ended_still, ends_as, extended, extended_came, extended_ended}
 use Rattle.pgw_ask.proofs.asking.ask_extended.Goals as goal
 
 pub returns-in-Err-clause-asks : goal.returns-in-Err-clause-asks
@@ -38,6 +38,29 @@ returns-in-Err-request-clause-asks g c =
     ends_as (given q) q _ _ _ _ c.in-Err-request.error _ c.is_broken.result c.answered.result (c.is_broken.ensures.broken ∙ ap (λ x. is_broken x) back) c.answered.ensures
     (λ config nonce ts read wrote stands. c.extended_queries_follow_one_another.ensures config nonce ts read wrote q _ _ _ _ _ is stands call)
     (extended_came c.extended_queries_are_segments.ensures q is call refl)
+    )
+
+pub returns-in-Ok-request-clause-came : goal.returns-in-Ok-request-clause-came
+returns-in-Ok-request-clause-came g c =
+    let lent = c.extended_query-lent.ensures.client in
+    let usable = subst (λ x. is_broken x ≡ false) (sym lent) c.requires.usable in
+    let q = c.args.request.now in
+    let x : Gathered (List DataRow) × Bool = (c.in-Ok-request.gathered, c.in-Ok-request.suspended) in
+    let call = called_both q _ (c.in-Ok-request.ensures.asks.asked usable) in
+    let back : c.client-1.given.0 ≡ c.request.new.self.client.now = c.client-1.given.1 (sym (c.request.ensures.same_client ∙ c.extended_query-lent.ensures.same_client)) in
+    rw (sym lent, back, c.given.ensures)
+    (came (given q) q _ _ _ _ x _ (c.in-Ok-request.ensures.asks.usable usable) (extended_came c.extended_queries_are_segments.ensures q (extended q c.requires.extended) call refl))
+
+pub returns-in-Err-request-clause-came : goal.returns-in-Err-request-clause-came
+returns-in-Err-request-clause-came g c =
+    let lent = c.extended_query-lent.ensures.client in
+    let usable = subst (λ x. is_broken x ≡ false) (sym lent) c.requires.usable in
+    let q = c.args.request.now in
+    let call = called_both q _ (c.in-Err-request.ensures.asks.asked usable) in
+    let back : c.client-1.given.0 ≡ c.request.new.self.client.now = c.client-1.given.1 (sym (c.request.ensures.same_client ∙ c.extended_query-lent.ensures.same_client)) in
+    rw (sym lent, back) (
+    came_as (given q) q _ _ _ _ c.in-Err-request.error _ c.is_broken.result c.answered.result (c.is_broken.ensures.broken ∙ ap (λ x. is_broken x) back) c.answered.ensures
+    (extended_came c.extended_queries_are_segments.ensures q (extended q c.requires.extended) call refl)
     )
 
 pub returns-in-Ok-request-clause-cause : goal.returns-in-Ok-request-clause-cause

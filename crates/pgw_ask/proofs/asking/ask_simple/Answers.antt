@@ -1,7 +1,7 @@
 use Rattle.std.proofs.Common.{refl}
 use Rattle.pgw_session.specs.declared.types.Request.TheVariants as request
 use Rattle.pgw_session.specs.declared.types.Answer.TheVariants as answer
-use Rattle.pgw_ask.proofs.AskLaws.{adds, answered_caused, ended_caused, ended_error, ended_ok, ends_as, simple_came}
+use Rattle.pgw_ask.proofs.AskLaws.{adds, answered_caused, came, came_as, ended_caused, ended_error, ended_ok, ends_as, simple_came}
 use Rattle.pgw_ask.proofs.asking.ask_simple.Goals as goal
 
 pub returns-in-Ok-clause-asks : goal.returns-in-Ok-clause-asks
@@ -18,6 +18,16 @@ returns-in-Err-clause-asks g c =
     ends_as answer.Responses (request.Simple c.args.sql.now) _ _ _ _ c.in-Err.error _ c.is_broken.result c.answered.result c.is_broken.ensures.broken c.answered.ensures
     (λ config nonce ts read wrote stands. c.simple_queries_follow_one_another.ensures config nonce ts read wrote c.args.sql.now _ _ _ _ _ stands call)
     (simple_came c.simple_queries_are_segments.ensures c.args.sql.now call refl)
+
+pub returns-in-Ok-clause-came : goal.returns-in-Ok-clause-came
+returns-in-Ok-clause-came g c =
+    came answer.Responses (request.Simple c.args.sql.now) _ _ _ _ c.in-Ok.responses _ (c.in-Ok.ensures.usable c.requires)
+    (simple_came c.simple_queries_are_segments.ensures c.args.sql.now (c.in-Ok.ensures.asked c.requires) refl)
+
+pub returns-in-Err-clause-came : goal.returns-in-Err-clause-came
+returns-in-Err-clause-came g c =
+    came_as answer.Responses (request.Simple c.args.sql.now) _ _ _ _ c.in-Err.error _ c.is_broken.result c.answered.result c.is_broken.ensures.broken c.answered.ensures
+    (simple_came c.simple_queries_are_segments.ensures c.args.sql.now (c.in-Err.ensures.asked c.requires) refl)
 
 pub returns-in-Ok-clause-cause : goal.returns-in-Ok-clause-cause
 returns-in-Ok-clause-cause g c = answered_caused _ _ _ c.in-Ok.responses (answer.Responses c.in-Ok.responses) c.in-Ok.ensures.cause
