@@ -8,3 +8,4 @@ pub mod StockLaws
 pub mod LedgerLaws
 pub mod ClosingLaws
 pub mod SpareLaws
+pub mod LeaseCounts

@@ -4,6 +4,8 @@ pub mod Lending
 pub mod Returning
 pub mod Checking
 pub mod Closing
+pub mod Leases
+pub mod Ending
 pub mod Starting
 pub mod Sessions
 pub mod Spares

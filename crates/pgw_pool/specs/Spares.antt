@@ -13,6 +13,10 @@ use Rattle.pgw_pool.specs.Views.{view_of}
 abbrev pub last_lease : {X : Type 0} → Spare X → ℕ
 last_lease s = s.number
 
+-- how many leases it has had
+abbrev pub spare_leases : {X : Type 0} → Spare X → ℕ
+spare_leases s = s.leases
+
 abbrev pub spare_view : {X : Type 0} → (X → Tape) → (X → ℕ) → Spare X → View
 spare_view tape faults s = view_of tape faults s.client
 

@@ -6,6 +6,7 @@ use Rattle.pgw_link.specs.declared.link.Link as Link
 use Rattle.pgw_connection.specs.State.{ClientState, line_of, link_of, known_by, is_broken}
 use Rattle.pgw_pool.specs.declared.lease.Lease.{Lease}
 use Rattle.pgw_pool.specs.declared.pool.Pool.{Pool}
+use Rattle.pgw_pool.specs.declared.session.Session.{Session}
 use Rattle.pgw_pool.specs.Histories.{View}
 
 abbrev pub view_of : {X : Type 0} → (X → Tape) → (X → ℕ) →
@@ -21,10 +22,26 @@ abbrev pub left_in : {X : Type 0} → (X → Option (List ℕ)) →
     ClientState X → Option (List ℕ)
 left_in left c = left (link_of c)
 
+-- ---- a session
+
+abbrev pub session_view : {X : Type 0} → (X → Tape) → (X → ℕ) → Session X → View
+session_view tape faults s = view_of tape faults s.client
+
+abbrev pub session_left : {X : Type 0} → (X → Option (List ℕ)) → Session X → Option (List ℕ)
+session_left left s = left_in left s.client
+
+-- how many leases it has had
+abbrev pub count_of : {X : Type 0} → Session X → ℕ
+count_of s = s.leases
+
 -- ---- a lease
 
 abbrev pub number_of : {X : Type 0} → Lease X → ℕ
 number_of lease = lease.number
+
+-- how many leases its session has had, this one included
+abbrev pub leases_of : {X : Type 0} → Lease X → ℕ
+leases_of lease = lease.leases
 
 abbrev pub client_in : {X : Type 0} → Lease X → ClientState X
 client_in lease = lease.client
@@ -40,12 +57,16 @@ left_of left lease = left_in left lease.client
 
 -- its idle sessions, the one first that has been idle longest
 abbrev pub idle_in : {X : Type 0} {L : Link.Ghosts X} → (X → Tape) → (X → ℕ) → Pool X L → List View
-idle_in tape faults pool = map (view_of tape faults) (pool.idle).items
+idle_in tape faults pool = map (session_view tape faults) (pool.idle).items
 
 -- what their links still have to come
 abbrev pub lefts_in : {X : Type 0} {L : Link.Ghosts X} → (X → Option (List ℕ)) → Pool X L →
     List (Option (List ℕ))
-lefts_in left pool = map (left_in left) (pool.idle).items
+lefts_in left pool = map (session_left left) (pool.idle).items
+
+-- how many leases each of them has had
+abbrev pub counts_in : {X : Type 0} {L : Link.Ghosts X} → Pool X L → List ℕ
+counts_in pool = map count_of (pool.idle).items
 
 -- how many leases it has lent
 abbrev pub lent_by : {X : Type 0} {L : Link.Ghosts X} → Pool X L → ℕ

@@ -11,6 +11,7 @@ ghost use Rattle.pgw_pool.specs.Checking.{is_empty_query, fit_by_status, fit_by}
 use crate::lease::Lease;
 use crate::pool::Pool;
 use crate::returned::{DropCause, cause_of};
+use crate::session::Session;
 use pgw_calls::laws::{simple_queries_are_segments, simple_queries_follow_one_another};
 use pgw_client::{Link, Listed, PgWireClientResult, Response, TransactionStatus};
 use pgw_connection::{ClientInfo, PgWireClient};
@@ -113,7 +114,8 @@ fn look_at<L: Link>(alloc: Global, client: &mut PgWireClient<L>) -> Result<(), U
 impl<L: Link> Pool<L> {
     ghost use Rattle.std.specs.Prelude.{Ok};
     ghost use Rattle.pgw_pool.specs.Histories.{History, AreIdle};
-    ghost use Rattle.pgw_pool.specs.Views.{idle_in, lefts_in, left_of, lent_by, out_by, connected_by, dropped_by, room_of, reserved_in, number_of, lease_view};
+    ghost use Rattle.pgw_pool.specs.Views.{idle_in, lefts_in, counts_in, left_of, lent_by, out_by, connected_by, dropped_by, room_of, reserved_in, number_of, leases_of, lease_view};
+    ghost use Rattle.pgw_pool.specs.Leases.{AreCounted, LendsOne, LendsFitCounted, LeavesCounts, StayCounted};
     ghost use Rattle.pgw_pool.specs.Checking.{ChecksForetold, LendsFit, LendsNoneFit, NoneForetold, LendsChecked, StayChecked};
 
     /// Lends the session that has been idle longest, if it still answers: it is asked an empty query
@@ -144,6 +146,11 @@ impl<L: Link> Pool<L> {
             IfOk result (λ lease. LendsChecked hs
             (lent_by self.new) (idle_in L.tape L.faults self.new)
             (number_of lease) (lease_view L.tape L.faults lease)) }
+        // It has had one lease more, and the others as many as before.
+        ensures had { IfOk result (λ lease.
+            LendsOne (counts_in self.old) (counts_in self.new) (leases_of lease)) }
+        ensures all_counted { (hs : List History) → AreCounted hs (counts_in self.old) →
+            IfOk result (λ lease. LendsFitCounted hs (counts_in self.new) (leases_of lease)) }
         // Empty comes exactly where none is idle, and else Exhausted where all numbers are spent; then
         // nothing was done. Else the first was asked, and this is why it was not fit.
         ensures refused { IfErr result (LendsNoneFit
@@ -157,6 +164,10 @@ impl<L: Link> Pool<L> {
             AreIdle (lent_by self.old) hs (idle_in L.tape L.faults self.old) →
             IfErr result (λ e. StayChecked e hs (lent_by self.new)
             (idle_in L.tape L.faults self.new)) }
+        // The count of one that is dropped goes with it.
+        ensures leaves { IfErr result (LeavesCounts (counts_in self.old) (counts_in self.new)) }
+        ensures stay_counted { (hs : List History) → AreCounted hs (counts_in self.old) →
+            IfErr result (λ e. StayCounted e hs (counts_in self.new)) }
         ensures same { OnErr result ((lent_by self.new ≡ lent_by self.old)
             × (out_by self.new ≡ out_by self.old)) }
     {
@@ -166,16 +177,19 @@ impl<L: Link> Pool<L> {
         if self.lent == u64::MAX {
             return Err(CheckError::Exhausted);
         }
-        let Some(mut client) = self.idle.pop_front() else {
+        let Some(session) = self.idle.pop_front() else {
             return Err(CheckError::Empty);
         };
+        let Session { mut client, leases } = session;
         match look_at(alloc, &mut client) {
             Ok(()) => {
+                let leases = leases.saturating_add(1);
                 self.lent += 1;
                 self.out += 1;
                 Ok(Lease {
                     client,
                     number: self.lent,
+                    leases,
                 })
             }
             Err(why) => {

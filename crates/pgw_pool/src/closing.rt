@@ -7,6 +7,7 @@ ghost use Rattle.pgw_pool.specs.Closing.{first_error};
 
 use crate::lease::Lease;
 use crate::pool::Pool;
+use crate::session::Session;
 use pgw_client::{Dialer, Link, PgWireClientResult};
 
 fn first_error(
@@ -25,7 +26,7 @@ fn first_error(
 }
 
 impl<L: Link> Pool<L> {
-    ghost use Rattle.pgw_pool.specs.Views.{idle_in, lefts_in, lent_by, out_by, dropped_by, connected_by, room_of, reserved_in, lease_view};
+    ghost use Rattle.pgw_pool.specs.Views.{idle_in, lefts_in, counts_in, lent_by, out_by, dropped_by, connected_by, room_of, reserved_in, lease_view};
     ghost use Rattle.pgw_pool.specs.Closing.{Closes};
 
     /// Ends the pool: takes leave of the server on each idle session, the longest idle one first, and
@@ -45,7 +46,11 @@ impl<L: Link> Pool<L> {
             connected: _connected,
         } = self;
         let mut result = Ok(());
-        'sessions: while let Some(client) = idle.pop_front() {
+        'sessions: while let Some(session) = idle.pop_front() {
+            let Session {
+                client,
+                leases: _leases,
+            } = session;
             let left = client.close(dialer);
             result = first_error(result, left);
         }
@@ -69,6 +74,7 @@ impl<L: Link> Pool<L> {
         // The idle sessions are those that were idle before, so this one is never lent again.
         ensures idle { idle_in L.tape L.faults self.new ≡ idle_in L.tape L.faults self.old }
         ensures lefts { lefts_in L.left self.new ≡ lefts_in L.left self.old }
+        ensures had { counts_in self.new ≡ counts_in self.old }
         ensures closed { Closed (lease_view L.tape L.faults lease).broken
             (lease_view L.tape L.faults lease).line.tape
             (lease_view L.tape L.faults lease).line.faults
@@ -80,6 +86,7 @@ impl<L: Link> Pool<L> {
         let Lease {
             client,
             number: _number,
+            leases: _leases,
         } = lease;
         self.out = self.out.saturating_sub(1);
         self.dropped = self.dropped.saturating_add(1);

@@ -16,12 +16,13 @@ use std::alloc::Global;
 pub struct Lease<L: Link> {
     pub(crate) client: PgWireClient<L>,
     pub(crate) number: u64,
+    pub(crate) leases: u64,
 }
 
 impl<L: Link> Lease<L> {
     ghost use Rattle.pgw_pool.specs.Histories.{History, Lent, IsLent};
     ghost use Rattle.pgw_connection.specs.Line.{Foretold};
-    ghost use Rattle.pgw_pool.specs.Views.{number_of, client_in, left_of, lease_view};
+    ghost use Rattle.pgw_pool.specs.Views.{number_of, leases_of, client_in, left_of, lease_view};
     ghost use Rattle.pgw_pool.specs.Lending.{Ran};
 
     /// The first lease of a pool has number 1.
@@ -29,6 +30,13 @@ impl<L: Link> Lease<L> {
         ensures { result ≡ number_of self.now }
     {
         self.number
+    }
+
+    /// How many leases its session has had, this one included. The count stays at the greatest u64.
+    pub fn leases(&self) -> u64
+        ensures { result ≡ leases_of self.now }
+    {
+        self.leases
     }
 
     pub fn link(&self) -> &L
@@ -54,6 +62,7 @@ impl<L: Link> Lease<L> {
     /// where the session can go on behind it.
     pub fn run(&mut self, alloc: Global, request: &Request) -> PgWireClientResult<Answer>
         ensures number { number_of self.new ≡ number_of self.old }
+        ensures had { leases_of self.new ≡ leases_of self.old }
         // A session that an earlier error left unusable is asked nothing.
         ensures broken { (lease_view L.tape L.faults self.old).broken ≡ true →
             (result ≡ Err failure.Broken) × (self.new ≡ self.old) }

@@ -4,20 +4,24 @@
 //! leases the segments of that lease's own requests and one of `DISCARD ALL`; that each answer is
 //! that of its own request's segment; that each lease after a session's first begins with no
 //! transaction open; and that a session which is dropped is never lent again. A request that was
-//! passed over, and one at which an error cut the session, are told as such.
+//! passed over, and one at which an error cut the session, are told as such. A lease tells how many
+//! its session has had.
 #![tactic(auto)]
 
 pub mod checking;
 mod closing;
+pub mod ending;
 pub mod laws;
 pub mod lease;
 pub mod pool;
 mod refilling;
 pub mod returned;
+mod session;
 pub mod spare;
 mod starting;
 
 pub use crate::checking::{CheckError, Unfit};
+pub use crate::ending::LeaseEnd;
 pub use crate::lease::Lease;
 pub use crate::pool::{LendError, Pool};
 pub use crate::returned::{DropCause, Returned};

@@ -1,10 +1,11 @@
 //! A pool.
-ghost use Rattle.std.specs.Prelude.{◌≡◌, ◌≢◌, ◌<◌, ◌≤◌, List, [], ◌∷◌, ◌++◌, length, ◌+◌, ◌-◌, false, IfOk, IfErr, IsOk, OnOk};
+ghost use Rattle.std.specs.Prelude.{◌≡◌, ◌≢◌, ◌<◌, ◌≤◌, List, [], ◌∷◌, ◌++◌, length, replicate, ◌+◌, ◌-◌, false, IfOk, IfErr, IsOk, OnOk};
 ghost use Rattle.std.specs.VecDeque.{deque_len, deque_capacity};
 ghost use Rattle.pgw_handlers.specs.Handling.{HasCause};
 
 use crate::lease::Lease;
 use crate::returned::{Returned, reset};
+use crate::session::Session;
 use crate::starting::log_in;
 use pgw_client::{Config, Dialer, Link, PgWireClientError, PgWireClientResult};
 use pgw_connection::PgWireClient;
@@ -15,7 +16,7 @@ use std::collections::VecDeque;
 #[derive(Drop)]
 pub struct Pool<L: Link> {
     // The one that has been idle longest stands first.
-    pub(crate) idle: VecDeque<PgWireClient<L>>,
+    pub(crate) idle: VecDeque<Session<L>>,
     pub(crate) room: usize,
     pub(crate) lent: u64,
     // Its leases that were not given back yet.
@@ -37,7 +38,8 @@ pub enum LendError {
 
 impl<L: Link> Pool<L> {
     ghost use Rattle.pgw_pool.specs.Histories.{History, Lent, IsLent, AreIdle};
-    ghost use Rattle.pgw_pool.specs.Views.{view_of, left_in, idle_in, lefts_in, lent_by, out_by, dropped_by, connected_by, room_of, reserved_in, number_of, left_of, lease_view};
+    ghost use Rattle.pgw_pool.specs.Views.{view_of, left_in, idle_in, lefts_in, counts_in, lent_by, out_by, dropped_by, connected_by, room_of, reserved_in, number_of, leases_of, left_of, lease_view};
+    ghost use Rattle.pgw_pool.specs.Leases.{leases_with_this, AreCounted, LendsOne, LendsCounted, counts_behind, BackCounted};
     ghost use Rattle.pgw_pool.specs.Lending.{most_leases, Lends, LendsNone, LendsFirst};
     ghost use Rattle.pgw_pool.specs.Returning.{GivesBack, GivesForetold, GivenBack, DropsFrom, dropped_behind};
     ghost use Rattle.pgw_pool.specs.Starting.{dials, new_histories, ConnectAll, ConnectForetold, NotStarted};
@@ -61,6 +63,10 @@ impl<L: Link> Pool<L> {
         // All of them are idle, in the order of the nonces, and none was lent.
         ensures idle { IfOk result (λ pool. AreIdle (lent_by pool)
             (new_histories config.now nonces.now) (idle_in L.tape L.faults pool)) }
+        // None has had a lease.
+        ensures had { IfOk result (λ pool. counts_in pool ≡ replicate (length nonces.now) 0) }
+        ensures all_counted { IfOk result (λ pool.
+            AreCounted (new_histories config.now nonces.now) (counts_in pool)) }
         ensures connected { IfOk result (λ pool. ConnectAll config.now limit
             (dials (D.tape dialer.old) (D.offer dialer.old) (D.faults dialer.old)) nonces.now
             (dials (D.tape dialer.new) (D.offer dialer.new) (D.faults dialer.new))
@@ -83,7 +89,7 @@ impl<L: Link> Pool<L> {
         };
         for nonce in nonces {
             match log_in(alloc, config, *nonce, limit, dialer) {
-                Ok(client) => idle.push_back_reserved(client),
+                Ok(client) => idle.push_back_reserved(Session { client, leases: 0 }),
                 Err(error) => return Err(error),
             }
         }
@@ -98,8 +104,7 @@ impl<L: Link> Pool<L> {
     }
 
     // Puts a session behind all that are idle, in the room that was taken.
-    #[tactic(auto, using(crate::proofs::HistoryLaws::mapped_behind))]
-    pub(crate) fn keep(&mut self, client: PgWireClient<L>)
+    pub(crate) fn keep(&mut self, client: PgWireClient<L>, leases: u64)
         requires { length (idle_in L.tape L.faults self.old) + out_by self.old < room_of self.old }
         ensures room { room_of self.new ≡ room_of self.old }
         ensures reserved { reserved_in self.new ≡ reserved_in self.old }
@@ -111,10 +116,11 @@ impl<L: Link> Pool<L> {
             ≡ idle_in L.tape L.faults self.old ++ view_of L.tape L.faults client ∷ [] }
         ensures lefts { lefts_in L.left self.new
             ≡ lefts_in L.left self.old ++ left_in L.left client ∷ [] }
+        ensures had { counts_in self.new ≡ counts_in self.old ++ leases ∷ [] }
         ensures counts { length (idle_in L.tape L.faults self.new)
             ≡ length (idle_in L.tape L.faults self.old) + 1 }
     {
-        self.idle.push_back_reserved(client);
+        self.idle.push_back_reserved(Session { client, leases });
     }
 
     /// How many sessions it has room for, which are those that it was started with.
@@ -180,6 +186,11 @@ impl<L: Link> Pool<L> {
             IfOk result (λ lease. LendsFirst hs
             (lent_by self.new) (idle_in L.tape L.faults self.new)
             (number_of lease) (lease_view L.tape L.faults lease)) }
+        // It has had one lease more, and the others as many as before.
+        ensures had { IfOk result (λ lease.
+            LendsOne (counts_in self.old) (counts_in self.new) (leases_of lease)) }
+        ensures all_counted { (hs : List History) → AreCounted hs (counts_in self.old) →
+            IfOk result (λ lease. LendsCounted hs (counts_in self.new) (leases_of lease)) }
         // What its link has to come stays.
         ensures foretold { IfOk result (λ lease.
             lefts_in L.left self.old ≡ left_of L.left lease ∷ lefts_in L.left self.new) }
@@ -195,12 +206,15 @@ impl<L: Link> Pool<L> {
             return Err(LendError::Exhausted);
         }
         match self.idle.pop_front() {
-            Some(client) => {
+            Some(session) => {
+                let Session { client, leases } = session;
+                let leases = leases.saturating_add(1);
                 self.lent += 1;
                 self.out += 1;
                 Ok(Lease {
                     client,
                     number: self.lent,
+                    leases,
                 })
             }
             None => Err(LendError::Empty),
@@ -236,15 +250,22 @@ impl<L: Link> Pool<L> {
             GivenBack (lent_by self.new) hs h l (idle_in L.tape L.faults self.new) result }
         ensures dropped { (h : History) (l : Lent) → IsLent h l (lease_view L.tape L.faults lease) →
             DropsFrom h l (lease_view L.tape L.faults lease) result }
+        // Where it is kept, its leases are counted with it, this one included.
+        ensures had { counts_in self.new
+            ≡ counts_behind (counts_in self.old) (leases_of lease) result }
+        ensures all_counted { (hs : List History) (h : History) (l : Lent) →
+            AreCounted hs (counts_in self.old) → leases_of lease ≡ leases_with_this h →
+            BackCounted hs h l (counts_in self.new) result }
     {
         let Lease {
             mut client,
             number: _number,
+            leases,
         } = lease;
         self.out = self.out.saturating_sub(1);
         match reset(alloc, &mut client) {
             Returned::Kept => {
-                self.keep(client);
+                self.keep(client, leases);
                 Returned::Kept
             }
             Returned::Dropped(cause) => {

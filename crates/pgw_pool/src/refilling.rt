@@ -11,7 +11,8 @@ use std::alloc::Global;
 
 impl<L: Link> Pool<L> {
     ghost use Rattle.pgw_pool.specs.Histories.{History, new_history, AreIdle};
-    ghost use Rattle.pgw_pool.specs.Views.{idle_in, lefts_in, lent_by, out_by, dropped_by, connected_by, room_of, reserved_in};
+    ghost use Rattle.pgw_pool.specs.Views.{idle_in, lefts_in, counts_in, lent_by, out_by, dropped_by, connected_by, room_of, reserved_in};
+    ghost use Rattle.pgw_pool.specs.Leases.{AreCounted};
     ghost use Rattle.pgw_pool.specs.Starting.{dials, Refills, RefillsForetold, NotConnects};
 
     /// Connects a session in place of one that was lost, with at most one dial. It stands behind all
@@ -45,6 +46,11 @@ impl<L: Link> Pool<L> {
             AreIdle (lent_by self.old) hs (idle_in L.tape L.faults self.old) →
             OnOk result (AreIdle (lent_by self.new) (hs ++ new_history config.now nonce ∷ [])
             (idle_in L.tape L.faults self.new)) }
+        // It has had no lease.
+        ensures had { OnOk result (counts_in self.new ≡ counts_in self.old ++ 0 ∷ []) }
+        ensures all_counted { (hs : List History) → AreCounted hs (counts_in self.old) →
+            OnOk result (AreCounted (hs ++ new_history config.now nonce ∷ [])
+            (counts_in self.new)) }
         // Of a dialer that knows its offer: the bytes of the login are its front.
         ensures foretold { D.foretells → OnOk result (RefillsForetold config.now limit nonce
             (dials (D.tape dialer.old) (D.offer dialer.old) (D.faults dialer.old))
@@ -64,7 +70,7 @@ impl<L: Link> Pool<L> {
     {
         match log_in(alloc, config, nonce, limit, dialer) {
             Ok(client) => {
-                self.keep(client);
+                self.keep(client, 0);
                 self.connected = self.connected.saturating_add(1);
                 Ok(())
             }

@@ -18,12 +18,13 @@ use std::alloc::Global;
 pub struct Spare<L: Link> {
     pub(crate) client: PgWireClient<L>,
     pub(crate) number: u64,
+    pub(crate) leases: u64,
 }
 
 impl<L: Link> Spare<L> {
     ghost use Rattle.pgw_pool.specs.Histories.{IsIdle, new_history};
     ghost use Rattle.pgw_pool.specs.Starting.{dials, Connects, NotConnects};
-    ghost use Rattle.pgw_pool.specs.Spares.{last_lease, spare_view};
+    ghost use Rattle.pgw_pool.specs.Spares.{last_lease, spare_leases, spare_view};
 
     /// Connects a session, with one dial at most. The nonce is to be random and used for no other.
     pub fn connect<D: Dialer<Link = L>>(
@@ -34,6 +35,7 @@ impl<L: Link> Spare<L> {
         dialer: &mut D,
     ) -> PgWireClientResult<Spare<L>>
         ensures number { IfOk result (λ s. last_lease s ≡ 0) }
+        ensures had { IfOk result (λ s. spare_leases s ≡ 0) }
         ensures idle { IfOk result (λ s.
             IsIdle 0 (new_history config.now nonce) (spare_view L.tape L.faults s)) }
         ensures connected { IfOk result (λ s. Connects config.now limit nonce
@@ -50,7 +52,13 @@ impl<L: Link> Spare<L> {
         ensures cause { HasCause (D.faults dialer.old) (D.faults dialer.new) false result }
     {
         match log_in(alloc, config, nonce, limit, dialer) {
-            Ok(client) => Ok(Spare { client, number: 0 }),
+            Ok(client) => {
+                Ok(Spare {
+                    client,
+                    number: 0,
+                    leases: 0,
+                })
+            }
             Err(error) => Err(error),
         }
     }
@@ -66,25 +74,39 @@ impl<L: Link> Spare<L> {
 impl<L: Link> Lease<L> {
     ghost use Rattle.pgw_pool.specs.Histories.{History, Lent, IsLent, IsIdle, with_lease};
     ghost use Rattle.pgw_session.specs.Events.{Event};
-    ghost use Rattle.pgw_pool.specs.Views.{number_of, lease_view};
+    ghost use Rattle.pgw_pool.specs.Views.{number_of, leases_of, lease_view};
+    ghost use Rattle.pgw_pool.specs.Leases.{leases_had, leases_with_this};
     ghost use Rattle.pgw_pool.specs.Returning.{GivesBack};
-    ghost use Rattle.pgw_pool.specs.Spares.{last_lease, spare_view, spares_in, returned_as, IsSpared};
+    ghost use Rattle.pgw_pool.specs.Spares.{last_lease, spare_leases, spare_view, spares_in, returned_as, IsSpared};
 
     /// Ends the lease: asks `DISCARD ALL` of its session, which needs no pool. Where that is answered,
     /// and no transaction is open behind it, the session may be put into a pool. Else it is dropped
     /// with its link.
     pub fn reset(self, alloc: Global) -> Result<Spare<L>, DropCause>
         ensures number { IfOk result (λ s. last_lease s ≡ number_of self) }
+        ensures had { IfOk result (λ s. spare_leases s ≡ leases_of self) }
         // As `Pool::give_back` keeps or drops it.
         ensures gives_back { GivesBack (lease_view L.tape L.faults self) []
             (spares_in L.tape L.faults result) (returned_as result) }
         // Whatever was done over the session, the lease and the reset are made besides.
         ensures over { (h : History) (l : Lent) → IsLent h l (lease_view L.tape L.faults self) →
             IfOk result (λ s. IsSpared h l (spare_view L.tape L.faults s)) }
+        ensures all_counted { (h : History) (l : Lent) → leases_of self ≡ leases_with_this h →
+            IfOk result (λ s. (es : List Event) → spare_leases s ≡ leases_had (with_lease h l es)) }
     {
-        let Lease { mut client, number } = self;
+        let Lease {
+            mut client,
+            number,
+            leases,
+        } = self;
         match reset(alloc, &mut client) {
-            Returned::Kept => Ok(Spare { client, number }),
+            Returned::Kept => {
+                Ok(Spare {
+                    client,
+                    number,
+                    leases,
+                })
+            }
             Returned::Dropped(cause) => {
                 drop(client);
                 Err(cause)
@@ -95,8 +117,9 @@ impl<L: Link> Lease<L> {
 
 impl<L: Link> Pool<L> {
     ghost use Rattle.pgw_pool.specs.Histories.{History, IsIdle, AreIdle};
-    ghost use Rattle.pgw_pool.specs.Views.{idle_in, lent_by, out_by, dropped_by, connected_by, room_of, reserved_in};
-    ghost use Rattle.pgw_pool.specs.Spares.{last_lease, spare_view};
+    ghost use Rattle.pgw_pool.specs.Views.{idle_in, counts_in, lent_by, out_by, dropped_by, connected_by, room_of, reserved_in};
+    ghost use Rattle.pgw_pool.specs.Leases.{leases_had, AreCounted};
+    ghost use Rattle.pgw_pool.specs.Spares.{last_lease, spare_leases, spare_view};
 
     /// How many leases it has lent, which is the number of the last one.
     pub fn lent(&self) -> u64
@@ -130,14 +153,23 @@ impl<L: Link> Pool<L> {
             IsIdle (last_lease spare) h (spare_view L.tape L.faults spare) →
             last_lease spare ≤ lent_by self.old →
             AreIdle (lent_by self.new) (hs ++ h ∷ []) (idle_in L.tape L.faults self.new) }
+        // Its leases are counted with it.
+        ensures had { counts_in self.new ≡ counts_in self.old ++ spare_leases spare ∷ [] }
+        ensures all_counted { (hs : List History) (h : History) →
+            AreCounted hs (counts_in self.old) → spare_leases spare ≡ leases_had h →
+            AreCounted (hs ++ h ∷ []) (counts_in self.new) }
     {
-        let Spare { client, number } = spare;
+        let Spare {
+            client,
+            number,
+            leases,
+        } = spare;
         if number == 0 {
-            self.keep(client);
+            self.keep(client, leases);
             self.connected = self.connected.saturating_add(1);
         } else {
             self.out = self.out.saturating_sub(1);
-            self.keep(client);
+            self.keep(client, leases);
         }
     }
 
@@ -150,6 +182,7 @@ impl<L: Link> Pool<L> {
         ensures dropped { dropped_by self.new ≡ counted (dropped_by self.old) }
         ensures connected { connected_by self.new ≡ connected_by self.old }
         ensures idle { idle_in L.tape L.faults self.new ≡ idle_in L.tape L.faults self.old }
+        ensures had { counts_in self.new ≡ counts_in self.old }
     {
         self.out = self.out.saturating_sub(1);
         self.dropped = self.dropped.saturating_add(1);

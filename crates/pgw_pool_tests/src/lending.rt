@@ -114,7 +114,7 @@ pub(crate) fn cause_name(cause: &DropCause) -> &'static str {
     }
 }
 
-fn returned_name(returned: &Returned) -> &'static str {
+pub(crate) fn returned_name(returned: &Returned) -> &'static str {
     match returned {
         Returned::Kept => "kept",
         Returned::Dropped(cause) => cause_name(cause),

@@ -5,3 +5,5 @@
 mod lending;
 #[cfg(test)]
 mod renewing;
+#[cfg(test)]
+mod retiring;

@@ -2,6 +2,7 @@ use Rattle.std.proofs.Common.{[], ◌∷◌, refl, arith}
 use Rattle.pgw_pool.specs.Views.{view_of}
 use Rattle.pgw_pool.specs.declared.returned.Returned.TheVariants.{Kept}
 use Rattle.pgw_pool.proofs.ReturnLaws.{given_back}
+use Rattle.pgw_pool.proofs.LeaseCounts.{lease_had}
 use Rattle.pgw_pool.proofs.lease.Lease.reset.Goals as goal
 
 pub returns-in-Kept-clause-gives_back : goal.returns-in-Kept-clause-gives_back
@@ -16,6 +17,9 @@ returns-in-Kept-clause-over g c = λ h l lease.
     let e = c.in-Kept.ensures.asked in
     let given = given_back l.number [] h l (V c.args.self.client) [] (V c.reset.new.client ∷ []) Kept (V c.reset.new.client, e.0, e.1, e.2, refl) tt lease (omega arith) in
     (given.0, (given.1).0)
+
+pub returns-in-Kept-clause-all_counted : goal.returns-in-Kept-clause-all_counted
+returns-in-Kept-clause-all_counted g c = λ h l is es. lease_had h l es c.args.self.leases is
 
 pub returns-in-Dropped-clause-gives_back : goal.returns-in-Dropped-clause-gives_back
 returns-in-Dropped-clause-gives_back g c =

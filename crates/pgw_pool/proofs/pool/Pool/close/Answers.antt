@@ -1,5 +1,5 @@
 use Rattle.std.proofs.Common.{map, ap}
-use Rattle.pgw_pool.specs.Views.{view_of}
+use Rattle.pgw_pool.specs.Views.{session_view}
 use Rattle.pgw_pool.specs.Closing.{none_closed}
 use Rattle.pgw_pool.proofs.ClosingLaws.{one_more_closed}
 use Rattle.pgw_pool.proofs.pool.Pool.close.Goals as goal
@@ -9,5 +9,5 @@ sessions-init g c = none_closed
 
 pub sessions-preserved : goal.sessions-preserved
 sessions-preserved g c =
-    let V = view_of g.L.Link.tape g.L.Link.faults in
-    one_more_closed _ _ _ (V c.in-Some.client) (map V c.sessions.idle.items) (map V c.pop_front.new.self.items) _ _ _ _ _ _ _ (ap (map V) c.in-Some.ensures.items) c.first_error-result.ensures c.sessions.invariant c.close-left.ensures.closed
+    let S = session_view g.L.Link.tape g.L.Link.faults in
+    one_more_closed _ _ _ (S c.in-Some.session) (map S c.sessions.idle.items) (map S c.pop_front.new.self.items) _ _ _ _ _ _ _ (ap (map S) c.in-Some.ensures.items) c.first_error-result.ensures c.sessions.invariant c.close-left.ensures.closed

@@ -1,6 +1,6 @@
 use Rattle.std.proofs.Common.{map}
 use Rattle.std.specs.VecDeque.{deque_len}
-use Rattle.pgw_pool.specs.Views.{view_of}
+use Rattle.pgw_pool.specs.Views.{session_view}
 use Rattle.pgw_pool.specs.Closing.{Closes}
 use Rattle.pgw_pool.proofs.pool.Pool.close.Given as goal
 
@@ -9,5 +9,5 @@ decreases-sessions g l = deque_len l.idle
 
 abbrev pub invariant-sessions : goal.invariant-sessions
 invariant-sessions g l =
-    let V = view_of g.L.Link.tape g.L.Link.faults in
-    Closes (map V (l.fn.self.idle).items) (g.D.Dialer.tape l.fn.dialer) (g.D.Dialer.faults l.fn.dialer) (map V (l.idle).items) (g.D.Dialer.tape l.dialer) (g.D.Dialer.faults l.dialer) l.result
+    let S = session_view g.L.Link.tape g.L.Link.faults in
+    Closes (map S (l.fn.self.idle).items) (g.D.Dialer.tape l.fn.dialer) (g.D.Dialer.faults l.fn.dialer) (map S (l.idle).items) (g.D.Dialer.tape l.dialer) (g.D.Dialer.faults l.dialer) l.result

@@ -1,8 +1,9 @@
 use Rattle.std.proofs.Common.{map, refl, sym, subst}
-use Rattle.pgw_pool.specs.Views.{view_of}
+use Rattle.pgw_pool.specs.Views.{view_of, session_view, count_of}
 use Rattle.pgw_pool.specs.Returning.{GivenBack}
 use Rattle.pgw_pool.specs.declared.returned.Returned.TheVariants.{Kept, Dropped}
 use Rattle.pgw_pool.proofs.ReturnLaws.{given_back, drops_from, gives_foretold}
+use Rattle.pgw_pool.proofs.LeaseCounts.{back_counted}
 use Rattle.pgw_pool.proofs.pool.Pool.give_back.Goals as goal
 
 pub returns-in-Kept-clause-gives_back : goal.returns-in-Kept-clause-gives_back
@@ -20,9 +21,10 @@ returns-in-Kept-clause-foretold g c = λ t.
 pub returns-in-Kept-clause-given : goal.returns-in-Kept-clause-given
 returns-in-Kept-clause-given g c = λ hs h l are lease own.
     let V = view_of g.L.Link.tape g.L.Link.faults in
+    let S = session_view g.L.Link.tape g.L.Link.faults in
     let e = c.in-Kept.ensures.asked in
-    subst (λ n. GivenBack n hs h l (map V c.keep.new.self.idle.items) Kept) (sym c.keep.ensures.lent)
-    (given_back c.args.self.now.lent hs h l (V c.args.lease.client) (map V c.args.self.now.idle.items) (map V c.keep.new.self.idle.items) Kept
+    subst (λ n. GivenBack n hs h l (map S c.keep.new.self.idle.items) Kept) (sym c.keep.ensures.lent)
+    (given_back c.args.self.now.lent hs h l (V c.args.lease.client) (map S c.args.self.now.idle.items) (map S c.keep.new.self.idle.items) Kept
     (V c.reset.new.client, e.0, e.1, e.2, c.keep.ensures.idle) are lease own)
 
 pub returns-in-Dropped-clause-gives_back : goal.returns-in-Dropped-clause-gives_back
@@ -40,12 +42,22 @@ returns-in-Dropped-clause-foretold g c = λ t.
 pub returns-in-Dropped-clause-given : goal.returns-in-Dropped-clause-given
 returns-in-Dropped-clause-given g c = λ hs h l are lease own.
     let V = view_of g.L.Link.tape g.L.Link.faults in
+    let S = session_view g.L.Link.tape g.L.Link.faults in
     let e = c.in-Dropped.ensures.asked in
-    given_back c.args.self.now.lent hs h l (V c.args.lease.client) (map V c.args.self.now.idle.items) (map V c.args.self.now.idle.items) (Dropped c.in-Dropped.cause)
+    given_back c.args.self.now.lent hs h l (V c.args.lease.client) (map S c.args.self.now.idle.items) (map S c.args.self.now.idle.items) (Dropped c.in-Dropped.cause)
     (V c.reset.new.client, e.0, e.1, e.2, refl) are lease own
 
 pub returns-in-Dropped-clause-dropped : goal.returns-in-Dropped-clause-dropped
 returns-in-Dropped-clause-dropped g c = λ h l lease.
     let V = view_of g.L.Link.tape g.L.Link.faults in
+    let S = session_view g.L.Link.tape g.L.Link.faults in
     let e = c.in-Dropped.ensures.asked in
-    drops_from h l (V c.args.lease.client) (map V c.args.self.now.idle.items) (map V c.args.self.now.idle.items) (Dropped c.in-Dropped.cause) (V c.reset.new.client, e.0, e.1, e.2, refl) lease
+    drops_from h l (V c.args.lease.client) (map S c.args.self.now.idle.items) (map S c.args.self.now.idle.items) (Dropped c.in-Dropped.cause) (V c.reset.new.client, e.0, e.1, e.2, refl) lease
+
+pub returns-in-Kept-clause-all_counted : goal.returns-in-Kept-clause-all_counted
+returns-in-Kept-clause-all_counted g c = λ hs h l are is.
+    back_counted hs h l (map count_of c.args.self.now.idle.items) (map count_of c.keep.new.self.idle.items) c.args.lease.leases Kept c.keep.ensures.had are is
+
+pub returns-in-Dropped-clause-all_counted : goal.returns-in-Dropped-clause-all_counted
+returns-in-Dropped-clause-all_counted g c = λ hs h l are is.
+    back_counted hs h l (map count_of c.args.self.now.idle.items) (map count_of c.args.self.now.idle.items) c.args.lease.leases (Dropped c.in-Dropped.cause) refl are is

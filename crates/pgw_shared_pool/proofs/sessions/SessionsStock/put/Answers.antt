@@ -2,6 +2,14 @@ use Rattle.std.proofs.Common.{[], ◌∷◌, ◌++◌, ◌≤◌, arith}
 use Rattle.pgw_pool.specs.Views.{lent_by}
 use Rattle.pgw_pool.specs.Spares.{last_lease}
 use Rattle.pgw_shared_pool.proofs.sessions.SessionsStock.put.Goals as goal
+use Rattle.pgw_shared_pool.proofs.sessions.SessionsStock.put.Goals.{else-number-eq0-via-then-number-eq0+else-idle-out, else-number-eq0-via-else-number-eq0}
+
+pub put-requires-clause-new : goal.put-requires-clause-new
+put-requires-clause-new g c =
+    elim c.else-number-eq0.branch [
+      | else-number-eq0-via-then-number-eq0+else-idle-out w ↦ λ new. omega (arith, w.idle.ensures.counts, w.out.ensures.counts, w.capacity.ensures, w.if-idle-out.false)
+      | else-number-eq0-via-else-number-eq0 w ↦ λ new. omega (arith, c.number-number.ensures, w.if-number-eq0.false)
+    ]
 
 pub invariant_of-self : goal.invariant_of-self
 invariant_of-self g c =
