@@ -36,12 +36,15 @@ pub fn message_name(message: &PgWireBackendMessage) -> &'static str {
     }
 }
 
-/// Names with commas between them.
+/// Names with commas between them, or that there are none.
 #[derive(Clone, Copy, Drop)]
 pub struct Names<'a>(pub &'a [Text]);
 
 impl<'a> fmt::Display for Names<'a> {
     fn fmt<W: fmt::Write>(&self, f: &mut fmt::Formatter<W>) -> fmt::Result {
+        if self.0.is_empty() {
+            return f.write_str("it names none");
+        }
         let mut is_first = true;
         for name in self.0 {
             if !is_first {

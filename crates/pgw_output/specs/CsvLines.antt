@@ -1,4 +1,4 @@
--- Rows as lines of CSV (RFC 4180, section 2).
+-- Rows as lines of CSV (RFC 4180, section 2), but that a line ends with a line feed alone.
 use Rattle.std.specs.Prelude.{◌==◌, ℕ, List, [], ◌∷◌, ◌++◌, length, map, Bool, true, false, Option}
 use Rattle.std.specs.Prelude.{unwrap_or, if◌then◌else◌}
 use Rattle.std.specs.List.{flat_map}

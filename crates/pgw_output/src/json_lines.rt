@@ -95,7 +95,7 @@ fn put_object(
     writer.end_object()
 }
 
-/// Appends a row as an object on a line. Behind an error the text is empty.
+/// Appends a row as an object on a line. Behind an error what stood in the text may be gone.
 #[tactic(auto, unfolding(crate::specs::JsonLines::json_line))]
 pub fn put_json_line(
     alloc: Global,

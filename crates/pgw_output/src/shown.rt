@@ -19,7 +19,7 @@ fn put_visible(out: &mut String, c: char) -> Result<(), AllocError>
     }
 }
 
-/// A text without control characters: it stands on one line, and steers no terminal.
+/// A text without control characters.
 pub fn plain(alloc: Global, text: &str) -> Result<String, OutOfMemory>
     ensures { IfOk result (λ plain. string_bytes plain ≡ without_controls text.now) }
 {

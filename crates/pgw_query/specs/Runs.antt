@@ -26,7 +26,7 @@ SpellsRows rows bytes = SpellsMany SpellsRow rows bytes
 abbrev pub HasNoRow : List ℕ → Type 0
 HasNoRow bytes = (row : DataRow) (g rest : List ℕ) → SpellsRow row g → bytes ≡ g ++ rest → ⊥
 
--- The rows at the front of some bytes were taken, all that stand whole there, and put behind others.
+-- The rows that `taken` spells were cut off the front of some bytes, and put behind others.
 pub record MovesRows (old new : List DataRow) (old_bytes new_bytes : List ℕ) (count : ℕ) : Type 0 where
   pub rows : List DataRow
   pub taken : List ℕ

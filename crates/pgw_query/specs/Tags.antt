@@ -38,7 +38,7 @@ inserted_tag text command None rows = plain_tag text
 inserted_tag text command (Some oid) None = plain_tag text
 inserted_tag text command (Some oid) (Some rows) = record { command = command; oid = Some oid; rows = Some rows }
 
--- a command and its rows, or a command, an object and its rows; else the whole text is the command
+-- a command and its rows, or a command, an object ID and its rows; else the whole text is the command
 abbrev pub tag_by : List ℕ → List (List ℕ) → Tag
 tag_by text [] = plain_tag text
 tag_by text (command ∷ []) = plain_tag text
@@ -56,7 +56,7 @@ abbrev pub spaced : Option ℕ → List ℕ
 spaced None = []
 spaced (Some n) = 32 ∷ decimal n
 
--- an object without rows is not written
+-- an object ID without rows is not written
 abbrev pub counts : Option ℕ → Option ℕ → List ℕ
 counts oid None = []
 counts oid (Some rows) = spaced oid ++ spaced (Some rows)
@@ -72,7 +72,7 @@ pub record IsWord (text : List ℕ) : Type 0 where
   pub some : 0 < length text
   pub whole : IsTrue (list_all is_not_whitespace (chars text))
 
--- no counts, rows, or an object and rows
+-- no counts, rows, or an object ID and rows
 abbrev pub AreCounts : Option ℕ → Option ℕ → Type 0
 AreCounts None None = Unit {0}
 AreCounts None (Some rows) = rows < 2 ^ 64

@@ -34,6 +34,9 @@ fn write_fields<W: fmt::Write>(f: &mut fmt::Formatter<W>, fields: &[(u8, Text)])
     let severity = text_of(fields, b'S');
     let code = text_of(fields, b'C');
     let message = text_of(fields, b'M');
+    if severity.is_empty() && code.is_empty() && message.is_empty() {
+        return f.write_str("the server gave no reason");
+    }
     write!(f, "{severity} {code}: {message}")?;
     write_line(f, "DETAIL: ", fields, b'D')?;
     write_line(f, "HINT: ", fields, b'H')

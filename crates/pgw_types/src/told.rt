@@ -1,6 +1,6 @@
 //! What refusals are called for people.
 
-use crate::error::PgWireError;
+use crate::error::{OauthFault, OauthRefusal, PgWireError, ScramMessageFault};
 use std::error::Error;
 use std::fmt;
 
@@ -87,30 +87,127 @@ fn held_number(error: &PgWireError) -> Option<(&'static str, u64, &'static str)>
     }
 }
 
+// What is wrong with a SCRAM message.
+fn scram_text(fault: ScramMessageFault) -> &'static str {
+    match fault {
+        ScramMessageFault::NotUtf8 => "it is not UTF-8",
+        ScramMessageFault::Grammar => "it is outside the grammar",
+        ScramMessageFault::Count => "its iteration count is out of range",
+        ScramMessageFault::ChannelBinding => "its channel binding is not that of the login",
+        ScramMessageFault::Nonce => "its nonce is not that of the login",
+        ScramMessageFault::Empty => "it is empty",
+        ScramMessageFault::Mechanism => "its mechanism is not that of the login",
+    }
+}
+
+// What is wrong with the data of an OAUTHBEARER message.
+fn oauth_text(fault: OauthFault) -> &'static str {
+    match fault {
+        OauthFault::Flag => "its first part is neither n nor y",
+        OauthFault::ChannelBinding => "it demands channel binding",
+        OauthFault::AuthzId => "its authorization identity has no end",
+        OauthFault::Separator => "no byte 1 stands behind its header",
+        OauthFault::Pair => "a pair of a key and a value has no =",
+        OauthFault::Key => "a key is no word of letters",
+        OauthFault::Value => "a value has a byte that is not allowed",
+        OauthFault::TwiceAuth => "it has the key auth twice",
+        OauthFault::NotOneByte => "the answer to a refusal is not the byte 1",
+    }
+}
+
+// Why an OAUTHBEARER login failed.
+fn oauth_refusal(why: OauthRefusal) -> &'static str {
+    match why {
+        OauthRefusal::Malformed => "the message has no bearer token",
+        OauthRefusal::Refused => "the token was refused",
+        OauthRefusal::Ended => "the client ended it behind a refusal",
+    }
+}
+
+// The lowest number that stands for a negative one: lengths and counts of a message are signed.
+const NEGATIVE: usize = 0x8000_0000_0000_0000;
+
+// Whether the byte is one that people can read.
+fn is_readable(byte: u8) -> bool {
+    (0x20..0x7f).contains(&byte)
+}
+
+// The four bytes of a length, where people can read each of them: whoever sends such a length
+// most likely speaks another protocol.
+fn read_as_text(len: usize) -> Option<(u8, u8, u8, u8)> {
+    let bytes = (
+        (len / 0x100_0000 % 0x100) as u8,
+        (len / 0x1_0000 % 0x100) as u8,
+        (len / 0x100 % 0x100) as u8,
+        (len % 0x100) as u8,
+    );
+    let readable = is_readable(bytes.0)
+        && is_readable(bytes.1)
+        && is_readable(bytes.2)
+        && is_readable(bytes.3);
+    if len <= 0xffff_ffff && readable {
+        Some(bytes)
+    } else {
+        None
+    }
+}
+
+// Writes that a message is too long, or that its length is negative.
+fn write_length<W: fmt::Write>(limit: usize, len: usize, f: &mut fmt::Formatter<W>) -> fmt::Result {
+    if len >= NEGATIVE {
+        return write!(f, "message of a negative length, {}", len.cast_signed());
+    }
+    write!(f, "message of {len} bytes, above the limit {limit}")?;
+    match read_as_text(len) {
+        None => Ok(()),
+        Some((a, b, c, d)) => {
+            let text = (a as char, b as char, c as char, d as char);
+            write!(
+                f,
+                ": its length reads `{}{}{}{}`, as if the other side spoke another protocol",
+                text.0, text.1, text.2, text.3
+            )
+        }
+    }
+}
+
+// Writes that a message has not as many elements as it tells.
+fn write_count<W: fmt::Write>(
+    count: usize,
+    least: usize,
+    left: usize,
+    f: &mut fmt::Formatter<W>,
+) -> fmt::Result {
+    if count >= NEGATIVE {
+        return write!(f, "a negative count of elements, {}", count.cast_signed());
+    }
+    write!(
+        f,
+        "{count} elements take {least} bytes, and {left} are left"
+    )
+}
+
 // Writes an error that holds several numbers, one that may be negative, or a fault.
 fn write_numbers<W: fmt::Write>(error: &PgWireError, f: &mut fmt::Formatter<W>) -> fmt::Result {
     match error {
         PgWireError::UnsupportedProtocolVersion(major, minor) => {
             write!(f, "protocol version {major}.{minor} is not supported")
         }
-        PgWireError::MessageTooLarge(limit, len) => {
-            write!(f, "message of {len} bytes, above the limit {limit}")
-        }
+        PgWireError::MessageTooLarge(limit, len) => write_length(*limit, *len, f),
         PgWireError::InvalidElementCount(count, least, left) => {
-            write!(
-                f,
-                "{count} elements take {least} bytes, and {left} are left"
-            )
+            write_count(*count, *least, *left, f)
         }
         PgWireError::InvalidAuthenticationMessageCode(code) => {
             write!(f, "invalid authentication code {code}")
         }
-        PgWireError::InvalidScramMessage(fault) => write!(f, "invalid SCRAM message: {fault:?}"),
+        PgWireError::InvalidScramMessage(fault) => {
+            write!(f, "invalid SCRAM message: {}", scram_text(*fault))
+        }
         PgWireError::InvalidOauthMessage(fault) => {
-            write!(f, "invalid OAUTHBEARER message: {fault:?}")
+            write!(f, "invalid OAUTHBEARER message: {}", oauth_text(*fault))
         }
         PgWireError::OAuthAuthenticationFailed(why) => {
-            write!(f, "OAUTHBEARER login failed: {why:?}")
+            write!(f, "OAUTHBEARER login failed: {}", oauth_refusal(*why))
         }
         _ => Ok(()),
     }

@@ -143,7 +143,11 @@ fn plain_error(number: usize) -> PgWireError {
         24 => PgWireError::PortalNotStarted,
         25 => PgWireError::ParameterIndexOutOfBound(3),
         26 => PgWireError::QueryCanceled,
-        _ => PgWireError::OutOfMemory,
+        27 => PgWireError::OutOfMemory,
+        // What a web server answers: `HTTP/`.
+        28 => PgWireError::MessageTooLarge(30000, 0x5454_502f),
+        29 => PgWireError::MessageTooLarge(30000, usize::MAX),
+        _ => PgWireError::InvalidElementCount(usize::MAX - 1, usize::MAX, 2),
     }
 }
 
@@ -160,10 +164,10 @@ const PLAIN_ERRORS: &[&str] = &[
     "FATAL 08P01 invalid GSS encryption request",
     "FATAL 08P01 invalid startup message",
     "FATAL 08P01 invalid authentication code -1",
-    "FATAL 08P01 invalid SCRAM message: Count",
+    "FATAL 08P01 invalid SCRAM message: its iteration count is out of range",
     "FATAL 08P01 the server is not ready for a query",
-    "FATAL 08P01 invalid OAUTHBEARER message: Flag",
-    "FATAL 08P01 OAUTHBEARER login failed: Ended",
+    "FATAL 08P01 invalid OAUTHBEARER message: its first part is neither n nor y",
+    "FATAL 08P01 OAUTHBEARER login failed: the client ended it behind a refusal",
     "FATAL 08P01 invalid message body",
     "FATAL XX000 the password message is of another kind",
     "FATAL XX000 the login is in another state",
@@ -176,6 +180,9 @@ const PLAIN_ERRORS: &[&str] = &[
     "ERROR 22023 parameter 3 is out of range",
     "ERROR 57014 the query was canceled",
     "FATAL 53200 out of memory",
+    "FATAL 08P01 message of 1414811695 bytes, above the limit 30000: its length reads `TTP/`, as if the other side spoke another protocol",
+    "FATAL 08P01 message of a negative length, -1",
+    "FATAL 08P01 a negative count of elements, -2",
 ];
 
 // A refusal that has a text.
