@@ -4,7 +4,7 @@ ghost use Rattle.pgw_backend.specs.declared.client_error.PgWireClientError.TheVa
 ghost use Rattle.pgw_session.specs.declared.types.Request.TheVariants as kind;
 ghost use Rattle.pgw_handlers.specs.Handling.{HasCause};
 ghost use Rattle.pgw_calls.specs.Extended.{executed, given};
-ghost use Rattle.pgw_connection.specs.Line.{Foretold};
+ghost use Rattle.pgw_connection.specs.Line.{Foretold, StaysWithin};
 ghost use Rattle.pgw_connection.specs.State.{line_of, link_of, known_by, is_broken};
 ghost use Rattle.pgw_ask.specs.Asking.{Asks, Came, Ended, answered, name_in};
 
@@ -108,6 +108,8 @@ fn ask_simple<L: Link>(
     ensures foretold { L.foretells →
         Foretold (L.left (link_of client.old)) (L.left (link_of client.new))
         (L.tape (link_of client.old)) (L.tape (link_of client.new)) }
+    ensures within { StaysWithin (line_of L.tape L.faults client.old)
+        (line_of L.tape L.faults client.new) }
 {
     simple_queries_are_segments();
     simple_queries_follow_one_another();
@@ -138,6 +140,8 @@ fn ask_extended<L: Link>(
     ensures foretold { L.foretells →
         Foretold (L.left (link_of client.old)) (L.left (link_of client.new))
         (L.tape (link_of client.old)) (L.tape (link_of client.new)) }
+    ensures within { StaysWithin (line_of L.tape L.faults client.old)
+        (line_of L.tape L.faults client.new) }
 {
     extended_queries_are_segments();
     extended_queries_follow_one_another();
@@ -174,7 +178,7 @@ pub fn ask<L: Link>(
     ensures came { is_broken client.old ≡ false → IfOk result (λ a. Came request.now a
         (known_by client.old) (line_of L.tape L.faults client.old)
         (known_by client.new) (line_of L.tape L.faults client.new)) }
-    // The link's end is answered where the answer is wanting, and behind any answer but IoError all
+    // The link's end is answered while the answer is awaited, and behind any answer but IoError all
     // that was written is flushed.
     ensures ended { is_broken client.old ≡ false → Ended request.now
         (line_of L.tape L.faults client.old) (known_by client.new)
@@ -188,6 +192,9 @@ pub fn ask<L: Link>(
     ensures foretold { L.foretells →
         Foretold (L.left (link_of client.old)) (L.left (link_of client.new))
         (L.tape (link_of client.old)) (L.tape (link_of client.new)) }
+    // No more bytes are read than the client was given as its limit.
+    ensures within { StaysWithin (line_of L.tape L.faults client.old)
+        (line_of L.tape L.faults client.new) }
 {
     if client.is_broken() {
         return Err(PgWireClientError::Broken);

@@ -20,7 +20,7 @@ use Rattle.pgw_connection.specs.Line.{Line, Reasons}
 use Rattle.pgw_connection.specs.Talk.{Next, End}
 use Rattle.pgw_calls.specs.Turns.{standing_of_client, Does, IsAnswered, IsPassedSegment, IsFrontOf, IsOpenFor, Opened}
 
--- the request has no encoding, and nothing was done
+-- the request has no encoding: nothing was written, and none of the bytes was taken
 abbrev pub IsRefused : Request → Client → List ℕ → List ℕ → PgWireError → Client → List ℕ → Type 0
 IsRefused q c bytes sent why info rest = (encodings (sends_of q) ≡ Err why) × (sent ≡ []) × (info ≡ c) × (rest ≡ bytes)
 

@@ -10,7 +10,7 @@ use Rattle.pgw_frontend.specs.declared.frontend.PgWireFrontendMessage.TheVariant
 use Rattle.pgw_frontend.specs.Frontend.{encoding}
 use Rattle.pgw_config.specs.Address.{address_of}
 use Rattle.pgw_link.specs.Tape.{Tape}
-use Rattle.pgw_link.specs.Dials.{DialTape}
+use Rattle.pgw_link.specs.Dials.{DialTape, MakesNext}
 use Rattle.pgw_link.specs.Sending.{Wrote, WroteSome}
 use Rattle.pgw_handlers.specs.Client.{Client}
 use Rattle.pgw_connection.specs.Connecting.{LacksAddress, NoLink, DialledOnce}
@@ -35,18 +35,21 @@ SentOnce address bytes old new =
     (first : Tape) × (after : Tape) × DialledOnce address old new first after × Wrote first after bytes
 
 -- a link was dialled, and not all of them were written; or none was dialled
-pub data NotSentOnce (foretells : Type 0) (address : Address) (bytes : List ℕ) (was is : Option (List ℕ)) (old new : DialTape) (before now : ℕ) : ClientError → Type 0 where
+pub data NotSentOnce (foretells : Type 0) (address : Address) (bytes : List ℕ)
+    (was is : Option (List (List ℕ))) (old new : DialTape) (before now : ℕ) : ClientError → Type 0 where
   no_link : (e : ClientError) → NoLink foretells address was is old new before now e →
       NotSentOnce foretells address bytes was is old new before now e
   cut : Rose before now → (first after : Tape) → DialledOnce address old new first after → WroteSome first after bytes →
+      (foretells → (offer : Option (List ℕ)) × MakesNext was is offer) →
       NotSentOnce foretells address bytes was is old new before now client.IoError
 
 -- What a token's cancel answers: `spelled` is the one message that it sends, and `same` says that the
 -- dialer is as it was.
 pub data Cancels (same foretells : Type 0) (address : Address) (spelled : Result (List ℕ) PgWireError)
-    (was is : Option (List ℕ)) (old new : DialTape) (before now : ℕ)
+    (was is : Option (List (List ℕ))) (old new : DialTape) (before now : ℕ)
     : Result (Unit {0}) ClientError → Type 0 where
   sent : (bytes : List ℕ) → spelled ≡ Ok bytes → SentOnce address bytes old new → now ≡ before →
+      (foretells → (offer : Option (List ℕ)) × MakesNext was is offer) →
       Cancels same foretells address spelled was is old new before now (Ok tt)
   unsent : (bytes : List ℕ) (e : ClientError) → spelled ≡ Ok bytes →
       NotSentOnce foretells address bytes was is old new before now e →
@@ -57,7 +60,7 @@ pub data Cancels (same foretells : Type 0) (address : Address) (spelled : Result
       Cancels same foretells address spelled was is old new before now (Err e)
 
 -- What a client's cancel answers: its token's; or there is none, for the stated reason.
-pub data CancelsFor (c : Client) (same foretells : Type 0) (was is : Option (List ℕ))
+pub data CancelsFor (c : Client) (same foretells : Type 0) (was is : Option (List (List ℕ)))
     (old new : DialTape) (before now : ℕ) : Result (Unit {0}) ClientError → Type 0 where
   by : (token : CancelToken) (result : Result (Unit {0}) ClientError) → IsTokenOf c token →
       Cancels same foretells token.address (cancel_bytes token.process_id token.secret_key)

@@ -9,7 +9,7 @@ use Rattle.pgw_config.specs.declared.config.Config.{Config}
 use Rattle.pgw_config.specs.Address.{address_of}
 use Rattle.pgw_types.specs.Counts.{Rose}
 use Rattle.pgw_link.specs.Tape.{Tape, new_tape}
-use Rattle.pgw_link.specs.Dials.{DialTape, Dialled, NotDialled, CountsClose}
+use Rattle.pgw_link.specs.Dials.{DialTape, Dialled, NotDialled, CountsClose, MakesNext}
 use Rattle.pgw_session.specs.Demands.{refused_config}
 use Rattle.pgw_dialogue.specs.Demands.{IsInvalidConfig}
 use Rattle.pgw_handlers.specs.Client.{Client}
@@ -44,12 +44,14 @@ IsRefusedBy None config e = LacksAddress config e
 -- ---- the dialer
 
 -- the dial gave no link
-pub record NoLink (foretells : Type 0) (to : Address) (was is : Option (List ℕ)) (old new : DialTape) (before now : ℕ) (e : ClientError) : Type 0 where
-  pub why : ((e ≡ client.IoError) × Rose before now) ⊎ (e ≡ client.OutOfMemory)
+pub record NoLink (foretells : Type 0) (to : Address) (was is : Option (List (List ℕ)))
+    (old new : DialTape) (before now : ℕ) (e : ClientError) : Type 0 where
+  pub why : ((e ≡ client.IoError) × Rose before now)
+      ⊎ ((e ≡ client.OutOfMemory) × (now ≡ before))
   pub tape : NotDialled to old new
-  pub offer : foretells → is ≡ was
+  pub offers : foretells → is ≡ was
 
--- one link was dialled, which told this first, and closed, when it told that
+-- one link was dialled, which told `first` then; and it was closed, when it told `after`
 pub record DialledOnce (to : Address) (old new : DialTape) (first after : Tape) : Type 0 where
   pub dialled : new.dialled ≡ old.dialled ++ (to, true) ∷ []
   pub fresh : first ≡ new_tape
@@ -80,27 +82,39 @@ abbrev pub Connected : {S : Type 0} → (Standing S → Standing S → Answer Se
 Connected opens M handler config limit old new info now = (address : Address) × LeadsTo config address × ConnectedAt opens M handler config limit address old new info now
 
 -- a link was dialled, a login over it failed, and the link was closed
-pub record ClosedAgain {S : Type 0} (foretells : Type 0) (opens : Standing S → Standing S → Answer ServerInformation → Type 0) (M : Hearing S ServerInformation) (handler : S) (config : Config) (limit : ℕ) (address : Address) (offer : Option (List ℕ)) (old new : DialTape) (before now : ℕ) (e : ClientError) : Type 0 where
+pub record ClosedAgain {S : Type 0} (foretells : Type 0)
+    (opens : Standing S → Standing S → Answer ServerInformation → Type 0)
+    (M : Hearing S ServerInformation) (handler : S) (config : Config) (limit : ℕ) (address : Address)
+    (was is : Option (List (List ℕ))) (old new : DialTape) (before now : ℕ) (e : ClientError)
+    : Type 0 where
   pub faults : ℕ
   pub counts : CountsClose before now faults
   pub io : e ≡ client.IoError → 0 < faults
   pub tape : (first : Tape) × (last : Line) × (info : Client) × DialledOnce address old new first last.tape × (last.faults ≡ faults) × (last.read ≤ limit) ×
       LogsIn opens M handler (first_client config) (new_line first limit) last info (Err e) ×
-      (foretells → (left : Option (List ℕ)) × Foretold offer left first last.tape)
+      (foretells → (offer left : Option (List ℕ)) × MakesNext was is offer
+      × Foretold offer left first last.tape)
 
 -- at an address there was no link, or the login over it failed
-abbrev pub NotConnectedAt : {S : Type 0} → Type 0 → (Standing S → Standing S → Answer ServerInformation → Type 0) → Hearing S ServerInformation → S → Config → ℕ → Address → Option (List ℕ) → Option (List ℕ) → DialTape → DialTape → ℕ → ℕ → ClientError → Type 0
+abbrev pub NotConnectedAt : {S : Type 0} → Type 0 →
+    (Standing S → Standing S → Answer ServerInformation → Type 0) → Hearing S ServerInformation → S →
+    Config → ℕ → Address → Option (List (List ℕ)) → Option (List (List ℕ)) → DialTape → DialTape →
+    ℕ → ℕ → ClientError → Type 0
 NotConnectedAt foretells opens M handler config limit address was is old new before now e =
     NoLink foretells address was is old new before now e ⊎
-    ClosedAgain foretells opens M handler config limit address was old new before now e
+    ClosedAgain foretells opens M handler config limit address was is old new before now e
 
--- Why a connect was refused: there is no address, and then `same` says that the dialer is as it was; or it failed there.
-abbrev pub NotConnected : {S : Type 0} → Type 0 → Type 0 → (Standing S → Standing S → Answer ServerInformation → Type 0) → Hearing S ServerInformation → S → Config → ℕ → Option (List ℕ) → Option (List ℕ) → DialTape → DialTape → ℕ → ℕ → ClientError → Type 0
+-- Why a connect was refused: by a demand of the configuration, for want of an address or of memory, and then `same` says
+-- that the dialer is as it was; or it failed at the address.
+abbrev pub NotConnected : {S : Type 0} → Type 0 → Type 0 →
+    (Standing S → Standing S → Answer ServerInformation → Type 0) → Hearing S ServerInformation → S →
+    Config → ℕ → Option (List (List ℕ)) → Option (List (List ℕ)) → DialTape → DialTape → ℕ → ℕ →
+    ClientError → Type 0
 NotConnected same foretells opens M handler config limit was is old new before now e =
     (same × IsRefusedBy (refused_config config) config e) ⊎ ((address : Address) × LeadsTo config address × NotConnectedAt foretells opens M handler config limit address was is old new before now e)
 
 -- A client was connected by such a configuration and handler, over a link of this dialer; or why not.
-pub record Connects {Y X S : Type 0} (foretells : Type 0) (offer : Y → Option (List ℕ))
+pub record Connects {Y X S : Type 0} (foretells : Type 0) (offers : Y → Option (List (List ℕ)))
     (dials : Y → DialTape) (failed : Y → ℕ) (left : X → Option (List ℕ)) (tape : X → Tape)
     (faults : X → ℕ) (exchanges : S → Bool)
     (M : Standing S → StartupCall → Standing S → Answer ServerInformation → Type 0) (handler : S)
@@ -111,14 +125,16 @@ pub record Connects {Y X S : Type 0} (foretells : Type 0) (offer : Y → Option 
   pub connected : IfOk result (λ client.
       Connected (λ before after answer. M before startup after answer) (HeardAtStartup exchanges M)
       handler config limit (dials old) (dials new) client.known (line_of tape faults client))
-  -- else there is no address, or no link, or the login failed and its link was closed
+  -- else it was refused before a dial, or there is no link, or the login failed and its link was closed
   pub refused : IfErr result (NotConnected (new ≡ old) foretells
       (λ before after answer. M before startup after answer) (HeardAtStartup exchanges M)
-      handler config limit (offer old) (offer new) (dials old) (dials new)
+      handler config limit (offers old) (offers new) (dials old) (dials new)
       (failed old) (failed new))
-  -- of a dialer that knows its offer: the bytes taken are its front, and the end is answered behind the last byte
-  pub foretold : foretells → IfOk result (λ client.
-      Foretold (offer old) (left client.link) new_tape (tape client.link))
+  -- Of a dialer that knows its offers: its next link was made, the bytes taken are the front of what that had to come, and
+  -- the end is answered behind the last byte.
+  pub foretold : foretells → IfOk result (λ client. (offer : Option (List ℕ))
+      × MakesNext (offers old) (offers new) offer
+      × Foretold offer (left client.link) new_tape (tape client.link))
   -- IoError comes only where the dialer's count rose, and Broken never
   pub cause : HasCause (failed old) (failed new) false result
   pub usable : IfOk result (λ client. client.broken ≡ false)

@@ -1,5 +1,5 @@
 -- A client's bytes, and why no more of them came.
-use Rattle.std.specs.Prelude.{◌≡◌, ◌⊎◌, ◌<◌, ℕ, ◌+◌, List, [], ◌∷◌, ◌++◌, length, Option}
+use Rattle.std.specs.Prelude.{◌≡◌, ◌⊎◌, ◌<◌, ◌≤◌, ℕ, ◌+◌, List, [], ◌∷◌, ◌++◌, length, Option}
 use Rattle.pgw_backend.specs.Front.{front, More}
 use Rattle.pgw_backend.specs.declared.client_error.PgWireClientError.{PgWireClientError as ClientError}
 use Rattle.pgw_backend.specs.declared.client_error.PgWireClientError.TheVariants as client
@@ -28,6 +28,15 @@ pub record IsAtEnd (ended : List ℕ) (now : Line) : Type 0 where
 -- all that was written is flushed
 abbrev pub IsFlushed : Line → Type 0
 IsFlushed now = now.tape.flushed ≡ length now.tape.wrote
+
+-- no more than so many bytes were read, and no more may be
+abbrev pub IsWithin : ℕ → Line → Type 0
+IsWithin limit now = (now.limit ≡ limit) × (now.read ≤ limit)
+
+-- the limit stays; if no more than the limit had been read, no more is read now
+pub record StaysWithin (old new : Line) : Type 0 where
+  pub limit : new.limit ≡ old.limit
+  pub within : old.read ≤ old.limit → new.read ≤ new.limit
 
 -- the link's calls went well, and all that was written is flushed, if all was before
 abbrev pub WentWell : Line → Line → Type 0

@@ -1,8 +1,9 @@
 //! Canceling over a link of its own.
-ghost use Rattle.std.specs.Prelude.{◌≡◌, ◌≤◌, true, false, Err, IfOk, IfErr, OnOk};
+ghost use Rattle.std.specs.Prelude.{◌≡◌, ◌≤◌, ℕ, List, Option, true, false, Err, IfOk, IfErr, OnOk};
 ghost use Rattle.pgw_backend.specs.declared.client_error.PgWireClientError.TheVariants as client;
 ghost use Rattle.pgw_dialogue.specs.Wire.{PutOut};
 ghost use Rattle.pgw_handlers.specs.Handling.{HasCause};
+ghost use Rattle.pgw_link.specs.Dials.{MakesNext};
 ghost use Rattle.pgw_connection.specs.Canceling.{IsTokenOf, cancel_bytes, SentOnce, NotSentOnce, Cancels, CancelsFor};
 ghost use Rattle.pgw_connection.specs.Connecting.{LacksAddress};
 ghost use Rattle.pgw_connection.specs.Desk.{client_of};
@@ -38,8 +39,10 @@ fn send_once<D: Dialer>(bytes: &[u8], address: &Address, dialer: &mut D) -> PgWi
     ensures sent { OnOk result
         (SentOnce address.now bytes.now (D.tape dialer.old) (D.tape dialer.new)) }
     ensures calm { OnOk result (D.faults dialer.new ≡ D.faults dialer.old) }
+    ensures next { D.foretells → OnOk result ((offer : Option (List ℕ))
+        × MakesNext (D.offers dialer.old) (D.offers dialer.new) offer) }
     ensures failed { IfErr result
-        (NotSentOnce D.foretells address.now bytes.now (D.offer dialer.old) (D.offer dialer.new)
+        (NotSentOnce D.foretells address.now bytes.now (D.offers dialer.old) (D.offers dialer.new)
         (D.tape dialer.old) (D.tape dialer.new) (D.faults dialer.old) (D.faults dialer.new)) }
     ensures later { D.faults dialer.old ≤ D.faults dialer.new }
 {
@@ -78,7 +81,7 @@ impl CancelToken {
         // One request was written to a link to the address and flushed, and no call failed; or why not.
         ensures cancels { Cancels (dialer.new ≡ dialer.old) D.foretells self.now.address
             (cancel_bytes self.now.process_id self.now.secret_key)
-            (D.offer dialer.old) (D.offer dialer.new) (D.tape dialer.old) (D.tape dialer.new)
+            (D.offers dialer.old) (D.offers dialer.new) (D.tape dialer.old) (D.tape dialer.new)
             (D.faults dialer.old) (D.faults dialer.new) result }
         // IoError comes only where the dialer's count rose, and Broken never.
         ensures cause { HasCause (D.faults dialer.old) (D.faults dialer.new) false result }
@@ -136,7 +139,7 @@ impl<L: Link> PgWireClient<L> {
         // It is what the token's cancel does and answers; or there is no token.
         ensures cancels { is_broken self.now ≡ false → CancelsFor (known_by self.now)
             (dialer.new ≡ dialer.old) D.foretells
-            (D.offer dialer.old) (D.offer dialer.new) (D.tape dialer.old) (D.tape dialer.new)
+            (D.offers dialer.old) (D.offers dialer.new) (D.tape dialer.old) (D.tape dialer.new)
             (D.faults dialer.old) (D.faults dialer.new) result }
         // IoError comes only where the dialer's count rose.
         ensures cause { HasCause (D.faults dialer.old) (D.faults dialer.new) (is_broken self.now)

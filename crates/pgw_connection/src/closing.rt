@@ -64,8 +64,8 @@ impl<L: Link> PgWireClient<L> {
             (D.tape dialer.old) (D.tape dialer.new)
             (D.faults dialer.old) (D.faults dialer.new) result }
         ensures cause { HasCause (D.faults dialer.old) (D.faults dialer.new) false result }
-        // The dialer's next link is the one that it was.
-        ensures offer { D.foretells → D.offer dialer.new ≡ D.offer dialer.old }
+        // The links that the dialer makes next are those that they were.
+        ensures offers { D.foretells → D.offers dialer.new ≡ D.offers dialer.old }
     {
         let broken = self.is_broken();
         let mut link = self.into_link();

@@ -1,5 +1,5 @@
 //! Connecting.
-ghost use Rattle.std.specs.Prelude.{◌≡◌, ◌≤◌, ◌<◌, ◌+◌, [], length, true, false, Ok, Err, IfOk, IfErr, OnOk, OnErr};
+ghost use Rattle.std.specs.Prelude.{◌≡◌, ◌≤◌, ◌<◌, ◌+◌, ℕ, List, Option, [], length, true, false, Ok, Err, IfOk, IfErr, OnOk, OnErr};
 ghost use Rattle.pgw_backend.specs.declared.client_error.PgWireClientError.TheVariants as client;
 ghost use Rattle.pgw_config.specs.Address.{address_of};
 ghost use Rattle.pgw_session.specs.Demands.{refused_config};
@@ -12,7 +12,7 @@ ghost use Rattle.pgw_connection.specs.Connection.{line_in};
 ghost use Rattle.pgw_connection.specs.Calls.{IsUsable, HeardNext, Call};
 ghost use Rattle.pgw_connection.specs.Connecting.{never, LeadsTo, LacksAddress, IsRefusedBy, NoLink, LogsIn, ConnectedAt, NotConnectedAt, Connected, NotConnected, Connects};
 ghost use Rattle.pgw_link.specs.Tape.{new_tape};
-ghost use Rattle.pgw_link.specs.Dials.{Dialled, Shut, CountsClose};
+ghost use Rattle.pgw_link.specs.Dials.{Dialled, Shut, CountsClose, MakesNext};
 
 use crate::client::PgWireClient;
 use crate::connection::Connection;
@@ -219,10 +219,11 @@ pub(crate) fn dial_to<D: Dialer>(address: &Address, dialer: &mut D) -> PgWireCli
     ensures calm { OnOk result (D.faults dialer.new ≡ D.faults dialer.old) }
     ensures dialled { IfOk result
         (λ link. Dialled address.now (D.tape dialer.old) (D.tape dialer.new) (D.Link.tape link)) }
-    ensures offered { D.foretells → IfOk result (λ link. D.Link.left link ≡ D.offer dialer.old) }
+    ensures offered { D.foretells → IfOk result (λ link.
+        MakesNext (D.offers dialer.old) (D.offers dialer.new) (D.Link.left link)) }
     ensures later { D.faults dialer.old ≤ D.faults dialer.new }
     ensures failed { IfErr result
-        (NoLink D.foretells address.now (D.offer dialer.old) (D.offer dialer.new)
+        (NoLink D.foretells address.now (D.offers dialer.old) (D.offers dialer.new)
         (D.tape dialer.old) (D.tape dialer.new) (D.faults dialer.old) (D.faults dialer.new)) }
 {
     match dialer.dial(address) {
@@ -237,6 +238,7 @@ fn hang_up<D: Dialer>(client: Connection<D::Link>, dialer: &mut D)
     ensures counts { CountsClose (D.faults dialer.old) (D.faults dialer.new)
         (D.Link.faults client.link) }
     ensures shut { Shut (D.tape dialer.old) (D.tape dialer.new) (D.Link.tape client.link) }
+    ensures kept { D.foretells → D.offers dialer.new ≡ D.offers dialer.old }
 {
     dialer.close(client.into_link());
 }
@@ -259,11 +261,11 @@ fn connect_at<D: Dialer, S: StartupHandler + Drop>(
     ensures failed { IfErr result
         (NotConnectedAt D.foretells (λ before after answer. S.means before startup after answer)
         (HeardAtStartup S.exchanges S.means) handler config limit address.now
-        (D.offer dialer.old) (D.offer dialer.new) (D.tape dialer.old) (D.tape dialer.new)
+        (D.offers dialer.old) (D.offers dialer.new) (D.tape dialer.old) (D.tape dialer.new)
         (D.faults dialer.old) (D.faults dialer.new)) }
-    ensures foretold { D.foretells → IfOk result
-        (λ client. Foretold (D.offer dialer.old) (D.Link.left client.link)
-        new_tape (D.Link.tape client.link)) }
+    ensures foretold { D.foretells → IfOk result (λ client. (offer : Option (List ℕ))
+        × MakesNext (D.offers dialer.old) (D.offers dialer.new) offer
+        × Foretold offer (D.Link.left client.link) new_tape (D.Link.tape client.link)) }
     ensures cause { HasCause (D.faults dialer.old) (D.faults dialer.new) false result }
     ensures usable { IfOk result (λ client. client.desk.broken ≡ false) }
     ensures calm { OnOk result (D.faults dialer.new ≡ D.faults dialer.old) }
@@ -306,11 +308,11 @@ impl<L: Link> Connection<L> {
             (NotConnected (dialer.new ≡ dialer.old) D.foretells
             (λ before after answer. S.means before startup after answer)
             (HeardAtStartup S.exchanges S.means) startup_handler config limit
-            (D.offer dialer.old) (D.offer dialer.new) (D.tape dialer.old) (D.tape dialer.new)
+            (D.offers dialer.old) (D.offers dialer.new) (D.tape dialer.old) (D.tape dialer.new)
             (D.faults dialer.old) (D.faults dialer.new)) }
-        ensures foretold { D.foretells → IfOk result
-            (λ client. Foretold (D.offer dialer.old) (L.left client.link)
-            new_tape (L.tape client.link)) }
+        ensures foretold { D.foretells → IfOk result (λ client. (offer : Option (List ℕ))
+            × MakesNext (D.offers dialer.old) (D.offers dialer.new) offer
+            × Foretold offer (L.left client.link) new_tape (L.tape client.link)) }
         ensures cause { HasCause (D.faults dialer.old) (D.faults dialer.new) false result }
         ensures usable { IfOk result (λ client. client.desk.broken ≡ false) }
         ensures calm { OnOk result (D.faults dialer.new ≡ D.faults dialer.old) }
@@ -348,7 +350,7 @@ impl<L: Link> PgWireClient<L> {
         dialer: &mut D,
         limit: u64,
     ) -> PgWireClientResult<PgWireClient<L>>
-        ensures { Connects D.foretells D.offer D.tape D.faults L.left L.tape L.faults
+        ensures { Connects D.foretells D.offers D.tape D.faults L.left L.tape L.faults
             S.exchanges S.means startup_handler config limit dialer.old dialer.new result }
     {
         match Connection::connect(alloc, config, startup_handler, dialer, limit) {

@@ -111,13 +111,13 @@ impl CaseDialer {
 
 impl Dialer for CaseDialer {
     ghost use Rattle.std.specs.Prelude.{Some};
-    ghost use Rattle.pgw_link.specs.MemoryDials.{dial_tape, links_of, offer_of};
+    ghost use Rattle.pgw_link.specs.MemoryDials.{dial_tape, links_of, offers_of};
 
     type Link = CaseLink;
 
     ghost tape = { λ s. dial_tape s.dialer };
 
-    ghost offer = { λ s. Some (offer_of (links_of s.dialer)) };
+    ghost offers = { λ s. Some (offers_of (links_of s.dialer)) };
 
     ghost foretells = { Unit {0} };
 

@@ -1,5 +1,5 @@
 -- What a dialer tells of its dials and of its links, and what its calls do.
-use Rattle.std.specs.Prelude.{◌≡◌, ◌<◌, ◌≤◌, ℕ, List, [], ◌∷◌, ◌++◌, Bool, true, false, Result, Ok, Err}
+use Rattle.std.specs.Prelude.{◌≡◌, ◌<◌, ◌≤◌, ℕ, List, [], ◌∷◌, ◌++◌, Bool, true, false, Option, Some, Result, Ok, Err}
 use Rattle.pgw_types.specs.declared.address.Address.{Address}
 use Rattle.pgw_link.specs.declared.dialer.DialError.{DialError}
 use Rattle.pgw_link.specs.declared.dialer.DialError.TheVariants as error
@@ -42,3 +42,11 @@ pub record CountsClose (before now link_faults : ℕ) : Type 0 where
   pub later : before ≤ now
   pub failed : 0 < link_faults → Rose before now
   pub clean : link_faults ≡ 0 → now ≡ before
+
+-- the next of the links offered was made, which has its own bytes to come; the others are offered still
+pub record MakesNext (was is : Option (List (List ℕ))) (left : Option (List ℕ)) : Type 0 where
+  pub bytes : List ℕ
+  pub more : List (List ℕ)
+  pub offered : was ≡ Some (bytes ∷ more)
+  pub own : left ≡ Some bytes
+  pub still : is ≡ Some more

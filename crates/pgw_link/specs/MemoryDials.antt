@@ -1,5 +1,5 @@
 -- What a dialer in memory tells.
-use Rattle.std.specs.Prelude.{ℕ, ◌+◌, List, [], ◌∷◌, Bool, true, false, ◌||◌}
+use Rattle.std.specs.Prelude.{ℕ, ◌+◌, List, [], ◌∷◌, map, Bool, true, false, ◌||◌}
 use Rattle.pgw_types.specs.Counts.{counted}
 use Rattle.pgw_link.specs.Calls.{is_listed}
 use Rattle.pgw_link.specs.Dials.{DialTape}
@@ -8,10 +8,9 @@ use Rattle.pgw_link.specs.Memory.{memory_left}
 use Rattle.pgw_link.specs.declared.memory.MemoryLink.{MemoryLink}
 use Rattle.pgw_link.specs.declared.memory_dialer.MemoryDialer.{MemoryDialer}
 
--- the bytes that the first link has to come; none where there is no link
-abbrev pub offer_of : List MemoryLink → List ℕ
-offer_of [] = []
-offer_of (link ∷ more) = memory_left link
+-- the bytes that each of these links has to come
+abbrev pub offers_of : List MemoryLink → List (List ℕ)
+offers_of links = map memory_left links
 
 abbrev pub dial_tape : MemoryDialer → DialTape
 dial_tape d = dial_tape_of d.log

@@ -1,6 +1,6 @@
 //! Links to a server at an address.
 ghost use Rattle.std.specs.Prelude.{◌≡◌, ℕ, List, Option, None, IfOk, OnErr};
-ghost use Rattle.pgw_link.specs.Dials.{DialTape, Dialled, NotDialled, CountsDial, Shut, CountsClose};
+ghost use Rattle.pgw_link.specs.Dials.{DialTape, Dialled, NotDialled, CountsDial, Shut, CountsClose, MakesNext};
 
 use crate::link::Link;
 use pgw_types::address::Address;
@@ -20,10 +20,10 @@ pub trait Dialer: Drop {
     /// What the dialer tells of what its calls did.
     ghost tape: { Self → DialTape };
 
-    /// The bytes that the next link has to come, where they are known.
-    ghost offer: { Self → Option (List ℕ) } = { λ _. None };
+    /// The bytes that each link still to be made has to come, in order, where they are known.
+    ghost offers: { Self → Option (List (List ℕ)) } = { λ _. None };
 
-    /// A fact that holds where the offer is known, and what is to come on the links.
+    /// A fact that holds where the offers are known, and what is to come on the links.
     ghost foretells: { Type 0 };
 
     /// How often a dial has failed, or a link with faults was closed. It never falls.
@@ -35,16 +35,17 @@ pub trait Dialer: Drop {
         ensures faultless { IfOk result (λ made. Self.Link.faults made ≡ 0) }
         ensures dialled { IfOk result (λ made.
             Dialled address.now (tape self.old) (tape self.new) (Self.Link.tape made)) }
-        ensures offered { foretells → IfOk result (λ made. Self.Link.left made ≡ offer self.old) }
+        ensures offered { foretells → IfOk result (λ made.
+            MakesNext (offers self.old) (offers self.new) (Self.Link.left made)) }
         ensures failed { OnErr result (NotDialled address.now (tape self.old) (tape self.new)) }
-        ensures offer { foretells → OnErr result (offer self.new ≡ offer self.old) };
+        ensures kept { foretells → OnErr result (offers self.new ≡ offers self.old) };
 
     /// Gives a link up. It takes no memory.
     fn close(&mut self, used: Self::Link)
         ensures counts { CountsClose (faults self.old) (faults self.new) (Self.Link.faults used) }
         ensures shut { Shut (tape self.old) (tape self.new) (Self.Link.tape used) }
-        ensures offer { foretells → offer self.new ≡ offer self.old };
+        ensures kept { foretells → offers self.new ≡ offers self.old };
 
-    /// Where a dialer knows its offer, its links know what is to come.
+    /// Where a dialer knows its offers, its links know what is to come.
     ghost links_foretell: { foretells → Self.Link.foretells };
 }

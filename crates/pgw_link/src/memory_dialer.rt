@@ -32,7 +32,7 @@ impl MemoryDialer {
     ghost use Rattle.pgw_types.specs.Counts.{Rose};
     ghost use Rattle.pgw_link.specs.Dials.{new_dials};
     ghost use Rattle.pgw_link.specs.MemoryLinks.{IsUnused};
-    ghost use Rattle.pgw_link.specs.MemoryDials.{offer_of, dial_tape, dial_faults, links_of, is_refused};
+    ghost use Rattle.pgw_link.specs.MemoryDials.{dial_tape, dial_faults, links_of, is_refused};
 
     pub fn new(links: Listed<MemoryLink>, fail_dials: Listed<u64>) -> MemoryDialer
         requires { All IsUnused links }
@@ -96,15 +96,15 @@ impl MemoryDialer {
 
 impl Dialer for MemoryDialer {
     ghost use Rattle.std.specs.Prelude.{◌∷◌, true, false, Some, IfOk, IsOk, IsErrOf, OnErr};
-    ghost use Rattle.pgw_link.specs.Dials.{Dialled, NotDialled, CountsDial, CountsClose, Shut};
+    ghost use Rattle.pgw_link.specs.Dials.{Dialled, NotDialled, CountsDial, CountsClose, Shut, MakesNext};
     ghost use Rattle.pgw_link.specs.Memory.{memory_left};
-    ghost use Rattle.pgw_link.specs.MemoryDials.{offer_of, dial_tape, dial_faults, links_of, is_refused};
+    ghost use Rattle.pgw_link.specs.MemoryDials.{offers_of, dial_tape, dial_faults, links_of, is_refused};
 
     type Link = MemoryLink;
 
     ghost tape = { dial_tape };
 
-    ghost offer = { λ d. Some (offer_of (links_of d)) };
+    ghost offers = { λ d. Some (offers_of (links_of d)) };
 
     ghost foretells = { Unit {0} };
 
@@ -122,12 +122,12 @@ impl Dialer for MemoryDialer {
         ensures faultless { IfOk result (λ made. faults_of made ≡ 0) }
         ensures dialled { IfOk result (λ made.
             Dialled address.now (dial_tape self.old) (dial_tape self.new) (memory_tape made)) }
-        ensures offered { IfOk result (λ made. Some (memory_left made)
-            ≡ Some (offer_of (links_of self.old))) }
+        ensures offered { IfOk result (λ made. MakesNext (Some (offers_of (links_of self.old)))
+            (Some (offers_of (links_of self.new))) (Some (memory_left made))) }
         ensures failed { OnErr result (NotDialled address.now (dial_tape self.old)
             (dial_tape self.new)) }
-        ensures offer { OnErr result (Some (offer_of (links_of self.new))
-            ≡ Some (offer_of (links_of self.old))) }
+        ensures kept { OnErr result (Some (offers_of (links_of self.new))
+            ≡ Some (offers_of (links_of self.old))) }
     {
         if self.is_refusing() {
             self.log = self.log.then(&DialNote::Dialled(address, false));
@@ -143,7 +143,7 @@ impl Dialer for MemoryDialer {
         ensures shut { Shut (dial_tape self.old) (dial_tape self.new) (memory_tape used) }
         ensures links { links_of self.new ≡ links_of self.old }
         ensures listing { self.new.dials.numbers ≡ self.old.dials.numbers }
-        ensures offer { Some (offer_of (links_of self.new)) ≡ Some (offer_of (links_of self.old)) }
+        ensures kept { Some (offers_of (links_of self.new)) ≡ Some (offers_of (links_of self.old)) }
     {
         if used.has_failed() {
             self.faulty = self.faulty.saturating_add(1);

@@ -116,3 +116,18 @@ returns-in-Err-request-clause-ended g c =
     ended_error q _ _ _ c.in-Err-request.error _ c.is_broken.result c.answered.result (c.is_broken.ensures.broken ∙ ap (λ x. is_broken x) back) c.answered.ensures
     (extended_ended q (extended q c.requires.extended) call)
     )
+
+pub returns-in-Err-clause-within : goal.returns-in-Err-clause-within
+returns-in-Err-clause-within g c = record { limit = refl; within = λ was. was }
+
+pub returns-in-Ok-request-clause-within : goal.returns-in-Ok-request-clause-within
+returns-in-Ok-request-clause-within g c =
+    let lent = c.extended_query-lent.ensures.client in
+    let back : c.client-1.given.0 ≡ c.request.new.self.client.now = c.client-1.given.1 (sym (c.request.ensures.same_client ∙ c.extended_query-lent.ensures.same_client)) in
+    rw (sym lent, back) (record { limit = c.in-Ok-request.ensures.asks.limit; within = λ was. c.in-Ok-request.ensures.asks.within })
+
+pub returns-in-Err-request-clause-within : goal.returns-in-Err-request-clause-within
+returns-in-Err-request-clause-within g c =
+    let lent = c.extended_query-lent.ensures.client in
+    let back : c.client-1.given.0 ≡ c.request.new.self.client.now = c.client-1.given.1 (sym (c.request.ensures.same_client ∙ c.extended_query-lent.ensures.same_client)) in
+    rw (sym lent, back) (record { limit = c.in-Err-request.ensures.asks.limit; within = λ was. c.in-Err-request.ensures.asks.within })

@@ -50,3 +50,9 @@ pub returns-in-Err-clause-ended : goal.returns-in-Err-clause-ended
 returns-in-Err-clause-ended g c =
     let call = c.in-Err.ensures.asked c.requires in
     ended_error (request.Simple c.args.sql.now) _ _ _ c.in-Err.error _ c.is_broken.result c.answered.result c.is_broken.ensures.broken c.answered.ensures (call.well, call.halts, call.at_end)
+
+pub returns-in-Ok-clause-within : goal.returns-in-Ok-clause-within
+returns-in-Ok-clause-within g c = record { limit = c.in-Ok.ensures.limit; within = λ was. c.in-Ok.ensures.within }
+
+pub returns-in-Err-clause-within : goal.returns-in-Err-clause-within
+returns-in-Err-clause-within g c = record { limit = c.in-Err.ensures.limit; within = λ was. c.in-Err.ensures.within }

@@ -3,7 +3,7 @@ use Rattle.pgw_handlers.specs.Startup.{startup, HeardAtStartup}
 use Rattle.pgw_connection.specs.Desk.{client_of, first_client}
 use Rattle.pgw_connection.specs.Line.{line}
 use Rattle.pgw_connection.proofs.ConnectLaws.{from_new, once, failed_some, counts_from}
-use Rattle.pgw_connection.proofs.ForetoldLaws.{foretold_from}
+use Rattle.pgw_connection.proofs.ForetoldLaws.{foretold_from, made_still}
 use Rattle.pgw_connection.proofs.connect.connect_at.Goals as goal
 
 pub returns-in-Ok-log_in-clause-connected : goal.returns-in-Ok-log_in-clause-connected
@@ -44,8 +44,10 @@ returns-in-Err-log_in-clause-failed g c =
             (line (g.D.Link.Link.tape last.link) (g.D.Link.Link.faults last.link) last.inbox last.read last.limit) (Err c.in-Err-log_in.error)
             made.client (ap (λ l. g.D.Link.Link.tape l) made.link) none made.inbox made.read made.limit c.in-Err-log_in.ensures.logs_in,
         λ t. (
+          g.D.Link.Link.left link,
           _,
-          foretold_from _ _ _ _ _ _ (ap (λ l. g.D.Link.Link.left l) made.link ∙ c.in-Ok.ensures.offered t)
+          made_still _ _ _ _ (c.hang_up.ensures.kept t) (c.in-Ok.ensures.offered t),
+          foretold_from _ _ _ _ _ _ (ap (λ l. g.D.Link.Link.left l) made.link)
               (ap (λ l. g.D.Link.Link.tape l) made.link) (c.log_in.ensures.foretold (g.met.D.Dialer.links_foretell t)),
         ),
       );
@@ -53,6 +55,9 @@ returns-in-Err-log_in-clause-failed g c =
 
 pub returns-in-Ok-log_in-clause-foretold : goal.returns-in-Ok-log_in-clause-foretold
 returns-in-Ok-log_in-clause-foretold g c = λ t.
-    let made = c.client_over-client.ensures in
-    foretold_from _ _ _ _ _ _ (ap (λ l. g.D.Link.Link.left l) made.link ∙ c.in-Ok.ensures.offered t)
-    (ap (λ l. g.D.Link.Link.tape l) made.link ∙ c.in-Ok.ensures.dialled.fresh) (c.log_in.ensures.foretold (g.met.D.Dialer.links_foretell t))
+    let made = c.client_over-client.ensures in (
+      g.D.Link.Link.left c.in-Ok.link,
+      c.in-Ok.ensures.offered t,
+      foretold_from _ _ _ _ _ _ (ap (λ l. g.D.Link.Link.left l) made.link)
+          (ap (λ l. g.D.Link.Link.tape l) made.link ∙ c.in-Ok.ensures.dialled.fresh) (c.log_in.ensures.foretold (g.met.D.Dialer.links_foretell t)),
+    )
