@@ -100,7 +100,7 @@ where
         .pool
         .refill(rt, rt.alloc(), shared.config, nonce, LIMIT, &mut dialer);
     match refilled {
-        Ok(Refilled::Added | Refilled::Full) => true,
+        Ok(Refilled::Added | Refilled::Full | Refilled::Displaced) => true,
         Err(_) => false,
     }
 }

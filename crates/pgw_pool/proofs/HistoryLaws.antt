@@ -20,7 +20,7 @@ use Rattle.pgw_handlers.specs.Client.{Client}
 use Rattle.pgw_connection.specs.Line.{Line, Moved, IsFlushed}
 use Rattle.pgw_calls.specs.Turns.{knowing}
 use Rattle.pgw_calls.specs.Stands.{Made, made, events_of}
-use Rattle.pgw_pool.specs.Histories.{Lent, Over, ended, checked, History, with_lease, reset, made_in, made_over, IsOver, EndsIn, IsReset, AreReset, BeginsIdle, Ascend, View, StandsBy, IsIdle, AreIdle, IsLent}
+use Rattle.pgw_pool.specs.Histories.{Lent, Over, ended, checked, History, lent_as, with_lease, reset, made_in, made_over, IsOver, EndsIn, IsReset, AreReset, BeginsIdle, Ascend, View, StandsBy, IsIdle, AreIdle, IsLent}
 use Rattle.pgw_pool.specs.Lending.{LendsFirst}
 
 -- ---- lists
@@ -149,18 +149,22 @@ idle_one_more low now hs h vs all v same grown are is =
 
 -- ---- a lease begins and ends
 
+-- an idle session that is lent, where nothing was asked in its lease yet
+pub lent_again : (low now : ℕ) (h : History) (v : View) → low < now → IsIdle low h v → IsLent h (lent_as now) v
+lent_again low now h v above is = record {
+  stands = subst (λ (ts : List Made). StandsBy h ts v) (sym (append-nil (made_over h.over))) is.stands;
+  resets = is.resets;
+  last = low;
+  ascend = is.ascend;
+  above = above;
+  usable = is.usable;
+  flushed = is.flushed;
+}
+
 pub first_lent : (lent now number : ℕ) (hs : List History) (v : View) (rest : List View) → now ≡ lent + 1 → number ≡ now → AreIdle lent hs (v ∷ rest) → LendsFirst hs now rest number v
 first_lent lent now number [] v rest counted numbered are = are
 first_lent lent now number (h ∷ hs) v rest counted numbered are = (
-  record {
-    stands = subst (λ (ts : List Made). StandsBy h ts v) (sym (append-nil (made_over h.over))) (are.0).stands;
-    resets = (are.0).resets;
-    last = lent;
-    ascend = (are.0).ascend;
-    above = (omega arith);
-    usable = (are.0).usable;
-    flushed = (are.0).flushed;
-  },
+  lent_again lent number h v (omega (arith, counted, numbered)) are.0,
   begins_idle h.over (are.0).resets,
   idle_later lent now hs rest (omega arith) are.1,
 )

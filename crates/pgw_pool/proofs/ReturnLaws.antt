@@ -11,6 +11,7 @@ use Rattle.pgw_types.specs.declared.error.PgWireError.{PgWireError}
 use Rattle.pgw_wire.specs.Framing.{encoded}
 use Rattle.pgw_wire.specs.Writing.{refused_if, text}
 use Rattle.pgw_frontend.specs.Frontend.{encoding, encodings}
+use Rattle.pgw_session.specs.declared.types.Request.{Request}
 use Rattle.pgw_session.specs.Requests.{sends_of}
 use Rattle.pgw_handlers.specs.Client.{Client}
 use Rattle.pgw_connection.specs.Line.{Moved, Pause, IsFlushed, Foretold}
@@ -19,13 +20,15 @@ use Rattle.pgw_calls.specs.Calls.{IsRefused, Comes}
 use Rattle.pgw_calls.specs.Stands.{Made, made, Stands, OneMore, StandsBehind}
 use Rattle.pgw_pool.specs.declared.returned.Returned.{Returned}
 use Rattle.pgw_pool.specs.declared.returned.Returned.TheVariants.{Kept, Dropped}
-use Rattle.pgw_pool.specs.Histories.{Lent, History, reset, with_lease, made_over, IsResetIn, View, StandsBy, AreIdle, IsLent}
-use Rattle.pgw_pool.specs.Returning.{cause_of, kept_by, returned_by, IsAsked, idle_behind, lefts_behind, GivesBack, GivesForetold, EndsBy, FailsBy, IsDropped, GivenBack, DropsFrom}
+use Rattle.pgw_pool.specs.declared.returned.DropCause.{DropCause}
+use Rattle.pgw_pool.specs.declared.returned.DropCause.TheVariants as cause
+use Rattle.pgw_pool.specs.Histories.{Lent, History, reset, check, with_lease, made_over, IsResetIn, View, StandsBy, AreIdle, IsLent}
+use Rattle.pgw_pool.specs.Returning.{cause_of, kept_by, returned_by, IsAsked, idle_behind, lefts_behind, GivesBack, GivesForetold, EndsBy, FailsBy, IsFailed, IsDropped, GivenBack, DropsFrom}
 use Rattle.pgw_pool.proofs.HistoryLaws.{simple_ends, status_known, idle_more, lease_ends, over_link}
 use Rattle.pgw_pool.proofs.RunLaws.{cuts}
 
--- the reset has an encoding
-abbrev HasEncoding : Result (List ℕ) PgWireError → Type 0
+-- the reset and the check have an encoding
+abbrev pub HasEncoding : Result (List ℕ) PgWireError → Type 0
 HasEncoding (Ok bytes) = Unit {0}
 HasEncoding (Err why) = ⊥
 
@@ -33,8 +36,12 @@ reset_encoded : HasEncoding (encodings (sends_of reset))
 unfolding encoding encoded text refused_if
 reset_encoded = tt
 
-reset_has_encoding : (c : Client) (bytes sent : List ℕ) (why : PgWireError) (info : Client) (rest : List ℕ) → IsRefused reset c bytes sent why info rest → ⊥
-reset_has_encoding c bytes sent why info rest is = subst HasEncoding is.0 reset_encoded
+pub check_encoded : HasEncoding (encodings (sends_of check))
+unfolding encoding encoded text refused_if
+check_encoded = tt
+
+never_refused : (q : Request) → HasEncoding (encodings (sends_of q)) → (c : Client) (bytes sent : List ℕ) (why : PgWireError) (info : Client) (rest : List ℕ) → IsRefused q c bytes sent why info rest → ⊥
+never_refused q encoded c bytes sent why info rest is = subst HasEncoding is.0 encoded
 
 -- what becomes of a session by its answer
 pub is_returned : (old last : View) (a : Result (List Response) ClientError) (status : TransactionStatus) (broken : Bool) (result : Returned)
@@ -43,19 +50,45 @@ pub is_returned : (old last : View) (a : Result (List Response) ClientError) (st
 is_returned old last a status broken result asked told known is =
     (a, asked, is ∙ ap (λ (s : TransactionStatus). returned_by a s broken) told ∙ ap (λ (b : Bool). returned_by a last.client.transaction_status b) known)
 
-module _ (lent : ℕ) (hs : List History) (h : History) (l : Lent) (old : View) (idle : List View) (are : AreIdle lent hs idle) (lease : IsLent h l old) (own : l.number ≤ lent) (last : View) where
+module _ (q : Request) (encoded : HasEncoding (encodings (sends_of q))) (h : History) (l : Lent) (old last : View) (lease : IsLent h l old) where
   -- over the link
-  stands_more : (es : List Event) (taken sent : List ℕ) → Moved old.line last.line taken sent
-      → Stands h.config h.nonce ((made_over h.over ++ l.made) ++ made reset es ∷ []) (old.line.tape.took ++ taken) (old.line.tape.wrote ++ sent) last.client last.line.buffer
-      → StandsBy h ((made_over h.over ++ l.made) ++ made reset es ∷ []) last
+  pub stands_more : (es : List Event) (taken sent : List ℕ) → Moved old.line last.line taken sent
+      → Stands h.config h.nonce ((made_over h.over ++ l.made) ++ made q es ∷ []) (old.line.tape.took ++ taken) (old.line.tape.wrote ++ sent) last.client last.line.buffer
+      → StandsBy h ((made_over h.over ++ l.made) ++ made q es ∷ []) last
   stands_more es taken sent moved stands =
-      over_link (λ (read wrote : List ℕ). Stands h.config h.nonce ((made_over h.over ++ l.made) ++ made reset es ∷ []) read wrote last.client last.line.buffer) old.line last.line taken sent moved stands
+      over_link (λ (read wrote : List ℕ). Stands h.config h.nonce ((made_over h.over ++ l.made) ++ made q es ∷ []) read wrote last.client last.line.buffer) old.line last.line taken sent moved stands
 
-  ends_by : (property : List Event → Type 0) (taken sent : List ℕ) → Moved old.line last.line taken sent
-      → OneMore h.config h.nonce (made_over h.over ++ l.made) reset property (old.line.tape.took ++ taken) (old.line.tape.wrote ++ sent) last.client last.line.buffer → EndsBy h l property last
+  pub ends_by : (property : List Event → Type 0) (taken sent : List ℕ) → Moved old.line last.line taken sent
+      → OneMore h.config h.nonce (made_over h.over ++ l.made) q property (old.line.tape.took ++ taken) (old.line.tape.wrote ++ sent) last.client last.line.buffer → EndsBy q h l property last
   ends_by property taken sent moved one =
-      (one.0, one.1, subst (λ (ts : List Made). StandsBy h ts last) (append_assoc (made_over h.over) l.made (made reset one.0 ∷ [])) (stands_more one.0 taken sent moved one.2))
+      (one.0, one.1, subst (λ (ts : List Made). StandsBy h ts last) (append_assoc (made_over h.over) l.made (made q one.0 ∷ [])) (stands_more one.0 taken sent moved one.2))
 
+  abbrev pub Came : Result (List Response) ClientError → Bool → Type 0
+  Came a broken = (more put : List ℕ) × Moved old.line last.line more put
+      × Comes answer.Responses (Pause old.line last.line) q old.client (old.line.buffer ++ more) put last.client last.line.buffer a broken
+
+  -- by the error of the query
+  pub fails_by : (e : ClientError) (broken : Bool) → last.broken ≡ broken → (taken sent : List ℕ) → Moved old.line last.line taken sent
+      → StandsBehind answer.Responses h.config h.nonce (made_over h.over ++ l.made) q (old.line.tape.took ++ taken) (old.line.tape.wrote ++ sent) last.client last.line.buffer (Err e) broken
+      → Came (Err e) broken → IsFailed q h l (cause_of e broken) last
+  fails_by client.OutOfMemory true is taken sent moved behind came = cuts h l q old last lease (List Response) client.OutOfMemory taken sent moved is behind came.0 came.1 came.2 came.3
+  fails_by client.OutOfMemory false is taken sent moved behind came = absurd behind
+  fails_by (client.RemoteError e) false is taken sent moved behind came = ends_by (IsAnswered q (answer.Remote e)) taken sent moved behind
+  fails_by (client.UnexpectedMessage m) false is taken sent moved behind came =
+      subst (λ (b : Bool). FailsBy q h l last b (client.UnexpectedMessage m)) (sym is) (ends_by (IsPassedSegment q m) taken sent moved behind)
+  fails_by (client.PgWireError why) false is taken sent moved behind came = absurd (never_refused q encoded old.client (old.line.buffer ++ came.0) came.1 why last.client last.line.buffer came.3)
+  fails_by e true is taken sent moved behind came =
+      subst (λ (b : Bool). FailsBy q h l last b e) (sym is) (cuts h l q old last lease (List Response) e taken sent moved is behind came.0 came.1 came.2 came.3)
+  fails_by e false is taken sent moved behind came = absurd behind
+
+-- an error of the reset is why a session is dropped
+failed_drops : (h : History) (l : Lent) (why : DropCause) (v : View) → IsFailed reset h l why v → IsDropped h l why v
+failed_drops h l (cause.Status status) v is = absurd is
+failed_drops h l (cause.Refused e) v is = is
+failed_drops h l (cause.Failed e) v is = is
+failed_drops h l cause.OutOfMemory v is = is
+
+module _ (lent : ℕ) (hs : List History) (h : History) (l : Lent) (old : View) (idle : List View) (are : AreIdle lent hs idle) (lease : IsLent h l old) (own : l.number ≤ lent) (last : View) where
   -- by the responses of the reset, and the status behind it
   reset_in : (rs : List Response) (taken sent : List ℕ) → Moved old.line last.line taken sent
       → OneMore h.config h.nonce (made_over h.over ++ l.made) reset (IsAnswered reset (answer.Responses rs)) (old.line.tape.took ++ taken) (old.line.tape.wrote ++ sent) last.client last.line.buffer
@@ -63,7 +96,7 @@ module _ (lent : ℕ) (hs : List History) (h : History) (l : Lent) (old : View) 
   reset_in rs taken sent moved one =
       let es = one.0 in
       let r = simple_ends _ es (one.1).0 in
-      let told = status_known h (made_over h.over ++ l.made) reset es r.0 r.1 last (stands_more es taken sent moved one.2) r.2 in
+      let told = status_known h (made_over h.over ++ l.made) reset es r.0 r.1 last (stands_more reset reset_encoded h l old last lease es taken sent moved one.2) r.2 in
       (es, (rs, one.1, (r.0, r.1, r.2, sym told)), one.2)
 
   -- what becomes of it: idle behind the others, or dropped for this cause
@@ -76,40 +109,23 @@ module _ (lent : ℕ) (hs : List History) (h : History) (l : Lent) (old : View) 
       → Becomes Kept
   kept_idle taken sent moved usable flushed one =
       let es = one.0 in
-      (es, idle_more lent hs (with_lease h l es) idle last are (lease_ends lent h l es old last lease own (stands_more es taken sent moved one.2) one.1 usable flushed))
+      (es, idle_more lent hs (with_lease h l es) idle last are (lease_ends lent h l es old last lease own (stands_more reset reset_encoded h l old last lease es taken sent moved one.2) one.1 usable flushed))
 
   by_status : (status : TransactionStatus) (taken sent : List ℕ) → Moved old.line last.line taken sent → last.broken ≡ false → IsFlushed last.line
       → OneMore h.config h.nonce (made_over h.over ++ l.made) reset (IsResetIn status) (old.line.tape.took ++ taken) (old.line.tape.wrote ++ sent) last.client last.line.buffer
       → Becomes (kept_by status)
   by_status Idle taken sent moved usable flushed one = kept_idle taken sent moved usable flushed one
-  by_status Transaction taken sent moved usable flushed one = (ends_by (IsResetIn Transaction) taken sent moved one, λ same. cc)
-  by_status Error taken sent moved usable flushed one = (ends_by (IsResetIn Error) taken sent moved one, λ same. cc)
-
-  abbrev Came : Result (List Response) ClientError → Bool → Type 0
-  Came a broken = (more put : List ℕ) × Moved old.line last.line more put
-      × Comes answer.Responses (Pause old.line last.line) reset old.client (old.line.buffer ++ more) put last.client last.line.buffer a broken
-
-  -- by the error of the reset
-  fails_by : (e : ClientError) (broken : Bool) → last.broken ≡ broken → (taken sent : List ℕ) → Moved old.line last.line taken sent
-      → StandsBehind answer.Responses h.config h.nonce (made_over h.over ++ l.made) reset (old.line.tape.took ++ taken) (old.line.tape.wrote ++ sent) last.client last.line.buffer (Err e) broken
-      → Came (Err e) broken → IsDropped h l (cause_of e broken) last
-  fails_by client.OutOfMemory true is taken sent moved behind came = cuts h l reset old last lease (List Response) client.OutOfMemory taken sent moved is behind came.0 came.1 came.2 came.3
-  fails_by client.OutOfMemory false is taken sent moved behind came = absurd behind
-  fails_by (client.RemoteError e) false is taken sent moved behind came = ends_by (IsAnswered reset (answer.Remote e)) taken sent moved behind
-  fails_by (client.UnexpectedMessage m) false is taken sent moved behind came =
-      subst (λ (b : Bool). FailsBy h l last b (client.UnexpectedMessage m)) (sym is) (ends_by (IsPassedSegment reset m) taken sent moved behind)
-  fails_by (client.PgWireError why) false is taken sent moved behind came = absurd (reset_has_encoding old.client (old.line.buffer ++ came.0) came.1 why last.client last.line.buffer came.3)
-  fails_by e true is taken sent moved behind came =
-      subst (λ (b : Bool). FailsBy h l last b e) (sym is) (cuts h l reset old last lease (List Response) e taken sent moved is behind came.0 came.1 came.2 came.3)
-  fails_by e false is taken sent moved behind came = absurd behind
+  by_status Transaction taken sent moved usable flushed one = (ends_by reset reset_encoded h l old last lease (IsResetIn Transaction) taken sent moved one, λ same. cc)
+  by_status Error taken sent moved usable flushed one = (ends_by reset reset_encoded h l old last lease (IsResetIn Error) taken sent moved one, λ same. cc)
 
   by_answer : (a : Result (List Response) ClientError) (broken : Bool) → last.broken ≡ broken → (taken sent : List ℕ) → Moved old.line last.line taken sent → (broken ≡ false → IsFlushed last.line)
       → StandsBehind answer.Responses h.config h.nonce (made_over h.over ++ l.made) reset (old.line.tape.took ++ taken) (old.line.tape.wrote ++ sent) last.client last.line.buffer a broken
-      → Came a broken → Becomes (returned_by a last.client.transaction_status broken)
+      → Came reset reset_encoded h l old last lease a broken → Becomes (returned_by a last.client.transaction_status broken)
   by_answer (Ok rs) true is taken sent moved flushed behind came = absurd behind
   by_answer (Ok rs) false is taken sent moved flushed behind came =
       by_status last.client.transaction_status taken sent moved is (flushed refl) (reset_in rs taken sent moved behind)
-  by_answer (Err e) broken is taken sent moved flushed behind came = fails_by e broken is taken sent moved behind came
+  by_answer (Err e) broken is taken sent moved flushed behind came =
+      failed_drops h l (cause_of e broken) last (fails_by reset reset_encoded h l old last lease e broken is taken sent moved behind came)
 
   becomes : (a : Result (List Response) ClientError) (result : Returned) → IsAsked old last a → result ≡ returned_by a last.client.transaction_status last.broken → Becomes result
   becomes a result asked is =

@@ -6,6 +6,7 @@ use Rattle.pgw_backend.specs.declared.client_error.PgWireClientError.{PgWireClie
 use Rattle.pgw_backend.specs.declared.client_error.PgWireClientError.TheVariants as client
 use Rattle.pgw_config.specs.declared.config.Config.{Config}
 use Rattle.pgw_link.specs.Tape.{Tape, new_tape}
+use Rattle.pgw_link.specs.Dials.{MakesNext}
 use Rattle.pgw_handlers.specs.Client.{Client}
 use Rattle.pgw_handlers.specs.Handling.{HasCause, IsCaused}
 use Rattle.pgw_handlers.specs.Startup.{HeardAtStartup, startup}
@@ -14,7 +15,7 @@ use Rattle.pgw_default_handlers.specs.declared.startup.DefaultStartupHandler.{De
 use Rattle.pgw_default_handlers.specs.Startup.{StartupMeans, exchanges}
 use Rattle.pgw_connection.specs.Talk.{end}
 use Rattle.pgw_connection.specs.Desk.{first_client, with_information}
-use Rattle.pgw_connection.specs.Line.{Line, Moved, IsFlushed, Foretold}
+use Rattle.pgw_connection.specs.Line.{Line, Moved, IsFlushed, Foretold, IsWithin}
 use Rattle.pgw_connection.specs.Calls.{Call}
 use Rattle.pgw_connection.specs.Connecting.{new_line, Connected, NotConnected}
 use Rattle.pgw_calls.specs.Stands.{Stands}
@@ -29,6 +30,9 @@ pub both_ok : {X Y : Type 0} (r : Result X Y) (P Q R : X → Type 0) → ((x : X
 both_ok (Ok x) P Q R f p q = f x p q
 both_ok (Err e) P Q R f p q = tt
 
+pub within_limit : (read most limit : ℕ) → read ≤ most → most ≡ limit → (most ≡ limit) × (read ≤ limit)
+within_limit read most limit within is = (is, (omega (arith, within, is)))
+
 -- the law on logins
 abbrev pub Begins : Type 0
 Begins = (config : Config) (h : DefaultStartupHandler) (old now : Line) (told : Client) (information : ServerInformation) → old.buffer ≡ []
@@ -37,7 +41,7 @@ Begins = (config : Config) (h : DefaultStartupHandler) (old now : Line) (told : 
 
 pub begun : Begins → (config : Config) (limit : ℕ) (nonce : List ℕ) (old new : Dials) (v : View) → Connects config limit nonce old new v → v.broken ≡ false → IsIdle 0 (new_history config nonce) v
 begun law config limit nonce old new v c usable =
-    let at = c.2 in
+    let at = (c.1).2 in
     let i = at.logs_in in
     let s = law config (handler_with nonce) (new_line at.first limit) v.line i.1 i.0 refl i.2 in
     let fresh = at.dialled.fresh in
@@ -55,24 +59,24 @@ begun law config limit nonce old new v c usable =
 
 -- the login by a copy of the configuration, and by a handler that was made with the nonce
 pub connects_as : (config copy : Config) (h : DefaultStartupHandler) (limit : ℕ) (nonce : List ℕ) (old new : Dials) (v : View) → copy ≡ config → h ≡ handler_with nonce
-    → Connected (λ before after answer. StartupMeans before startup after answer) (HeardAtStartup exchanges StartupMeans) h copy limit old.tape new.tape v.client v.line → Connects config limit nonce old new v
-connects_as config copy h limit nonce old new v same made c =
+    → IsWithin limit v.line → Connected (λ before after answer. StartupMeans before startup after answer) (HeardAtStartup exchanges StartupMeans) h copy limit old.tape new.tape v.client v.line → Connects config limit nonce old new v
+connects_as config copy h limit nonce old new v same made within c =
     subst (λ (x : Config). Connects x limit nonce old new v) same
-    (subst (λ (x : DefaultStartupHandler). Connected (λ before after answer. StartupMeans before startup after answer) (HeardAtStartup exchanges StartupMeans) x copy limit old.tape new.tape v.client v.line) made c)
+    (within, subst (λ (x : DefaultStartupHandler). Connected (λ before after answer. StartupMeans before startup after answer) (HeardAtStartup exchanges StartupMeans) x copy limit old.tape new.tape v.client v.line) made c)
 
 same_dialer : {Same : Type 0} (foretells : Type 0) (config : Config) (h : DefaultStartupHandler) (limit : ℕ) (old new : Dials) (e : ClientError) → (Same → new ≡ old)
-    → NotConnected Same foretells (λ before after answer. StartupMeans before startup after answer) (HeardAtStartup exchanges StartupMeans) h config limit old.offer new.offer old.tape new.tape old.faults new.faults e
-    → NotConnected (new ≡ old) foretells (λ before after answer. StartupMeans before startup after answer) (HeardAtStartup exchanges StartupMeans) h config limit old.offer new.offer old.tape new.tape old.faults new.faults e
+    → NotConnected Same foretells (λ before after answer. StartupMeans before startup after answer) (HeardAtStartup exchanges StartupMeans) h config limit old.offers new.offers old.tape new.tape old.faults new.faults e
+    → NotConnected (new ≡ old) foretells (λ before after answer. StartupMeans before startup after answer) (HeardAtStartup exchanges StartupMeans) h config limit old.offers new.offers old.tape new.tape old.faults new.faults e
 same_dialer foretells config h limit old new e dials_are (inl none) = inl (dials_are none.0, none.1)
 same_dialer foretells config h limit old new e dials_are (inr some) = inr some
 
 pub not_connects_as : {Same : Type 0} (foretells : Type 0) (config copy : Config) (h : DefaultStartupHandler) (limit : ℕ) (nonce : List ℕ) (old new : Dials) (e : ClientError) → (Same → new ≡ old) → copy ≡ config → h ≡ handler_with nonce
-    → NotConnected Same foretells (λ before after answer. StartupMeans before startup after answer) (HeardAtStartup exchanges StartupMeans) h copy limit old.offer new.offer old.tape new.tape old.faults new.faults e
+    → NotConnected Same foretells (λ before after answer. StartupMeans before startup after answer) (HeardAtStartup exchanges StartupMeans) h copy limit old.offers new.offers old.tape new.tape old.faults new.faults e
     → NotConnects foretells config limit nonce old new e
 not_connects_as foretells config copy h limit nonce old new e dials_are same made n =
     let x = same_dialer foretells copy h limit old new e dials_are n in
     subst (λ (c : Config). NotConnects foretells c limit nonce old new e) same
-    (subst (λ (k : DefaultStartupHandler). NotConnected (new ≡ old) foretells (λ before after answer. StartupMeans before startup after answer) (HeardAtStartup exchanges StartupMeans) k copy limit old.offer new.offer old.tape new.tape old.faults new.faults e) made x)
+    (subst (λ (k : DefaultStartupHandler). NotConnected (new ≡ old) foretells (λ before after answer. StartupMeans before startup after answer) (HeardAtStartup exchanges StartupMeans) k copy limit old.offers new.offers old.tape new.tape old.faults new.faults e) made x)
 
 -- ---- one after the other
 
@@ -117,11 +121,11 @@ connected_next config limit ns i n old mid new vs now v there is grown all one =
 
 pub foretold_next : (config : Config) (limit : ℕ) (ns : List (List ℕ)) (i : ℕ) (n : List ℕ) (old mid new : Dials) (lefts lefts_now : List (Option (List ℕ))) (left : Option (List ℕ)) (vs now : List View) (v : View)
     → i < length ns → n ≡ get_or ns i [] → lefts_now ≡ lefts ++ left ∷ [] → now ≡ vs ++ v ∷ []
-    → ConnectForetold config limit old (take i ns) mid lefts vs → Connects config limit n mid new v → Foretold mid.offer left new_tape v.line.tape → mid.faults ≤ new.faults → ConnectForetold config limit old (take (i + 1) ns) new lefts_now now
+    → ConnectForetold config limit old (take i ns) mid lefts vs → Connects config limit n mid new v → (offer : Option (List ℕ)) × MakesNext mid.offers new.offers offer × Foretold offer left new_tape v.line.tape → mid.faults ≤ new.faults → ConnectForetold config limit old (take (i + 1) ns) new lefts_now now
 foretold_next config limit ns i n old mid new lefts lefts_now left vs now v there is more grown all one foretold later =
     subst (ConnectForetold config limit old (take (i + 1) ns) new lefts_now) (sym grown)
     (subst (λ (l : List (Option (List ℕ))). ConnectForetold config limit old (take (i + 1) ns) new l (vs ++ v ∷ [])) (sym more)
-    (subst (λ (l : List (List ℕ)). ConnectForetold config limit old l new (lefts ++ left ∷ []) (vs ++ v ∷ [])) (sym (next_taken ns i n there is)) (offer_more (take i ns) n mid new lefts left vs v all one foretold later)))
+    (subst (λ (l : List (List ℕ)). ConnectForetold config limit old l new (lefts ++ left ∷ []) (vs ++ v ∷ [])) (sym (next_taken ns i n there is)) (offer_more (take i ns) n mid new lefts foretold.0 left vs v all one foretold.1 foretold.2 later)))
 
 pub all_taken : (ns : List (List ℕ)) (i : ℕ) → length ns ≤ i → take i ns ≡ ns
 all_taken ns i past = take_all i ns past

@@ -6,6 +6,7 @@ use Rattle.pgw_query.specs.declared.response.TransactionStatus.TheVariants.{Idle
 use Rattle.pgw_backend.specs.declared.client_error.PgWireClientError.{PgWireClientError as ClientError}
 use Rattle.pgw_session.specs.declared.types.Response.{Response}
 use Rattle.pgw_session.specs.declared.types.Response.TheVariants.{EmptyQuery}
+use Rattle.pgw_session.specs.declared.types.Answer.TheVariants as answer
 use Rattle.pgw_session.specs.Events.{Event}
 use Rattle.pgw_connection.specs.Line.{Foretold}
 use Rattle.pgw_pool.specs.declared.returned.DropCause.TheVariants as cause
@@ -13,9 +14,10 @@ use Rattle.pgw_pool.specs.declared.checking.Unfit.{Unfit}
 use Rattle.pgw_pool.specs.declared.checking.Unfit.TheVariants.{Answered, Dropped}
 use Rattle.pgw_pool.specs.declared.checking.CheckError.{CheckError}
 use Rattle.pgw_pool.specs.declared.checking.CheckError.TheVariants as refusal
-use Rattle.pgw_pool.specs.Histories.{History, View, check, lent_as, with_check, BeginsIdle, IsLent, AreIdle}
+use Rattle.pgw_calls.specs.Turns.{IsAnswered}
+use Rattle.pgw_pool.specs.Histories.{History, View, check, lent_as, with_check, IsCheckedIn, BeginsIdle, IsLent, AreIdle}
 use Rattle.pgw_pool.specs.Lending.{most_leases}
-use Rattle.pgw_pool.specs.Returning.{cause_of, IsAskedIn}
+use Rattle.pgw_pool.specs.Returning.{cause_of, IsAskedIn, EndsBy, IsFailed}
 
 -- a session is fit where the check is answered by one empty query, and the status behind it is Idle
 abbrev pub is_empty_query : List Response → Bool
@@ -93,8 +95,19 @@ LendsChecked (h ∷ hs) lent rest number v =
     (es : List Event) × IsLent (with_check h es) (lent_as number) v
     × BeginsIdle (with_check h es).over × AreIdle lent hs rest
 
--- the others stay idle where the first is dropped, and else all do
+-- What an idle session stands for that is not fit: its check was answered by something else than one
+-- empty query; or so, with a transaction open behind it; or the check failed.
+abbrev pub IsUnfit : History → Unfit → View → Type 0
+IsUnfit h (Answered rs) v =
+    EndsBy check h (lent_as 0) (IsAnswered check (answer.Responses rs)) v
+    × (is_empty_query rs ≡ false)
+IsUnfit h (Dropped (cause.Status status)) v =
+    EndsBy check h (lent_as 0) (IsCheckedIn status) v × (status ≢ Idle)
+IsUnfit h (Dropped why) v = IsFailed check h (lent_as 0) why v
+
+-- the others stay idle where the first is dropped, which is not fit; and else all do
 abbrev pub StayChecked : CheckError → List History → ℕ → List View → Type 0
 StayChecked (refusal.Unfit why) [] lent now = ⊥
-StayChecked (refusal.Unfit why) (h ∷ hs) lent now = AreIdle lent hs now
+StayChecked (refusal.Unfit why) (h ∷ hs) lent now =
+    AreIdle lent hs now × ((last : View) × IsUnfit h why last)
 StayChecked e hs lent now = AreIdle lent hs now

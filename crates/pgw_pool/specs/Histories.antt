@@ -96,9 +96,13 @@ IsResetIn status es =
 abbrev pub IsReset : List Event → Type 0
 IsReset es = IsResetIn Idle es
 
--- a check was answered by one empty query, and the status behind it was Idle
+-- a check was answered by one empty query, and this was the status behind it
+abbrev pub IsCheckedIn : TransactionStatus → List Event → Type 0
+IsCheckedIn status es =
+    IsAnswered check (answer.Responses (EmptyQuery ∷ [])) es × EndsIn status es
+
 abbrev pub IsChecked : List Event → Type 0
-IsChecked es = IsAnswered check (answer.Responses (EmptyQuery ∷ [])) es × EndsIn Idle es
+IsChecked es = IsCheckedIn Idle es
 
 abbrev pub IsOver : Over → Type 0
 IsOver (ended l es) = IsReset es

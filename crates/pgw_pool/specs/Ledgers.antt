@@ -1,5 +1,5 @@
 -- What any list of calls does over the sessions of a pool.
-use Rattle.std.specs.Prelude.{◌≡◌, ◌≤◌, ℕ, List, [], ◌∷◌, ◌++◌, Option, Some, None, Result, Ok, Err}
+use Rattle.std.specs.Prelude.{◌≡◌, ◌<◌, ◌≤◌, ℕ, List, [], ◌∷◌, ◌++◌, Option, Some, None, Result, Ok, Err}
 use Rattle.pgw_types.specs.declared.error.PgWireError.{PgWireError}
 use Rattle.pgw_backend.specs.declared.backend.PgWireBackendMessage.{PgWireBackendMessage as Backend}
 use Rattle.pgw_backend.specs.declared.client_error.PgWireClientError.{PgWireClientError as ClientError}
@@ -17,6 +17,7 @@ use Rattle.pgw_pool.specs.declared.checking.Unfit.{Unfit}
 use Rattle.pgw_pool.specs.Histories.{History, Lent, View, new_history, lent_as, with_request, with_lease, with_check, IsReset, IsChecked, BeginsIdle, IsLent, AreIdle}
 use Rattle.pgw_pool.specs.Lending.{IsCut}
 use Rattle.pgw_pool.specs.Returning.{IsDropped}
+use Rattle.pgw_pool.specs.Checking.{IsUnfit}
 use Rattle.pgw_pool.specs.Stocks.{Out, Stock, Step, lends, runs, gives_back, lends_fit, drops_unfit, refills, retires, Steps, no_step, step_more}
 
 -- ---- sessions
@@ -66,10 +67,16 @@ AreLoans lent [] [] = Unit {0}
 AreLoans lent (x ∷ xs) (o ∷ os) = IsLoan lent x o × AreLoans lent xs os
 AreLoans lent xs os = ⊥
 
+-- the leases that are out have ascending numbers above `low`, so that no two have the same
+abbrev pub AreApart : ℕ → List Out → Type 0
+AreApart low [] = Unit {0}
+AreApart low (o ∷ os) = (low < o.number) × AreApart o.number os
+
 -- This was done over the sessions of a pool and of its leases that are out.
 pub record IsLedger (a : Ledger) (s : Stock) : Type 0 where
   pub idle : AreIdle s.lent a.idle s.idle
   pub out : AreLoans s.lent a.out s.out
+  pub apart : AreApart 0 s.out
 
 -- ---- calls
 
@@ -146,7 +153,8 @@ pub data Entry : Call → Ledger → Ledger → Type 0 where
       (out dropped : List Loan) → IsChecked es →
       Entry (lent_fit number) (ledger (h ∷ idle) out dropped)
       (ledger idle (out ++ loan (with_check h es) (lent_as number) ∷ []) dropped)
-  is_unfit : (h : History) (why : Unfit) (idle : List History) (out dropped : List Loan) →
+  is_unfit : (h : History) (why : Unfit) (idle : List History) (out dropped : List Loan)
+      (last : View) → IsUnfit h why last →
       Entry (unfit why) (ledger (h ∷ idle) out dropped) (ledger idle out (dropped ++ unlent h ∷ []))
   is_refilled : (config : Config) (nonce : List ℕ) (idle : List History) (out dropped : List Loan) →
       Entry (refilled config nonce) (ledger idle out dropped)

@@ -11,7 +11,7 @@ use Rattle.pgw_session.specs.declared.types.Response.{Response}
 use Rattle.pgw_session.specs.declared.types.Answer.TheVariants as answer
 use Rattle.pgw_session.specs.Events.{Event}
 use Rattle.pgw_handlers.specs.Handling.{HasCause}
-use Rattle.pgw_connection.specs.Line.{Moved, Pause, IsFlushed, EndedWell, Halts, AtEnd, Foretold}
+use Rattle.pgw_connection.specs.Line.{Moved, Pause, IsFlushed, EndedWell, Halts, AtEnd, Foretold, StaysWithin}
 use Rattle.pgw_connection.specs.Talk.{passes}
 use Rattle.pgw_connection.specs.Calls.{IsHalted}
 use Rattle.pgw_calls.specs.Turns.{IsAnswered, IsPassedSegment}
@@ -65,6 +65,8 @@ pub record IsAskedIn (q : Request) (old now : View) (a : Result (List Response) 
   pub at_end : old.broken ≡ false → AtEnd old.line now.line (IsHalted passes a now.broken)
   -- IoError comes only where a call of the link failed
   pub cause : HasCause old.line.faults now.line.faults old.broken a
+  -- and no more is read than the session's limit
+  pub within : StaysWithin old.line now.line
 
 -- so was the reset
 abbrev pub IsAsked : View → View → Result (List Response) ClientError → Type 0
@@ -109,26 +111,33 @@ pub record GivesForetold (was : Option (List ℕ)) (old : View) (idle now : List
 
 -- ---- by what was done over the session
 
--- a reset was made behind the lease, whose events are so
-abbrev pub EndsBy : History → Lent → (List Event → Type 0) → View → Type 0
-EndsBy h l property v =
+-- this query was made behind the lease, whose events are so
+abbrev pub EndsBy : Request → History → Lent → (List Event → Type 0) → View → Type 0
+EndsBy q h l property v =
     (es : List Event) × property es
-    × StandsBy h (made_over h.over ++ (l.made ++ made reset es ∷ [])) v
+    × StandsBy h (made_over h.over ++ (l.made ++ made q es ∷ [])) v
 
--- The reset came to this error: a message without place, behind which the others were passed over;
+-- The query came to this error: a message without place, behind which the others were passed over;
 -- or one that left the session unusable.
-abbrev pub FailsBy : History → Lent → View → Bool → ClientError → Type 0
-FailsBy h l v false (client.UnexpectedMessage m) = EndsBy h l (IsPassedSegment reset m) v
-FailsBy h l v true e = IsCut h l reset e v
-FailsBy h l v broken e = ⊥
+abbrev pub FailsBy : Request → History → Lent → View → Bool → ClientError → Type 0
+FailsBy q h l v false (client.UnexpectedMessage m) = EndsBy q h l (IsPassedSegment q m) v
+FailsBy q h l v true e = IsCut h l q e v
+FailsBy q h l v broken e = ⊥
 
--- What a session stands for that is dropped by this cause. Want of memory is a cause of its own.
+-- What a session stands for that is dropped by an error of the query. Want of memory is a cause of its
+-- own.
+abbrev pub IsFailed : Request → History → Lent → DropCause → View → Type 0
+IsFailed q h l (cause.Refused e) v = EndsBy q h l (IsAnswered q (answer.Remote e)) v
+IsFailed q h l (cause.Failed client.OutOfMemory) v = ⊥
+IsFailed q h l (cause.Failed e) v = FailsBy q h l v v.broken e
+IsFailed q h l cause.OutOfMemory v = IsCut h l q client.OutOfMemory v
+IsFailed q h l (cause.Status status) v = ⊥
+
+-- What a session stands for that is dropped by this cause: a transaction was open behind its reset, or
+-- the reset failed.
 abbrev pub IsDropped : History → Lent → DropCause → View → Type 0
-IsDropped h l (cause.Refused e) v = EndsBy h l (IsAnswered reset (answer.Remote e)) v
-IsDropped h l (cause.Status status) v = EndsBy h l (IsResetIn status) v × (status ≢ Idle)
-IsDropped h l (cause.Failed client.OutOfMemory) v = ⊥
-IsDropped h l (cause.Failed e) v = FailsBy h l v v.broken e
-IsDropped h l cause.OutOfMemory v = IsCut h l reset client.OutOfMemory v
+IsDropped h l (cause.Status status) v = EndsBy reset h l (IsResetIn status) v × (status ≢ Idle)
+IsDropped h l why v = IsFailed reset h l why v
 
 -- The lease is over: its session is idle behind these; or they alone are, and it is dropped.
 abbrev pub GivenBack : ℕ → List History → History → Lent → List View → Returned → Type 0

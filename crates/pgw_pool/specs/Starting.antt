@@ -5,12 +5,12 @@ use Rattle.pgw_backend.specs.declared.client_error.PgWireClientError.{PgWireClie
 use Rattle.pgw_backend.specs.declared.client_error.PgWireClientError.TheVariants as client
 use Rattle.pgw_config.specs.declared.config.Config.{Config}
 use Rattle.pgw_link.specs.Tape.{new_tape}
-use Rattle.pgw_link.specs.Dials.{DialTape}
+use Rattle.pgw_link.specs.Dials.{DialTape, MakesNext}
 use Rattle.pgw_handlers.specs.Startup.{HeardAtStartup, startup}
 use Rattle.pgw_default_handlers.specs.declared.startup.DefaultStartupHandler.{DefaultStartupHandler}
 use Rattle.pgw_session.specs.declared.stage.Stage.TheVariants.{Starting}
 use Rattle.pgw_default_handlers.specs.Startup.{StartupMeans, exchanges}
-use Rattle.pgw_connection.specs.Line.{Foretold}
+use Rattle.pgw_connection.specs.Line.{Foretold, IsWithin}
 use Rattle.pgw_connection.specs.Connecting.{Connected, NotConnected}
 use Rattle.pgw_pool.specs.Histories.{History, View, new_history, IsIdle}
 
@@ -27,19 +27,19 @@ handler_with nonce = record {
   secret_key = I32 (pos 0);
 }
 
--- what a dialer tells of its dials, what its next link has to come, how many of its calls failed
+-- what a dialer tells of its dials, what its next links have to come, how many of its calls failed
 pub record Dials : Type 0 where
   pub tape : DialTape
-  pub offer : Option (List ℕ)
+  pub offers : Option (List (List ℕ))
   pub faults : ℕ
 
-abbrev pub dials : DialTape → Option (List ℕ) → ℕ → Dials
-dials tape offer faults = record { tape = tape; offer = offer; faults = faults }
+abbrev pub dials : DialTape → Option (List (List ℕ)) → ℕ → Dials
+dials tape offers faults = record { tape = tape; offers = offers; faults = faults }
 
--- a login by this nonce, over a link that was dialled
+-- a login by this nonce, over a link that was dialled, and of which no more is read than the limit
 abbrev pub Connects : Config → ℕ → List ℕ → Dials → Dials → View → Type 0
 Connects config limit nonce old new v =
-    Connected (λ before after answer. StartupMeans before startup after answer)
+    IsWithin limit v.line × Connected (λ before after answer. StartupMeans before startup after answer)
     (HeardAtStartup exchanges StartupMeans) (handler_with nonce) config limit old.tape new.tape
     v.client v.line
 
@@ -52,16 +52,17 @@ pub data ConnectAll (config : Config) (limit : ℕ) (old : Dials)
       ConnectAll config limit old nonces mid vs → Connects config limit nonce mid new v →
       ConnectAll config limit old (nonces ++ nonce ∷ []) new (vs ++ v ∷ [])
 
--- The same by a dialer that knows its offers: each login's bytes are the front of what its dial
--- offered, and this is what the links still have to come. The count of faults never falls.
+-- The same by a dialer that knows its offers: each login is over the next of its links, its bytes are
+-- the front of what that had to come, and this is what the links still have. The count of faults never
+-- falls.
 pub data ConnectForetold (config : Config) (limit : ℕ) (old : Dials)
     : List (List ℕ) → Dials → List (Option (List ℕ)) → List View → Type 0 where
   nothing_offered : ConnectForetold config limit old [] old [] []
   offer_more : (nonces : List (List ℕ)) (nonce : List ℕ) (mid new : Dials)
-      (lefts : List (Option (List ℕ))) (left : Option (List ℕ)) (vs : List View) (v : View) →
+      (lefts : List (Option (List ℕ))) (offer left : Option (List ℕ)) (vs : List View) (v : View) →
       ConnectForetold config limit old nonces mid lefts vs →
-      Connects config limit nonce mid new v → Foretold mid.offer left new_tape v.line.tape →
-      mid.faults ≤ new.faults →
+      Connects config limit nonce mid new v → MakesNext mid.offers new.offers offer →
+      Foretold offer left new_tape v.line.tape → mid.faults ≤ new.faults →
       ConnectForetold config limit old (nonces ++ nonce ∷ []) new
       (lefts ++ left ∷ []) (vs ++ v ∷ [])
 
@@ -71,7 +72,7 @@ NotConnects foretells config limit nonce old new e =
     NotConnected (new ≡ old) foretells
     (λ before after answer. StartupMeans before startup after answer)
     (HeardAtStartup exchanges StartupMeans) (handler_with nonce) config limit
-    old.offer new.offer old.tape new.tape old.faults new.faults e
+    old.offers new.offers old.tape new.tape old.faults new.faults e
 
 -- A session by this nonce, of which none was lent, is idle behind all others.
 abbrev pub Refills : Config → ℕ → List ℕ → Dials → Dials → List View → List View → Type 0
@@ -79,13 +80,15 @@ Refills config limit nonce old new idle now =
     (v : View) × Connects config limit nonce old new v × IsIdle 0 (new_history config nonce) v
     × (now ≡ idle ++ v ∷ [])
 
--- The same by a dialer that knows its offer.
+-- The same by a dialer that knows its offers.
 pub record RefillsForetold (config : Config) (limit : ℕ) (nonce : List ℕ) (old new : Dials)
     (idle now : List View) (lefts left_now : List (Option (List ℕ))) : Type 0 where
   pub last : View
   pub left : Option (List ℕ)
   pub connects : Connects config limit nonce old new last
-  pub foretold : Foretold old.offer left new_tape last.line.tape
+  pub offer : Option (List ℕ)
+  pub made : MakesNext old.offers new.offers offer
+  pub foretold : Foretold offer left new_tape last.line.tape
   pub idle_now : now ≡ idle ++ last ∷ []
   pub lefts_now : left_now ≡ lefts ++ left ∷ []
 

@@ -72,7 +72,7 @@ counts_in pool = map count_of (pool.idle).items
 abbrev pub lent_by : {X : Type 0} {L : Link.Ghosts X} → Pool X L → ℕ
 lent_by pool = pool.lent
 
--- how many of its leases were not given back yet
+-- how many of its leases were not given back yet, where each one that was given back is its own
 abbrev pub out_by : {X : Type 0} {L : Link.Ghosts X} → Pool X L → ℕ
 out_by pool = pool.out
 

@@ -36,6 +36,8 @@ impl<L: Link> Pool<L> {
         ensures closed { Closes (idle_in L.tape L.faults self)
             (D.tape dialer.old) (D.faults dialer.old) []
             (D.tape dialer.new) (D.faults dialer.new) result }
+        // The links that the dialer makes next are those that they were.
+        ensures offers { D.foretells → D.offers dialer.new ≡ D.offers dialer.old }
     {
         let Pool {
             mut idle,
@@ -82,6 +84,7 @@ impl<L: Link> Pool<L> {
             (D.faults dialer.old) (D.faults dialer.new) result }
         // IoError comes only where the dialer's count rose.
         ensures cause { HasCause (D.faults dialer.old) (D.faults dialer.new) false result }
+        ensures offers { D.foretells → D.offers dialer.new ≡ D.offers dialer.old }
     {
         let Lease {
             client,

@@ -79,6 +79,8 @@ impl<L: Link> Pool<L> {
             (D.faults dialer.old) (D.faults dialer.new)) }
         ensures cause { IfRetired result (λ left.
             HasCause (D.faults dialer.old) (D.faults dialer.new) false left) }
+        // In each case the links that the dialer makes next are those that they were.
+        ensures offers { D.foretells → D.offers dialer.new ≡ D.offers dialer.old }
     {
         if lease.leases() < most {
             LeaseEnd::GivenBack(self.give_back(alloc, lease))

@@ -21,7 +21,7 @@ pub struct Lease<L: Link> {
 
 impl<L: Link> Lease<L> {
     ghost use Rattle.pgw_pool.specs.Histories.{History, Lent, IsLent};
-    ghost use Rattle.pgw_connection.specs.Line.{Foretold};
+    ghost use Rattle.pgw_connection.specs.Line.{Foretold, StaysWithin};
     ghost use Rattle.pgw_pool.specs.Views.{number_of, leases_of, client_in, left_of, lease_view};
     ghost use Rattle.pgw_pool.specs.Lending.{Ran};
 
@@ -76,7 +76,8 @@ impl<L: Link> Lease<L> {
             let new = lease_view L.tape L.faults self.new in
             old.broken ≡ false →
             Asks request.now old.client old.line new.client new.line new.broken result }
-        // Nothing is read behind the end that its link answers, nor is anything left unflushed.
+        // Nothing is read behind the end that its link answers, and behind any answer but IoError all
+        // that was written is flushed.
         ensures ended { let old = lease_view L.tape L.faults self.old in
             let new = lease_view L.tape L.faults self.new in
             old.broken ≡ false →
@@ -90,6 +91,9 @@ impl<L: Link> Lease<L> {
             Foretold (left_of L.left self.old) (left_of L.left self.new)
             (lease_view L.tape L.faults self.old).line.tape
             (lease_view L.tape L.faults self.new).line.tape }
+        // No more bytes are read than the pool was given as the limit of a session.
+        ensures within { StaysWithin (lease_view L.tape L.faults self.old).line
+            (lease_view L.tape L.faults self.new).line }
     {
         ask(alloc, &mut self.client, request)
     }

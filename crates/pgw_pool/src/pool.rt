@@ -68,18 +68,18 @@ impl<L: Link> Pool<L> {
         ensures all_counted { IfOk result (λ pool.
             AreCounted (new_histories config.now nonces.now) (counts_in pool)) }
         ensures connected { IfOk result (λ pool. ConnectAll config.now limit
-            (dials (D.tape dialer.old) (D.offer dialer.old) (D.faults dialer.old)) nonces.now
-            (dials (D.tape dialer.new) (D.offer dialer.new) (D.faults dialer.new))
+            (dials (D.tape dialer.old) (D.offers dialer.old) (D.faults dialer.old)) nonces.now
+            (dials (D.tape dialer.new) (D.offers dialer.new) (D.faults dialer.new))
             (idle_in L.tape L.faults pool)) }
         // Of a dialer that knows its offers: the bytes of each login are the front of its dial's offer.
         ensures foretold { D.foretells → IfOk result (λ pool. ConnectForetold config.now limit
-            (dials (D.tape dialer.old) (D.offer dialer.old) (D.faults dialer.old)) nonces.now
-            (dials (D.tape dialer.new) (D.offer dialer.new) (D.faults dialer.new))
+            (dials (D.tape dialer.old) (D.offers dialer.old) (D.faults dialer.old)) nonces.now
+            (dials (D.tape dialer.new) (D.offers dialer.new) (D.faults dialer.new))
             (lefts_in L.left pool) (idle_in L.tape L.faults pool)) }
         // Else the first that failed gives the error; or memory was wanting between two logins.
         ensures refused { IfErr result (NotStarted D.foretells config.now limit nonces.now
-            (dials (D.tape dialer.old) (D.offer dialer.old) (D.faults dialer.old))
-            (dials (D.tape dialer.new) (D.offer dialer.new) (D.faults dialer.new))) }
+            (dials (D.tape dialer.old) (D.offers dialer.old) (D.faults dialer.old))
+            (dials (D.tape dialer.new) (D.offers dialer.new) (D.faults dialer.new))) }
         // IoError comes only where the dialer's count rose, and Broken never.
         ensures cause { HasCause (D.faults dialer.old) (D.faults dialer.new) false result }
     {

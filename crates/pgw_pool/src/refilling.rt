@@ -34,8 +34,8 @@ impl<L: Link> Pool<L> {
         ensures dropped { dropped_by self.new ≡ dropped_by self.old }
         ensures connected { OnOk result (connected_by self.new ≡ counted (connected_by self.old)) }
         ensures refills { OnOk result (Refills config.now limit nonce
-            (dials (D.tape dialer.old) (D.offer dialer.old) (D.faults dialer.old))
-            (dials (D.tape dialer.new) (D.offer dialer.new) (D.faults dialer.new))
+            (dials (D.tape dialer.old) (D.offers dialer.old) (D.faults dialer.old))
+            (dials (D.tape dialer.new) (D.offers dialer.new) (D.faults dialer.new))
             (idle_in L.tape L.faults self.old) (idle_in L.tape L.faults self.new)) }
         // What the links of the others have to come stays.
         ensures lefts { OnOk result ((left : Option (List ℕ)) ×
@@ -51,19 +51,19 @@ impl<L: Link> Pool<L> {
         ensures all_counted { (hs : List History) → AreCounted hs (counts_in self.old) →
             OnOk result (AreCounted (hs ++ new_history config.now nonce ∷ [])
             (counts_in self.new)) }
-        // Of a dialer that knows its offer: the bytes of the login are its front.
+        // Of a dialer that knows its offers: the bytes of the login are the front of the next one.
         ensures foretold { D.foretells → OnOk result (RefillsForetold config.now limit nonce
-            (dials (D.tape dialer.old) (D.offer dialer.old) (D.faults dialer.old))
-            (dials (D.tape dialer.new) (D.offer dialer.new) (D.faults dialer.new))
+            (dials (D.tape dialer.old) (D.offers dialer.old) (D.faults dialer.old))
+            (dials (D.tape dialer.new) (D.offers dialer.new) (D.faults dialer.new))
             (idle_in L.tape L.faults self.old) (idle_in L.tape L.faults self.new)
             (lefts_in L.left self.old) (lefts_in L.left self.new)) }
-        // Else the login failed, and why; or memory was wanting, and the dialer is as it was.
+        // Else the login failed, and why; or memory was wanting, and the dialer tells what it told.
         ensures refused { IfErr result (λ e. NotConnects D.foretells config.now limit nonce
-            (dials (D.tape dialer.old) (D.offer dialer.old) (D.faults dialer.old))
-            (dials (D.tape dialer.new) (D.offer dialer.new) (D.faults dialer.new)) e
+            (dials (D.tape dialer.old) (D.offers dialer.old) (D.faults dialer.old))
+            (dials (D.tape dialer.new) (D.offers dialer.new) (D.faults dialer.new)) e
             ⊎ ((e ≡ failure.OutOfMemory)
-            × (dials (D.tape dialer.new) (D.offer dialer.new) (D.faults dialer.new)
-            ≡ dials (D.tape dialer.old) (D.offer dialer.old) (D.faults dialer.old)))) }
+            × (dials (D.tape dialer.new) (D.offers dialer.new) (D.faults dialer.new)
+            ≡ dials (D.tape dialer.old) (D.offers dialer.old) (D.faults dialer.old)))) }
         ensures same { OnErr result (self.new ≡ self.old) }
         // IoError comes only where the dialer's count rose, and Broken never.
         ensures cause { HasCause (D.faults dialer.old) (D.faults dialer.new) false result }

@@ -1,8 +1,11 @@
 //! A session that no pool holds, and that may be put into one.
-ghost use Rattle.std.specs.Prelude.{◌≡◌, ◌≢◌, ◌⊎◌, ◌<◌, ◌≤◌, ◌+◌, ◌-◌, ◌++◌, ◌∷◌, [], List, length, false, IfOk, IfErr};
+ghost use Rattle.std.specs.Prelude.{◌≡◌, ◌≢◌, ◌⊎◌, ◌<◌, ◌≤◌, ◌+◌, ◌-◌, ◌++◌, ◌∷◌, [], ℕ, List, Option, length, false, IfOk, IfErr};
 ghost use Rattle.pgw_backend.specs.declared.client_error.PgWireClientError.TheVariants as failure;
 ghost use Rattle.pgw_types.specs.Counts.{counted};
 ghost use Rattle.pgw_handlers.specs.Handling.{HasCause};
+ghost use Rattle.pgw_link.specs.Tape.{new_tape};
+ghost use Rattle.pgw_link.specs.Dials.{MakesNext};
+ghost use Rattle.pgw_connection.specs.Line.{Foretold};
 
 use crate::lease::Lease;
 use crate::pool::Pool;
@@ -12,8 +15,8 @@ use pgw_client::{Config, Dialer, Link, PgWireClientResult};
 use pgw_connection::PgWireClient;
 use std::alloc::Global;
 
-/// A session that was logged in and never lent, or whose last lease is over and was reset. Who lets
-/// it go closes its link.
+/// A session that was logged in and never lent, or whose last lease is over and was reset. With it
+/// its link is let go.
 #[derive(Drop)]
 pub struct Spare<L: Link> {
     pub(crate) client: PgWireClient<L>,
@@ -24,7 +27,7 @@ pub struct Spare<L: Link> {
 impl<L: Link> Spare<L> {
     ghost use Rattle.pgw_pool.specs.Histories.{IsIdle, new_history};
     ghost use Rattle.pgw_pool.specs.Starting.{dials, Connects, NotConnects};
-    ghost use Rattle.pgw_pool.specs.Spares.{last_lease, spare_leases, spare_view};
+    ghost use Rattle.pgw_pool.specs.Spares.{last_lease, spare_leases, spare_view, spare_left};
 
     /// Connects a session, with one dial at most. The nonce is to be random and used for no other.
     pub fn connect<D: Dialer<Link = L>>(
@@ -39,15 +42,20 @@ impl<L: Link> Spare<L> {
         ensures idle { IfOk result (λ s.
             IsIdle 0 (new_history config.now nonce) (spare_view L.tape L.faults s)) }
         ensures connected { IfOk result (λ s. Connects config.now limit nonce
-            (dials (D.tape dialer.old) (D.offer dialer.old) (D.faults dialer.old))
-            (dials (D.tape dialer.new) (D.offer dialer.new) (D.faults dialer.new))
+            (dials (D.tape dialer.old) (D.offers dialer.old) (D.faults dialer.old))
+            (dials (D.tape dialer.new) (D.offers dialer.new) (D.faults dialer.new))
             (spare_view L.tape L.faults s)) }
+        // Of a dialer that knows its offers: the bytes of the login are the front of the next one.
+        ensures foretold { D.foretells → IfOk result (λ s. (offer : Option (List ℕ))
+            × MakesNext (D.offers dialer.old) (D.offers dialer.new) offer
+            × Foretold offer (spare_left L.left s) new_tape
+            (spare_view L.tape L.faults s).line.tape) }
         ensures refused { IfErr result (λ e. NotConnects D.foretells config.now limit nonce
-            (dials (D.tape dialer.old) (D.offer dialer.old) (D.faults dialer.old))
-            (dials (D.tape dialer.new) (D.offer dialer.new) (D.faults dialer.new)) e
+            (dials (D.tape dialer.old) (D.offers dialer.old) (D.faults dialer.old))
+            (dials (D.tape dialer.new) (D.offers dialer.new) (D.faults dialer.new)) e
             ⊎ ((e ≡ failure.OutOfMemory)
-            × (dials (D.tape dialer.new) (D.offer dialer.new) (D.faults dialer.new)
-            ≡ dials (D.tape dialer.old) (D.offer dialer.old) (D.faults dialer.old)))) }
+            × (dials (D.tape dialer.new) (D.offers dialer.new) (D.faults dialer.new)
+            ≡ dials (D.tape dialer.old) (D.offers dialer.old) (D.faults dialer.old)))) }
         // IoError comes only where the dialer's count rose, and Broken never.
         ensures cause { HasCause (D.faults dialer.old) (D.faults dialer.new) false result }
     {
@@ -74,10 +82,10 @@ impl<L: Link> Spare<L> {
 impl<L: Link> Lease<L> {
     ghost use Rattle.pgw_pool.specs.Histories.{History, Lent, IsLent, IsIdle, with_lease};
     ghost use Rattle.pgw_session.specs.Events.{Event};
-    ghost use Rattle.pgw_pool.specs.Views.{number_of, leases_of, lease_view};
+    ghost use Rattle.pgw_pool.specs.Views.{number_of, leases_of, left_of, lease_view};
     ghost use Rattle.pgw_pool.specs.Leases.{leases_had, leases_with_this};
-    ghost use Rattle.pgw_pool.specs.Returning.{GivesBack};
-    ghost use Rattle.pgw_pool.specs.Spares.{last_lease, spare_leases, spare_view, spares_in, returned_as, IsSpared};
+    ghost use Rattle.pgw_pool.specs.Returning.{GivesBack, GivesForetold, DropsFrom};
+    ghost use Rattle.pgw_pool.specs.Spares.{last_lease, spare_leases, spare_view, spares_in, lefts_of, returned_as, IsSpared};
 
     /// Ends the lease: asks `DISCARD ALL` of its session, which needs no pool. Where that is answered,
     /// and no transaction is open behind it, the session may be put into a pool. Else it is dropped
@@ -88,6 +96,12 @@ impl<L: Link> Lease<L> {
         // As `Pool::give_back` keeps or drops it.
         ensures gives_back { GivesBack (lease_view L.tape L.faults self) []
             (spares_in L.tape L.faults result) (returned_as result) }
+        // Of a link that knows what is to come: the cause is one that these bytes have.
+        ensures foretold { L.foretells → GivesForetold (left_of L.left self)
+            (lease_view L.tape L.faults self) [] (spares_in L.tape L.faults result)
+            [] (lefts_of L.left result) (returned_as result) }
+        ensures dropped { (h : History) (l : Lent) → IsLent h l (lease_view L.tape L.faults self) →
+            DropsFrom h l (lease_view L.tape L.faults self) (returned_as result) }
         // Whatever was done over the session, the lease and the reset are made besides.
         ensures over { (h : History) (l : Lent) → IsLent h l (lease_view L.tape L.faults self) →
             IfOk result (λ s. IsSpared h l (spare_view L.tape L.faults s)) }
@@ -117,9 +131,9 @@ impl<L: Link> Lease<L> {
 
 impl<L: Link> Pool<L> {
     ghost use Rattle.pgw_pool.specs.Histories.{History, IsIdle, AreIdle};
-    ghost use Rattle.pgw_pool.specs.Views.{idle_in, counts_in, lent_by, out_by, dropped_by, connected_by, room_of, reserved_in};
+    ghost use Rattle.pgw_pool.specs.Views.{idle_in, lefts_in, counts_in, lent_by, out_by, dropped_by, connected_by, room_of, reserved_in};
     ghost use Rattle.pgw_pool.specs.Leases.{leases_had, AreCounted};
-    ghost use Rattle.pgw_pool.specs.Spares.{last_lease, spare_leases, spare_view};
+    ghost use Rattle.pgw_pool.specs.Spares.{last_lease, spare_leases, spare_left, spare_view};
 
     /// How many leases it has lent, which is the number of the last one.
     pub fn lent(&self) -> u64
@@ -145,6 +159,8 @@ impl<L: Link> Pool<L> {
             × (connected_by self.new ≡ connected_by self.old) }
         ensures idle { idle_in L.tape L.faults self.new
             ≡ idle_in L.tape L.faults self.old ++ spare_view L.tape L.faults spare ∷ [] }
+        ensures lefts { lefts_in L.left self.new
+            ≡ lefts_in L.left self.old ++ spare_left L.left spare ∷ [] }
         ensures counts { length (idle_in L.tape L.faults self.new)
             ≡ length (idle_in L.tape L.faults self.old) + 1 }
         // Where its last lease is one of this pool's, the pool stands for its history too.
@@ -182,6 +198,7 @@ impl<L: Link> Pool<L> {
         ensures dropped { dropped_by self.new ≡ counted (dropped_by self.old) }
         ensures connected { connected_by self.new ≡ connected_by self.old }
         ensures idle { idle_in L.tape L.faults self.new ≡ idle_in L.tape L.faults self.old }
+        ensures lefts { lefts_in L.left self.new ≡ lefts_in L.left self.old }
         ensures had { counts_in self.new ≡ counts_in self.old }
     {
         self.out = self.out.saturating_sub(1);

@@ -1,6 +1,7 @@
 //! The logins of a pool's sessions.
-ghost use Rattle.std.specs.Prelude.{◌≡◌, ◌⊎◌, false, IfOk, IfErr};
+ghost use Rattle.std.specs.Prelude.{◌≡◌, ◌⊎◌, ℕ, List, Option, false, IfOk, IfErr};
 ghost use Rattle.pgw_link.specs.Tape.{new_tape};
+ghost use Rattle.pgw_link.specs.Dials.{MakesNext};
 ghost use Rattle.pgw_connection.specs.Line.{Foretold};
 ghost use Rattle.pgw_backend.specs.declared.client_error.PgWireClientError.TheVariants as failure;
 ghost use Rattle.pgw_handlers.specs.Handling.{HasCause};
@@ -26,17 +27,19 @@ pub(crate) fn log_in<L: Link, D: Dialer<Link = L>>(
     ensures idle { IfOk result (λ client.
         IsIdle 0 (new_history config.now nonce) (view_of L.tape L.faults client)) }
     ensures connects { IfOk result (λ client. Connects config.now limit nonce
-        (dials (D.tape dialer.old) (D.offer dialer.old) (D.faults dialer.old))
-        (dials (D.tape dialer.new) (D.offer dialer.new) (D.faults dialer.new))
+        (dials (D.tape dialer.old) (D.offers dialer.old) (D.faults dialer.old))
+        (dials (D.tape dialer.new) (D.offers dialer.new) (D.faults dialer.new))
         (view_of L.tape L.faults client)) }
     ensures refused { IfErr result (λ e. NotConnects D.foretells config.now limit nonce
-        (dials (D.tape dialer.old) (D.offer dialer.old) (D.faults dialer.old))
-        (dials (D.tape dialer.new) (D.offer dialer.new) (D.faults dialer.new)) e
+        (dials (D.tape dialer.old) (D.offers dialer.old) (D.faults dialer.old))
+        (dials (D.tape dialer.new) (D.offers dialer.new) (D.faults dialer.new)) e
         ⊎ ((e ≡ failure.OutOfMemory)
-        × (dials (D.tape dialer.new) (D.offer dialer.new) (D.faults dialer.new)
-        ≡ dials (D.tape dialer.old) (D.offer dialer.old) (D.faults dialer.old)))) }
-    ensures foretold { D.foretells → IfOk result (λ client. Foretold (D.offer dialer.old)
-        (left_in L.left client) new_tape (view_of L.tape L.faults client).line.tape) }
+        × (dials (D.tape dialer.new) (D.offers dialer.new) (D.faults dialer.new)
+        ≡ dials (D.tape dialer.old) (D.offers dialer.old) (D.faults dialer.old)))) }
+    ensures foretold { D.foretells → IfOk result (λ client. (offer : Option (List ℕ))
+        × MakesNext (D.offers dialer.old) (D.offers dialer.new) offer
+        × Foretold offer (left_in L.left client) new_tape
+        (view_of L.tape L.faults client).line.tape) }
     ensures cause { HasCause (D.faults dialer.old) (D.faults dialer.new) false result }
 {
     logins_begin_a_client();

@@ -14,22 +14,23 @@ use Rattle.pgw_ask.specs.Asking.{Asks}
 use Rattle.pgw_link.specs.declared.link.Link as Link
 use Rattle.pgw_link.specs.declared.memory.MemoryLink.{MemoryLink}
 use Rattle.pgw_link.specs.Memory.{memory_tape, faults_of}
+use Rattle.pgw_connection.specs.Line.{Foretold, StaysWithin}
 use Rattle.pgw_pool.specs.declared.lease.Lease.{Lease}
 use Rattle.pgw_pool.specs.declared.pool.Pool.{Pool}
 use Rattle.pgw_pool.specs.declared.pool.LendError.{LendError}
 use Rattle.pgw_pool.specs.declared.returned.Returned.{Returned}
 use Rattle.pgw_pool.specs.Lending.{Lends, LendsNone}
-use Rattle.pgw_pool.specs.Views.{idle_in, lent_by, lease_view, number_of, room_of}
+use Rattle.pgw_pool.specs.Views.{idle_in, lefts_in, left_of, lent_by, lease_view, number_of, room_of}
 use Rattle.pgw_pool_script.specs.declared.desk.Seat.{Seat}
 use Rattle.pgw_pool.specs.Histories.{View}
-use Rattle.pgw_pool.specs.Returning.{GivesBack}
+use Rattle.pgw_pool.specs.Returning.{GivesForetold}
 use Rattle.pgw_script.specs.declared.pool_line.PoolCall.{PoolCall}
 use Rattle.pgw_script.specs.declared.pool_line.PoolCall.TheVariants as call
 use Rattle.pgw_printing.specs.AnswerLines.{answer_lines}
 use Rattle.pgw_printing.specs.SessionText.{error_line}
 use Rattle.pgw_pool_script.specs.Lines.{lease_line, none_line, returned_line, wants_memory, was_wanting}
 use Rattle.pgw_pool_script.specs.Standing.{Place, place, Standing, standing, Runs, Tells, answered, refused, Called, lends, lends_none, runs, gives_back, IsNotOut, Calls, no_call, call_more, AllBack, none_out, back_first}
-use Rattle.pgw_pool_script.specs.Views.{place_of, standing_of, HasRoom, PrintsRun, Prints, Printed}
+use Rattle.pgw_pool_script.specs.Views.{place_of, standing_of, to_come, HasRoom, PrintsRun, Prints, Printed}
 
 -- ---- lists that are cut at a place
 
@@ -46,17 +47,17 @@ split_set f xs i y lt =
 -- ---- one call
 
 -- a session is lent
-pub lent_one : (r : Result Unit OutOfMemory) (lent now number shown : ℕ) (idle rest : List View) (v : View) (out mid all : List Seat) (seat : Seat) (old new : List ℕ) → Lends idle lent rest now number v → place_of seat ≡ place number v 0 → mid ≡ out → all ≡ mid ++ seat ∷ [] → shown ≡ number → OnOk r (new ≡ old ++ lease_line shown)
-    → OnOk r (Prints true (standing lent idle (map place_of out)) call.Lend (standing now rest (map place_of all)) old new)
-lent_one (Ok done) lent now number shown idle rest v out mid all seat old new lent_so is same more tells put =
-    let added : map place_of all ≡ map place_of out ++ place number v 0 ∷ [] = ap (map place_of) (more ∙ ap (λ l. l ++ seat ∷ []) same) ∙ map-append place_of out (seat ∷ []) ∙ ap (λ p. map place_of out ++ p ∷ []) is in
-    (lease_line number, rw added (lends lent now number idle rest v (map place_of out) lent_so), rw tells at put)
-lent_one (Err e) lent now number shown idle rest v out mid all seat old new lent_so is same more tells put = tt
+pub lent_one : (r : Result Unit OutOfMemory) (lent now number shown : ℕ) (idle rest : List View) (v : View) (lefts left_rest : List (Option (List ℕ))) (left : Option (List ℕ)) (out mid all : List Seat) (seat : Seat) (old new : List ℕ) → Lends idle lent rest now number v → lefts ≡ left ∷ left_rest → place_of seat ≡ place number v left 0 → mid ≡ out → all ≡ mid ++ seat ∷ [] → shown ≡ number → OnOk r (new ≡ old ++ lease_line shown)
+    → OnOk r (Prints true (standing lent idle lefts (map place_of out)) call.Lend (standing now rest left_rest (map place_of all)) old new)
+lent_one (Ok done) lent now number shown idle rest v lefts left_rest left out mid all seat old new lent_so come is same more tells put =
+    let added : map place_of all ≡ map place_of out ++ place number v left 0 ∷ [] = ap (map place_of) (more ∙ ap (λ l. l ++ seat ∷ []) same) ∙ map-append place_of out (seat ∷ []) ∙ ap (λ p. map place_of out ++ p ∷ []) is in
+    (lease_line number, rw (added, come) (lends lent now number idle rest v left left_rest (map place_of out) lent_so), rw tells at put)
+lent_one (Err e) lent now number shown idle rest v lefts left_rest left out mid all seat old new lent_so come is same more tells put = tt
 
 -- none is
 pub lent_none : {L : Link.Ghosts MemoryLink} (r : Result Unit OutOfMemory) (before after : Pool MemoryLink L) (out all : List Seat) (why : LendError) (old new : List ℕ) → LendsNone (idle_in memory_tape faults_of before) (lent_by before) why → after ≡ before → all ≡ out → OnOk r (new ≡ old ++ none_line why)
     → OnOk r (Prints true (standing_of before out) call.Lend (standing_of after all) old new)
-lent_none (Ok done) before after out all why old new none same kept put = rw (same, kept) (none_line why, lends_none (lent_by before) (idle_in memory_tape faults_of before) (map place_of out) why none, put)
+lent_none (Ok done) before after out all why old new none same kept put = rw (same, kept) (none_line why, lends_none (lent_by before) (idle_in memory_tape faults_of before) (lefts_in to_come before) (map place_of out) why none, put)
 lent_none (Err e) before after out all why old new none same kept put = tt
 
 -- what is printed of a request
@@ -66,23 +67,29 @@ seen lease = lease_view memory_tape faults_of lease
 abbrev the_result : Result Answer ClientError → Result Answer ClientError
 the_result r = r
 
+-- what its link gave is the front of what that had to come, and within the limit
+abbrev pub Moves : Lease MemoryLink → Lease MemoryLink → Type 0
+Moves before after =
+    Foretold (left_of to_come before) (left_of to_come after) (seen before).line.tape (seen after).line.tape
+    × StaysWithin (seen before).line (seen after).line
+
 ran : (q : Request) (r : Result Answer ClientError) (before after : Lease MemoryLink) → ((seen before).broken ≡ true → (r ≡ Err client.Broken) × (after ≡ before))
-    → ((seen before).broken ≡ false → Asks q (seen before).client (seen before).line (seen after).client (seen after).line (seen after).broken r) → Runs q (seen before) (seen after) r
-ran q r before after broken asks = record { broken = λ is. let b = broken is in (b.0, ap seen b.1); asks = asks }
+    → ((seen before).broken ≡ false → Asks q (seen before).client (seen before).line (seen after).client (seen after).line (seen after).broken r) → Moves before after → Runs q (seen before) (seen after) (left_of to_come before) (left_of to_come after) r
+ran q r before after broken asks moves = record { broken = λ is. let b = broken is in (b.0, ap seen b.1); asks = asks; foretold = moves.0; within = moves.1 }
 
 pub told_answer : (r : Result Unit OutOfMemory) (q : Request) (a : Answer) (before after : Lease MemoryLink) (n m : ℕ) (old new : List ℕ) → number_of after ≡ number_of before → ((seen before).broken ≡ true → (Ok a ≡ Err client.Broken) × (after ≡ before))
-    → ((seen before).broken ≡ false → Asks q (seen before).client (seen before).line (seen after).client (seen after).line (seen after).broken (Ok a)) → m ≡ counted n → OnOk r (new ≡ old ++ answer_lines m a)
-    → OnOk r (PrintsRun q (place (number_of before) (seen before) n) (place (number_of after) (seen after) m) old new)
-told_answer (Ok done) q a before after n m old new same broken asks more put =
-    rw (same, more) (answer_lines (counted n) a, answered (number_of before) n (seen before) (seen after) a (ran q (Ok a) before after broken asks), rw more at put)
-told_answer (Err e) q a before after n m old new same broken asks more put = tt
+    → ((seen before).broken ≡ false → Asks q (seen before).client (seen before).line (seen after).client (seen after).line (seen after).broken (Ok a)) → Moves before after → m ≡ counted n → OnOk r (new ≡ old ++ answer_lines m a)
+    → OnOk r (PrintsRun q (place (number_of before) (seen before) (left_of to_come before) n) (place (number_of after) (seen after) (left_of to_come after) m) old new)
+told_answer (Ok done) q a before after n m old new same broken asks moves more put =
+    rw (same, more) (answer_lines (counted n) a, answered (number_of before) n (seen before) (seen after) (left_of to_come before) (left_of to_come after) a (ran q (Ok a) before after broken asks moves), rw more at put)
+told_answer (Err e) q a before after n m old new same broken asks moves more put = tt
 
 pub told_error : (r : Result Unit OutOfMemory) (q : Request) (e : ClientError) (before after : Lease MemoryLink) (n : ℕ) (old new : List ℕ) → number_of after ≡ number_of before → ((seen before).broken ≡ true → (the_result (Err e) ≡ Err client.Broken) × (after ≡ before))
-    → ((seen before).broken ≡ false → Asks q (seen before).client (seen before).line (seen after).client (seen after).line (seen after).broken (Err e)) → OnOk r (wants_memory e ≡ false) → OnOk r (new ≡ old ++ error_line e)
-    → OnOk r (PrintsRun q (place (number_of before) (seen before) n) (place (number_of after) (seen after) n) old new)
-told_error (Ok done) q e before after n old new same broken asks told put =
-    rw same (error_line e, refused (number_of before) n (seen before) (seen after) e (ran q (Err e) before after broken asks) told, put)
-told_error (Err short) q e before after n old new same broken asks told put = tt
+    → ((seen before).broken ≡ false → Asks q (seen before).client (seen before).line (seen after).client (seen after).line (seen after).broken (Err e)) → Moves before after → OnOk r (wants_memory e ≡ false) → OnOk r (new ≡ old ++ error_line e)
+    → OnOk r (PrintsRun q (place (number_of before) (seen before) (left_of to_come before) n) (place (number_of after) (seen after) (left_of to_come after) n) old new)
+told_error (Ok done) q e before after n old new same broken asks moves told put =
+    rw same (error_line e, refused (number_of before) n (seen before) (seen after) (left_of to_come before) (left_of to_come after) e (ran q (Err e) before after broken asks moves) told, put)
+told_error (Err short) q e before after n old new same broken asks moves told put = tt
 
 -- no lease that was looked at has this number
 pub none_more : (out : List Seat) (at number : ℕ) (s : Seat) → at < length out → (number_of (get_or out at s).lease ≡ number → ⊥) → IsNotOut number (map place_of (take at out)) → IsNotOut number (map place_of (take (at + 1) out))
@@ -92,24 +99,24 @@ none_more out at number s lt other before =
 
 module _ {A : Type 0} (f : A → Place) where
   -- a request in the lease at a place
-  pub ran_at : (lent : ℕ) (idle : List View) (out : List A) (at number : ℕ) (before after : A) (q : Request) (old new : List ℕ) → at < length out → get_or out at before ≡ before → (f before).number ≡ number → PrintsRun q (f before) (f after) old new → Prints true (standing lent idle (map f out)) (call.Run number q) (standing lent idle (map f (set out at after))) old new
-  ran_at lent idle out at number before after q old new lt here named (line, tells, put) =
+  pub ran_at : (lent : ℕ) (idle : List View) (lefts : List (Option (List ℕ))) (out : List A) (at number : ℕ) (before after : A) (q : Request) (old new : List ℕ) → at < length out → get_or out at before ≡ before → (f before).number ≡ number → PrintsRun q (f before) (f after) old new → Prints true (standing lent idle lefts (map f out)) (call.Run number q) (standing lent idle lefts (map f (set out at after))) old new
+  ran_at lent idle lefts out at number before after q old new lt here named (line, tells, put) =
       let was : map f out ≡ map f (take at out) ++ (f before ∷ map f (drop (at + 1) out)) = split_map f out at before lt ∙ ap (λ x. map f (take at out) ++ (f x ∷ map f (drop (at + 1) out))) here in
       let now = split_set f out at after lt in
-      (line, rw (was, now) (subst (λ n. Called (standing lent idle (map f (take at out) ++ (f before ∷ map f (drop (at + 1) out)))) (call.Run n q) line (standing lent idle (map f (take at out) ++ (f after ∷ map f (drop (at + 1) out))))) named (runs lent idle (map f (take at out)) (map f (drop (at + 1) out)) (f before) (f after) q line tells)), put)
+      (line, rw (was, now) (subst (λ n. Called (standing lent idle lefts (map f (take at out) ++ (f before ∷ map f (drop (at + 1) out)))) (call.Run n q) line (standing lent idle lefts (map f (take at out) ++ (f after ∷ map f (drop (at + 1) out))))) named (runs lent idle lefts (map f (take at out)) (map f (drop (at + 1) out)) (f before) (f after) q line tells)), put)
 
   -- the lease at a place is given back
-  pub back_at : (lent : ℕ) (idle now : List View) (out rest : List A) (at number : ℕ) (seat : A) (result : Returned) (old new : List ℕ) → at < length out → seat ≡ get_or out at seat → rest ≡ take at out ++ drop (at + 1) out → (f seat).number ≡ number → GivesBack (f seat).view idle now result → was_wanting result ≡ false → new ≡ old ++ returned_line result → Prints true (standing lent idle (map f out)) (call.Back number) (standing lent now (map f rest)) old new
-  back_at lent idle now out rest at number seat result old new lt here left named gives told put =
+  pub back_at : (lent : ℕ) (idle now : List View) (lefts left_now : List (Option (List ℕ))) (out rest : List A) (at number : ℕ) (seat : A) (result : Returned) (old new : List ℕ) → at < length out → seat ≡ get_or out at seat → rest ≡ take at out ++ drop (at + 1) out → (f seat).number ≡ number → GivesForetold (f seat).left (f seat).view idle now lefts left_now result → was_wanting result ≡ false → new ≡ old ++ returned_line result → Prints true (standing lent idle lefts (map f out)) (call.Back number) (standing lent now left_now (map f rest)) old new
+  back_at lent idle now lefts left_now out rest at number seat result old new lt here left named gives told put =
       let was : map f out ≡ map f (take at out) ++ (f seat ∷ map f (drop (at + 1) out)) = split_map f out at seat lt ∙ ap (λ x. map f (take at out) ++ (f x ∷ map f (drop (at + 1) out))) (sym here) in
       let is : map f rest ≡ map f (take at out) ++ map f (drop (at + 1) out) = ap (map f) left ∙ map-append f (take at out) (drop (at + 1) out) in
-      (returned_line result, rw (was, is) (subst (λ n. Called (standing lent idle (map f (take at out) ++ (f seat ∷ map f (drop (at + 1) out)))) (call.Back n) (returned_line result) (standing lent now (map f (take at out) ++ map f (drop (at + 1) out)))) named (gives_back lent idle now (map f (take at out)) (map f (drop (at + 1) out)) (f seat) result gives told)), put)
+      (returned_line result, rw (was, is) (subst (λ n. Called (standing lent idle lefts (map f (take at out) ++ (f seat ∷ map f (drop (at + 1) out)))) (call.Back n) (returned_line result) (standing lent now left_now (map f (take at out) ++ map f (drop (at + 1) out)))) named (gives_back lent idle now lefts left_now (map f (take at out)) (map f (drop (at + 1) out)) (f seat) result gives told)), put)
 
   -- so is the first of those that are left
-  pub first_back : (lent : ℕ) (idle now : List View) (out rest : List A) (seat : A) (result : Returned) (last : Standing) → 0 < length out → seat ≡ get_or out 0 seat → rest ≡ take 0 out ++ drop (0 + 1) out → GivesBack (f seat).view idle now result → AllBack (standing lent now (map f rest)) last → AllBack (standing lent idle (map f out)) last
-  first_back lent idle now [] rest seat result last some here left gives more = absurd (omega (arith, some))
-  first_back lent idle now (x ∷ out) rest seat result last some here left gives more =
-      rw (sym here) (back_first lent idle now (f seat) (map f out) result last gives (subst (λ r. AllBack (standing lent now (map f r)) last) left more))
+  pub first_back : (lent : ℕ) (idle now : List View) (lefts left_now : List (Option (List ℕ))) (out rest : List A) (seat : A) (result : Returned) (last : Standing) → 0 < length out → seat ≡ get_or out 0 seat → rest ≡ take 0 out ++ drop (0 + 1) out → GivesForetold (f seat).left (f seat).view idle now lefts left_now result → AllBack (standing lent now left_now (map f rest)) last → AllBack (standing lent idle lefts (map f out)) last
+  first_back lent idle now lefts left_now [] rest seat result last some here left gives more = absurd (omega (arith, some))
+  first_back lent idle now lefts left_now (x ∷ out) rest seat result last some here left gives more =
+      rw (sym here) (back_first lent idle now lefts left_now (f seat) (map f out) result last gives (subst (λ r. AllBack (standing lent now left_now (map f r)) last) left more))
 
 -- ---- lists of calls
 
@@ -128,13 +135,16 @@ printed_next s t u calls at c old mid new lt here before now =
 
 -- no lease is out
 pub nothing_out : {L : Link.Ghosts MemoryLink} (pool : Pool MemoryLink L) (out : List Seat) → length out ≡ 0 → AllBack (standing_of pool out) (standing_of pool [])
-nothing_out pool [] none = none_out (lent_by pool) (idle_in memory_tape faults_of pool)
+nothing_out pool [] none = none_out (lent_by pool) (idle_in memory_tape faults_of pool) (lefts_in to_come pool)
 nothing_out pool (seat ∷ out) none = absurd (omega (arith, none))
 
 -- ---- the same of a pool
 
 abbrev pub idle : {L : Link.Ghosts MemoryLink} → Pool MemoryLink L → List View
 idle pool = idle_in memory_tape faults_of pool
+
+abbrev pub lefts : {L : Link.Ghosts MemoryLink} → Pool MemoryLink L → List (Option (List ℕ))
+lefts pool = lefts_in to_come pool
 
 -- a lease that was given back leaves room for those that are out
 pub room_left : {L : Link.Ghosts MemoryLink} (before after : Pool MemoryLink L) (out rest : List Seat) → room_of after ≡ room_of before → length (idle after) ≤ length (idle before) + 1 → 0 < length out → rest ≡ take 0 out ++ drop (0 + 1) out → HasRoom before out → HasRoom after rest
@@ -144,12 +154,12 @@ room_left before after (seat ∷ out) rest same most some left fits =
     omega (arith, same, most, as_many, fits)
 
 pub back_of : {L : Link.Ghosts MemoryLink} (before after : Pool MemoryLink L) (out rest : List Seat) (at number : ℕ) (seat : Seat) (result : Returned) (old new : List ℕ) → lent_by after ≡ lent_by before → (at < length out) × ((s : Seat) → (place_of (get_or out at s)).number ≡ number) → seat ≡ get_or out at seat → rest ≡ take at out ++ drop (at + 1) out
-    → GivesBack (seen seat.lease) (idle before) (idle after) result → was_wanting result ≡ false → new ≡ old ++ returned_line result → Prints true (standing_of before out) (call.Back number) (standing_of after rest) old new
+    → GivesForetold (left_of to_come seat.lease) (seen seat.lease) (idle before) (idle after) (lefts before) (lefts after) result → was_wanting result ≡ false → new ≡ old ++ returned_line result → Prints true (standing_of before out) (call.Back number) (standing_of after rest) old new
 back_of before after out rest at number seat result old new same found here left gives told put =
     let named : (place_of seat).number ≡ number = ap (λ s. (place_of s).number) here ∙ found.1 seat in
-    rw same (back_at place_of (lent_by before) (idle before) (idle after) out rest at number seat result old new found.0 here left named gives told put)
+    rw same (back_at place_of (lent_by before) (idle before) (idle after) (lefts before) (lefts after) out rest at number seat result old new found.0 here left named gives told put)
 
-pub first_of_all : {L : Link.Ghosts MemoryLink} (before after : Pool MemoryLink L) (out rest : List Seat) (seat : Seat) (result : Returned) → lent_by after ≡ lent_by before → 0 < length out → seat ≡ get_or out 0 seat → rest ≡ take 0 out ++ drop (0 + 1) out → GivesBack (seen seat.lease) (idle before) (idle after) result
+pub first_of_all : {L : Link.Ghosts MemoryLink} (before after : Pool MemoryLink L) (out rest : List Seat) (seat : Seat) (result : Returned) → lent_by after ≡ lent_by before → 0 < length out → seat ≡ get_or out 0 seat → rest ≡ take 0 out ++ drop (0 + 1) out → GivesForetold (left_of to_come seat.lease) (seen seat.lease) (idle before) (idle after) (lefts before) (lefts after) result
     → (last : Standing) → AllBack (standing_of after rest) last → AllBack (standing_of before out) last
 first_of_all before after out rest seat result same some here left gives last more =
-    first_back place_of (lent_by before) (idle before) (idle after) out rest seat result last some here left gives (subst (λ n. AllBack (standing n (idle after) (map place_of rest)) last) same more)
+    first_back place_of (lent_by before) (idle before) (idle after) (lefts before) (lefts after) out rest seat result last some here left gives (subst (λ n. AllBack (standing n (idle after) (lefts after) (map place_of rest)) last) same more)

@@ -9,11 +9,11 @@ use Rattle.std.specs.Result.{IfOk, IfErr}
 use Rattle.pgw_backend.specs.declared.client_error.PgWireClientError.{PgWireClientError as ClientError}
 use Rattle.pgw_link.specs.Dials.{DialTape, new_dials}
 use Rattle.pgw_link.specs.Memory.{memory_left}
-use Rattle.pgw_link.specs.MemoryDials.{offer_of}
+use Rattle.pgw_link.specs.MemoryDials.{offers_of}
 use Rattle.pgw_link.specs.declared.memory.MemoryLink.{MemoryLink}
 use Rattle.pgw_pool.specs.Histories.{View}
-use Rattle.pgw_pool.specs.Starting.{Dials, dials, ConnectAll, NotStarted, no_login, login_more}
-use Rattle.pgw_pool_script.specs.Outcome.{first_of, new_dialer, Started, Unstarted}
+use Rattle.pgw_pool.specs.Starting.{Dials, dials, ConnectAll, ConnectForetold, NotStarted, no_login, login_more}
+use Rattle.pgw_pool_script.specs.Outcome.{new_dialer, Started, Unstarted}
 
 -- each login gives one session
 pub one_each : (config : Config) (limit : ℕ) (old new : Dials) (nonces : List (List ℕ)) (vs : List View) → ConnectAll config limit old nonces new vs → length vs ≡ length nonces
@@ -22,18 +22,14 @@ one_each config limit old new nonces vs (login_more before nonce mid last ws w r
     let same = one_each config limit old mid before ws rest in
     length-append ws (w ∷ []) ∙ ap (λ n. n + 1) same ∙ sym (length-append before (nonce ∷ []))
 
--- the first link offers what its server sends
-pub offers : (links : List MemoryLink) → offer_of links ≡ first_of (map memory_left links)
-offers [] = refl
-offers (link ∷ more) = refl
-
 -- a new dialer tells this
-pub dialer_is : (tape : DialTape) (faults : ℕ) (links given : List MemoryLink) → tape ≡ new_dials → faults ≡ 0 → given ≡ links → dials tape (Some (offer_of given)) faults ≡ new_dialer (map memory_left links)
-dialer_is tape faults links given fresh calm are = rw (fresh, calm, are, offers links) refl
+pub dialer_is : (tape : DialTape) (faults : ℕ) (links given : List MemoryLink) → tape ≡ new_dials → faults ≡ 0 → given ≡ links → dials tape (Some (offers_of given)) faults ≡ new_dialer (map memory_left links)
+dialer_is tape faults links given fresh calm are = rw (fresh, calm, are) refl
 
-pub started : {T : Type 0} (r : Result T ClientError) (idle : T → List View) (config : Config) (limit : ℕ) (nonces servers : List (List ℕ)) (old new : Dials) → old ≡ new_dialer servers → IfOk r (λ x. ConnectAll config limit old nonces new (idle x)) → IfOk r (λ x. Started config limit nonces servers (idle x))
-started (Ok x) idle config limit nonces servers old new is connects = (new, subst (λ d. ConnectAll config limit d nonces new (idle x)) is connects)
-started (Err e) idle config limit nonces servers old new is connects = tt
+pub started : {T : Type 0} (r : Result T ClientError) (idle : T → List View) (lefts : T → List (Option (List ℕ))) (config : Config) (limit : ℕ) (nonces servers : List (List ℕ)) (old new : Dials) → old ≡ new_dialer servers
+    → IfOk r (λ x. ConnectForetold config limit old nonces new (lefts x) (idle x)) → IfOk r (λ x. Started config limit nonces servers (idle x) (lefts x))
+started (Ok x) idle lefts config limit nonces servers old new is connects = (new, subst (λ d. ConnectForetold config limit d nonces new (lefts x) (idle x)) is connects)
+started (Err e) idle lefts config limit nonces servers old new is connects = tt
 
 pub unstarted : {T : Type 0} (r : Result T ClientError) (config : Config) (limit : ℕ) (nonces servers : List (List ℕ)) (old new : Dials) → old ≡ new_dialer servers → IfErr r (NotStarted (Unit {0}) config limit nonces old new) → IfErr r (Unstarted config limit nonces servers)
 unstarted (Ok x) config limit nonces servers old new is refused = tt

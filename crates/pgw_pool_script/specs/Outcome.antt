@@ -1,5 +1,5 @@
 -- What a pool script comes to.
-use Rattle.std.specs.Prelude.{◌≡◌, ◌≢◌, ℕ, ◌+◌, false, List, [], ◌∷◌, ◌++◌, length, replicate, Some, Result, Ok, Err}
+use Rattle.std.specs.Prelude.{◌≡◌, ◌≢◌, ℕ, ◌+◌, false, List, [], ◌∷◌, ◌++◌, length, replicate, Option, Some, Result, Ok, Err}
 use Rattle.pgw_types.specs.declared.config_error.ConfigError.{ConfigError}
 use Rattle.pgw_types.specs.declared.config_error.ConfigError.TheVariants as config_error
 use Rattle.pgw_backend.specs.ClientError.{of_config}
@@ -8,7 +8,7 @@ use Rattle.pgw_config.specs.declared.config.Config.{Config}
 use Rattle.pgw_config.specs.Parse.{HasOutcome}
 use Rattle.pgw_link.specs.Dials.{new_dials}
 use Rattle.pgw_pool.specs.Histories.{View}
-use Rattle.pgw_pool.specs.Starting.{Dials, dials, ConnectAll, NotStarted}
+use Rattle.pgw_pool.specs.Starting.{Dials, dials, ConnectForetold, NotStarted}
 use Rattle.pgw_script.specs.declared.pool_script.PoolScript.{PoolScript}
 use Rattle.pgw_script.specs.declared.pool_line.PoolCall.{PoolCall}
 use Rattle.pgw_script.specs.PoolScript.{lines_before_calls}
@@ -44,19 +44,16 @@ ComesTo first calls line (outcome.Refused e) = ⊥
 abbrev pub nonces_of : PoolScript → List (List ℕ)
 nonces_of s = replicate (length s.servers) s.nonce
 
--- what the first server sends
-abbrev pub first_of : List (List ℕ) → List ℕ
-first_of [] = []
-first_of (server ∷ more) = server
-
 -- a new dialer in memory, whose links have these bytes to come
 abbrev pub new_dialer : List (List ℕ) → Dials
-new_dialer servers = dials new_dials (Some (first_of servers)) 0
+new_dialer servers = dials new_dials (Some servers) 0
 
--- a pool was started over these links, and these are its sessions
-abbrev pub Started : Config → (limit : ℕ) → (nonces servers : List (List ℕ)) → List View → Type 0
-Started config limit nonces servers idle =
-    (after : Dials) × ConnectAll config limit (new_dialer servers) nonces after idle
+-- A pool was started over these links, each session over its own server's: these are its sessions, and what their links
+-- still have to come.
+abbrev pub Started : Config → (limit : ℕ) → (nonces servers : List (List ℕ)) → List View →
+    List (Option (List ℕ)) → Type 0
+Started config limit nonces servers idle lefts =
+    (after : Dials) × ConnectForetold config limit (new_dialer servers) nonces after lefts idle
 
 -- none was, for this reason
 abbrev pub Unstarted : Config → (limit : ℕ) → (nonces servers : List (List ℕ)) → ClientError → Type 0
@@ -66,8 +63,9 @@ Unstarted config limit nonces servers e =
 -- a pool was started with this configuration, and the calls come to this
 abbrev pub Runs : PoolScript → Config → PoolOutcome → Type 0
 Runs s config o =
-    (idle : List View) × Started config s.limit (nonces_of s) s.servers idle
-    × ComesTo (standing 0 idle []) s.calls (lines_before_calls s) o
+    (idle : List View) × (lefts : List (Option (List ℕ)))
+    × Started config s.limit (nonces_of s) s.servers idle lefts
+    × ComesTo (standing 0 idle lefts []) s.calls (lines_before_calls s) o
 
 abbrev pub ComesOf : PoolScript → Config → PoolOutcome → Type 0
 ComesOf s config (outcome.Refused e) =

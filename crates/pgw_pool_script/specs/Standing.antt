@@ -1,76 +1,89 @@
 -- A pool with its leases that are out, and what is printed of each call of a script.
-use Rattle.std.specs.Prelude.{◌≡◌, ◌≢◌, ℕ, true, false, List, [], ◌∷◌, ◌++◌, Result, Ok, Err}
+use Rattle.std.specs.Prelude.{◌≡◌, ◌≢◌, ℕ, true, false, List, [], ◌∷◌, ◌++◌, Option, Result, Ok, Err}
 use Rattle.std.specs.List.{All}
 use Rattle.pgw_types.specs.Counts.{counted}
 use Rattle.pgw_backend.specs.declared.client_error.PgWireClientError.{PgWireClientError as ClientError}
 use Rattle.pgw_backend.specs.declared.client_error.PgWireClientError.TheVariants as client
 use Rattle.pgw_session.specs.declared.types.Request.{Request}
 use Rattle.pgw_session.specs.declared.types.Answer.{Answer}
+use Rattle.pgw_connection.specs.Line.{Foretold, StaysWithin}
 use Rattle.pgw_ask.specs.Asking.{Asks}
 use Rattle.pgw_pool.specs.declared.pool.LendError.{LendError}
 use Rattle.pgw_pool.specs.declared.returned.Returned.{Returned}
 use Rattle.pgw_pool.specs.Histories.{View}
 use Rattle.pgw_pool.specs.Lending.{Lends, LendsNone}
-use Rattle.pgw_pool.specs.Returning.{GivesBack}
+use Rattle.pgw_pool.specs.Returning.{GivesForetold}
 use Rattle.pgw_script.specs.declared.pool_line.PoolCall.{PoolCall}
 use Rattle.pgw_script.specs.declared.pool_line.PoolCall.TheVariants as call
 use Rattle.pgw_printing.specs.AnswerLines.{answer_lines}
 use Rattle.pgw_printing.specs.SessionText.{error_line}
 use Rattle.pgw_pool_script.specs.Lines.{lease_line, none_line, returned_line, wants_memory, was_wanting}
 
--- a lease that is out: its number, its session, and how many requests were answered in it
+-- a lease that is out: its number, its session, what its link still has to come, and how many requests were answered in it
 pub record Place : Type 0 where
   pub number : ℕ
   pub view : View
+  pub left : Option (List ℕ)
   pub answers : ℕ
 
-abbrev pub place : ℕ → View → ℕ → Place
-place number view answers = record { number = number; view = view; answers = answers }
+abbrev pub place : ℕ → View → Option (List ℕ) → ℕ → Place
+place number view left answers =
+    record { number = number; view = view; left = left; answers = answers }
 
--- how many leases the pool has lent, its idle sessions, and its leases that are out, in the order that they were lent
+-- how many leases the pool has lent, its idle sessions and what their links still have to come, and its leases that are
+-- out, in the order that they were lent
 pub record Standing : Type 0 where
   pub lent : ℕ
   pub idle : List View
+  pub lefts : List (Option (List ℕ))
   pub out : List Place
 
-abbrev pub standing : ℕ → List View → List Place → Standing
-standing lent idle out = record { lent = lent; idle = idle; out = out }
+abbrev pub standing : ℕ → List View → List (Option (List ℕ)) → List Place → Standing
+standing lent idle lefts out = record { lent = lent; idle = idle; lefts = lefts; out = out }
 
 -- ---- a request in a lease
 
--- what a lease promises of it
-pub record Runs (q : Request) (old new : View) (result : Result Answer ClientError) : Type 0 where
+-- What a lease promises of it: over a session that can be used, its answer or its error has its reason; what its link gave
+-- for it is the front of what that had to come; and no more is read than the script's limit.
+pub record Runs (q : Request) (old new : View) (was is : Option (List ℕ))
+    (result : Result Answer ClientError) : Type 0 where
   pub broken : old.broken ≡ true → (result ≡ Err client.Broken) × (new ≡ old)
   pub asks : old.broken ≡ false →
       Asks q old.client old.line new.client new.line new.broken result
+  pub foretold : Foretold was is old.line.tape new.line.tape
+  pub within : StaysWithin old.line new.line
 
 -- the answers of a lease are numbered from 1, and an error has no number
 pub data Tells (q : Request) : Place → Place → List ℕ → Type 0 where
-  answered : (number n : ℕ) (old new : View) (a : Answer) → Runs q old new (Ok a) →
-      Tells q (place number old n) (place number new (counted n)) (answer_lines (counted n) a)
-  refused : (number n : ℕ) (old new : View) (e : ClientError) → Runs q old new (Err e) →
-      wants_memory e ≡ false →
-      Tells q (place number old n) (place number new n) (error_line e)
+  answered : (number n : ℕ) (old new : View) (was is : Option (List ℕ)) (a : Answer) →
+      Runs q old new was is (Ok a) →
+      Tells q (place number old was n) (place number new is (counted n))
+      (answer_lines (counted n) a)
+  refused : (number n : ℕ) (old new : View) (was is : Option (List ℕ)) (e : ClientError) →
+      Runs q old new was is (Err e) → wants_memory e ≡ false →
+      Tells q (place number old was n) (place number new is n) (error_line e)
 
 -- ---- the calls of a script
 
 -- one call, and what is printed of it
 pub data Called : Standing → PoolCall → List ℕ → Standing → Type 0 where
-  lends : (lent now number : ℕ) (idle rest : List View) (v : View) (out : List Place) →
-      Lends idle lent rest now number v →
-      Called (standing lent idle out) call.Lend (lease_line number)
-      (standing now rest (out ++ place number v 0 ∷ []))
-  lends_none : (lent : ℕ) (idle : List View) (out : List Place) (e : LendError) →
-      LendsNone idle lent e →
-      Called (standing lent idle out) call.Lend (none_line e) (standing lent idle out)
-  runs : (lent : ℕ) (idle : List View) (before behind : List Place) (old new : Place) (q : Request)
-      (line : List ℕ) → Tells q old new line →
-      Called (standing lent idle (before ++ old ∷ behind)) (call.Run old.number q) line
-      (standing lent idle (before ++ new ∷ behind))
-  gives_back : (lent : ℕ) (idle now : List View) (before behind : List Place) (old : Place)
-      (result : Returned) → GivesBack old.view idle now result → was_wanting result ≡ false →
-      Called (standing lent idle (before ++ old ∷ behind)) (call.Back old.number)
-      (returned_line result) (standing lent now (before ++ behind))
+  lends : (lent now number : ℕ) (idle rest : List View) (v : View) (left : Option (List ℕ))
+      (lefts : List (Option (List ℕ))) (out : List Place) → Lends idle lent rest now number v →
+      Called (standing lent idle (left ∷ lefts) out) call.Lend (lease_line number)
+      (standing now rest lefts (out ++ place number v left 0 ∷ []))
+  lends_none : (lent : ℕ) (idle : List View) (lefts : List (Option (List ℕ))) (out : List Place)
+      (e : LendError) → LendsNone idle lent e →
+      Called (standing lent idle lefts out) call.Lend (none_line e) (standing lent idle lefts out)
+  runs : (lent : ℕ) (idle : List View) (lefts : List (Option (List ℕ))) (before behind : List Place)
+      (old new : Place) (q : Request) (line : List ℕ) → Tells q old new line →
+      Called (standing lent idle lefts (before ++ old ∷ behind)) (call.Run old.number q) line
+      (standing lent idle lefts (before ++ new ∷ behind))
+  gives_back : (lent : ℕ) (idle now : List View) (lefts left_now : List (Option (List ℕ)))
+      (before behind : List Place) (old : Place) (result : Returned) →
+      GivesForetold old.left old.view idle now lefts left_now result →
+      was_wanting result ≡ false →
+      Called (standing lent idle lefts (before ++ old ∷ behind)) (call.Back old.number)
+      (returned_line result) (standing lent now left_now (before ++ behind))
 
 -- a list of calls, and all that is printed of them
 pub data Calls : Standing → List PoolCall → List ℕ → Standing → Type 0 where
@@ -80,11 +93,13 @@ pub data Calls : Standing → List PoolCall → List ℕ → Standing → Type 0
 
 -- at the end the leases that are out are given back, in the order that they were lent, which is that of their numbers
 pub data AllBack : Standing → Standing → Type 0 where
-  none_out : (lent : ℕ) (idle : List View) → AllBack (standing lent idle []) (standing lent idle [])
-  back_first : (lent : ℕ) (idle now : List View) (old : Place) (out : List Place)
-      (result : Returned) (last : Standing) → GivesBack old.view idle now result →
-      AllBack (standing lent now out) last →
-      AllBack (standing lent idle (old ∷ out)) last
+  none_out : (lent : ℕ) (idle : List View) (lefts : List (Option (List ℕ))) →
+      AllBack (standing lent idle lefts []) (standing lent idle lefts [])
+  back_first : (lent : ℕ) (idle now : List View) (lefts left_now : List (Option (List ℕ)))
+      (old : Place) (out : List Place) (result : Returned) (last : Standing) →
+      GivesForetold old.left old.view idle now lefts left_now result →
+      AllBack (standing lent now left_now out) last →
+      AllBack (standing lent idle lefts (old ∷ out)) last
 
 -- no lease with this number is out
 abbrev pub IsNotOut : ℕ → List Place → Type 0

@@ -1,21 +1,28 @@
 -- What is seen of a pool over links in memory, of its leases that are out, and of a call.
 use Rattle.std.specs.Prelude.{◌≡◌, ◌≤◌, ◌+◌, ◌<◌, Bool, true, false, ℕ, List, ◌++◌, map, length, take, slice_index_or, Option, Some, None}
-use Rattle.pgw_link.specs.Memory.{memory_tape, faults_of}
+use Rattle.pgw_link.specs.Memory.{memory_tape, memory_left, faults_of}
 use Rattle.pgw_link.specs.declared.link.Link as Link
 use Rattle.pgw_link.specs.declared.memory.MemoryLink.{MemoryLink}
 use Rattle.pgw_session.specs.declared.types.Request.{Request}
 use Rattle.pgw_pool.specs.declared.pool.Pool.{Pool}
-use Rattle.pgw_pool.specs.Views.{idle_in, lent_by, lease_view, number_of, room_of}
+use Rattle.pgw_pool.specs.Views.{idle_in, lefts_in, left_of, lent_by, lease_view, number_of, room_of}
 use Rattle.pgw_script.specs.declared.pool_line.PoolCall.{PoolCall}
 use Rattle.pgw_pool_script.specs.declared.desk.Seat.{Seat}
 use Rattle.pgw_pool_script.specs.Standing.{Place, place, Standing, standing, Tells, Called, Calls, NamesNone}
 
+-- what a link in memory still has to come
+abbrev pub to_come : MemoryLink → Option (List ℕ)
+to_come link = Some (memory_left link)
+
 abbrev pub place_of : Seat → Place
-place_of s = place (number_of s.lease) (lease_view memory_tape faults_of s.lease) s.answers
+place_of s =
+    place (number_of s.lease) (lease_view memory_tape faults_of s.lease)
+    (left_of to_come s.lease) s.answers
 
 abbrev pub standing_of : {L : Link.Ghosts MemoryLink} → Pool MemoryLink L → List Seat → Standing
 standing_of pool out =
-    standing (lent_by pool) (idle_in memory_tape faults_of pool) (map place_of out)
+    standing (lent_by pool) (idle_in memory_tape faults_of pool) (lefts_in to_come pool)
+    (map place_of out)
 
 -- each lease that is out can be given back
 abbrev pub HasRoom : {L : Link.Ghosts MemoryLink} → Pool MemoryLink L → List Seat → Type 0

@@ -2,9 +2,9 @@
 ghost use Rattle.std.specs.Prelude.{◌≡◌, ◌<◌, [], length, map, replicate, All, IfOk, IfErr};
 ghost use Rattle.pgw_link.specs.MemoryLinks.{IsUnused};
 ghost use Rattle.pgw_link.specs.Memory.{memory_tape, memory_left, faults_of};
-ghost use Rattle.pgw_pool.specs.Views.{idle_in, lent_by};
+ghost use Rattle.pgw_pool.specs.Views.{idle_in, lefts_in, lent_by};
 ghost use Rattle.pgw_pool_script.specs.Outcome.{Started, Unstarted};
-ghost use Rattle.pgw_pool_script.specs.Views.{HasRoom};
+ghost use Rattle.pgw_pool_script.specs.Views.{HasRoom, to_come};
 
 use pgw_client::{
     Config, Listed, MemoryDialer, MemoryLink, Octets, OutOfMemory, PgWireClientError,
@@ -56,7 +56,7 @@ fn start_with(
 ) -> PgWireClientResult<Pool<MemoryLink>>
     requires { All IsUnused links }
     ensures started { IfOk result (λ pool. Started config.now limit nonces.now
-        (map memory_left links) (idle_in memory_tape faults_of pool)) }
+        (map memory_left links) (idle_in memory_tape faults_of pool) (lefts_in to_come pool)) }
     ensures none { IfOk result (λ pool. lent_by pool ≡ 0) }
     ensures room { IfOk result (λ pool. HasRoom pool []) }
     ensures refused { IfErr result (Unstarted config.now limit nonces.now (map memory_left links)) }
@@ -78,7 +78,8 @@ pub fn start(
 ) -> PgWireClientResult<Pool<MemoryLink>>
     requires { 0 < cut }
     ensures started { IfOk result (λ pool. Started config.now limit
-        (replicate (length servers.now) nonce) servers.now (idle_in memory_tape faults_of pool)) }
+        (replicate (length servers.now) nonce) servers.now (idle_in memory_tape faults_of pool)
+        (lefts_in to_come pool)) }
     ensures none { IfOk result (λ pool. lent_by pool ≡ 0) }
     ensures room { IfOk result (λ pool. HasRoom pool []) }
     ensures refused { IfErr result (Unstarted config.now limit

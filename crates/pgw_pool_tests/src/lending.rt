@@ -13,7 +13,7 @@ use std::process::Abort;
 use std::test::Fail;
 
 // What a server says, by the message formats of the protocol.
-const WELCOME: &[u8] = b"R\0\0\0\x08\0\0\0\0Z\0\0\0\x05I";
+pub(crate) const WELCOME: &[u8] = b"R\0\0\0\x08\0\0\0\0Z\0\0\0\x05I";
 
 pub(crate) const DONE: &[u8] = b"C\0\0\0\x07OK\0";
 
@@ -21,7 +21,7 @@ pub(crate) const DISCARDED: &[u8] = b"C\0\0\0\x10DISCARD ALL\0";
 
 pub(crate) const ERROR: &[u8] = b"E\0\0\0\x19SERROR\0CXX000\0Mboom\0\0";
 
-const BOUND: &[u8] = b"2\0\0\0\x04";
+pub(crate) const BOUND: &[u8] = b"2\0\0\0\x04";
 
 pub(crate) const IDLE: &[u8] = b"Z\0\0\0\x05I";
 
@@ -80,12 +80,13 @@ const CASES: &[Case] = &[
     ),
 ];
 
-fn error_name(error: &PgWireClientError) -> &'static str {
+pub(crate) fn error_name(error: &PgWireClientError) -> &'static str {
     match error {
         PgWireClientError::UnexpectedEOF => "end",
         PgWireClientError::IoError => "fault",
         PgWireClientError::RemoteError(_) => "remote error",
         PgWireClientError::UnexpectedMessage(_) => "unexpected",
+        PgWireClientError::Broken => "broken",
         _ => "another error",
     }
 }
@@ -98,7 +99,7 @@ fn answer_name(answer: &Answer) -> &'static str {
     }
 }
 
-fn came_name(came: &PgWireClientResult<Answer>) -> &'static str {
+pub(crate) fn came_name(came: &PgWireClientResult<Answer>) -> &'static str {
     match came {
         Ok(answer) => answer_name(answer),
         Err(error) => error_name(error),

@@ -2,7 +2,11 @@
 #![tactic(auto)]
 
 #[cfg(test)]
+mod failing;
+#[cfg(test)]
 mod lending;
+#[cfg(test)]
+mod moving;
 #[cfg(test)]
 mod renewing;
 #[cfg(test)]

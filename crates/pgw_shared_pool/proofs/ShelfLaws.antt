@@ -1,15 +1,15 @@
 -- Sessions that are lent, and come back.
-use Rattle.std.proofs.Common.{◌≡◌, ◌≤◌, ℕ, List, [], ◌∷◌, ◌++◌, Result, arith, refl, inl, sym, subst}
+use Rattle.std.proofs.Common.{◌≡◌, ◌<◌, ◌≤◌, ◌+◌, ℕ, List, [], ◌∷◌, length, Result, arith, refl, inl, inr, sym, subst}
 use Rattle.pgw_backend.specs.declared.client_error.PgWireClientError.{PgWireClientError as ClientError}
 use Rattle.pgw_session.specs.declared.types.Request.{Request}
 use Rattle.pgw_session.specs.declared.types.Answer.{Answer}
 use Rattle.pgw_pool.specs.declared.returned.Returned.TheVariants.{Kept}
 use Rattle.pgw_pool.specs.Histories.{History, View, lent_as, IsIdle, AreIdle}
-use Rattle.pgw_pool.specs.Lending.{LendsFirst}
+use Rattle.pgw_pool.specs.Lending.{Lends, LendsFirst}
 use Rattle.pgw_pool.specs.Returning.{GivesBack}
-use Rattle.pgw_pool.specs.Stocks.{Stock, stock, leased, IsOut, Runs, Step, runs, gives_back, Steps, no_step, step_more, IsInOrder}
+use Rattle.pgw_pool.specs.Stocks.{stock, leased, IsOut, Runs, Step, runs, gives_back, no_step, step_more, IsInOrder}
 use Rattle.pgw_pool.proofs.StockLaws.{any_steps}
-use Rattle.pgw_shared_pool.specs.Shelves.{IsNewLease}
+use Rattle.pgw_shared_pool.specs.Shelves.{Shelf, Rested, RefusesSession, IsNewLease}
 
 -- ---- a lease begins
 
@@ -17,9 +17,16 @@ pub begins : (now number : ℕ) (hs : List History) (rest : List View) (v : View
 begins now number [] rest v first = absurd first
 begins now number (h ∷ hs) rest v first = record { history = h; lease = lent_as number; number = refl; own = omega arith; stands = inl first.0 }
 
-pub new_lease : (now number : ℕ) (hs : List History) (rest : List View) (v : View) → LendsFirst hs now rest number v → IsNewLease (leased number v)
-new_lease now number [] rest v first = absurd first
-new_lease now number (h ∷ hs) rest v first = record { history = h; stands = first.0; begins = first.1 }
+pub new_lease : (lent now number : ℕ) (idle : List View) (hs : List History) (rest : List View) (v : View)
+    → Lends idle lent rest now number v → LendsFirst hs now rest number v → IsNewLease (leased number v)
+new_lease lent now number idle [] rest v lends first = absurd first
+new_lease lent now number idle (h ∷ hs) rest v lends first =
+    record {
+      history = h;
+      stands = first.0;
+      begins = first.1;
+      numbered = let a = lends.counted in let b = lends.numbered in omega arith;
+    }
 
 pub others : (now number : ℕ) (hs : List History) (rest : List View) (v : View) → LendsFirst hs now rest number v → (more : List History) × AreIdle now more rest
 others now number [] rest v first = absurd first
@@ -28,6 +35,12 @@ others now number (h ∷ hs) rest v first = (hs, first.2)
 -- a shelf of which nothing was lent or put
 pub same_idle : (low now : ℕ) (vs all : List View) → now ≡ low → all ≡ vs → (hs : List History) × AreIdle low hs vs → (hs : List History) × AreIdle now hs all
 same_idle low now vs all same kept are = (are.0, subst (λ n. AreIdle n are.0 all) (sym same) (subst (AreIdle low are.0) (sym kept) are.1))
+
+-- its number was lent here, and where it is new there is a place for it
+pub not_refused : (s : Shelf) (back : Rested) → back.last ≤ s.lent → (back.last ≡ 0 → length s.idle + s.out < s.room)
+    → ¬ RefusesSession s back
+not_refused s back own room (inl above) = omega (arith, own, above)
+not_refused s back own room (inr full) = omega (arith, room full.0, full.1)
 
 -- ---- it goes on, and ends
 

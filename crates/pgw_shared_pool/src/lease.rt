@@ -41,6 +41,7 @@ impl<L: Link> SharedLease<L> {
     ghost use Rattle.pgw_pool.specs.Lending.{Ran};
     ghost use Rattle.pgw_pool.specs.Stocks.{IsOut};
     ghost use Rattle.pgw_ask.specs.Asking.{Asks};
+    ghost use Rattle.pgw_connection.specs.Line.{StaysWithin};
 
     /// The first lease of a pool has number 1.
     pub fn number(&self) -> u64
@@ -70,6 +71,8 @@ impl<L: Link> SharedLease<L> {
             self.new.view.line self.new.view.broken result }
         ensures cause { HasCause self.old.view.line.faults self.new.view.line.faults
             self.old.view.broken result }
+        // No more bytes are read than the pool was given as the limit of a session.
+        ensures within { StaysWithin self.old.view.line self.new.view.line }
     {
         self.lease.run(alloc, request)
     }

@@ -37,11 +37,14 @@ pub enum Refilled {
     Added,
     /// No place is free.
     Full,
+    /// A session was connected, but by then another pool's lease had its place: it is let go.
+    Displaced,
 }
 
 impl<L: Link> SharedPool<L> {
     ghost use Rattle.pgw_turns.specs.declared.turns.LendRefusal.TheVariants.{TimedOut};
-    ghost use Rattle.pgw_pool.specs.Histories.{View};
+    ghost use Rattle.pgw_pool.specs.Histories.{History, View, AreIdle};
+    ghost use Rattle.pgw_pool.specs.Views.{idle_in, lent_by};
     ghost use Rattle.pgw_pool.specs.Starting.{dials, ConnectAll, Connects, NotConnects};
     ghost use Rattle.pgw_pool.specs.Returning.{GivesBack};
     ghost use Rattle.pgw_shared_pool.specs.Shelves.{IsNewLease, NotShared, returned_by_pool, IsRefilled};
@@ -59,11 +62,11 @@ impl<L: Link> SharedPool<L> {
     ) -> PgWireClientResult<SharedPool<L>>
         // Else no pool was started; or memory was wanting for those who wait, behind all logins.
         ensures refused { IfErr result (NotShared D.foretells config.now limit nonces.now
-            (dials (D.tape dialer.old) (D.offer dialer.old) (D.faults dialer.old))
-            (dials (D.tape dialer.new) (D.offer dialer.new) (D.faults dialer.new))) }
+            (dials (D.tape dialer.old) (D.offers dialer.old) (D.faults dialer.old))
+            (dials (D.tape dialer.new) (D.offers dialer.new) (D.faults dialer.new))) }
         ensures connected { IfOk result (λ pool. (vs : List View) × ConnectAll config.now limit
-            (dials (D.tape dialer.old) (D.offer dialer.old) (D.faults dialer.old)) nonces.now
-            (dials (D.tape dialer.new) (D.offer dialer.new) (D.faults dialer.new)) vs) }
+            (dials (D.tape dialer.old) (D.offers dialer.old) (D.faults dialer.old)) nonces.now
+            (dials (D.tape dialer.new) (D.offers dialer.new) (D.faults dialer.new)) vs) }
         ensures cause { HasCause (D.faults dialer.old) (D.faults dialer.new) false result }
     {
         let pool = match Pool::start(alloc, config, nonces, limit, dialer) {
@@ -76,9 +79,13 @@ impl<L: Link> SharedPool<L> {
         }
     }
 
-    /// The pool, once no thread shares it. Its leases are to be given back before: a shared lease goes to a shared pool
-    /// alone.
-    pub fn into_pool(self) -> Pool<L> {
+    /// The pool, once no thread shares it. Its leases are to be given back before: a shared lease goes
+    /// to a shared pool alone.
+    pub fn into_pool(self) -> Pool<L>
+        // Over each of its idle sessions stand a login and its leases, each with a reset behind it.
+        ensures { (hs : List History) ×
+            AreIdle (lent_by result) hs (idle_in L.tape L.faults result) }
+    {
         let SharedPool { turns } = self;
         let Sessions { pool } = turns.into_stock();
         pool
@@ -145,14 +152,14 @@ impl<L: Link> SharedPool<L> {
         dialer: &mut D,
     ) -> PgWireClientResult<Refilled>
         ensures refilled { IfOk result (IsRefilled config.now limit nonce
-            (dials (D.tape dialer.old) (D.offer dialer.old) (D.faults dialer.old))
-            (dials (D.tape dialer.new) (D.offer dialer.new) (D.faults dialer.new))) }
+            (dials (D.tape dialer.old) (D.offers dialer.old) (D.faults dialer.old))
+            (dials (D.tape dialer.new) (D.offers dialer.new) (D.faults dialer.new))) }
         ensures refused { IfErr result (λ e. NotConnects D.foretells config.now limit nonce
-            (dials (D.tape dialer.old) (D.offer dialer.old) (D.faults dialer.old))
-            (dials (D.tape dialer.new) (D.offer dialer.new) (D.faults dialer.new)) e
+            (dials (D.tape dialer.old) (D.offers dialer.old) (D.faults dialer.old))
+            (dials (D.tape dialer.new) (D.offers dialer.new) (D.faults dialer.new)) e
             ⊎ ((e ≡ failure.OutOfMemory)
-            × (dials (D.tape dialer.new) (D.offer dialer.new) (D.faults dialer.new)
-            ≡ dials (D.tape dialer.old) (D.offer dialer.old) (D.faults dialer.old)))) }
+            × (dials (D.tape dialer.new) (D.offers dialer.new) (D.faults dialer.new)
+            ≡ dials (D.tape dialer.old) (D.offers dialer.old) (D.faults dialer.old)))) }
     {
         if !self.turns.claim(rt) {
             return Ok(Refilled::Full);
@@ -162,7 +169,7 @@ impl<L: Link> SharedPool<L> {
                 if self.turns.fill(rt, Ready { spare }) {
                     Ok(Refilled::Added)
                 } else {
-                    Ok(Refilled::Full)
+                    Ok(Refilled::Displaced)
                 }
             }
             Err(error) => {

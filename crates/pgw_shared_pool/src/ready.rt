@@ -11,13 +11,22 @@ pub struct Ready<L: Link> {
 }
 
 impl<L: Link> Model for Ready<L> {
-    ghost use Rattle.std.specs.Prelude.{ℕ};
+    ghost use Rattle.std.specs.Coded.{codes, coded_list, coded_ℕ};
+    ghost use Rattle.std.specs.FinMap as map;
+    ghost use Rattle.std.specs.Ordering.{nat_cmp};
+    ghost use Rattle.std.specs.Cmp.Lexicographic.{slice_cmp};
     ghost use Rattle.pgw_pool.specs.Spares.{last_lease, spare_view};
     ghost use Rattle.pgw_pool.specs.Histories.{History, IsIdle};
+    ghost use Rattle.pgw_shared_pool.specs.Shelves.{Rested, rested};
 
-    ghost Value = { ℕ };
+    ghost Value = { Rested };
 
-    ghost view = { λ r. last_lease r.spare };
+    ghost coded = { Prim.hlevel (
+      codes,
+      map.code {R = slice_cmp nat_cmp} (coded_list coded_ℕ) (coded_list coded_ℕ),
+    ) };
+
+    ghost view = { λ r. rested (last_lease r.spare) (spare_view L.tape L.faults r.spare) };
 
     ghost invariant = { λ r. (h : History) ×
         IsIdle (last_lease r.spare) h (spare_view L.tape L.faults r.spare) };

@@ -1,5 +1,5 @@
 //! The sessions of a pool, as things to be lent.
-ghost use Rattle.std.specs.Prelude.{◌≡◌, ◌≤◌, IfSome};
+ghost use Rattle.std.specs.Prelude.{◌≡◌, ◌≤◌, IfSome, MatchOption, MatchBool};
 
 use crate::lease::SharedLease;
 use crate::ready::Ready;
@@ -15,29 +15,50 @@ pub struct Sessions<L: Link> {
 }
 
 impl<L: Link> Model for Sessions<L> {
-    ghost use Rattle.std.specs.Prelude.{List, length};
+    ghost use Rattle.std.specs.Prelude.{List};
+    ghost use Rattle.std.specs.Coded.{codes, coded_list, coded_ℕ};
+    ghost use Rattle.std.specs.FinMap as map;
+    ghost use Rattle.std.specs.Ordering.{nat_cmp};
+    ghost use Rattle.std.specs.Cmp.Lexicographic.{slice_cmp};
     ghost use Rattle.pgw_pool.specs.Histories.{History, AreIdle};
-    ghost use Rattle.pgw_pool.specs.Views.{idle_in, lent_by, room_of};
-    ghost use Rattle.pgw_shared_pool.specs.Shelves.{Shelf, shelf};
+    ghost use Rattle.pgw_pool.specs.Views.{idle_in, lent_by};
+    ghost use Rattle.pgw_shared_pool.specs.Shelves.{Shelf};
+    ghost use Rattle.pgw_shared_pool.specs.Pools.{shelf_of};
 
     ghost Value = { Shelf };
 
-    ghost view = { λ s. shelf (length (idle_in L.tape L.faults s.pool)) (room_of s.pool) };
+    ghost coded = { Prim.hlevel (
+      codes,
+      map.code {R = slice_cmp nat_cmp} (coded_list coded_ℕ) (coded_list coded_ℕ),
+    ) };
+
+    ghost view = { λ s. shelf_of L.tape L.faults s.pool };
 
     ghost invariant = { λ s. (hs : List History) ×
         AreIdle (lent_by s.pool) hs (idle_in L.tape L.faults s.pool) };
 }
 
 impl<L: Link> Stock for Sessions<L> {
-    ghost use Rattle.pgw_shared_pool.specs.Shelves.{IsNewLease};
+    ghost use Rattle.std.specs.Prelude.{length};
+    ghost use Rattle.pgw_shared_pool.specs.Shelves.{LendsLease, IsSpent, TakesSession, RefusesSession, LosesSession, IsNewLease};
 
     type Lent = SharedLease<L>;
 
     type Back = Ready<L>;
 
-    ghost ready = { λ s. s.idle };
+    ghost ready = { λ s. length s.idle };
 
     ghost room = { λ s. s.room };
+
+    ghost lends = { LendsLease };
+
+    ghost is_spent = { IsSpent };
+
+    ghost takes = { TakesSession };
+
+    ghost refuses = { RefusesSession };
+
+    ghost loses = { LosesSession };
 
     ghost fresh = { IsNewLease };
 

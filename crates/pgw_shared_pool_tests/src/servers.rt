@@ -93,6 +93,7 @@ pub(crate) fn refill<R: Wait>(
     match pool.refill(rt, alloc, config, [1; 18], 10_000, dialer) {
         Ok(Refilled::Added) => "added",
         Ok(Refilled::Full) => "full",
+        Ok(Refilled::Displaced) => "displaced",
         Err(_) => "failed",
     }
 }

@@ -3,7 +3,7 @@ use Rattle.std.proofs.Common.{◌≡◌, ◌≤◌, ℕ, ◌+◌, ◌==◌, not,
 use Rattle.std.specs.List.{filter}
 use Rattle.pgw_turns.specs.Rows.{Ascend}
 use Rattle.pgw_turns.specs.Standings.{Standing, IsKept}
-use Rattle.pgw_turns.specs.Steps.{Deed, Step, lends_at_once, joins, leaves, lends_to, spends, puts, loses, claims, Course, begins, goes_on, tickets_of, served_in, IsFair}
+use Rattle.pgw_turns.specs.Steps.{Deed, Step, lends_at_once, finds_none, joins, leaves, lends_to, spends, puts, loses, claims, Course, begins, goes_on, tickets_of, served_in, IsFair}
 use Rattle.pgw_turns.proofs.RowLaws.{ascend_push, ascend_filter, ascend_front}
 
 served_snoc : (deeds : List Deed) (deed : Deed) → served_in (deeds ++ deed ∷ []) ≡ served_in deeds ++ tickets_of deed
@@ -19,6 +19,10 @@ first_served past (t ∷ ts) ticket high first a =
 
 one_step : (past : List ℕ) (d e : Standing) (deed : Deed) → Step d deed e → Ascend 0 (past ++ d.row.waiting) d.row.issued → Ascend 0 ((past ++ tickets_of deed) ++ e.row.waiting) e.row.issued
 one_step past d e deed (lends_at_once x free) a =
+    let none : drop 1 d.row.waiting ≡ d.row.waiting = rw free.1 refl in
+    subst (λ (us : List ℕ). Ascend 0 (us ++ drop 1 d.row.waiting) d.row.issued) (sym (append-nil past))
+    (subst (λ (us : List ℕ). Ascend 0 (past ++ us) d.row.issued) (sym none) a)
+one_step past d e deed (finds_none x free) a =
     let none : drop 1 d.row.waiting ≡ d.row.waiting = rw free.1 refl in
     subst (λ (us : List ℕ). Ascend 0 (us ++ drop 1 d.row.waiting) d.row.issued) (sym (append-nil past))
     (subst (λ (us : List ℕ). Ascend 0 (past ++ us) d.row.issued) (sym none) a)
@@ -44,6 +48,7 @@ fair room ready places deeds d (goes_on before deed x y course step) =
 
 kept_step : (d e : Standing) (deed : Deed) → Step d deed e → IsKept d → IsKept e
 kept_step d e deed (lends_at_once x free) k = let f = free.0 in omega arith
+kept_step d e deed (finds_none x free) k = k
 kept_step d e deed (joins x) k = k
 kept_step d e deed (leaves x ticket) k = k
 kept_step d e deed (lends_to x ticket turn) k = let f = turn.0 in omega arith

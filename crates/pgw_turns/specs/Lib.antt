@@ -1,3 +1,4 @@
+pub mod Desks
 pub mod Rows
 pub mod Standings
 pub mod Steps

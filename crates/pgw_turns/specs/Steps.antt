@@ -17,6 +17,8 @@ pub data Deed : Type 0 where
 -- one call
 pub data Step : Standing → Deed → Standing → Type 0 where
   lends_at_once : (d : Standing) → IsFree d → Step d other (lent d)
+  -- the stock had lent as many as it ever will
+  finds_none : (d : Standing) → IsFree d → Step d other (spent d)
   joins : (d : Standing) → Step d (waits d.row.issued) (joined d)
   leaves : (d : Standing) (ticket : ℕ) → Step d (goes ticket) (gone ticket d)
   lends_to : (d : Standing) (ticket : ℕ) → IsTurn ticket d → Step d (is_served ticket) (lent d)

@@ -3,9 +3,9 @@ ghost use Rattle.std.specs.Prelude.{ℕ, List, ◌≤◌};
 ghost use Rattle.pgw_turns.specs.Standings.{Standing, IsKept};
 ghost use Rattle.pgw_turns.specs.Steps.{Deed, Course, IsFair};
 
-/// First come, first served: whatever calls were made of a desk, the tickets that were served ascend
-/// in the order in which they were, and those of all who wait are above them. A ticket is given
-/// behind all others, so who was served had come before all of these.
+/// First come, first served: whatever calls were made of a desk, the tickets that were served
+/// ascend in the order in which they were, and those of all who wait are above them. A ticket is
+/// given behind all others, so who was served had come before all of these.
 pub fn first_come_is_first_served()
     ensures { (room ready places : ℕ) (deeds : List Deed) (d : Standing) →
         Course room ready places deeds d → IsFair deeds d }

@@ -1,7 +1,9 @@
 //! A desk that threads share.
-ghost use Rattle.std.specs.Prelude.{◌≡◌, ◌≢◌, ◌+◌, ◌≤◌, IfOk, IfErr, IsTrue};
+ghost use Rattle.std.specs.Prelude.{◌≡◌, ◌≢◌, ◌+◌, ◌≤◌, IfOk, IfErr, IsTrue, false, MatchBool};
 ghost use Rattle.std.specs.Sync.Mutex.{mutex_guard_value};
-ghost use Rattle.pgw_turns.specs.Standings.{IsTurn};
+ghost use Rattle.pgw_turns.specs.Rows.{JoinsNone};
+ghost use Rattle.pgw_turns.specs.Standings.{IsTurn, HasPlace, numbers_of};
+ghost use Rattle.pgw_turns.specs.Desks.{Held, IsCounted, refusal_for, TakesBack, TakesNone, Lending};
 
 use crate::bells::Bells;
 use crate::desk::{Desk, Numbers};
@@ -30,7 +32,7 @@ pub struct Turns<S: Stock> {
 }
 
 fn refusal_of(error: JoinError) -> LendRefusal
-    ensures { result ≢ LendRefusal.TimedOut }
+    ensures { result ≡ refusal_for error }
 {
     match error {
         JoinError::Full => LendRefusal::Crowded,
@@ -49,7 +51,9 @@ impl<S: Stock> Turns<S> {
     }
 
     /// The stock, once no thread uses it.
-    pub fn into_stock(self) -> S {
+    pub fn into_stock(self) -> S
+        ensures { S.ready result ≤ S.room result }
+    {
         let Turns { desk, bells } = self;
         drop(bells);
         desk.into_inner().into_stock()
@@ -57,7 +61,9 @@ impl<S: Stock> Turns<S> {
 
     /// How many things there are, at one moment.
     pub fn numbers<R: Wait>(&self, rt: &R) -> Numbers
-        ensures { result.ready + result.out ≤ result.capacity }
+        ensures numbers { (d : Held S) × IsCounted S.ready S.room d
+            × (result ≡ numbers_of d.counts) }
+        ensures kept { result.ready + result.out ≤ result.capacity }
     {
         self.desk.lock(rt).numbers()
     }
@@ -79,7 +85,8 @@ impl<S: Stock> Turns<S> {
         ticket: u64,
         limit: Option<Duration>,
     ) -> (MutexGuard<'b, Desk<S>>, bool)
-        ensures turn { IsTrue result.1 → IsTurn ticket (mutex_guard_value result.0) }
+        ensures turn { IsTrue result.1 → IsTurn ticket (mutex_guard_value result.0).counts }
+        ensures late { result.1 ≡ false → ¬ IsTurn ticket (mutex_guard_value result.0).counts }
         ensures endless { limit ≡ None → IsTrue result.1 }
     {
         match limit {
@@ -102,12 +109,16 @@ impl<S: Stock> Turns<S> {
         }
     }
 
-    /// Lends one to the first who waits. Who waited longer than the limit is refused; None is no limit.
+    /// Lends one to the first who waits. Who waited longer than the limit is refused; None is no
+    /// limit.
     pub fn lend<R: Wait + Clock>(
         &self,
         rt: &R,
         limit: Option<Duration>,
     ) -> Result<S::Lent, LendRefusal>
+        // Of some desk, which is the one behind the lock as it was at one moment.
+        ensures lending { (old : Held S) × (new : Held S) × IsCounted S.ready S.room old
+            × Lending S.lends S.is_spent old new result }
         ensures fresh { IfOk result S.fresh }
         // Who waits without a limit is not refused for time.
         ensures endless { limit ≡ None → IfErr result (λ e. e ≢ LendRefusal.TimedOut) }
@@ -133,16 +144,24 @@ impl<S: Stock> Turns<S> {
 
     /// Takes back a thing that was out, and says whether it did. It does not where none is out, or
     /// where the thing is none of the stock's own.
-    pub fn give_back<R: Wait>(&self, rt: &R, back: S::Back) -> bool {
+    pub fn give_back<R: Wait>(&self, rt: &R, back: S::Back) -> bool
+        ensures { (old : Held S) × (new : Held S) × IsCounted S.ready S.room old
+            × MatchBool result (TakesBack S.takes S.refuses back old new)
+            (TakesNone S.refuses back old) }
+    {
         let mut desk = self.desk.lock(rt);
         let taken = desk.put(back);
         self.tell(desk);
         taken
     }
 
-    /// Fills a place that was kept, and says whether it did. Where the stock does not take the thing
-    /// the place is free again.
-    pub fn fill<R: Wait>(&self, rt: &R, back: S::Back) -> bool {
+    /// Fills a place that was kept, and says whether it did. Where the stock does not take the
+    /// thing the place is free again.
+    pub fn fill<R: Wait>(&self, rt: &R, back: S::Back) -> bool
+        ensures { (old : Held S) × (new : Held S) × IsCounted S.ready S.room old
+            × MatchBool result (TakesBack S.takes S.refuses back old new)
+            (TakesNone S.refuses back old) }
+    {
         let mut desk = self.desk.lock(rt);
         let filled = desk.fill(back);
         self.tell(desk);
@@ -160,7 +179,11 @@ impl<S: Stock> Turns<S> {
     }
 
     /// Keeps a place for a thing that is to come, where there is one: it is filled, or given up.
-    pub fn claim<R: Wait>(&self, rt: &R) -> bool {
+    pub fn claim<R: Wait>(&self, rt: &R) -> bool
+        ensures { (d : Held S) × IsCounted S.ready S.room d
+            × MatchBool result (HasPlace d.counts)
+            (d.counts.ready + d.counts.out ≡ d.counts.room) }
+    {
         self.desk.lock(rt).claim()
     }
 }

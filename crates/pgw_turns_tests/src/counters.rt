@@ -1,5 +1,5 @@
 //! A stock to be lent: numbered things.
-ghost use Rattle.std.specs.Prelude.{◌≡◌, ◌≤◌, IfOk};
+ghost use Rattle.std.specs.Prelude.{◌≡◌, ◌≤◌, ◌+◌, ◌++◌, ◌∷◌, [], IfOk};
 ghost use Rattle.std.specs.VecDeque.{deque_len, deque_capacity};
 
 use pgw_turns::Stock;
@@ -48,6 +48,16 @@ impl Stock for Things {
     ghost ready = { λ t. deque_len t.idle };
 
     ghost room = { λ t. t.room };
+
+    ghost lends = { λ s t n. (s.idle.items ≡ n ∷ t.idle.items) × (s.most ≡ t.most + 1) };
+
+    ghost is_spent = { λ s. s.most ≡ 0 };
+
+    ghost takes = { λ s n t. (t.idle.items ≡ s.idle.items ++ n ∷ []) × (t.most ≡ s.most) };
+
+    ghost refuses = { λ s n. s.room ≤ n };
+
+    ghost loses = { λ s t. t ≡ s };
 
     ghost fresh = { λ n. Unit {0} };
 

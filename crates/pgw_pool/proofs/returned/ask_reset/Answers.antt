@@ -15,4 +15,5 @@ returns-clause-asked g c =
       halts = λ usable. (asked.asked usable).halts;
       at_end = λ usable. (asked.asked usable).at_end;
       cause = asked.cause;
+      within = record { limit = asked.limit; within = λ was. asked.within };
     }

@@ -23,7 +23,9 @@ returns-in-Ok-clause-foretold g c = λ t.
       last = V c.in-Ok.client;
       left = _;
       connects = c.in-Ok.ensures.connects;
-      foretold = c.in-Ok.ensures.foretold t;
+      offer = (c.in-Ok.ensures.foretold t).0;
+      made = (c.in-Ok.ensures.foretold t).1;
+      foretold = (c.in-Ok.ensures.foretold t).2;
       idle_now = c.keep.ensures.idle;
       lefts_now = c.keep.ensures.lefts;
     }

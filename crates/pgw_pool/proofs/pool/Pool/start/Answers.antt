@@ -17,8 +17,8 @@ loop-nonce-init g c =
       later = (omega arith);
       had = ap (map count_of) c.in-Ok.ensures.items;
       idle = idle_first c.args.config.now c.args.nonces.now _ none;
-      connected = connected_first c.args.config.now c.args.limit (dials (g.D.Dialer.tape d) (g.D.Dialer.offer d) (g.D.Dialer.faults d)) c.args.nonces.now _ none;
-      foretold = λ t. foretold_first c.args.config.now c.args.limit (dials (g.D.Dialer.tape d) (g.D.Dialer.offer d) (g.D.Dialer.faults d)) c.args.nonces.now _ _ (ap (map (session_left g.L.Link.left)) c.in-Ok.ensures.items) none;
+      connected = connected_first c.args.config.now c.args.limit (dials (g.D.Dialer.tape d) (g.D.Dialer.offers d) (g.D.Dialer.faults d)) c.args.nonces.now _ none;
+      foretold = λ t. foretold_first c.args.config.now c.args.limit (dials (g.D.Dialer.tape d) (g.D.Dialer.offers d) (g.D.Dialer.faults d)) c.args.nonces.now _ _ (ap (map (session_left g.L.Link.left)) c.in-Ok.ensures.items) none;
     }
 
 pub loop-nonce-preserved : goal.loop-nonce-preserved
@@ -43,10 +43,10 @@ loop-nonce-preserved g c =
       had = one_more_new c.args.nonces.now c.loop-nonce.nonce-index (map count_of before) (map count_of c.push_back_reserved.new.self.items) c.loop-nonce-test.true counts_grown i.had;
       idle = idle_next c.args.config.now c.args.nonces.now c.loop-nonce.nonce-index (get_or c.args.nonces.now c.loop-nonce.nonce-index []) (map S c.loop-nonce.idle.items) (map S c.push_back_reserved.new.self.items) (V client) c.loop-nonce-test.true refl grown i.idle c.in-Ok-log_in.ensures.idle;
       connected = connected_next c.args.config.now c.args.limit c.args.nonces.now c.loop-nonce.nonce-index (get_or c.args.nonces.now c.loop-nonce.nonce-index [])
-          (dials (g.D.Dialer.tape first) (g.D.Dialer.offer first) (g.D.Dialer.faults first)) (dials (g.D.Dialer.tape mid) (g.D.Dialer.offer mid) (g.D.Dialer.faults mid)) (dials (g.D.Dialer.tape now) (g.D.Dialer.offer now) (g.D.Dialer.faults now))
+          (dials (g.D.Dialer.tape first) (g.D.Dialer.offers first) (g.D.Dialer.faults first)) (dials (g.D.Dialer.tape mid) (g.D.Dialer.offers mid) (g.D.Dialer.faults mid)) (dials (g.D.Dialer.tape now) (g.D.Dialer.offers now) (g.D.Dialer.faults now))
           (map S c.loop-nonce.idle.items) (map S c.push_back_reserved.new.self.items) (V client) c.loop-nonce-test.true refl grown i.connected c.in-Ok-log_in.ensures.connects;
       foretold = λ t. foretold_next c.args.config.now c.args.limit c.args.nonces.now c.loop-nonce.nonce-index (get_or c.args.nonces.now c.loop-nonce.nonce-index [])
-          (dials (g.D.Dialer.tape first) (g.D.Dialer.offer first) (g.D.Dialer.faults first)) (dials (g.D.Dialer.tape mid) (g.D.Dialer.offer mid) (g.D.Dialer.faults mid)) (dials (g.D.Dialer.tape now) (g.D.Dialer.offer now) (g.D.Dialer.faults now))
+          (dials (g.D.Dialer.tape first) (g.D.Dialer.offers first) (g.D.Dialer.faults first)) (dials (g.D.Dialer.tape mid) (g.D.Dialer.offers mid) (g.D.Dialer.faults mid)) (dials (g.D.Dialer.tape now) (g.D.Dialer.offers now) (g.D.Dialer.faults now))
           (map T c.loop-nonce.idle.items) (map T c.push_back_reserved.new.self.items) (F client) (map S c.loop-nonce.idle.items) (map S c.push_back_reserved.new.self.items) (V client) c.loop-nonce-test.true refl
           lefts_grown grown (i.foretold t) c.in-Ok-log_in.ensures.connects (c.in-Ok-log_in.ensures.foretold t) c.in-Ok-log_in.ensures.cause.later;
     }
@@ -61,7 +61,7 @@ returns-clause-connected g c =
     let S = session_view g.L.Link.tape g.L.Link.faults in
     let first = c.args.dialer.now in
     let mid = c.loop-nonce.dialer in
-    subst (λ (ns : List (List _)). ConnectAll c.args.config.now c.args.limit (dials (g.D.Dialer.tape first) (g.D.Dialer.offer first) (g.D.Dialer.faults first)) ns (dials (g.D.Dialer.tape mid) (g.D.Dialer.offer mid) (g.D.Dialer.faults mid)) (map S c.loop-nonce.idle.items))
+    subst (λ (ns : List (List _)). ConnectAll c.args.config.now c.args.limit (dials (g.D.Dialer.tape first) (g.D.Dialer.offers first) (g.D.Dialer.faults first)) ns (dials (g.D.Dialer.tape mid) (g.D.Dialer.offers mid) (g.D.Dialer.faults mid)) (map S c.loop-nonce.idle.items))
     (all_taken c.args.nonces.now c.loop-nonce.nonce-index c.loop-nonce-test.false) c.loop-nonce.invariant.connected
 
 pub returns-clause-foretold : goal.returns-clause-foretold
@@ -70,13 +70,13 @@ returns-clause-foretold g c = λ t.
     let T = session_left g.L.Link.left in
     let first = c.args.dialer.now in
     let mid = c.loop-nonce.dialer in
-    subst (λ (ns : List (List _)). ConnectForetold c.args.config.now c.args.limit (dials (g.D.Dialer.tape first) (g.D.Dialer.offer first) (g.D.Dialer.faults first)) ns (dials (g.D.Dialer.tape mid) (g.D.Dialer.offer mid) (g.D.Dialer.faults mid)) (map T c.loop-nonce.idle.items) (map S c.loop-nonce.idle.items))
+    subst (λ (ns : List (List _)). ConnectForetold c.args.config.now c.args.limit (dials (g.D.Dialer.tape first) (g.D.Dialer.offers first) (g.D.Dialer.faults first)) ns (dials (g.D.Dialer.tape mid) (g.D.Dialer.offers mid) (g.D.Dialer.faults mid)) (map T c.loop-nonce.idle.items) (map S c.loop-nonce.idle.items))
     (all_taken c.args.nonces.now c.loop-nonce.nonce-index c.loop-nonce-test.false) (c.loop-nonce.invariant.foretold t)
 
 pub returns-in-Err-clause-refused : goal.returns-in-Err-clause-refused
 returns-in-Err-clause-refused g c =
     let d = c.args.dialer.now in
-    inr (refl, wants_first g.D.Dialer.foretells c.args.config.now c.args.limit c.args.nonces.now (dials (g.D.Dialer.tape d) (g.D.Dialer.offer d) (g.D.Dialer.faults d)))
+    inr (refl, wants_first g.D.Dialer.foretells c.args.config.now c.args.limit c.args.nonces.now (dials (g.D.Dialer.tape d) (g.D.Dialer.offers d) (g.D.Dialer.faults d)))
 
 pub returns-clause-cause : goal.returns-clause-cause
 returns-clause-cause g c = record { later = c.loop-nonce.invariant.later; failed = tt }
@@ -88,7 +88,7 @@ returns-in-Err-log_in-clause-refused g c =
     let mid = c.loop-nonce.dialer in
     let now = c.log_in.new.dialer in
     stops_next g.D.Dialer.foretells c.args.config.now c.args.limit c.args.nonces.now c.loop-nonce.nonce-index (get_or c.args.nonces.now c.loop-nonce.nonce-index [])
-    (dials (g.D.Dialer.tape first) (g.D.Dialer.offer first) (g.D.Dialer.faults first)) (dials (g.D.Dialer.tape mid) (g.D.Dialer.offer mid) (g.D.Dialer.faults mid)) (dials (g.D.Dialer.tape now) (g.D.Dialer.offer now) (g.D.Dialer.faults now))
+    (dials (g.D.Dialer.tape first) (g.D.Dialer.offers first) (g.D.Dialer.faults first)) (dials (g.D.Dialer.tape mid) (g.D.Dialer.offers mid) (g.D.Dialer.faults mid)) (dials (g.D.Dialer.tape now) (g.D.Dialer.offers now) (g.D.Dialer.faults now))
     (map S c.loop-nonce.idle.items) c.in-Err-log_in.error c.loop-nonce-test.true refl c.loop-nonce.invariant.connected (λ t. (_, c.loop-nonce.invariant.foretold t)) c.loop-nonce.invariant.later c.in-Err-log_in.ensures.cause.later c.in-Err-log_in.ensures.refused
 
 pub returns-in-Err-log_in-clause-cause : goal.returns-in-Err-log_in-clause-cause

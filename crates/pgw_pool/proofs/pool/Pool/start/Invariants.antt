@@ -7,8 +7,8 @@ use Rattle.pgw_pool.proofs.pool.Pool.start.Given as goal
 
 abbrev pub invariant-loop-nonce : goal.invariant-loop-nonce
 invariant-loop-nonce g l =
-    let old = dials (g.D.Dialer.tape l.fn.dialer) (g.D.Dialer.offer l.fn.dialer) (g.D.Dialer.faults l.fn.dialer) in
-    let now = dials (g.D.Dialer.tape l.dialer) (g.D.Dialer.offer l.dialer) (g.D.Dialer.faults l.dialer) in
+    let old = dials (g.D.Dialer.tape l.fn.dialer) (g.D.Dialer.offers l.fn.dialer) (g.D.Dialer.faults l.fn.dialer) in
+    let now = dials (g.D.Dialer.tape l.dialer) (g.D.Dialer.offers l.dialer) (g.D.Dialer.faults l.dialer) in
     record {
       count : deque_len l.idle ≡ l.nonce-index;
       room : deque_capacity l.idle ≡ length l.nonces;

@@ -21,6 +21,6 @@ invariant_of-self g c =
 pub returns-clause-fresh : goal.returns-clause-fresh
 returns-clause-fresh g c =
     elim c.match-lend.branch [
-      | in-Ok w ↦ subst (λ r. IfSome r IsNewLease) (sym w.result-is) (new_lease _ _ c.self.invariant.0 _ _ (w.in-Ok.ensures.first c.self.invariant.0 c.self.invariant.1))
+      | in-Ok w ↦ subst (λ r. IfSome r IsNewLease) (sym w.result-is) (new_lease _ _ _ _ c.self.invariant.0 _ _ w.in-Ok.ensures.lent (w.in-Ok.ensures.first c.self.invariant.0 c.self.invariant.1))
       | in-Err w ↦ subst (λ r. IfSome r IsNewLease) (sym w.result-is) tt
     ]
