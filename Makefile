@@ -1,6 +1,9 @@
 # try: runs the session script crates/hothummei/stdin before anything is proved, in a minute or two.
 # run: builds the program, which proves it, and runs the same script.
-# test: the gate. live: the program against a real PostgreSQL, in a scratch cluster (live/run).
+# test: proves every crate and its tests from nothing, tries the must-fail edits, and runs the programs (rt ci). The merge
+# gate is .ci/run, which looks at the pages and the width of clauses first, and behind that runs the C library over bytes
+# that are written down (.ci/c), and all against a real PostgreSQL.
+# live: the program against a real PostgreSQL, in a scratch cluster (live/run).
 # lib: the C library, its header and its pkg-config file, in build/c; install puts them in place (docs/C.md). check-lib runs
 # it over bytes of servers that are written down (c/canned.c), under valgrind.
 # plant: wrong bodies that a crate's contracts let through (make plant CRATE=pgw_wire).
@@ -10,10 +13,11 @@ VISIT = crates/hothummei_visit/out/hothummei_visit
 RELAY = crates/example_relay/out/example_relay
 CLIENT = crates/example_client/out/example_client
 POOL = crates/example_pool/out/example_pool
+WEB = crates/example_web/out/example_web
 LIBRARY = build/c
 LOG = build.log
 
-.PHONY: try run install test program visit relay client pool lib check-lib live fmt plant needs-rt
+.PHONY: try run install test program visit relay client pool web lib check-lib live fmt plant needs-rt
 
 needs-rt:
 	@command -v rt > /dev/null || { echo "rt is not in the PATH: install the Rattle kit that README.md names, and put its folder bin into the PATH" >&2; exit 1; }
@@ -27,12 +31,15 @@ run: needs-rt
 	@cp $(PROGRAM) hothummei
 	@echo "the program is ./hothummei: run it on another script by ./hothummei < SCRIPT" >&2
 
-# install: copies what was built to PREFIX (make install PREFIX=/usr/local): the program to bin, the C library to lib, its
-# header to include.
+# install: copies what was built to PREFIX (make install PREFIX=/usr/local): the program to bin, with its page for man and its
+# completions for bash, the C library to lib, its header to include.
 PREFIX = /usr/local
 install:
 	@test -x $(PROGRAM) -o -f $(LIBRARY)/libhothummei.a || { echo "make run builds the program first, and make lib the C library" >&2; exit 1; }
-	@if test -x $(PROGRAM); then install -v -D -m 755 $(PROGRAM) $(DESTDIR)$(PREFIX)/bin/hothummei; fi
+	@if test -x $(PROGRAM); then \
+	    install -v -D -m 755 $(PROGRAM) $(DESTDIR)$(PREFIX)/bin/hothummei && \
+	    install -v -D -m 644 man/hothummei.1 $(DESTDIR)$(PREFIX)/share/man/man1/hothummei.1 && \
+	    install -v -D -m 644 completions/hothummei.bash $(DESTDIR)$(PREFIX)/share/bash-completion/completions/hothummei; fi
 	@if test -f $(LIBRARY)/libhothummei.a; then \
 	    install -v -D -m 644 $(LIBRARY)/libhothummei.a $(DESTDIR)$(PREFIX)/lib/libhothummei.a && \
 	    install -v -D -m 644 include/hothummei.h $(DESTDIR)$(PREFIX)/include/hothummei.h && \
@@ -65,8 +72,11 @@ client: needs-rt
 pool: needs-rt
 	@(cd crates/example_pool && rt run >> ../../$(LOG) 2>&1) || { echo "make pool: the build failed, see $(LOG)" >&2; exit 1; }
 
-live: program visit relay client pool check-lib
-	@live/run $(PROGRAM) $(VISIT) $(RELAY) $(CLIENT) $(POOL) $(LIBRARY)
+web: needs-rt
+	@(cd crates/example_web && rt run >> ../../$(LOG) 2>&1) || { echo "make web: the build failed, see $(LOG)" >&2; exit 1; }
+
+live: program visit relay client pool web check-lib
+	@live/run $(PROGRAM) $(VISIT) $(RELAY) $(CLIENT) $(POOL) $(WEB) $(LIBRARY)
 
 fmt:
 	@for crate in crates/*/; do (cd $$crate && rt fmt) || exit 1; done

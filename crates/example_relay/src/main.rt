@@ -1,11 +1,18 @@
 //! A recording proxy between clients and a server, over sockets.
 //!
-//! `example_relay LISTEN SERVER COUNT RECORDS` waits for COUNT connections at the address LISTEN, connects each to the
-//! server at the address SERVER, passes on what either side sends, and writes the record of each connection to a file
-//! RECORDS.N, counted from 1. Each connection has two threads, one a direction, which share a `Proxy` under a lock.
+//! `example_relay LISTEN SERVER COUNT RECORDS` prints `waiting at ADDRESS`, waits for COUNT connections at the address
+//! LISTEN (a client's request to cancel is one), connects each to the server at the address SERVER, passes on what either
+//! side sends, and writes the record of each connection to a file RECORDS.N, counted from 1, over one that is there
+//! already. An address is HOST:PORT; port 0 of LISTEN is one that is free. Each connection has two threads, one a
+//! direction, which share a `Proxy` under a lock. Where a proxy stops, no connection to the server is made, or the record
+//! cannot be written, both connections are ended and standard error says why. At the end the status is 0.
+//!
+//! A record is written each time it has 65536 bytes, and at the connection's end; where the program is killed, the rest
+//! is lost.
 //!
 //! `example_relay SERVER RECORD` sends the client's messages of a record to a server, and says whether the server
-//! answers as it did then.
+//! answers as it did then: it prints how many messages are as they were, with status 0, or
+//! `the server's message N is another`.
 #![tactic(auto)]
 
 mod connection;

@@ -1,7 +1,12 @@
 //! The program.
 #![tactic(auto)]
 
-use pgw_prog::start::start;
+mod clock;
+mod commands;
+mod credentials;
+mod surroundings;
+
+use crate::commands::start;
 use std::process::ExitCode;
 
 fn main(rt: HostRuntime) -> ExitCode {

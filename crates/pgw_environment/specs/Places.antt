@@ -1,5 +1,6 @@
 -- The places of a configuration.
-use Rattle.std.specs.Prelude.{ℕ, zero, suc, List, [], ◌∷◌, ◌++◌, length, max, Option, Some, None}
+use Rattle.std.specs.Prelude.{◌==◌, ◌||◌, ◌&&◌, ℕ, zero, suc, List, [], ◌∷◌, ◌++◌, length, max, nat_le}
+use Rattle.std.specs.Prelude.{Bool, Option, Some, None, if◌then◌else◌}
 use Rattle.std.specs.List.{slice_get}
 use Rattle.pgw_config.specs.declared.config.Config.{Config}
 
@@ -30,6 +31,24 @@ unfoldable pub first_places : Config → ℕ → List Config
 first_places config zero = []
 first_places config (suc n) = first_places config n ++ place_at config n ∷ []
 
--- as many places as there are hosts, or addresses where those are more
-abbrev pub places_of : Config → List Config
-places_of config = first_places config (max (length config.host) (length config.hostaddr))
+-- one list has this length, or is empty
+abbrev pub has_or_none : ℕ → ℕ → Bool
+has_or_none count n = (n == count) || (n == 0)
+
+-- How many places there are (libpq, Specifying Multiple Hosts): as many as hosts or addresses, which
+-- are as many where both are given, and no port, one for all or one for each. None otherwise.
+abbrev pub count_by : ℕ → ℕ → ℕ → ℕ → Option ℕ
+count_by count hosts addresses ports =
+    if (has_or_none count hosts && has_or_none count addresses)
+    && (nat_le ports 1 || (ports == count)) then Some count else None
+
+abbrev pub count_of : Config → Option ℕ
+count_of config = count_by (max (length config.host) (length config.hostaddr))
+    (length config.host) (length config.hostaddr) (length config.port)
+
+abbrev pub places_for : Config → Option ℕ → Option (List Config)
+places_for config None = None
+places_for config (Some count) = Some (first_places config count)
+
+abbrev pub places_of : Config → Option (List Config)
+places_of config = places_for config (count_of config)

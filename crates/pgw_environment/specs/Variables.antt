@@ -20,9 +20,23 @@ pair_text key None = []
 pair_text key (Some []) = []
 pair_text key (Some (byte ∷ value)) = pair key (byte ∷ value)
 
--- a pair for each variable that is set
-abbrev pub text_of : Variables → List ℕ
-text_of v = pair_text (codes "host") v.host ++ pair_text (codes "port") v.port
-    ++ pair_text (codes "user") v.user ++ pair_text (codes "dbname") v.database
+-- a pair for each variable that is set: where to connect to,
+abbrev pub place_text : Variables → List ℕ
+place_text v = pair_text (codes "host") v.host ++ pair_text (codes "hostaddr") v.hostaddr
+    ++ pair_text (codes "port") v.port
+
+-- who connects,
+abbrev pub user_text : Variables → List ℕ
+user_text v = pair_text (codes "user") v.user ++ pair_text (codes "dbname") v.database
     ++ pair_text (codes "password") v.password
     ++ pair_text (codes "application_name") v.application_name
+
+-- and what is demanded of the connection
+abbrev pub demands_text : Variables → List ℕ
+demands_text v = pair_text (codes "sslmode") v.sslmode
+    ++ pair_text (codes "channel_binding") v.channel_binding
+    ++ pair_text (codes "connect_timeout") v.connect_timeout
+    ++ pair_text (codes "target_session_attrs") v.target_session_attrs
+
+abbrev pub text_of : Variables → List ℕ
+text_of v = place_text v ++ user_text v ++ demands_text v

@@ -1,6 +1,6 @@
 //! The places of a configuration, to be tried in turn.
 ghost use Rattle.std.specs.Prelude.{◌≡◌, IfOk};
-ghost use Rattle.pgw_environment.specs.Places.{one_at as at_most_one, place_at as place_for, places_of as places_for, port_at as port_for};
+ghost use Rattle.pgw_environment.specs.Places.{count_of as count_for, first_places, one_at as at_most_one, place_at as place_for, places_of as places_for, port_at as port_for};
 
 use pgw_config::config::Config;
 use pgw_types::listed::{Duplicate, Listed};
@@ -54,15 +54,43 @@ fn place_at(alloc: Global, config: &Config, at: usize) -> Result<Config, OutOfMe
     Ok(place)
 }
 
-/// The configuration of each place that a configuration names, in order.
-#[tactic(auto, using(crate::proofs::PlaceLaws::none_first, crate::proofs::PlaceLaws::one_more))]
-pub fn places_of(alloc: Global, config: &Config) -> Result<Listed<Config>, OutOfMemory>
-    ensures { IfOk result (λ places. places ≡ places_for config.now) }
+// How many places a configuration names: as many as hosts or addresses, which where both are given are as many, with
+// no port, a port for all, or a port for each.
+fn count_of(config: &Config) -> Option<usize>
+    ensures { result ≡ count_for config.now }
 {
-    let count = config.get_hosts().len().max(config.get_hostaddrs().len());
+    let hosts = config.get_hosts().len();
+    let addresses = config.get_hostaddrs().len();
+    let ports = config.get_ports().len();
+    let count = hosts.max(addresses);
+    let named = hosts == count || hosts == 0;
+    let addressed = addresses == count || addresses == 0;
+    if named && addressed && (ports <= 1 || ports == count) {
+        Some(count)
+    } else {
+        None
+    }
+}
+
+// So many places, in order.
+#[tactic(auto, using(crate::proofs::PlaceLaws::none_first, crate::proofs::PlaceLaws::one_more))]
+fn first_places(alloc: Global, config: &Config, count: usize) -> Result<Listed<Config>, OutOfMemory>
+    ensures { IfOk result (λ places. places ≡ first_places config.now count) }
+{
     let mut places = Listed::new(alloc);
     for at in 0..count {
         places.push(place_at(alloc, config, at)?)?;
     }
     Ok(places)
+}
+
+/// The configuration of each place that a configuration names, in order; none where its hosts, addresses and ports are
+/// not as many (libpq refuses these too).
+pub fn places_of(alloc: Global, config: &Config) -> Result<Option<Listed<Config>>, OutOfMemory>
+    ensures { IfOk result (λ places. places ≡ places_for config.now) }
+{
+    match count_of(config) {
+        Some(count) => Ok(Some(first_places(alloc, config, count)?)),
+        None => Ok(None),
+    }
 }

@@ -1,21 +1,27 @@
-//! The variables that libpq reads.
+//! Variables that libpq reads.
 ghost use Rattle.std.specs.Prelude.{◌≡◌, ◌++◌, chars, string_bytes, IfOk, OnOk};
 ghost use Rattle.std.specs.List.{flat_map};
-ghost use Rattle.pgw_environment.specs.Variables.{pair_text, quoted_character, text_of as text_for};
+ghost use Rattle.pgw_environment.specs.Variables.{demands_text, pair_text, place_text, quoted_character, text_of as text_for, user_text};
 
 use pgw_types::memory::OutOfMemory;
 use pgw_types::text::Text;
 use std::alloc::Global;
 
-/// What the variables PGHOST, PGPORT, PGUSER, PGDATABASE, PGPASSWORD and PGAPPNAME hold.
+/// What variables hold: PGHOST, PGHOSTADDR, PGPORT, PGUSER, PGDATABASE, PGPASSWORD, PGAPPNAME, PGSSLMODE,
+/// PGCHANNELBINDING, PGCONNECT_TIMEOUT and PGTARGETSESSIONATTRS.
 #[derive(Drop)]
 pub struct Variables {
     pub host: Option<Text>,
+    pub hostaddr: Option<Text>,
     pub port: Option<Text>,
     pub user: Option<Text>,
     pub database: Option<Text>,
     pub password: Option<Text>,
     pub application_name: Option<Text>,
+    pub sslmode: Option<Text>,
+    pub channel_binding: Option<Text>,
+    pub connect_timeout: Option<Text>,
+    pub target_session_attrs: Option<Text>,
 }
 
 #[tactic(auto, unfolding(crate::specs::Variables::quoted_character))]
@@ -58,17 +64,44 @@ fn put_pair(out: &mut String, key: &str, value: &Option<Text>) -> Result<(), Out
 }
 
 impl Variables {
+    // Where to connect to.
+    fn put_place(&self, out: &mut String) -> Result<(), OutOfMemory>
+        ensures { OnOk result (string_bytes out.new ≡ string_bytes out.old ++ place_text self.now) }
+    {
+        put_pair(out, "host", &self.host)?;
+        put_pair(out, "hostaddr", &self.hostaddr)?;
+        put_pair(out, "port", &self.port)
+    }
+
+    // Who connects.
+    fn put_user(&self, out: &mut String) -> Result<(), OutOfMemory>
+        ensures { OnOk result (string_bytes out.new ≡ string_bytes out.old ++ user_text self.now) }
+    {
+        put_pair(out, "user", &self.user)?;
+        put_pair(out, "dbname", &self.database)?;
+        put_pair(out, "password", &self.password)?;
+        put_pair(out, "application_name", &self.application_name)
+    }
+
+    // What is demanded of the connection.
+    fn put_demands(&self, out: &mut String) -> Result<(), OutOfMemory>
+        ensures { OnOk result (string_bytes out.new
+            ≡ string_bytes out.old ++ demands_text self.now) }
+    {
+        put_pair(out, "sslmode", &self.sslmode)?;
+        put_pair(out, "channel_binding", &self.channel_binding)?;
+        put_pair(out, "connect_timeout", &self.connect_timeout)?;
+        put_pair(out, "target_session_attrs", &self.target_session_attrs)
+    }
+
     /// The connection text that says the same.
     pub fn text(&self, alloc: Global) -> Result<Text, OutOfMemory>
         ensures { IfOk result (λ text. text ≡ text_for self.now) }
     {
         let mut out = String::new(alloc);
-        put_pair(&mut out, "host", &self.host)?;
-        put_pair(&mut out, "port", &self.port)?;
-        put_pair(&mut out, "user", &self.user)?;
-        put_pair(&mut out, "dbname", &self.database)?;
-        put_pair(&mut out, "password", &self.password)?;
-        put_pair(&mut out, "application_name", &self.application_name)?;
+        self.put_place(&mut out)?;
+        self.put_user(&mut out)?;
+        self.put_demands(&mut out)?;
         Ok(Text::from_string(out))
     }
 }

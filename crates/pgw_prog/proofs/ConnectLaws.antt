@@ -1,12 +1,12 @@
 -- What is printed of a session with the server that a connection text names.
-use Rattle.std.proofs.Common.{◌≡◌, ◌≢◌, ℕ, List, [], ◌∷◌, ◌++◌, Some, None, Result, Ok, Err, refl, sym, ap, subst, ◌∙◌, inl, inr, arith}
+use Rattle.std.proofs.Common.{◌≡◌, ◌≢◌, ℕ, List, [], ◌∷◌, ◌++◌, Option, Some, None, Result, Ok, Err, refl, sym, ap, subst, ◌∙◌, inl, inr, arith}
 use Rattle.std.specs.Result.{IfOk, OnOk, IsErrOf}
 use Rattle.std.proofs.lemmas.List.{append_cancel_left}
 use Rattle.pgw_types.specs.declared.memory.OutOfMemory.{OutOfMemory}
 use Rattle.pgw_types.specs.declared.address.Address.{Address}
 use Rattle.pgw_types.specs.Counts.{Rose}
 use Rattle.pgw_link.specs.Tape.{Tape}
-use Rattle.pgw_link.specs.Dials.{DialTape, Dialled, Shut, CountsClose}
+use Rattle.pgw_link.specs.Dials.{DialTape, Dialled, Shut, CountsClose, MakesNext}
 use Rattle.pgw_types.specs.declared.config_error.ConfigError.{ConfigError}
 use Rattle.pgw_types.specs.declared.config_error.ConfigError.TheVariants as config_error
 use Rattle.pgw_backend.specs.ClientError.{of_config}
@@ -27,7 +27,7 @@ use Rattle.pgw_prog.specs.declared.command.Connection.{Connection}
 use Rattle.pgw_prog.specs.declared.printed.Printed.{Printed}
 use Rattle.pgw_prog.specs.Held.{Says, status_of}
 use Rattle.pgw_client.specs.OverLink.{LinkSpan, OverLink}
-use Rattle.pgw_prog.specs.Connected.{input_for, DialSpan, DialledOnce, NoLinkFor, HeldSession, Talked, LeavesFor, LeavesDialer, PrintsRefusal, PrintsTalk, PrintsAt, PrintsBy, Connects, CanConnect, PrintsReport}
+use Rattle.pgw_prog.specs.Connected.{input_for, next_offer, DialSpan, DialledOnce, NoLinkFor, HeldSession, Talked, LeavesFor, LeavesDialer, PrintsRefusal, PrintsTalk, PrintsAt, PrintsBy, Connects, CanConnect, PrintsReport}
 use Rattle.pgw_printing.specs.SessionText.{report_lines, error_line, result_text}
 use Rattle.pgw_prog.proofs.OverLaws.{foretold_less, from_fresh}
 use Rattle.pgw_prog.proofs.TextLaws.{error_same, not_io, no_report}
@@ -35,6 +35,10 @@ use Rattle.pgw_prog.proofs.TextLaws.{error_same, not_io, no_report}
 -- a link that was dialled and then closed
 pub once : (to : Address) (old between new : DialTape) (first after : Tape) → Dialled to old between first → Shut between new after → DialledOnce to old new after
 once to old between new first after d s = record { dialled = s.dialled ∙ d.dialled; shut = s.shut ∙ ap (λ (l : List Tape). l ++ after ∷ []) d.shut }
+
+-- the link that was made has what the dialer offered next
+pub offer_is : (was is : Option (List (List ℕ))) (left : Option (List ℕ)) → MakesNext was is left → left ≡ next_offer was
+offer_is was is left made = made.own ∙ sym (ap next_offer made.offered)
 
 -- a session over a link that was dialled and then closed
 pub held_session : (input : Input) (limit : ℕ) (to : Address) (dialer : DialSpan) (between : DialTape) (dialled : ℕ) (more : Type 0) (link : LinkSpan) (outcome : Result SessionReport PgWireClientError)

@@ -1,3 +1,4 @@
+pub mod CommandLaws
 pub mod TransferLaws
 pub mod OverLaws
 pub mod HeldLaws

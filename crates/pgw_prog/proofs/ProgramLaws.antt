@@ -79,6 +79,20 @@ listed source sent p (inr (text, whole, inr (n, fault, says))) is = absurd (no_l
 
 -- ---- how a run ends
 
+-- a dialer that is as it was
+pub leaves_same : (nonce : List ℕ) (command : Command) (dialer : DialSpan) → dialer.same → LeavesDialer nonce command dialer
+leaves_same nonce (kind.Connect asked) dialer same = inl same
+leaves_same nonce kind.Help dialer same = same
+leaves_same nonce kind.Version dialer same = same
+leaves_same nonce kind.Script dialer same = same
+leaves_same nonce kind.Pair dialer same = same
+leaves_same nonce kind.Relay dialer same = same
+leaves_same nonce kind.Pool dialer same = same
+leaves_same nonce (kind.Gen rows start) dialer same = same
+leaves_same nonce (kind.Secret asked) dialer same = same
+leaves_same nonce (kind.Passfile asked) dialer same = same
+leaves_same nonce kind.Usage dialer same = same
+
 module _ (help version nonce words : List ℕ) (command : Command) (source : SourceSpan) (sink : SinkSpan) (dialer : DialSpan) where
   answers_at : (k : Command) (p : Printed) → command ≡ k → Answers help version nonce words source dialer command p → Answers help version nonce words source dialer k p
   answers_at k p is answers = subst (λ (c : Command). Answers help version nonce words source dialer c p) is answers

@@ -1,5 +1,5 @@
 -- The commands, by the words of the command line.
-use Rattle.std.specs.Prelude.{◌≤◌, ℕ, List, [], ◌∷◌, Bool, true, false, map, nat_eq, nat_lt, nat_le, codes, Option, Some, None, if◌then◌else◌}
+use Rattle.std.specs.Prelude.{◌≡◌, ◌≤◌, ℕ, List, [], ◌∷◌, Bool, true, false, map, nat_eq, nat_lt, nat_le, codes, Option, Some, None, if◌then◌else◌}
 use Rattle.std.specs.Cmp.Lexicographic.{pointwise}
 use Rattle.pgw_prog.specs.declared.command.Command.{Command}
 use Rattle.pgw_prog.specs.declared.command.Command.TheVariants as command
@@ -83,6 +83,15 @@ command_for (word ∷ text ∷ limit ∷ query ∷ []) = connect_for word text l
 command_for (word ∷ one ∷ two ∷ three ∷ four ∷ []) = passfile_for word one two three four
 command_for (word ∷ text ∷ limit ∷ one ∷ two ∷ three ∷ more) =
     connect_for word text limit (one ∷ two ∷ three ∷ more)
+
+-- the words ask for a session with a server and this limit, with one query or more
+pub record IsSession (words : List (List ℕ)) (limit : ℕ) : Type 0 where
+  pub text : List ℕ
+  pub number : List ℕ
+  pub query : List ℕ
+  pub more : List (List ℕ)
+  pub are : words ≡ codes "connect" ∷ text ∷ number ∷ query ∷ more
+  pub within : number_in number ≡ Some limit
 
 -- whether a command reads standard input
 abbrev pub reads_source : Command → Bool

@@ -1,5 +1,5 @@
 -- The session with the server that a connection text names.
-use Rattle.std.specs.Prelude.{◌≡◌, ◌≢◌, ◌⊎◌, ℕ, List, [], ◌∷◌, ◌++◌, true, Option, None, Result, Ok, Err, IsErrOf}
+use Rattle.std.specs.Prelude.{◌≡◌, ◌≢◌, ◌⊎◌, ℕ, List, [], ◌∷◌, ◌++◌, true, Option, Some, None, Result, Ok, Err, IsErrOf}
 use Rattle.pgw_types.specs.Counts.{Rose}
 use Rattle.pgw_link.specs.Tape.{Tape, new_tape}
 use Rattle.pgw_link.specs.Dials.{DialTape, NotDialled, CountsClose}
@@ -35,6 +35,12 @@ input_for asked nonce config = input_with config asked.requests nonce
 abbrev pub LeadsTo : Connection → Config → Address → Type 0
 LeadsTo asked config address = HasOutcome asked.text (Ok config) × (address_of config ≡ Ok address)
 
+-- the bytes that the next of these links has to come
+abbrev pub next_offer : Option (List (List ℕ)) → Option (List ℕ)
+next_offer None = None
+next_offer (Some []) = None
+next_offer (Some (bytes ∷ more)) = Some bytes
+
 -- What a dialer told before a command and behind it: its history, the bytes that its next link had to come where they are
 -- known, which is where `foretells` holds, how often it had failed. `same`: it is as it was.
 pub record DialSpan : Type 1 where
@@ -46,13 +52,14 @@ pub record DialSpan : Type 1 where
   pub now : ℕ
   pub same : Type 0
 
-abbrev pub dial_span : {D : Type 0} → (D → DialTape) → Type 0 → (D → Option (List ℕ)) → (D → ℕ) → D → D → DialSpan
-dial_span tape foretells offer faults old new =
+abbrev pub dial_span : {D : Type 0} → (D → DialTape) → Type 0 → (D → Option (List (List ℕ))) →
+    (D → ℕ) → D → D → DialSpan
+dial_span tape foretells offers faults old new =
     record {
       old = tape old;
       new = tape new;
       foretells = foretells;
-      offer = offer old;
+      offer = next_offer (offers old);
       before = faults old;
       now = faults new;
       same = new ≡ old;

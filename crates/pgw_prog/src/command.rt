@@ -1,6 +1,6 @@
 //! The commands, by the words of the command line.
 ghost use Rattle.std.specs.Prelude.{◌≡◌, ◌≤◌, ◌∷◌, [], map, string_bytes, IfOk, IfSome};
-ghost use Rattle.pgw_prog.specs.Command.{command_for, command_named as named, connect_for, gen_for, passfile_for, passfile_with, queries_of as requests_for, secret_for, secret_with, up_to, IsSound};
+ghost use Rattle.pgw_prog.specs.Command.{command_for, command_named as named, connect_for, gen_for, passfile_for, passfile_with, queries_of as requests_for, secret_for, secret_with, up_to, IsSession, IsSound};
 
 use crate::passfile::Asked;
 use pgw_client::Request;
@@ -9,6 +9,7 @@ use pgw_types::listed::Listed;
 use pgw_types::memory::OutOfMemory;
 use pgw_types::text::Text;
 use std::alloc::Global;
+use std::mem::replace;
 
 /// The most rows that a session of any size may have.
 const MOST_ROWS: u32 = 1000000;
@@ -242,5 +243,56 @@ pub fn command_of(alloc: Global, words: &[String]) -> Result<Command, OutOfMemor
                 &words[3..],
             )
         }
+    }
+}
+
+// How many bytes a session may read, where the words ask for one with a server.
+fn limit_of(words: &[String]) -> Option<u64>
+    ensures { IfSome result (IsSession (map string_bytes words.now)) }
+{
+    match words {
+        [word, _text, limit, _query, ..] if word.as_str() == "connect" => {
+            read_number(limit.as_bytes())
+        }
+        _ => None,
+    }
+}
+
+// A simple query of each of these texts, which it takes over.
+fn queries_from(alloc: Global, texts: Vec<String>) -> Result<Listed<Request>, OutOfMemory>
+    ensures { IfOk result (λ list. list ≡ requests_for (map string_bytes texts.items)) }
+{
+    let mut requests = Listed::from_vec(Vec::with_capacity(alloc, texts.len())?);
+    for text in texts {
+        requests.push(Request::Simple(Text::from_string(text)))?;
+    }
+    Ok(requests)
+}
+
+// A session with a server, which takes over the words that ask for it.
+fn session_from(alloc: Global, mut words: Vec<String>, limit: u64) -> Result<Command, OutOfMemory>
+    requires { IsSession (map string_bytes words.items) limit }
+    ensures named { IfOk result (λ c. c ≡ command_for (map string_bytes words.items)) }
+    ensures sound { IfOk result IsSound }
+{
+    drop(words.remove(0));
+    let text = words.remove(0);
+    drop(words.remove(0));
+    Ok(Command::Connect(Connection {
+        text: Text::from_string(text),
+        limit,
+        requests: queries_from(alloc, words)?,
+    }))
+}
+
+/// The command that the words ask for, as `command_of` finds it. The words of a session with a server become a part of
+/// it, are copied nowhere, and are no longer there.
+pub fn command_from(alloc: Global, words: &mut Vec<String>) -> Result<Command, OutOfMemory>
+    ensures named { IfOk result (λ c. c ≡ command_for (map string_bytes words.old.items)) }
+    ensures sound { IfOk result IsSound }
+{
+    match limit_of(words) {
+        Some(limit) => session_from(alloc, replace(words, Vec::new(alloc)), limit),
+        None => command_of(alloc, words),
     }
 }

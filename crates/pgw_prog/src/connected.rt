@@ -33,7 +33,7 @@ fn talk<D: Dialer>(
 ) -> PgWireClientResult<SessionReport>
     ensures later { D.faults dialer.old ≤ D.faults dialer.new }
     ensures talked { Talked (input_for asked.now nonce.now config.now) asked.now.limit address.now
-        (dial_span D.tape D.foretells D.offer D.faults dialer.old dialer.new) result }
+        (dial_span D.tape D.foretells D.offers D.faults dialer.old dialer.new) result }
 {
     let mut link = match dialer.dial(address) {
         Ok(link) => link,
@@ -102,9 +102,9 @@ fn connect_with<D: Dialer>(
 ) -> Result<Printed, OutOfMemory>
     ensures later { D.faults dialer.old ≤ D.faults dialer.new }
     ensures leaves { LeavesFor nonce.now asked.now config.now
-        (dial_span D.tape D.foretells D.offer D.faults dialer.old dialer.new) }
+        (dial_span D.tape D.foretells D.offers D.faults dialer.old dialer.new) }
     ensures prints { IfOk result (PrintsAt nonce.now
-        (dial_span D.tape D.foretells D.offer D.faults dialer.old dialer.new)
+        (dial_span D.tape D.foretells D.offers D.faults dialer.old dialer.new)
         asked.now config.now (address_of config.now)) }
 {
     match config.address(alloc) {
@@ -125,9 +125,9 @@ pub fn connect<D: Dialer>(
 ) -> Result<Printed, OutOfMemory>
     ensures later { D.faults dialer.old ≤ D.faults dialer.new }
     ensures leaves { LeavesDialer nonce.now (kind.Connect asked.now)
-        (dial_span D.tape D.foretells D.offer D.faults dialer.old dialer.new) }
+        (dial_span D.tape D.foretells D.offers D.faults dialer.old dialer.new) }
     ensures prints { IfOk result (Connects nonce.now
-        (dial_span D.tape D.foretells D.offer D.faults dialer.old dialer.new) asked.now) }
+        (dial_span D.tape D.foretells D.offers D.faults dialer.old dialer.new) asked.now) }
 {
     match Config::parse(alloc, asked.text.as_str()) {
         Ok(config) => {

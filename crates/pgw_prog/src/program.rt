@@ -47,6 +47,12 @@ const VERSION: &str = "hothummei 0.2.0\n";
 const HELP: &str =
     "hothummei holds the client's side of a PostgreSQL session and prints what it gave.
 
+hothummei query [OPTION..] TEXT SQL..
+                     asks the server of a connection text each SQL, and prints
+                     the rows as a table, as CSV or as JSON
+hothummei check [OPTION..] TEXT
+                     logs in, and prints how: the login, the server's version
+                     and parameters, and how long it took
 hothummei connect TEXT LIMIT QUERY..
                      connects to the server that the connection text names,
                      makes each query in turn, and prints the report or the
@@ -74,7 +80,8 @@ hothummei secret PASSWORD COUNT
 hothummei passfile HOST PORT DATABASE USER
                      reads a file of passwords from standard input, and prints in
                      hex the password of the first line that matches, or none
-hothummei --help     prints this text
+hothummei --help     prints this text; with query or check behind it, what these
+                     take
 hothummei --version  prints the version
 
 A connection text is a list of keys and values or a URL, and gives the password too:
@@ -338,10 +345,10 @@ fn answer<I: Source, D: Dialer>(
     ensures took { TookFront (source_span I.tape I.left I.faults input.old input.new) }
     ensures answers { IfOk result (Answers HELP.now VERSION.now nonce.now words32.now
         (source_span I.tape I.left I.faults input.old input.new)
-        (dial_span D.tape D.foretells D.offer D.faults dialer.old dialer.new) command) }
+        (dial_span D.tape D.foretells D.offers D.faults dialer.old dialer.new) command) }
     ensures later { D.faults dialer.old ≤ D.faults dialer.new }
     ensures leaves { LeavesDialer nonce.now command
-        (dial_span D.tape D.foretells D.offer D.faults dialer.old dialer.new) }
+        (dial_span D.tape D.foretells D.offers D.faults dialer.old dialer.new) }
     ensures unread { reads_source command ≡ false → input.new ≡ input.old }
     ensures source { IfErr result (λ e. e ≡ stop.Source → reads_source command ≡ true) }
 {
@@ -366,34 +373,6 @@ fn answer<I: Source, D: Dialer>(
     }
 }
 
-fn answer_words<I: Source, D: Dialer>(
-    alloc: Global,
-    words: &[String],
-    input: &mut I,
-    dialer: &mut D,
-    nonce: &[u8; 18],
-    words32: &[u8; 32],
-) -> Result<Printed, Stop>
-    ensures no_fault { OnOk result (I.faults input.new ≡ I.faults input.old) }
-    ensures cause { IfErr result (λ e. CountsStop e
-        (source_span I.tape I.left I.faults input.old input.new)) }
-    ensures took { TookFront (source_span I.tape I.left I.faults input.old input.new) }
-    ensures answers { IfOk result (Answers HELP.now VERSION.now nonce.now words32.now
-        (source_span I.tape I.left I.faults input.old input.new)
-        (dial_span D.tape D.foretells D.offer D.faults dialer.old dialer.new)
-        (command_for (map string_bytes words.now))) }
-    ensures later { D.faults dialer.old ≤ D.faults dialer.new }
-    ensures leaves { LeavesDialer nonce.now (command_for (map string_bytes words.now))
-        (dial_span D.tape D.foretells D.offer D.faults dialer.old dialer.new) }
-    ensures unread { reads_source (command_for (map string_bytes words.now)) ≡ false →
-        input.new ≡ input.old }
-    ensures source { IfErr result (λ e. e ≡ stop.Source →
-        reads_source (command_for (map string_bytes words.now)) ≡ true) }
-{
-    let command = command_of(alloc, words)?;
-    answer(alloc, words, command, input, dialer, nonce, words32)
-}
-
 /// Tells people a text. That a write of it fails changes nothing.
 fn tell<E: Sink>(errors: &mut E, text: &str)
     ensures later { E.faults errors.old ≤ E.faults errors.new }
@@ -402,11 +381,12 @@ fn tell<E: Sink>(errors: &mut E, text: &str)
     let _ = write_whole(errors, text.as_bytes());
 }
 
-/// Runs the command that the words ask for, and says with which status to end, as `run_program` does. Why the status is
-/// not 0 is written to `errors`, in words for people; a fault of that sink changes nothing.
-pub fn run_program_with<I: Source, O: Sink, E: Sink, D: Dialer>(
+/// Runs a command, and says with which status to end, as `run_program` does. Why the status is not 0 is written to
+/// `errors`, in words for people; a fault of that sink changes nothing. The words are told of where they are no command.
+pub fn run_command_with<I: Source, O: Sink, E: Sink, D: Dialer>(
     alloc: Global,
     words: &[String],
+    command: Command,
     input: &mut I,
     output: &mut O,
     errors: &mut E,
@@ -414,16 +394,16 @@ pub fn run_program_with<I: Source, O: Sink, E: Sink, D: Dialer>(
     nonce: &[u8; 18],
     words32: &[u8; 32],
 ) -> u8
-    ensures run { Ran HELP.now VERSION.now nonce.now words32.now
-        (command_for (map string_bytes words.now))
+    requires { IsSound command }
+    ensures run { Ran HELP.now VERSION.now nonce.now words32.now command
         (source_span I.tape I.left I.faults input.old input.new)
         (sink_span O.tape O.faults output.old output.new)
-        (dial_span D.tape D.foretells D.offer D.faults dialer.old dialer.new) result }
+        (dial_span D.tape D.foretells D.offers D.faults dialer.old dialer.new) result }
     // What people are told is appended to what was written before.
     ensures told { Appended (E.tape errors.old) (E.tape errors.new) }
     ensures told_faults { E.faults errors.old ≤ E.faults errors.new }
 {
-    match answer_words(alloc, words, input, dialer, nonce, words32) {
+    match answer(alloc, words, command, input, dialer, nonce, words32) {
         Ok(printed) => match write_whole(output, &printed.text) {
             Ok(()) => {
                 tell(errors, printed.told.as_str());
@@ -439,6 +419,38 @@ pub fn run_program_with<I: Source, O: Sink, E: Sink, D: Dialer>(
             3
         }
         Err(Stop::OutOfMemory) => {
+            tell(errors, NO_MEMORY);
+            4
+        }
+    }
+}
+
+/// Runs the command that the words ask for, as `run_command_with` does.
+pub fn run_program_with<I: Source, O: Sink, E: Sink, D: Dialer>(
+    alloc: Global,
+    words: &[String],
+    input: &mut I,
+    output: &mut O,
+    errors: &mut E,
+    dialer: &mut D,
+    nonce: &[u8; 18],
+    words32: &[u8; 32],
+) -> u8
+    ensures run { Ran HELP.now VERSION.now nonce.now words32.now
+        (command_for (map string_bytes words.now))
+        (source_span I.tape I.left I.faults input.old input.new)
+        (sink_span O.tape O.faults output.old output.new)
+        (dial_span D.tape D.foretells D.offers D.faults dialer.old dialer.new) result }
+    ensures told { Appended (E.tape errors.old) (E.tape errors.new) }
+    ensures told_faults { E.faults errors.old ≤ E.faults errors.new }
+{
+    match command_of(alloc, words) {
+        Ok(command) => {
+            run_command_with(
+                alloc, words, command, input, output, errors, dialer, nonce, words32,
+            )
+        }
+        Err(_) => {
             tell(errors, NO_MEMORY);
             4
         }
@@ -464,7 +476,7 @@ pub fn run_program<I: Source, O: Sink, D: Dialer>(
         (command_for (map string_bytes words.now))
         (source_span I.tape I.left I.faults input.old input.new)
         (sink_span O.tape O.faults output.old output.new)
-        (dial_span D.tape D.foretells D.offer D.faults dialer.old dialer.new) result }
+        (dial_span D.tape D.foretells D.offers D.faults dialer.old dialer.new) result }
 {
     run_program_with(
         alloc,

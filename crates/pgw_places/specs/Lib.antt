@@ -1,0 +1,5 @@
+pub mod Notes
+pub mod Targets
+pub mod Fitting
+pub mod Telling
+pub mod Places

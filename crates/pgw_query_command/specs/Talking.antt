@@ -1,0 +1,18 @@
+-- A client, as what queries are asked of.
+use Rattle.std.specs.Prelude.{ℕ, ◌-◌, length}
+use Rattle.pgw_link.specs.Tape.{Tape}
+use Rattle.pgw_connection.specs.State.{ClientState}
+use Rattle.pgw_answers.specs.Lines.{Line}
+
+-- what it tells of itself and of the bytes between it and its server, by what its link tells
+abbrev pub line_of : {X : Type 0} → (X → Tape) → (X → ℕ) → ClientState X → Line
+line_of tape faults c = record {
+  came = (tape c.link).took;
+  buffer = c.buffer;
+  sent = (tape c.link).wrote;
+  version = (c.known).protocol_version;
+  left = c.limit - c.read;
+  ended = length (tape c.link).ended;
+  faults = faults c.link;
+  broken = c.broken;
+}

@@ -1,0 +1,5 @@
+//! Tests of the command `query`.
+#![tactic(auto)]
+
+#[cfg(test)]
+mod session;
