@@ -20,7 +20,7 @@ use Rattle.pgw_session.specs.Requests.{sends_of}
 use Rattle.pgw_session.specs.Segments.{startup_message}
 use Rattle.pgw_session.specs.Standings.{standing_by}
 use Rattle.pgw_session.specs.Table.{after, stage_for}
-use Rattle.pgw_session.specs.Machine.{Complete, Unencoded, Unexpected, Refused, answered, moves_by, opens_next, passes_by, rules_by, sending, turn_by}
+use Rattle.pgw_session.specs.Machine.{Unencoded, Unexpected, Refused, answered, moves_by, opens_next, passes_by, rules_by, sending, turn_by}
 use Rattle.pgw_session.specs.declared.tally.Tally.{Tally}
 use Rattle.pgw_session.specs.declared.types.Answer.{Answer}
 use Rattle.pgw_session.specs.Notes.{answer_for, first_notes, first_or, notes_book}
@@ -55,7 +55,7 @@ abbrev one_more : Notes → Notes
 one_more n = record n { closed = suc n.closed }
 
 pub none_opened : (n : Notes) (q : Option Request) (out : List ℕ) → q ≡ None → Moved (opens_next notes_book (record n { closed = suc n.closed }) q) n out out (Ok true)
-none_opened n q out is = (record { notes = one_more n; outcome = Complete }, ap (opens_next notes_book (one_more n)) is, record { outcome = refl; reported = refl }, refl)
+none_opened n q out is = (ap (opens_next notes_book (one_more n)) is, refl)
 
 pub some_opened : (n new : Notes) (q : Option Request) (request : Request) (old_out new_out : List ℕ) (done : Unit {0}) → q ≡ Some request → PutOut (encodings (sends_of request)) old_out new_out (Ok done)
     → new ≡ record n { stage = stage_for request; closed = suc n.closed } → Moved (opens_next notes_book (record n { closed = suc n.closed }) q) new old_out new_out (Ok false)

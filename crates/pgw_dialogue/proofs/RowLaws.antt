@@ -9,7 +9,7 @@ use Rattle.pgw_query.specs.declared.data.DataRow.{DataRow}
 use Rattle.pgw_backend.specs.Front.{Spells, SpellsIn}
 use Rattle.pgw_backend.specs.declared.backend.PgWireBackendMessage.TheVariants as backend
 use Rattle.pgw_backend.proofs.FrontLaws.{spells_front}
-use Rattle.pgw_course.specs.Course.{On}
+use Rattle.pgw_course.specs.Course.{On, Waits, run}
 use Rattle.pgw_course.proofs.CourseLaws.{run_goes}
 use Rattle.pgw_query.specs.Runs.{MovesRows, SpellsRow, SpellsRows}
 use Rattle.pgw_session.specs.declared.notes.Notes.{Notes}
@@ -94,6 +94,11 @@ rows_go input n (row ∷ rows) taken new t s sent =
     ∙ rows_go input (behind_row n row) rows s.1 new (still_takes n row t) s.4 sent
     ∙ ap (λ (tally : Tally). runs input (record n { tally = tally }) sent new) (with_more n.tally.opened n.tally row rows refl)
 
+-- no bytes lead nowhere
+pub run_nothing : (input : Input) (n : Notes) (sent : List ℕ) → runs input n sent [] ≡ Waits n sent []
+unfolding run
+run_nothing input n sent = refl
+
 none_are : (rows : List DataRow) → length rows ≡ 0 → rows ≡ []
 none_are [] is = refl
 none_are (row ∷ rows) is = absurd (omega (arith, is))
@@ -110,6 +115,15 @@ rows_taken n new tally old_bytes new_bytes count some t a is above none =
     record {
       stage = ap (λ (n : Notes). n.stage) is;
       runs_on = λ input sent. ap (runs input n sent) a.cut ∙ rows_go input n a.rows a.taken new_bytes t a.spelled sent ∙ ap (λ (n : Notes). runs input n sent new_bytes) (sym behind);
+      front = (
+        a.taken,
+        a.cut,
+        λ input sent.
+            ap (runs input n sent) (sym (append-nil a.taken))
+            ∙ rows_go input n a.rows a.taken [] t a.spelled sent
+            ∙ run_nothing input (behind_rows n a.rows) sent
+            ∙ ap (λ (n : Notes). Waits n sent []) (sym behind),
+      );
       none = λ e.
           let nothing : a.rows ≡ [] = none_are a.rows (sym a.counted ∙ none e) in
           let empty : a.taken ≡ [] = subst (λ (l : List DataRow). SpellsRows l a.taken) nothing a.spelled in

@@ -1,7 +1,7 @@
 -- What the code's steps answer, by the machine of a session. No clause of `run_session` on transcripts cites it; the
 -- claims on dialogues rest on it.
-use Rattle.std.specs.Prelude.{◌≡◌, ◌<◌, ℕ, List, [], ◌++◌, true, false, Bool, Some, Result, Ok, Err}
-use Rattle.pgw_backend.specs.Front.{front, More}
+use Rattle.std.specs.Prelude.{◌≡◌, ◌<◌, ℕ, suc, List, [], ◌++◌, drop, true, false, Bool, Some, Result, Ok, Err}
+use Rattle.pgw_backend.specs.Front.{front, More, Whole}
 use Rattle.pgw_backend.specs.declared.backend.PgWireBackendMessage.{PgWireBackendMessage as Backend}
 use Rattle.pgw_backend.specs.declared.client_error.PgWireClientError.{PgWireClientError as ClientError}
 use Rattle.pgw_backend.specs.declared.client_error.PgWireClientError.TheVariants as client
@@ -16,7 +16,7 @@ use Rattle.pgw_session.specs.Standings.{standing_by}
 use Rattle.pgw_session.specs.Answers.{tally_of}
 use Rattle.pgw_session.specs.Talk.{Talk, first_passed}
 use Rattle.pgw_session.specs.Transcript.{report_with}
-use Rattle.pgw_session.specs.Machine.{End, Complete, error_of, end_with, beginning_by, rules_by}
+use Rattle.pgw_session.specs.Machine.{End, Complete, error_of, end_with, beginning_by, rules_by, turn_by}
 use Rattle.pgw_session.specs.Notes.{notes_book, first_notes}
 use Rattle.pgw_dialogue.specs.declared.machine.Progress.{Progress}
 use Rattle.pgw_dialogue.specs.declared.machine.Progress.TheVariants as progress
@@ -57,9 +57,14 @@ abbrev pub IsGood : Next → Type 0
 IsGood (Refuses e) = IsOwn e
 IsGood n = Unit {0}
 
+-- The end of a whole session behind which these are the notes. Its last segment counts as closed; the notes count one
+-- once the next is opened.
+abbrev pub whole_end : Notes → End Notes
+whole_end notes = record { notes = record notes { closed = suc notes.closed }; outcome = Complete }
+
 -- what taking a message answers
 abbrev pub Moved : NotesMove → Notes → List ℕ → List ℕ → Result Bool ClientError → Type 0
-Moved move new old_out new_out (Ok true) = (end : End Notes) × (move ≡ Ends end []) × IsWhole end (report_at new) × (new_out ≡ old_out)
+Moved move new old_out new_out (Ok true) = (move ≡ Ends (whole_end new) []) × (new_out ≡ old_out)
 Moved move new old_out new_out (Ok false) = (bytes : List ℕ) × (move ≡ On new bytes) × (new_out ≡ old_out ++ bytes)
 Moved move new old_out new_out (Err e) = (new_out ≡ old_out) × Unless e (StopsBy move e)
 
@@ -83,6 +88,15 @@ Advanced input old new old_buffer new_buffer old_out new_out (Ok progress.Done) 
     (end : End Notes) × IsWhole end (report_at new) × (new_out ≡ old_out) × ((sent : List ℕ) → runs input old sent old_buffer ≡ Over end sent)
 Advanced input old new old_buffer new_buffer old_out new_out (Err e) =
     (new_out ≡ old_out) × Unless e ((end : End Notes) × (error_of end.outcome ≡ Some e) × ((sent : List ℕ) → runs input old sent old_buffer ≡ Over end sent))
+
+-- What was taken is the front of the buffer. Where the session goes on, it alone leads there; where the session is whole,
+-- it is the message that ended it.
+abbrev pub CutsFront : Input → Notes → Notes → List ℕ → List ℕ → List ℕ → List ℕ → Result Progress ClientError → Type 0
+CutsFront input old new old_buffer new_buffer old_out new_out (Ok progress.Went) =
+    (taken out : List ℕ) × (old_buffer ≡ taken ++ new_buffer) × (new_out ≡ old_out ++ out) × ((sent : List ℕ) → runs input old sent taken ≡ Waits new (sent ++ out) [])
+CutsFront input old new old_buffer new_buffer old_out new_out (Ok progress.Done) =
+    (m : Backend) × (len : ℕ) × (front old.standing.version old_buffer ≡ Whole m len) × (new_buffer ≡ drop len old_buffer) × (turn_by notes_book input old m old.first_passed ≡ Ends (whole_end new) [])
+CutsFront input old new old_buffer new_buffer old_out new_out result = Unit {0}
 
 -- a message that was taken is gone from the buffer
 abbrev pub Shortens : Progress → ℕ → ℕ → Type 0

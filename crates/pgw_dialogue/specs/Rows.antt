@@ -1,6 +1,7 @@
 -- What taking rows does. The proofs carry it, and no public clause of a session cites it.
-use Rattle.std.specs.Prelude.{◌≡◌, ◌<◌, ℕ, List, ◌++◌, length, Bool, true, false, Option, Some, None}
+use Rattle.std.specs.Prelude.{◌≡◌, ◌<◌, ℕ, List, [], ◌++◌, length, Bool, true, false, Option, Some, None}
 use Rattle.pgw_query.specs.declared.data.DataRow.{DataRow}
+use Rattle.pgw_course.specs.Course.{Waits}
 use Rattle.pgw_backend.specs.declared.backend.PgWireBackendMessage.TheVariants as backend
 use Rattle.pgw_query.specs.Runs.{SpellsRows}
 use Rattle.pgw_session.specs.declared.notes.Notes.{Notes}
@@ -35,5 +36,6 @@ pub record AddsRows (old new : Tally) (old_bytes new_bytes : List ℕ) (count : 
 pub record RowsTaken (some : Bool) (old new : Notes) (old_bytes new_bytes : List ℕ) : Type 0 where
   pub stage : new.stage ≡ old.stage
   pub runs_on : (input : Input) (sent : List ℕ) → runs input old sent old_bytes ≡ runs input new sent new_bytes
+  pub front : (taken : List ℕ) × (old_bytes ≡ taken ++ new_bytes) × ((input : Input) (sent : List ℕ) → runs input old sent taken ≡ Waits new sent [])
   pub none : some ≡ false → (new ≡ old) × (new_bytes ≡ old_bytes)
   pub shorter : some ≡ true → length new_bytes < length old_bytes

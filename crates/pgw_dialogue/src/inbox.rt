@@ -77,6 +77,7 @@ impl Inbox {
     }
 
     /// Takes the message at the front, if it is whole.
+    #[inline(always)]
     pub fn next_message(
         &mut self,
         alloc: Global,

@@ -9,7 +9,7 @@ ghost use Rattle.pgw_session.specs.Machine.{answered, moves_by, opens_next, send
 ghost use Rattle.pgw_session.specs.Notes.{answer_for, notes_book};
 ghost use Rattle.pgw_dialogue.specs.Wire.{IsEnd, IsOwn, Unless, PutOut};
 ghost use Rattle.pgw_dialogue.specs.Input.{input_of};
-ghost use Rattle.pgw_dialogue.specs.Machine.{Advanced, IsGood, Moved, Passed, Shortens, Started, notes_end, report_at};
+ghost use Rattle.pgw_dialogue.specs.Machine.{Advanced, IsGood, Moved, Passed, Shortens, Started, CutsFront, notes_end, report_at};
 
 use crate::inbox::Inbox;
 use crate::input::Input;
@@ -430,6 +430,7 @@ fn take(
 }
 
 // Takes the message at the buffer's front, and puts out what falls due then.
+#[inline(always)]
 fn take_next(
     alloc: Global,
     input: &Input<'_>,
@@ -441,6 +442,8 @@ fn take_next(
     ensures shorter { IfOk result (λ taken. Shortens taken (length buffer.old)
         (length buffer.new)) }
     ensures step { Advanced (input_of input.now) notes.old notes.new buffer.old buffer.new
+        out.old.items out.new.items result }
+    ensures front { CutsFront (input_of input.now) notes.old notes.new buffer.old buffer.new
         out.old.items out.new.items result }
 {
     let message = match buffer.next_message(alloc, notes.standing.version) {
@@ -456,6 +459,7 @@ fn take_next(
 }
 
 /// Takes the message at the buffer's front, or the rows that stand there, and puts out what falls due then.
+#[inline(always)]
 pub fn advance(
     alloc: Global,
     input: &Input<'_>,
@@ -467,6 +471,8 @@ pub fn advance(
     ensures shorter { IfOk result (λ taken. Shortens taken (length buffer.old)
         (length buffer.new)) }
     ensures step { Advanced (input_of input.now) notes.old notes.new buffer.old buffer.new
+        out.old.items out.new.items result }
+    ensures front { CutsFront (input_of input.now) notes.old notes.new buffer.old buffer.new
         out.old.items out.new.items result }
 {
     if takes_rows(notes) {

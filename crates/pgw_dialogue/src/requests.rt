@@ -226,7 +226,7 @@ pub fn sends_of(alloc: Global, request: &Request) -> Result<Sends, OutOfMemory>
     }
 }
 
-/// Puts out the messages that open a request's segment. A simple query is copied nowhere else.
+/// Puts out the messages that open a request's segment.
 pub fn put_request(
     alloc: Global,
     request: &Request,

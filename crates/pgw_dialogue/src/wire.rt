@@ -28,6 +28,7 @@ fn typed_phase(protocol_version: ProtocolVersion) -> DecodeContext
 }
 
 /// Takes the message at the front, if it is whole.
+#[inline(always)]
 pub fn decode<B: Buffer>(
     alloc: Global,
     version: ProtocolVersion,
