@@ -1,0 +1,6 @@
+mod ViewLaws
+mod BehindLaws
+mod ServingLaws
+mod StandingLaws
+mod PairLaws
+mod CallLaws

@@ -1,0 +1,7 @@
+//! Tests of clients whose bytes the caller moves.
+#![tactic(auto)]
+
+#[cfg(test)]
+mod asking;
+#[cfg(test)]
+mod refusing;
