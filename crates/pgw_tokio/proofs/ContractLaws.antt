@@ -1,5 +1,5 @@
 -- What the future of a session gives.
-use Rattle.std.proofs.Common.{◌≡◌, ◌⊎◌, ◌<◌, ℕ, zero, suc, List, [], ◌∷◌, ◌++◌, length, Option, Some, None, Result, Err, false, inl, inr, arith, refl, ◌∙◌, ap, sym, subst, length-append}
+use Rattle.std.proofs.Common.{◌≡◌, ◌⊎◌, ◌<◌, ℕ, zero, suc, List, [], ◌∷◌, ◌++◌, length, Option, Some, None, Result, Err, false, inl, inr, arith, refl, ◌∙◌, ap, sym, subst}
 use Rattle.std.proofs.lemmas.List.{append-nil}
 use Rattle.std.specs.Prelude.{codes, IfSome, IsErrOf, IsSomeAnd}
 use Rattle.std.specs.declared.io.Error.{Error}
@@ -32,21 +32,22 @@ use Rattle.pgw_client.specs.SessionSteps.{Session}
 use Rattle.pgw_client.proofs.MachineTalkLaws.{unstarted}
 use Rattle.pgw_client.proofs.RefusedLaws.{refused_causes, refused_lockstep, refused_paced}
 use Rattle.pgw_client.proofs.SessionLaws.{causes, told, paced, lockstep, completed, reports}
-use Rattle.pgw_moving.specs.Calls.{Call, Gave, Ended, Wrote, Flushed, Waited, Unread, Unwritten, Unflushed, GoesOn}
-use Rattle.pgw_moving.specs.Calls.{Trail, fault_of}
+use Rattle.pgw_moving.specs.Calls.{Call}
+use Rattle.pgw_moving.specs.Calls.{Trail}
 use Rattle.pgw_moving.specs.declared.engine.Engine as Engine
 use Rattle.pgw_moving.specs.declared.engine.Turn.TheVariants as turn
 use Rattle.pgw_moving.specs.declared.exchange.Stop.{Stop}
 use Rattle.pgw_moving.specs.declared.exchange.Stop.TheVariants as stop
 use Rattle.pgw_moving.specs.declared.moving.Moved.{Moved}
-use Rattle.pgw_moving.specs.Moving.{Held, Runs, Step, Stops as Ends_by}
+use Rattle.pgw_moving.specs.Moving.{Held}
 use Rattle.pgw_moving.specs.Future.{CameTo}
 use Rattle.pgw_tokio.specs.declared.engine.SessionEngine.{SessionEngine}
 use Rattle.pgw_tokio.specs.declared.holding.Ended.{Ended as TheEnded}
 use Rattle.pgw_tokio.specs.Engine.{StandsAs, Waits}
 use Rattle.pgw_tokio.specs.First.{first_turn, refused_at}
 use Rattle.pgw_tokio.specs.Stream.{AnswersAs, AnswersOver, HasBegun, OverStream, Tells, WasRefused, span_of}
-use Rattle.pgw_tokio.specs.Tape.{faults_of, listed, noted, tape_after, tape_of}
+use Rattle.pgw_tokio.specs.Tape.{faults_of, listed, tape_of}
+use Rattle.pgw_tokio.proofs.IdleLaws.{Idle, idle_runs, idle_stops}
 use Rattle.pgw_tokio.proofs.OverLaws.{concluded}
 use Rattle.pgw_tokio.proofs.StreamLaws.{clean, faults_append, tape_append, trail_on}
 use Rattle.pgw_tokio.proofs.UnderLaws.{Flushing, IsSessions, StandsSo, UnderWay, runs_on}
@@ -185,54 +186,6 @@ module _ {S : Type 0} (reader : AsyncRead.Ghosts S) (writer : AsyncWrite.Ghosts 
 
 err_same : {a b : ClientError} → ◌≡◌ {A = Result SessionReport ClientError} (Err a) (Err b) → a ≡ b
 err_same is = cc
-
--- nothing is put out, and no more is asked for
-record Idle {S : Type 0} (e : SessionEngine) (h : Held S SessionEngine) : Type 0 where
-  engine_is : h.engine ≡ e
-  over : h.turn ≡ turn.Over
-  empty : h.out ≡ []
-  still : h.unflushed ≡ false
-
-idle_at : {S : Type 0} (e : SessionEngine) (h : Held S SessionEngine) (stream : S) → Idle e h
-    → Idle e (record h { stream = stream })
-idle_at e h stream i = record { engine_is = i.engine_is; over = i.over; empty = i.empty; still = i.still }
-
-module _ {S : Type 0} (reader : AsyncRead.Ghosts S) (writer : AsyncWrite.Ghosts S)
-    (engine : Engine.Ghosts SessionEngine) (e : SessionEngine) where
-  idle_call : (t : Tape) (old new : Held S SessionEngine) (call : Call) → GoesOn call
-      → Step reader writer engine old call new → Idle e old → Idle e new × (noted t call ≡ t)
-  idle_call t old new (Gave bytes) on step i = absurd (let no = sym (step.1).1 ∙ i.over in cc)
-  idle_call t old new Ended on step i = absurd on
-  idle_call t old new (Wrote bytes) on step i =
-      let d = step.1 in
-      absurd (omega (arith, (step.0).1, ap length d.0, ap length i.empty, length-append bytes new.out))
-  idle_call t old new Flushed on step i = absurd (let no = sym (step.1).1 ∙ i.still in cc)
-  idle_call t old new Waited on step i = (subst (Idle e) (sym step.1) (idle_at e old new.stream i), refl)
-  idle_call t old new (Unread x) on step i = absurd on
-  idle_call t old new (Unwritten x) on step i = absurd on
-  idle_call t old new (Unflushed x) on step i = absurd on
-
-  idle_runs : (t : Tape) (old new : Held S SessionEngine) (calls : List Call)
-      → Runs reader writer engine old calls new → Idle e old → Idle e new × (tape_after t calls ≡ t)
-  idle_runs t old new [] runs i = (subst (Idle e) runs i, refl)
-  idle_runs t old new (call ∷ calls) runs i =
-      let c = idle_call t old runs.0 call runs.1 runs.2 i in
-      let r = idle_runs (noted t call) runs.0 new calls runs.3 c.0 in
-      (r.0, r.1 ∙ c.1)
-
-  idle_fault : (mid new : Held S SessionEngine) (call : Call) (x : Error) → fault_of call ≡ Some x
-      → Step reader writer engine mid call new → Idle e mid → ⊥
-  idle_fault mid new (Unread y) x is step i = let no = sym (step.1).1 ∙ i.over in cc
-  idle_fault mid new (Unwritten y) x is step i = omega (arith, (step.1).0, ap length i.empty)
-  idle_fault mid new (Unflushed y) x is step i = let no = sym (step.1).1 ∙ i.still in cc
-  idle_fault mid new call x is step i = cc
-
-  idle_stops : (why : Stop) (mid new : Held S SessionEngine) (last : List Call)
-      → Ends_by reader writer engine mid why last new → Idle e mid
-      → (why ≡ stop.Over) × (last ≡ []) × (mid ≡ new)
-  idle_stops stop.Over mid new last stops i = (refl, stops.1, stops.0)
-  idle_stops stop.End mid new last stops i = absurd (let no = sym ((stops.1).1).1 ∙ i.over in cc)
-  idle_stops (stop.Fault x) mid new last stops i = absurd (idle_fault mid new stops.0 x stops.2 stops.3 i)
 
 -- it is not known what the startup message would be, or memory was wanting
 started_by : (input : Input) (e : ClientError) → refused_config input.config ≡ None → StartCause input e

@@ -1,6 +1,11 @@
 mod StreamLaws
 mod UnderLaws
+mod IdleLaws
 mod OverLaws
 mod ContractLaws
 mod EngineLaws
 mod FutureLaws
+mod CallLaws
+mod AskLaws
+mod LoginLaws
+mod SendLaws

@@ -1,11 +1,17 @@
 -- From the calls of an exchange to those of its stream, and to a tape.
-use Rattle.std.proofs.Common.{◌≡◌, List, [], ◌∷◌, ◌++◌, None, refl, ◌∙◌, ap, sym, subst, append_assoc}
+use Rattle.std.proofs.Common.{◌≡◌, List, [], ◌∷◌, ◌++◌, None, Some, refl, ◌∙◌, ap, sym, subst, append_assoc}
+use Rattle.std.specs.declared.io.Error.{Error}
 use Rattle.tokio.specs.declared.io.async_read.AsyncRead as AsyncRead
 use Rattle.tokio.specs.declared.io.async_write.AsyncWrite as AsyncWrite
 use Rattle.pgw_link.specs.Tape.{Tape}
 use Rattle.pgw_moving.specs.declared.engine.Engine as Engine
 use Rattle.pgw_moving.specs.Calls.{Call, Gave, Ended, Wrote, Flushed, Waited, Unread, Unwritten, Unflushed, GoesOn, Trail, fault_of}
-use Rattle.pgw_moving.specs.Moving.{Held, Runs}
+use Rattle.pgw_moving.specs.Future.{CameTo}
+use Rattle.pgw_moving.specs.Moving.{Held, Runs, Step, Stops as Ends_by}
+use Rattle.pgw_moving.specs.declared.exchange.Stop.{Stop}
+use Rattle.pgw_moving.specs.declared.exchange.Stop.TheVariants as stop
+use Rattle.pgw_moving.specs.declared.moving.Moved.{Moved}
+use Rattle.pgw_tokio.specs.Faults.{fault_after}
 use Rattle.pgw_tokio.specs.Tape.{faults_of, listed, noted, tape_after}
 
 pub tape_append : (t : Tape) (first second : List Call)
@@ -46,3 +52,61 @@ module _ {S E : Type 0} (reader : AsyncRead.Ghosts S) (writer : AsyncWrite.Ghost
     clean a b [] runs = refl
     clean a b (call ∷ calls) runs = ap (λ o. listed o ++ faults_of calls) (no_fault call runs.1)
         ∙ clean runs.0 b calls runs.3
+
+    -- the last call, if there is one
+    end_trail : (why : Stop) (mid new : Held S E) (last : List Call) (c : S)
+        → Ends_by reader writer engine mid why last new → c ≡ new.stream → Trail reader writer mid.stream last c
+    end_trail stop.Over mid new last c stops is =
+        subst (λ (l : List Call). Trail reader writer mid.stream l c) (sym stops.1)
+        (ap (λ (h : Held S E). h.stream) stops.0 ∙ sym is)
+    end_trail stop.End mid new last c stops is =
+        subst (λ (l : List Call). Trail reader writer mid.stream l c) (sym stops.0)
+        (new.stream, (stops.1).0, sym is)
+    end_trail (stop.Fault e) mid new last c stops is =
+        subst (λ (l : List Call). Trail reader writer mid.stream l c) (sym stops.1)
+        (new.stream, (stops.3).0, sym is)
+
+    end_faults : (why : Stop) (mid new : Held S E) (last : List Call) → Ends_by reader writer engine mid why last new
+        → faults_of last ≡ listed (fault_after why None)
+    end_faults stop.Over mid new last stops = ap faults_of stops.1
+    end_faults stop.End mid new last stops = ap faults_of stops.0
+    end_faults (stop.Fault e) mid new last stops =
+        ap faults_of stops.1 ∙ ap (λ o. listed o ++ []) stops.2
+
+    -- a call that failed leaves all but the stream
+    fault_engine : (old new : Held S E) (call : Call) (e : Error) → fault_of call ≡ Some e
+        → Step reader writer engine old call new → new.engine ≡ old.engine
+    fault_engine old new (Gave bytes) e is step = cc
+    fault_engine old new Ended e is step = cc
+    fault_engine old new (Wrote bytes) e is step = cc
+    fault_engine old new Flushed e is step = cc
+    fault_engine old new Waited e is step = cc
+    fault_engine old new (Unread x) e is step = ap (λ (h : Held S E). h.engine) (step.1).2
+    fault_engine old new (Unwritten x) e is step = ap (λ (h : Held S E). h.engine) (step.1).1
+    fault_engine old new (Unflushed x) e is step = ap (λ (h : Held S E). h.engine) (step.1).2
+
+    -- so does the last call, if there is one
+    pub end_engine : (why : Stop) (mid new : Held S E) (last : List Call)
+        → Ends_by reader writer engine mid why last new → new.engine ≡ mid.engine
+    end_engine stop.Over mid new last stops = ap (λ (h : Held S E). h.engine) (sym stops.0)
+    end_engine stop.End mid new last stops = ap (λ (h : Held S E). h.engine) ((stops.1).1).2
+    end_engine (stop.Fault e) mid new last stops = fault_engine mid new stops.0 e stops.2 stops.3
+
+    -- all the calls, with the last
+    abbrev pub calls_of : (h : Held S E) (moved : Moved S E) → CameTo reader writer engine h moved → List Call
+    calls_of h moved came = came.ran.calls ++ came.ran.last
+
+    pub calls_trail : (h : Held S E) (moved : Moved S E) (came : CameTo reader writer engine h moved) (c : S)
+        → c ≡ moved.stream → Trail reader writer h.stream (calls_of h moved came) c
+    calls_trail h moved came c is =
+        let ran = came.ran in
+        trail_on h ran.mid c ran.calls ran.last ran.runs
+        (end_trail moved.stop ran.mid came.last ran.last c ran.stops (is ∙ came.stream))
+
+    pub calls_faults : (h : Held S E) (moved : Moved S E) (came : CameTo reader writer engine h moved)
+        → faults_of (calls_of h moved came) ≡ listed (fault_after moved.stop None)
+    calls_faults h moved came =
+        let ran = came.ran in
+        faults_append ran.calls ran.last
+        ∙ ap (λ (l : List Error). l ++ faults_of ran.last) (clean h ran.mid ran.calls ran.runs)
+        ∙ end_faults moved.stop ran.mid came.last ran.last ran.stops

@@ -4,3 +4,12 @@ pub mod Room
 pub mod Tape
 pub mod Stream
 pub mod Connect
+pub mod Faults
+pub mod Feeding
+pub mod Calling
+pub mod Client
+pub mod Failing
+pub mod Asking
+pub mod Login
+pub mod Sending
+pub mod Closing

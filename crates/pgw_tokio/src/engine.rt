@@ -52,7 +52,9 @@ fn first_turn(limit: u64) -> Turn
 }
 
 // What an answer makes of the turn and the refusal.
-fn turn_after(answer: PgWireClientResult<DialoguePhase>) -> (Turn, Option<PgWireClientError>)
+pub(crate) fn turn_after(
+    answer: PgWireClientResult<DialoguePhase>,
+) -> (Turn, Option<PgWireClientError>)
     ensures { result ≡ (turn_of answer, refusal_of answer) }
 {
     match answer {

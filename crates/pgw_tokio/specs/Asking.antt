@@ -1,0 +1,124 @@
+-- The contract of a request over a stream.
+use Rattle.std.specs.Prelude.{◌≡◌, ◌⊎◌, ℕ, Bool, false, List, [], ◌++◌, Result, Ok, Err, IsSomeAnd}
+use Rattle.std.specs.Bool.{Decides}
+use Rattle.tokio.specs.declared.io.async_read.AsyncRead as AsyncRead
+use Rattle.tokio.specs.declared.io.async_write.AsyncWrite as AsyncWrite
+use Rattle.pgw_types.specs.declared.error.PgWireError.{PgWireError}
+use Rattle.pgw_backend.specs.declared.client_error.PgWireClientError.{PgWireClientError as ClientError}
+use Rattle.pgw_backend.specs.declared.client_error.PgWireClientError.TheVariants as client
+use Rattle.pgw_frontend.specs.Frontend.{encodings}
+use Rattle.pgw_link.specs.Tape.{new_tape}
+use Rattle.pgw_session.specs.declared.types.Answer.{Answer}
+use Rattle.pgw_session.specs.declared.types.Request.{Request}
+use Rattle.pgw_session.specs.Input.{Input}
+use Rattle.pgw_session.specs.Requests.{sends_of}
+use Rattle.pgw_moving.specs.Calls.{Call, Trail}
+use Rattle.pgw_moving.specs.Future.{CameTo}
+use Rattle.pgw_moving.specs.Moving.{Held, held_in}
+use Rattle.pgw_moving.specs.declared.moving.Moved.{Moved}
+use Rattle.pgw_push.specs.Calls.{IsLastAnswer, with_request}
+use Rattle.pgw_tokio.specs.declared.asking.Answered.{Answered}
+use Rattle.pgw_tokio.specs.declared.asking.Asking.{Asking}
+use Rattle.pgw_tokio.specs.declared.calling.ClientEngine.{ClientEngine}
+use Rattle.pgw_tokio.specs.declared.client.AsyncClient.{AsyncClient}
+use Rattle.pgw_tokio.specs.Calling.{BeginsRequest, ClientStands, RequestAnswers, client_members}
+use Rattle.pgw_tokio.specs.Client.{IsUsable, Stands, fault_in, push_in, stream_in}
+use Rattle.pgw_tokio.specs.Failing.{Fails, IsFlushed}
+use Rattle.pgw_tokio.specs.Faults.{fault_after}
+use Rattle.pgw_tokio.specs.Tape.{faults_of, listed, tape_of}
+
+-- ---- what is promised
+
+module _ {S : Type 0} (old : AsyncClient S) (q : Request) (calls : List Call) (new : AsyncClient S) where
+  -- no byte moved, no call failed, and the client is as it was but for its stream
+  pub record Stays : Type 0 where
+    pub tape : tape_of calls ≡ new_tape
+    pub calm : faults_of calls ≡ []
+    pub push : push_in new ≡ push_in old
+    pub fault : fault_in new ≡ fault_in old
+
+  -- It can be asked again, and all that was written was flushed. For all bytes that it stood for it stands for them with
+  -- those given and written now, of a session with this request behind those asked before, and the answer is the last
+  -- of that session.
+  pub record GivesAnswer (answer : Answer) : Type 0 where
+    pub was : IsUsable old
+    pub usable : IsUsable new
+    pub flushed : IsFlushed (tape_of calls)
+    pub unended : (tape_of calls).ended ≡ []
+    pub calm : faults_of calls ≡ []
+    pub stands : (input : Input) (limit : ℕ) (given put : List ℕ) → Stands input limit old given put
+        → Stands (with_request input q) limit new (given ++ (tape_of calls).took)
+        (put ++ (tape_of calls).wrote)
+    pub last : (input : Input) (limit : ℕ) (given put : List ℕ) → Stands input limit old given put
+        → IsLastAnswer (with_request input q) (given ++ (tape_of calls).took)
+        (put ++ (tape_of calls).wrote) answer
+
+  -- an earlier call failed
+  pub record IsBroken (e : ClientError) : Type 0 where
+    pub was : IsUsable old → ⊥
+    pub is : e ≡ client.Broken
+    pub stays : Stays
+
+  -- the request has no spelling, or memory was wanting
+  pub record IsUnasked (e : ClientError) : Type 0 where
+    pub was : IsUsable old
+    pub stays : Stays
+    pub cause : (e ≡ client.OutOfMemory)
+        ⊎ ((why : PgWireError) × (encodings (sends_of q) ≡ Err why) × (e ≡ client.PgWireError why))
+
+  -- the request has a spelling, it failed on its way, and the client can't be asked again
+  pub record FailsToAnswer (e : ClientError) : Type 0 where
+    pub was : IsUsable old
+    pub spelled : (opening : List ℕ) × (encodings (sends_of q) ≡ Ok opening)
+    pub faults : faults_of calls ≡ listed (fault_in new)
+    pub broken : (input : Input) (limit : ℕ) (given put : List ℕ) → Stands input limit old given put
+        → IsUsable new → ⊥
+    pub fails : (input : Input) (limit : ℕ) (given put : List ℕ) → Stands input limit old given put
+        → Fails (with_request input q) limit given put (tape_of calls) (push_in new) (fault_in new) e
+
+  abbrev pub Outcome : Result Answer ClientError → Type 0
+  Outcome (Ok answer) = GivesAnswer answer
+  Outcome (Err e) = IsBroken e ⊎ (IsUnasked e ⊎ FailsToAnswer e)
+
+-- What is promised of a request over a stream: calls were made, which the stream's own members tell, and what they came
+-- to. What each call did besides is `came` of what the future gives.
+module _ {S : Type 0} (reader : AsyncRead.Ghosts S) (writer : AsyncWrite.Ghosts S) where
+  pub record Asks (old : AsyncClient S) (q : Request) (answered : Answered S) : Type 0 where
+    pub calls : List Call
+    pub trail : Trail reader writer (stream_in old) calls (stream_in answered.client)
+    pub outcome : Outcome old q calls answered.client answered.answer
+
+-- ---- how it begins
+
+abbrev pub IsAboutToAsk : {S : Type 0} → Bool → AsyncClient S → Request → Held S ClientEngine
+    → Type 0
+IsAboutToAsk is_usable old q h =
+    (h.stream ≡ stream_in old) × (h.unflushed ≡ false)
+    × BeginsRequest is_usable (push_in old) q h.engine h.turn h.out
+
+-- it is about to ask this request of this client
+pub record IsAskingOf {S : Type 0} (old : AsyncClient S) (q : Request) (f : Asking S) : Type 0 where
+  pub is_usable : Bool
+  pub decides : Decides is_usable (IsUsable old)
+  pub fault : f.fault ≡ fault_in old
+  pub about : IsSomeAnd f.moving.state (λ x. IsAboutToAsk is_usable old q (held_in x))
+
+-- it has not given what it gives
+abbrev pub CanAsk : {S : Type 0} → Asking S → Type 0
+CanAsk f = IsSomeAnd f.moving.state (λ x. ClientStands x.engine x.turn)
+
+-- ---- what it gives
+
+module _ {S : Type 0} (reader : AsyncRead.Ghosts S) (writer : AsyncWrite.Ghosts S) where
+  -- Calls were made, as `pgw_moving` tells them, and it is answered by why no more was moved; so it is what is
+  -- promised of a request, where it was about to ask one.
+  pub record Gives (f : Asking S) (answered : Answered S) : Type 0 where
+    pub moved : Moved S ClientEngine
+    pub came : IsSomeAnd f.moving.state (λ x. CameTo reader writer client_members (held_in x)
+        moved)
+    pub stream : stream_in answered.client ≡ moved.stream
+    pub answers : RequestAnswers moved.engine.client moved.engine.refusal moved.stop
+        (push_in answered.client) answered.answer
+    pub fault : fault_in answered.client ≡ fault_after moved.stop f.fault
+    pub asks : (old : AsyncClient S) (q : Request) → IsAskingOf old q f
+        → Asks reader writer old q answered

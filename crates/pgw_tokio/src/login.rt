@@ -1,0 +1,131 @@
+//! A login over a stream that may keep one waiting.
+ghost use Rattle.std.specs.Prelude.{◌≡◌, [], IfErr, IfOk, IfSome, IsSomeAnd};
+ghost use Rattle.pgw_moving.specs.Moving.{held_in, WaitsFor};
+ghost use Rattle.pgw_session.specs.Demands.{refused_config};
+ghost use Rattle.pgw_session.specs.Input.{input_with};
+ghost use Rattle.pgw_tokio.specs.Calling.{ClientStandsBehind};
+ghost use Rattle.pgw_tokio.specs.Login.{CanLogIn, EndsLogin, Gives, IsLoginOf, IsUnbegun, RefusesLogin};
+
+use crate::calling::{ClientEngine, fault_after};
+use crate::client::AsyncClient;
+use bytes::BytesMut;
+use futures::Future;
+use futures::task::{Context, Poll};
+use pgw_backend::client_error::PgWireClientError;
+use pgw_config::config::Config;
+use pgw_moving::{Moved, Moving, Turn, new_piece};
+use pgw_push::PushClient;
+use std::alloc::Global;
+use std::io;
+use tokio::io::{AsyncRead, AsyncWrite};
+
+/// Why there is no client.
+#[derive(Drop)]
+pub struct NotLoggedIn<S> {
+    /// The stream, as its calls left it.
+    pub stream: S,
+    pub error: PgWireClientError,
+    /// The error of the stream's call that failed, if one did.
+    pub fault: Option<io::Error>,
+}
+
+/// A login under way: a future. One that is let go lets its stream go, within a login.
+#[derive(Drop)]
+pub struct LoggingIn<S> {
+    pub(crate) moving: Moving<S, ClientEngine>,
+}
+
+/// Logs in over a stream. The client reads at most so many bytes in all, with those of the login; a limit of 0 is refused
+/// at once, and `u64::MAX` is as good as none.
+///
+/// Where the login can't be begun it says why at once, and nothing is written.
+pub fn log_in<S: AsyncRead + AsyncWrite>(
+    alloc: Global,
+    stream: S,
+    config: Config,
+    nonce: &[u8; 18],
+    limit: u64,
+) -> Result<LoggingIn<S>, NotLoggedIn<S>>
+    // A configuration that demands what this client can't do is refused by that key, or memory is wanting.
+    ensures refused { IfSome (refused_config config) (λ key. RefusesLogin key result) }
+    // It is about to log in by this configuration and this nonce over the stream.
+    ensures begins { IfOk result (IsLoginOf (input_with config [] nonce.now) limit stream) }
+    ensures ready { IfOk result CanLogIn }
+    // Else the error has its cause, and the stream is as it was.
+    ensures unbegun { IfErr result (IsUnbegun (input_with config [] nonce.now) limit stream) }
+{
+    let piece = match new_piece(alloc) {
+        Ok(piece) => piece,
+        Err(_) => {
+            drop(config);
+            return Err(NotLoggedIn {
+                stream,
+                error: PgWireClientError::OutOfMemory,
+                fault: None,
+            });
+        }
+    };
+    let mut out = BytesMut::new(alloc);
+    match PushClient::start(alloc, config, nonce, limit, &mut out) {
+        Ok(client) => {
+            let engine = ClientEngine {
+                client,
+                refusal: None,
+            };
+            Ok(LoggingIn {
+                moving: Moving::new(stream, engine, Turn::More, out, piece),
+            })
+        }
+        Err(error) => Err(NotLoggedIn {
+            stream,
+            error,
+            fault: None,
+        }),
+    }
+}
+
+// The client, or why there is none, by why no more bytes were moved.
+fn logged_in_by<S>(moved: Moved<S, ClientEngine>) -> Result<AsyncClient<S>, NotLoggedIn<S>>
+    requires { ClientStandsBehind moved.engine moved.stop }
+    ensures { EndsLogin moved.stream moved.engine moved.stop result }
+{
+    let Moved {
+        stream,
+        engine,
+        out,
+        piece,
+        stop,
+    } = moved;
+    match engine.into_client(&stop) {
+        Ok(client) => Ok(AsyncClient {
+            stream,
+            client,
+            piece,
+            out,
+            fault: None,
+        }),
+        Err(error) => Err(NotLoggedIn {
+            stream,
+            error,
+            fault: fault_after(stop, None),
+        }),
+    }
+}
+
+impl<S: AsyncRead + AsyncWrite> Future for LoggingIn<S> {
+    type Output = Result<AsyncClient<S>, NotLoggedIn<S>>;
+
+    ghost can_poll = { CanLogIn };
+
+    ghost needs = { λ f source. IsSomeAnd f.moving.state
+        (λ x. WaitsFor S.AsyncRead S.AsyncWrite (held_in x) source) };
+
+    ghost gives = { Gives S.AsyncRead S.AsyncWrite };
+
+    fn poll(&mut self, cx: &mut Context<'_>) -> Poll<Result<AsyncClient<S>, NotLoggedIn<S>>> {
+        match self.moving.poll(cx) {
+            Poll::Ready(moved) => Poll::Ready(logged_in_by(moved)),
+            Poll::Pending => Poll::Pending,
+        }
+    }
+}
