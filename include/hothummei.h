@@ -4,17 +4,27 @@
  * From then on the caller sends what hothummei_pending shows to the server, and gives what comes from it to hothummei_take,
  * until the phase is HOTHUMMEI_DONE or a call fails. Then there is a report: an answer for each request. A session is one
  * connection, which the caller opens and closes, and one list of requests: asking again is another session. The library
- * opens no socket, starts no thread and has no state of its own beside its sessions. docs/C.md has a caller, and says what
- * is proved of each call.
+ * opens no socket, starts no thread and has no state of its own beside its sessions. examples/c/ask.c is a caller, and
+ * docs/C.md says what is proved of each call.
  *
- * - A session belongs to one thread at a time.
  * - Each call answers a code; HOTHUMMEI_OK is 0. A null for a pointer is HOTHUMMEI_NULL, and a number past the end is
  *   HOTHUMMEI_NO_SUCH_INDEX. A pointer to bytes may be null where their length is 0. Behind another code than
  *   HOTHUMMEI_OK, what `out` points to means nothing.
  * - Bytes that come in are read during the call, and what is kept of them is copied. Texts are UTF-8, and end where their
  *   length says: no byte behind it is read, and no zero ends them.
  * - A value points into the session. What hothummei_pending and hothummei_sentence show is good until the next call that
- *   is no reading one, the array of hothummei_row until the next hothummei_row, and all else until hothummei_free. */
+ *   is no reading one, the array of hothummei_row until the next hothummei_row, and all else until hothummei_free.
+ *
+ * What is proved of the calls holds only of a caller that keeps this:
+ *
+ * - A handle is null, or what hothummei_new gave; one thread at a time uses it; it is freed once, and not used after.
+ * - Pointers that come in point to as many readable bytes as the length says, nonce to 18; `out` to room for its struct,
+ *   which no other thread uses. Of a session's memory the caller passes only what it was shown, to be read; never what
+ *   hothummei_pending shows to a call of the same session. Nothing shown is written to.
+ * - What hothummei_pending shows is sent in order, then hothummei_sent is told; what the server sends is given to
+ *   hothummei_take in order.
+ * - malloc, realloc and free are those of one allocator, and blocks are aligned as C wants. No call is made from a signal
+ *   handler, or in the forked child of a process with threads. */
 #ifndef HOTHUMMEI_H
 #define HOTHUMMEI_H
 
