@@ -15,42 +15,42 @@ use Rattle.pgw_session.specs.declared.types.Answer.TheVariants as answer
 use Rattle.pgw_handlers.specs.Client.{Client}
 use Rattle.pgw_handlers.specs.Handling.{HasCause, IsCaused}
 use Rattle.pgw_connection.specs.declared.gathered.Gathered.{Gathered}
-use Rattle.pgw_connection.specs.Line.{Line, Moved, IsFlushed, Pause, Reasons}
+use Rattle.pgw_connection.specs.Line.{Line, MovesLine, IsFlushed, Pause, Reasons}
 use Rattle.pgw_calls.specs.Calls.{Comes}
-use Rattle.pgw_connection.specs.ExtendedSteps.{given}
+use Rattle.pgw_connection.specs.ExtendedSteps.{gathered_as}
 use Rattle.pgw_connection.specs.Lent.{all_responses}
 use Rattle.pgw_connection.proofs.CallLaws.{moved_on}
-use Rattle.pgw_calls.specs.Extended.{given as given_by}
+use Rattle.pgw_calls.specs.Extended.{call_answer as given_by}
 use Rattle.pgw_handlers.specs.Simple.{HeardInQuery, simple_query}
 use Rattle.pgw_default_handlers.specs.declared.simple.DefaultSimpleQueryHandler.{DefaultSimpleQueryHandler as SimpleHandler}
 use Rattle.pgw_default_handlers.specs.declared.extended.DefaultExtendedQueryHandler.{DefaultExtendedQueryHandler as ExtendedHandler}
 use Rattle.pgw_default_handlers.specs.Simple.{QueryMeans}
 use Rattle.pgw_default_handlers.specs.Extended.{ExtendedMeans}
-use Rattle.pgw_connection.specs.Talk.{End, Asked as TalkAsked, passes}
-use Rattle.pgw_connection.specs.Calls.{Call}
+use Rattle.pgw_connection.specs.Talk.{CallEnd, OpensTalk as TalkAsked, passes}
+use Rattle.pgw_connection.specs.Calls.{LineCall}
 use Rattle.pgw_connection.specs.Extended.{Finish, Requested, in_lists}
-use Rattle.pgw_connection.specs.ExtendedSteps.{Called}
-use Rattle.pgw_calls.specs.Calls.{SimpleCall}
-use Rattle.pgw_calls.specs.Extended.{ExtendedCall, IsExtended}
+use Rattle.pgw_connection.specs.ExtendedSteps.{MakesCall}
+use Rattle.pgw_calls.specs.Calls.{SimpleCallEnds}
+use Rattle.pgw_calls.specs.Extended.{EndsExtendedCall, IsExtended}
 use Rattle.pgw_calls.specs.Turns.{IsAnswered}
-use Rattle.pgw_calls.specs.Stands.{Made, made, Stands, OneMore, StandsBehind}
+use Rattle.pgw_calls.specs.Stands.{Made, made_call, StandsForCalls, OneMore, StandsBehind}
 use Rattle.example_requests.specs.declared.asking.Question.{Question}
 use Rattle.example_requests.specs.declared.asking.Question.TheVariants as question
 use Rattle.example_requests.specs.declared.asking.Reply.{Reply}
 use Rattle.example_requests.specs.declared.asking.Reply.TheVariants as reply
-use Rattle.example_requests.specs.Asking.{request_of, answer_of, replied, AreReplies, Asked, Adds, Fails, Stops}
+use Rattle.example_requests.specs.Asking.{request_of, reply_answer, error_reply, AreReplies, AsksQuestions, AddsQuestions, FailsQuestion, StopsQuestions}
 
 -- ---- one question
 
 -- a call that took the client to one request more
 abbrev pub Follows : (Config → List ℕ → List Made → List ℕ → List ℕ → Type 0) → Client → Line → Line → Bool → Type 0
-Follows behind before old now broken = (config : Config) (nonce : List ℕ) (ts : List Made) (read wrote : List ℕ) → Stands config nonce ts read wrote before old.buffer →
-    (more sent : List ℕ) × Moved old now more sent × (broken ≡ false → IsFlushed now) × behind config nonce ts (read ++ more) (wrote ++ sent)
+Follows behind before old now broken = (config : Config) (nonce : List ℕ) (ts : List Made) (read wrote : List ℕ) → StandsForCalls config nonce ts read wrote before old.buffer →
+    (more sent : List ℕ) × MovesLine old now more sent × (broken ≡ false → IsFlushed now) × behind config nonce ts (read ++ more) (wrote ++ sent)
 
-one_asked : (config : Config) (nonce : List ℕ) (ts : List Made) (read wrote more sent : List ℕ) (q : Question) (r : Reply) (old now : Line) (after : Client) → Moved old now more sent →
-    OneMore config nonce ts (request_of q) (IsAnswered (request_of q) (answer_of r)) (read ++ more) (wrote ++ sent) after now.buffer → Asked config nonce ts read wrote (q ∷ []) (r ∷ []) old now after
+one_asked : (config : Config) (nonce : List ℕ) (ts : List Made) (read wrote more sent : List ℕ) (q : Question) (r : Reply) (old now : Line) (after : Client) → MovesLine old now more sent →
+    OneMore config nonce ts (request_of q) (IsAnswered (request_of q) (reply_answer r)) (read ++ more) (wrote ++ sent) after now.buffer → AsksQuestions config nonce ts read wrote (q ∷ []) (r ∷ []) old now after
 one_asked config nonce ts read wrote more sent q r old now after moved m = record {
-  made = made (request_of q) m.0 ∷ [];
+  made = made_call (request_of q) m.0 ∷ [];
   are = (refl, m.1, tt);
   taken = more;
   sent = sent;
@@ -59,7 +59,7 @@ one_asked config nonce ts read wrote more sent q r old now after moved m = recor
 }
 
 pub adds_one : (q : Question) (r : Reply) (before after : Client) (old now : Line) (broken : Bool)
-    → Follows (λ config nonce ts read wrote. OneMore config nonce ts (request_of q) (IsAnswered (request_of q) (answer_of r)) read wrote after now.buffer) before old now broken → Adds (q ∷ []) (r ∷ []) before old after now
+    → Follows (λ config nonce ts read wrote. OneMore config nonce ts (request_of q) (IsAnswered (request_of q) (reply_answer r)) read wrote after now.buffer) before old now broken → AddsQuestions (q ∷ []) (r ∷ []) before old after now
 adds_one q r before after old now broken follows = λ config nonce ts read wrote stands.
     let f = follows config nonce ts read wrote stands in
     one_asked config nonce ts read wrote f.0 f.1 q r old now after f.2 f.4
@@ -69,36 +69,36 @@ module _ {A : Type 0} (give : A → Answer) (q : Question) (before after : Clien
   Behind result = Follows (λ config nonce ts read wrote. StandsBehind give config nonce ts (request_of q) read wrote after now.buffer result broken) before old now broken
 
   -- an answer
-  adds_answer : (x : A) (r : Reply) → give x ≡ answer_of r → Behind (Ok x) → Adds (q ∷ []) (r ∷ []) before old after now
+  adds_answer : (x : A) (r : Reply) → give x ≡ reply_answer r → Behind (Ok x) → AddsQuestions (q ∷ []) (r ∷ []) before old after now
   adds_answer x r is follows = adds_one q r before after old now broken (λ config nonce ts read wrote stands.
       let f = follows config nonce ts read wrote stands in
       let m = subst (λ (b : Bool). StandsBehind give config nonce ts (request_of q) (read ++ f.0) (wrote ++ f.1) after now.buffer (Ok x) b) usable f.4 in
       (f.0, f.1, f.2, f.3, subst (λ (a : Answer). OneMore config nonce ts (request_of q) (IsAnswered (request_of q) a) (read ++ f.0) (wrote ++ f.1) after now.buffer) is m))
 
   -- the server's error
-  adds_remote : (e : ErrorResponse) → Behind (Err (client.RemoteError e)) → Adds (q ∷ []) (reply.Remote e ∷ []) before old after now
+  adds_remote : (e : ErrorResponse) → Behind (Err (client.RemoteError e)) → AddsQuestions (q ∷ []) (reply.Remote e ∷ []) before old after now
   adds_remote e follows = adds_one q (reply.Remote e) before after old now broken (λ config nonce ts read wrote stands.
       let f = follows config nonce ts read wrote stands in
       (f.0, f.1, f.2, f.3, subst (λ (b : Bool). StandsBehind give config nonce ts (request_of q) (read ++ f.0) (wrote ++ f.1) after now.buffer (Err (client.RemoteError e)) b) usable f.4))
 
 -- an error that is a reply is the server's
-replied_remote : (e : ClientError) (r : Reply) (broken : Bool) → replied e broken ≡ Ok r → (x : ErrorResponse) × (e ≡ client.RemoteError x) × (r ≡ reply.Remote x) × (broken ≡ false)
+replied_remote : (e : ClientError) (r : Reply) (broken : Bool) → error_reply e broken ≡ Ok r → (x : ErrorResponse) × (e ≡ client.RemoteError x) × (r ≡ reply.Remote x) × (broken ≡ false)
 replied_remote (client.RemoteError x) r false is = (x, refl, cc, refl)
 replied_remote e r broken is = absurd cc
 
 pub simple_answered : (sql : List ℕ) (responses : List Response) (before after : Client) (old now : Line) (broken : Bool) → broken ≡ false
     → Follows (λ config nonce ts read wrote. StandsBehind answer.Responses config nonce ts (request.Simple sql) read wrote after now.buffer (Ok responses) broken) before old now broken
-    → Adds (question.Simple sql ∷ []) (reply.Responses responses ∷ []) before old after now
+    → AddsQuestions (question.Simple sql ∷ []) (reply.Responses responses ∷ []) before old after now
 simple_answered sql responses before after old now broken usable follows =
     adds_answer answer.Responses (question.Simple sql) before after old now broken usable responses (reply.Responses responses) refl follows
 
-pub remote_adds : {A : Type 0} (give : A → Answer) (q : Question) (before after : Client) (old now : Line) (broken shown : Bool) (e : ClientError) (result : Result Reply ClientError) → shown ≡ broken → result ≡ replied e shown
-    → Follows (λ config nonce ts read wrote. StandsBehind give config nonce ts (request_of q) read wrote after now.buffer (Err e) broken) before old now broken → IfOk result (λ r. Adds (q ∷ []) (r ∷ []) before old after now)
+pub remote_adds : {A : Type 0} (give : A → Answer) (q : Question) (before after : Client) (old now : Line) (broken shown : Bool) (e : ClientError) (result : Result Reply ClientError) → shown ≡ broken → result ≡ error_reply e shown
+    → Follows (λ config nonce ts read wrote. StandsBehind give config nonce ts (request_of q) read wrote after now.buffer (Err e) broken) before old now broken → IfOk result (λ r. AddsQuestions (q ∷ []) (r ∷ []) before old after now)
 remote_adds give q before after old now broken shown e (Err x) same is follows = tt
 remote_adds give q before after old now broken shown e (Ok r) same is follows =
-    let x = replied_remote e r broken (ap (replied e) (sym same) ∙ sym is) in
+    let x = replied_remote e r broken (ap (error_reply e) (sym same) ∙ sym is) in
     let f = subst (λ (y : ClientError). Follows (λ config nonce ts read wrote. StandsBehind give config nonce ts (request_of q) read wrote after now.buffer (Err y) broken) before old now broken) x.1 follows in
-    subst (λ (y : Reply). Adds (q ∷ []) (y ∷ []) before old after now) (sym x.2) (adds_remote give q before after old now broken x.3 x.0 f)
+    subst (λ (y : Reply). AddsQuestions (q ∷ []) (y ∷ []) before old after now) (sym x.2) (adds_remote give q before after old now broken x.3 x.0 f)
 
 abbrev pub rows_of : List ℕ → Gathered (List DataRow) × Bool → Answer
 rows_of sql = given_by (request.Query sql [] [])
@@ -111,18 +111,18 @@ RowsFollow sql before after old now broken result =
 abbrev pub rows_listed : Result (Gathered (List DataRow) × Bool) ClientError → Result (Gathered (List DataRow) × Bool) ClientError
 rows_listed a = in_lists (λ (rows : List DataRow). rows) a
 
-pub given_listed : (r : Result (List DataRow) ClientError) (a : Result (Gathered (List DataRow) × Bool) ClientError) → r ≡ given all_responses a → r ≡ given all_responses (rows_listed a)
+pub given_listed : (r : Result (List DataRow) ClientError) (a : Result (Gathered (List DataRow) × Bool) ClientError) → r ≡ gathered_as all_responses a → r ≡ gathered_as all_responses (rows_listed a)
 given_listed r (Ok x) is = is
 given_listed r (Err e) is = is
 
-pub rows_answered : (sql : List ℕ) (rows : List DataRow) (before after : Client) (old now : Line) (broken : Bool) (a : Result (Gathered (List DataRow) × Bool) ClientError) → broken ≡ false → Ok rows ≡ given all_responses a
-    → RowsFollow sql before after old now broken a → Adds (question.Rows sql ∷ []) (reply.Rows rows ∷ []) before old after now
+pub rows_answered : (sql : List ℕ) (rows : List DataRow) (before after : Client) (old now : Line) (broken : Bool) (a : Result (Gathered (List DataRow) × Bool) ClientError) → broken ≡ false → Ok rows ≡ gathered_as all_responses a
+    → RowsFollow sql before after old now broken a → AddsQuestions (question.Rows sql ∷ []) (reply.Rows rows ∷ []) before old after now
 rows_answered sql rows before after old now broken (Ok x) usable is follows =
     let same : (x.0).responses ≡ rows = cc in
     adds_answer (rows_of sql) (question.Rows sql) before after old now broken usable x (reply.Rows rows) (ap answer.Rows same) follows
 rows_answered sql rows before after old now broken (Err e) usable is follows = absurd cc
 
-pub rows_failed : (sql : List ℕ) (before after : Client) (old now : Line) (broken : Bool) (e : ClientError) (a : Result (Gathered (List DataRow) × Bool) ClientError) → Err e ≡ given all_responses a
+pub rows_failed : (sql : List ℕ) (before after : Client) (old now : Line) (broken : Bool) (e : ClientError) (a : Result (Gathered (List DataRow) × Bool) ClientError) → Err e ≡ gathered_as all_responses a
     → RowsFollow sql before after old now broken a → RowsFollow sql before after old now broken (Err e)
 rows_failed sql before after old now broken e (Ok x) is follows = absurd cc
 rows_failed sql before after old now broken e (Err y) is follows =
@@ -136,8 +136,8 @@ replies_append [] more [] also [] behind a b = b
 replies_append (q ∷ qs) more (r ∷ rs) also (t ∷ ts) behind a b = (a.0, a.1, replies_append qs more rs also ts behind a.2 b)
 replies_append qs more rs also ts behind a b = absurd a
 
-asked_on : (config : Config) (nonce : List ℕ) (ts : List Made) (read wrote : List ℕ) (qs more : List Question) (rs also : List Reply) (old mid now : Line) (between after : Client) → Asked config nonce ts read wrote qs rs old mid between →
-    Adds more also between mid after now → Asked config nonce ts read wrote (qs ++ more) (rs ++ also) old now after
+asked_on : (config : Config) (nonce : List ℕ) (ts : List Made) (read wrote : List ℕ) (qs more : List Question) (rs also : List Reply) (old mid now : Line) (between after : Client) → AsksQuestions config nonce ts read wrote qs rs old mid between →
+    AddsQuestions more also between mid after now → AsksQuestions config nonce ts read wrote (qs ++ more) (rs ++ also) old now after
 asked_on config nonce ts read wrote qs more rs also old mid now between after a adds =
     let b = adds config nonce (ts ++ a.made) (read ++ a.taken) (wrote ++ a.sent) a.stands in
     record {
@@ -147,12 +147,12 @@ asked_on config nonce ts read wrote qs more rs also old mid now between after a 
       sent = a.sent ++ b.sent;
       moved = moved_on old mid now a.taken b.taken a.sent b.sent a.moved b.moved;
       stands =
-          subst (λ (l : List Made). Stands config nonce l (read ++ (a.taken ++ b.taken)) (wrote ++ (a.sent ++ b.sent)) after now.buffer) (append_assoc ts a.made b.made)
-          (subst (λ (l : List ℕ). Stands config nonce ((ts ++ a.made) ++ b.made) l (wrote ++ (a.sent ++ b.sent)) after now.buffer) (append_assoc read a.taken b.taken)
-          (subst (λ (l : List ℕ). Stands config nonce ((ts ++ a.made) ++ b.made) ((read ++ a.taken) ++ b.taken) l after now.buffer) (append_assoc wrote a.sent b.sent) b.stands));
+          subst (λ (l : List Made). StandsForCalls config nonce l (read ++ (a.taken ++ b.taken)) (wrote ++ (a.sent ++ b.sent)) after now.buffer) (append_assoc ts a.made b.made)
+          (subst (λ (l : List ℕ). StandsForCalls config nonce ((ts ++ a.made) ++ b.made) l (wrote ++ (a.sent ++ b.sent)) after now.buffer) (append_assoc read a.taken b.taken)
+          (subst (λ (l : List ℕ). StandsForCalls config nonce ((ts ++ a.made) ++ b.made) ((read ++ a.taken) ++ b.taken) l after now.buffer) (append_assoc wrote a.sent b.sent) b.stands));
     }
 
-adds_none : (c : Client) (line : Line) → Adds [] [] c line c line
+adds_none : (c : Client) (line : Line) → AddsQuestions [] [] c line c line
 adds_none c line = λ config nonce ts read wrote stands. record {
   made = [];
   are = tt;
@@ -163,25 +163,25 @@ adds_none c line = λ config nonce ts read wrote stands. record {
 }
 
 -- before the first
-pub adds_first : (qs : List Question) (i : ℕ) (rs : List Reply) (c : Client) (line : Line) → i ≡ 0 → rs ≡ [] → Adds (take i qs) rs c line c line
+pub adds_first : (qs : List Question) (i : ℕ) (rs : List Reply) (c : Client) (line : Line) → i ≡ 0 → rs ≡ [] → AddsQuestions (take i qs) rs c line c line
 adds_first qs i rs c line start none =
-    subst (λ (l : List Reply). Adds (take i qs) l c line c line) (sym none) (subst (λ (n : ℕ). Adds (take n qs) [] c line c line) (sym start) (adds_none c line))
+    subst (λ (l : List Reply). AddsQuestions (take i qs) l c line c line) (sym none) (subst (λ (n : ℕ). AddsQuestions (take n qs) [] c line c line) (sym start) (adds_none c line))
 
-pub adds_next : (qs : List Question) (i : ℕ) (q : Question) (rs : List Reply) (r : Reply) (before between after : Client) (old mid now : Line) → i < length qs → q ≡ get_or qs i q → Adds (take i qs) rs before old between mid → Adds (q ∷ []) (r ∷ []) between mid after now →
-    Adds (take (i + 1) qs) (rs ++ r ∷ []) before old after now
+pub adds_next : (qs : List Question) (i : ℕ) (q : Question) (rs : List Reply) (r : Reply) (before between after : Client) (old mid now : Line) → i < length qs → q ≡ get_or qs i q → AddsQuestions (take i qs) rs before old between mid → AddsQuestions (q ∷ []) (r ∷ []) between mid after now →
+    AddsQuestions (take (i + 1) qs) (rs ++ r ∷ []) before old after now
 adds_next qs i q rs r before between after old mid now there is a b = λ config nonce ts read wrote stands.
     let more : take (i + 1) qs ≡ take i qs ++ q ∷ [] = take_more qs i q there ∙ ap (λ (x : Question). take i qs ++ x ∷ []) (sym is) in
-    subst (λ (l : List Question). Asked config nonce ts read wrote l (rs ++ r ∷ []) old now after) (sym more)
+    subst (λ (l : List Question). AsksQuestions config nonce ts read wrote l (rs ++ r ∷ []) old now after) (sym more)
     (asked_on config nonce ts read wrote (take i qs) (q ∷ []) rs (r ∷ []) old mid now between after (a config nonce ts read wrote stands) b)
 
-pub adds_all : (qs : List Question) (i : ℕ) (rs : List Reply) (before after : Client) (old now : Line) → length qs ≤ i → Adds (take i qs) rs before old after now → Adds qs rs before old after now
-adds_all qs i rs before after old now past a = subst (λ (l : List Question). Adds l rs before old after now) (take_all i qs past) a
+pub adds_all : (qs : List Question) (i : ℕ) (rs : List Reply) (before after : Client) (old now : Line) → length qs ≤ i → AddsQuestions (take i qs) rs before old after now → AddsQuestions qs rs before old after now
+adds_all qs i rs before after old now past a = subst (λ (l : List Question). AddsQuestions l rs before old after now) (take_all i qs past) a
 
 -- ---- where an error ends it
 
 -- an error says the same of a client, whatever the call gives
 stands_error : {A : Type 0} (give : A → Answer) (config : Config) (nonce : List ℕ) (ts : List Made) (q : Request) (read wrote : List ℕ) (c : Client) (buffer : List ℕ) (e : ClientError) (broken : Bool)
-    → StandsBehind give config nonce ts q read wrote c buffer (Err e) broken → StandsBehind answer_of config nonce ts q read wrote c buffer (Err e) broken
+    → StandsBehind give config nonce ts q read wrote c buffer (Err e) broken → StandsBehind reply_answer config nonce ts q read wrote c buffer (Err e) broken
 stands_error give config nonce ts q read wrote c buffer e true stands = stands
 stands_error give config nonce ts q read wrote c buffer (client.RemoteError e) false stands = stands
 stands_error give config nonce ts q read wrote c buffer (client.UnexpectedMessage m) false stands = stands
@@ -190,7 +190,7 @@ stands_error give config nonce ts q read wrote c buffer e false stands = absurd 
 
 -- so does its reason
 comes_error : {A : Type 0} (give : A → Answer) (P : Reasons) (q : Request) (c : Client) (bytes sent : List ℕ) (info : Client) (rest : List ℕ) (e : ClientError) (broken : Bool)
-    → Comes give P q c bytes sent info rest (Err e) broken → Comes answer_of P q c bytes sent info rest (Err e) broken
+    → Comes give P q c bytes sent info rest (Err e) broken → Comes reply_answer P q c bytes sent info rest (Err e) broken
 comes_error give P q c bytes sent info rest client.OutOfMemory true h = h
 comes_error give P q c bytes sent info rest (client.PgWireError why) true h = h
 comes_error give P q c bytes sent info rest client.ReadLimit true h = h
@@ -205,7 +205,7 @@ comes_error give P q c bytes sent info rest (client.PgWireError why) false h = h
 comes_error give P q c bytes sent info rest e false h = absurd h
 
 -- the error of a call of extended queries is that of its answer
-error_came : (sql : List ℕ) (P : Reasons) (c : Client) (bytes sent : List ℕ) (info : Client) (rest : List ℕ) (broken : Bool) (e : ClientError) (a : Result (Gathered (List DataRow) × Bool) ClientError) → Err e ≡ given all_responses a
+error_came : (sql : List ℕ) (P : Reasons) (c : Client) (bytes sent : List ℕ) (info : Client) (rest : List ℕ) (broken : Bool) (e : ClientError) (a : Result (Gathered (List DataRow) × Bool) ClientError) → Err e ≡ gathered_as all_responses a
     → Comes (rows_of sql) P (request.Query sql [] []) c bytes sent info rest a broken → Comes (rows_of sql) P (request.Query sql [] []) c bytes sent info rest (Err e) broken
 error_came sql P c bytes sent info rest broken e (Ok x) is h = absurd cc
 error_came sql P c bytes sent info rest broken e (Err y) is h =
@@ -213,19 +213,19 @@ error_came sql P c bytes sent info rest broken e (Err y) is h =
     subst (λ (z : ClientError). Comes (rows_of sql) P (request.Query sql [] []) c bytes sent info rest (Err z) broken) same h
 
 -- an error that is no reply is the call's
-replied_error : (e x : ClientError) (broken : Bool) → replied e broken ≡ Err x → x ≡ e
+replied_error : (e x : ClientError) (broken : Bool) → error_reply e broken ≡ Err x → x ≡ e
 replied_error (client.RemoteError y) x false is = absurd cc
 replied_error e x broken is = cc
 
 -- what a call that ended in an error read and sent, and why it did
 abbrev pub Came : {A : Type 0} → (A → Answer) → Question → Client → Client → Line → Line → Bool → ClientError → Type 0
-Came give q before after old now broken e = (taken sent : List ℕ) × Moved old now taken sent × Comes give (Pause old now) (request_of q) before (old.buffer ++ taken) sent after now.buffer (Err e) broken
+Came give q before after old now broken e = (taken sent : List ℕ) × MovesLine old now taken sent × Comes give (Pause old now) (request_of q) before (old.buffer ++ taken) sent after now.buffer (Err e) broken
 
 -- a simple query that ended so
-pub simple_came : ((q : List ℕ) (before now : Line) (h : SimpleHandler) (c : Client) (bytes sent : List ℕ) (end : End (List Response))
-    → TalkAsked (λ old new answer. QueryMeans old (simple_query q) new answer) (HeardInQuery QueryMeans) (Pause before now) passes h c bytes sent end → SimpleCall q c bytes sent (Pause before now) end)
-    → (sql : List ℕ) {h : SimpleHandler} {c : Client} {old now : Line} {last : End (List Response)} (e : ClientError)
-    → Call (λ before after answer. QueryMeans before (simple_query sql) after answer) (HeardInQuery QueryMeans) passes h c old now last → last.answer ≡ Err e → last.rest ≡ now.buffer
+pub simple_came : ((q : List ℕ) (before now : Line) (h : SimpleHandler) (c : Client) (bytes sent : List ℕ) (end : CallEnd (List Response))
+    → TalkAsked (λ old new answer. QueryMeans old (simple_query q) new answer) (HeardInQuery QueryMeans) (Pause before now) passes h c bytes sent end → SimpleCallEnds q c bytes sent (Pause before now) end)
+    → (sql : List ℕ) {h : SimpleHandler} {c : Client} {old now : Line} {last : CallEnd (List Response)} (e : ClientError)
+    → LineCall (λ before after answer. QueryMeans before (simple_query sql) after answer) (HeardInQuery QueryMeans) passes h c old now last → last.answer ≡ Err e → last.rest ≡ now.buffer
     → Came answer.Responses (question.Simple sql) c last.info old now last.broken e
 simple_came law sql {h} {c} {old} {now} {last} e call is rest =
     let comes = law sql old now h c (old.buffer ++ call.taken) call.sent last call.asked in (
@@ -238,9 +238,9 @@ simple_came law sql {h} {c} {old} {now} {last} e call is rest =
 
 -- a call of extended queries that did
 pub rows_came : ((q : Request) (before now : Line) (h : ExtendedHandler) (c : Client) (bytes sent : List ℕ) (end : Finish ExtendedHandler DataRow)
-    → IsExtended q → Requested ExtendedMeans (Pause before now) q h c bytes sent end → ExtendedCall q c bytes sent (Pause before now) end)
+    → IsExtended q → Requested ExtendedMeans (Pause before now) q h c bytes sent end → EndsExtendedCall q c bytes sent (Pause before now) end)
     → (sql : List ℕ) {h : ExtendedHandler} {c : Client} {old now : Line} {last : Finish ExtendedHandler DataRow} (e : ClientError)
-    → Called ExtendedMeans (request.Query sql [] []) h c old now last → Err e ≡ given all_responses last.answer → last.rest ≡ now.buffer
+    → MakesCall ExtendedMeans (request.Query sql [] []) h c old now last → Err e ≡ gathered_as all_responses last.answer → last.rest ≡ now.buffer
     → Came (rows_of sql) (question.Rows sql) c last.info old now last.broken e
 rows_came law sql {h} {c} {old} {now} {last} e call is rest =
     let comes = law (request.Query sql [] []) old now h c (old.buffer ++ call.taken) call.sent last tt call.requested in (
@@ -251,17 +251,17 @@ rows_came law sql {h} {c} {old} {now} {last} e call is rest =
           (error_came sql (Pause old now) c (old.buffer ++ call.taken) call.sent last.info last.rest last.broken e last.answer is comes),
     )
 
-pub fails_by : {A : Type 0} (give : A → Answer) (q : Question) (before after : Client) (old now : Line) (broken shown : Bool) (e : ClientError) (result : Result Reply ClientError) → shown ≡ broken → result ≡ replied e shown
+pub fails_by : {A : Type 0} (give : A → Answer) (q : Question) (before after : Client) (old now : Line) (broken shown : Bool) (e : ClientError) (result : Result Reply ClientError) → shown ≡ broken → result ≡ error_reply e shown
     → Came give q before after old now broken e
     → Follows (λ config nonce ts read wrote. StandsBehind give config nonce ts (request_of q) read wrote after now.buffer (Err e) broken) before old now broken
-    → IfErr result (λ x. Fails q before old after now broken x)
+    → IfErr result (λ x. FailsQuestion q before old after now broken x)
 fails_by give q before after old now broken shown e (Ok r) same is came follows = tt
 fails_by give q before after old now broken shown e (Err x) same is came follows =
     let one = replied_error e x shown (sym is) in
-    let no_reply : replied e shown ≡ Err e = subst (λ (z : ClientError). replied e shown ≡ Err z) one (sym is) in
-    subst (λ (y : ClientError). Fails q before old after now broken y) (sym one) (record {
+    let no_reply : error_reply e shown ≡ Err e = subst (λ (z : ClientError). error_reply e shown ≡ Err z) one (sym is) in
+    subst (λ (y : ClientError). FailsQuestion q before old after now broken y) (sym one) (record {
       reason = record {
-        no_reply = subst (λ (b : Bool). replied e b ≡ Err e) same no_reply;
+        no_reply = subst (λ (b : Bool). error_reply e b ≡ Err e) same no_reply;
         taken = came.0;
         sent = came.1;
         moved = came.2;
@@ -277,7 +277,7 @@ fails_by give q before after old now broken shown e (Err x) same is came follows
 pub answered_caused : {A B : Type 0} (before now : ℕ) (was : Bool) (x : A) (y : B) → HasCause {T = A} before now was (Ok x) → HasCause {T = B} before now false (Ok y)
 answered_caused before now was x y h = record { later = h.later; failed = tt }
 
-pub replied_caused : {A : Type 0} (before now : ℕ) (was shown : Bool) (e : ClientError) (result : Result Reply ClientError) → was ≡ false → result ≡ replied e shown → HasCause {T = A} before now was (Err e) → HasCause before now false result
+pub replied_caused : {A : Type 0} (before now : ℕ) (was shown : Bool) (e : ClientError) (result : Result Reply ClientError) → was ≡ false → result ≡ error_reply e shown → HasCause {T = A} before now was (Err e) → HasCause before now false result
 replied_caused before now was shown e (Ok r) usable is h = record { later = h.later; failed = tt }
 replied_caused before now was shown e (Err x) usable is h = record {
   later = h.later;
@@ -299,7 +299,7 @@ caused_before before mid now was e usable later h = record {
 
 -- the request of the next question came to an error
 pub stops_next : (qs : List Question) (i : ℕ) (q : Question) (rs : List Reply) (before between after : Client) (old mid now : Line) (broken : Bool) (e : ClientError) → i < length qs → q ≡ get_or qs i q
-    → Adds (take i qs) rs before old between mid → Fails q between mid after now broken e → Stops qs before old after now broken e
+    → AddsQuestions (take i qs) rs before old between mid → FailsQuestion q between mid after now broken e → StopsQuestions qs before old after now broken e
 stops_next qs i q rs before between after old mid now broken e there is adds fails = λ config nonce ts read wrote stands.
     let more : take (i + 1) qs ≡ take i qs ++ q ∷ [] = take_more qs i q there ∙ ap (λ (x : Question). take i qs ++ x ∷ []) (sym is) in
     inl (record {
@@ -316,7 +316,7 @@ stops_next qs i q rs before between after old mid now broken e there is adds fai
 
 -- memory was wanting to keep a reply
 pub stops_wanting : (qs : List Question) (i : ℕ) (rs : List Reply) (before after : Client) (old now : Line) (broken : Bool) → broken ≡ false
-    → Adds (take (i + 1) qs) rs before old after now → Stops qs before old after now broken client.OutOfMemory
+    → AddsQuestions (take (i + 1) qs) rs before old after now → StopsQuestions qs before old after now broken client.OutOfMemory
 stops_wanting qs i rs before after old now broken usable adds = λ config nonce ts read wrote stands. inr (record {
   asked = take (i + 1) qs;
   behind = drop (i + 1) qs;

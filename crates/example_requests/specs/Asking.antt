@@ -8,10 +8,10 @@ use Rattle.pgw_session.specs.declared.types.Request.TheVariants as request
 use Rattle.pgw_session.specs.declared.types.Answer.{Answer}
 use Rattle.pgw_session.specs.declared.types.Answer.TheVariants as answer
 use Rattle.pgw_handlers.specs.Client.{Client}
-use Rattle.pgw_connection.specs.Line.{Line, Moved, Pause}
+use Rattle.pgw_connection.specs.Line.{Line, MovesLine, Pause}
 use Rattle.pgw_calls.specs.Calls.{Comes}
 use Rattle.pgw_calls.specs.Turns.{IsAnswered}
-use Rattle.pgw_calls.specs.Stands.{Made, Stands, StandsBehind}
+use Rattle.pgw_calls.specs.Stands.{Made, StandsForCalls, StandsBehind}
 use Rattle.example_requests.specs.declared.asking.Question.{Question}
 use Rattle.example_requests.specs.declared.asking.Question.TheVariants as question
 use Rattle.example_requests.specs.declared.asking.Reply.{Reply}
@@ -23,66 +23,66 @@ request_of (question.Simple sql) = request.Simple sql
 request_of (question.Rows sql) = request.Query sql [] []
 
 -- a reply as the answer of a session
-abbrev pub answer_of : Reply → Answer
-answer_of (reply.Responses responses) = answer.Responses responses
-answer_of (reply.Rows rows) = answer.Rows rows
-answer_of (reply.Remote e) = answer.Remote e
+abbrev pub reply_answer : Reply → Answer
+reply_answer (reply.Responses responses) = answer.Responses responses
+reply_answer (reply.Rows rows) = answer.Rows rows
+reply_answer (reply.Remote e) = answer.Remote e
 
 -- the server's error is a reply, where the client can still be used
-abbrev pub replied : ClientError → Bool → Result Reply ClientError
-replied (client.RemoteError e) false = Ok (reply.Remote e)
-replied e broken = Err e
+abbrev pub error_reply : ClientError → Bool → Result Reply ClientError
+error_reply (client.RemoteError e) false = Ok (reply.Remote e)
+error_reply e broken = Err e
 
 -- each request was made, and its reply is the answer of its own segment
 abbrev pub AreReplies : List Question → List Reply → List Made → Type 0
 AreReplies [] [] [] = Unit {0}
 AreReplies (q ∷ qs) (r ∷ rs) (t ∷ ts) =
-    (t.request ≡ request_of q) × IsAnswered (request_of q) (answer_of r) t.events × AreReplies qs rs ts
+    (t.request ≡ request_of q) × IsAnswered (request_of q) (reply_answer r) t.events × AreReplies qs rs ts
 AreReplies qs rs ts = ⊥
 
 -- A client that stood for some requests stands for these questions besides.
-pub record Asked (config : Config) (nonce : List ℕ) (ts : List Made) (read wrote : List ℕ)
+pub record AsksQuestions (config : Config) (nonce : List ℕ) (ts : List Made) (read wrote : List ℕ)
     (qs : List Question) (rs : List Reply) (old now : Line) (after : Client) : Type 0 where
   pub made : List Made
   pub are : AreReplies qs rs made
   pub taken : List ℕ
   pub sent : List ℕ
-  pub moved : Moved old now taken sent
-  pub stands : Stands config nonce (ts ++ made) (read ++ taken) (wrote ++ sent) after now.buffer
+  pub moved : MovesLine old now taken sent
+  pub stands : StandsForCalls config nonce (ts ++ made) (read ++ taken) (wrote ++ sent) after now.buffer
 
 -- So does one that stood for any.
-abbrev pub Adds : List Question → List Reply → Client → Line → Client → Line → Type 0
-Adds qs rs before old after now =
+abbrev pub AddsQuestions : List Question → List Reply → Client → Line → Client → Line → Type 0
+AddsQuestions qs rs before old after now =
     (config : Config) (nonce : List ℕ) (ts : List Made) (read wrote : List ℕ) →
-    Stands config nonce ts read wrote before old.buffer →
-    Asked config nonce ts read wrote qs rs old now after
+    StandsForCalls config nonce ts read wrote before old.buffer →
+    AsksQuestions config nonce ts read wrote qs rs old now after
 
 -- ---- where an error ends it
 
 -- Why an error ended a question: it is no reply, and as the call's answer it has its reason in what was
 -- read for the question and sent, and in what the link's calls did meanwhile.
-pub record IsReason (q : Question) (before : Client) (old : Line) (after : Client) (now : Line)
+pub record IsQuestionReason (q : Question) (before : Client) (old : Line) (after : Client) (now : Line)
     (broken : Bool) (e : ClientError) : Type 0 where
-  pub no_reply : replied e broken ≡ Err e
+  pub no_reply : error_reply e broken ≡ Err e
   pub taken : List ℕ
   pub sent : List ℕ
-  pub moved : Moved old now taken sent
-  pub comes : Comes answer_of (Pause old now) (request_of q) before (old.buffer ++ taken) sent
+  pub moved : MovesLine old now taken sent
+  pub comes : Comes reply_answer (Pause old now) (request_of q) before (old.buffer ++ taken) sent
       after now.buffer (Err e) broken
 
 -- The error has its reason. A client that stood for some requests stands behind this question's by it: for
 -- the request too, or for a front of its segment, or for none more where it has no encoding.
-pub record Fails (q : Question) (before : Client) (old : Line) (after : Client) (now : Line)
+pub record FailsQuestion (q : Question) (before : Client) (old : Line) (after : Client) (now : Line)
     (broken : Bool) (e : ClientError) : Type 0 where
-  pub reason : IsReason q before old after now broken e
+  pub reason : IsQuestionReason q before old after now broken e
   pub stands : (config : Config) (nonce : List ℕ) (ts : List Made) (read wrote : List ℕ)
-      → Stands config nonce ts read wrote before old.buffer
-      → (taken sent : List ℕ) × Moved old now taken sent
-      × StandsBehind answer_of config nonce ts (request_of q)
+      → StandsForCalls config nonce ts read wrote before old.buffer
+      → (taken sent : List ℕ) × MovesLine old now taken sent
+      × StandsBehind reply_answer config nonce ts (request_of q)
       (read ++ taken) (wrote ++ sent) after now.buffer (Err e) broken
 
 -- the first of the questions were replied, and behind them the next one came to this error
-pub record StopsAt (config : Config) (nonce : List ℕ) (ts : List Made) (read wrote : List ℕ)
+pub record StopsAtQuestion (config : Config) (nonce : List ℕ) (ts : List Made) (read wrote : List ℕ)
     (qs : List Question) (old now : Line) (after : Client) (broken : Bool) (e : ClientError)
     : Type 0 where
   pub asked : List Question
@@ -92,8 +92,8 @@ pub record StopsAt (config : Config) (nonce : List ℕ) (ts : List Made) (read w
   pub replies : List Reply
   pub between : Client
   pub mid : Line
-  pub stood : Asked config nonce ts read wrote asked replies old mid between
-  pub fails : Fails next between mid after now broken e
+  pub stood : AsksQuestions config nonce ts read wrote asked replies old mid between
+  pub fails : FailsQuestion next between mid after now broken e
 
 -- the first of the questions were replied, and memory was wanting to keep the replies
 pub record Forgets (config : Config) (nonce : List ℕ) (ts : List Made) (read wrote : List ℕ)
@@ -103,14 +103,14 @@ pub record Forgets (config : Config) (nonce : List ℕ) (ts : List Made) (read w
   pub behind : List Question
   pub cut : qs ≡ asked ++ behind
   pub replies : List Reply
-  pub stood : Asked config nonce ts read wrote asked replies old now after
+  pub stood : AsksQuestions config nonce ts read wrote asked replies old now after
   pub lacked : e ≡ client.OutOfMemory
   pub usable : broken ≡ false
 
 -- It is one of these, whatever the client stood for.
-abbrev pub Stops : List Question → Client → Line → Client → Line → Bool → ClientError → Type 0
-Stops qs before old after now broken e =
+abbrev pub StopsQuestions : List Question → Client → Line → Client → Line → Bool → ClientError → Type 0
+StopsQuestions qs before old after now broken e =
     (config : Config) (nonce : List ℕ) (ts : List Made) (read wrote : List ℕ) →
-    Stands config nonce ts read wrote before old.buffer →
-    StopsAt config nonce ts read wrote qs old now after broken e
+    StandsForCalls config nonce ts read wrote before old.buffer →
+    StopsAtQuestion config nonce ts read wrote qs old now after broken e
     ⊎ Forgets config nonce ts read wrote qs old now after broken e

@@ -4,7 +4,7 @@ ghost use Rattle.pgw_backend.specs.declared.client_error.PgWireClientError.TheVa
 ghost use Rattle.pgw_connection.specs.State.{line_of, known_by, is_broken};
 ghost use Rattle.example_requests.specs.declared.asking.Question.TheVariants as question;
 ghost use Rattle.pgw_handlers.specs.Handling.{HasCause};
-ghost use Rattle.example_requests.specs.Asking.{Adds, Fails, Stops, replied};
+ghost use Rattle.example_requests.specs.Asking.{AddsQuestions, FailsQuestion, StopsQuestions, error_reply};
 
 use pgw_calls::laws::{
     extended_queries_are_segments, extended_queries_follow_one_another,
@@ -37,7 +37,7 @@ pub enum Reply {
 
 // An error of the server's is a reply, where the client can still be used.
 fn replied(error: PgWireClientError, broken: bool) -> PgWireClientResult<Reply>
-    ensures { result ≡ replied error broken }
+    ensures { result ≡ error_reply error broken }
 {
     if broken {
         return Err(error);
@@ -55,10 +55,10 @@ fn ask_simple<L: Link>(
 ) -> PgWireClientResult<Reply>
     requires { is_broken client.old ≡ false }
     ensures usable { OnOk result (is_broken client.new ≡ false) }
-    ensures adds { IfOk result (λ reply. Adds (question.Simple sql.now ∷ []) (reply ∷ [])
+    ensures adds { IfOk result (λ reply. AddsQuestions (question.Simple sql.now ∷ []) (reply ∷ [])
         (known_by client.old) (line_of L.tape L.faults client.old)
         (known_by client.new) (line_of L.tape L.faults client.new)) }
-    ensures fails { IfErr result (λ e. Fails (question.Simple sql.now)
+    ensures fails { IfErr result (λ e. FailsQuestion (question.Simple sql.now)
         (known_by client.old) (line_of L.tape L.faults client.old)
         (known_by client.new) (line_of L.tape L.faults client.new) (is_broken client.new) e) }
     ensures cause { HasCause (line_of L.tape L.faults client.old).faults
@@ -80,10 +80,10 @@ fn ask_rows<L: Link>(
 ) -> PgWireClientResult<Reply>
     requires { is_broken client.old ≡ false }
     ensures usable { OnOk result (is_broken client.new ≡ false) }
-    ensures adds { IfOk result (λ reply. Adds (question.Rows sql.now ∷ []) (reply ∷ [])
+    ensures adds { IfOk result (λ reply. AddsQuestions (question.Rows sql.now ∷ []) (reply ∷ [])
         (known_by client.old) (line_of L.tape L.faults client.old)
         (known_by client.new) (line_of L.tape L.faults client.new)) }
-    ensures fails { IfErr result (λ e. Fails (question.Rows sql.now)
+    ensures fails { IfErr result (λ e. FailsQuestion (question.Rows sql.now)
         (known_by client.old) (line_of L.tape L.faults client.old)
         (known_by client.new) (line_of L.tape L.faults client.new) (is_broken client.new) e) }
     ensures cause { HasCause (line_of L.tape L.faults client.old).faults
@@ -107,10 +107,10 @@ fn ask<L: Link>(
 ) -> PgWireClientResult<Reply>
     requires { is_broken client.old ≡ false }
     ensures usable { OnOk result (is_broken client.new ≡ false) }
-    ensures adds { IfOk result (λ reply. Adds (question.now ∷ []) (reply ∷ [])
+    ensures adds { IfOk result (λ reply. AddsQuestions (question.now ∷ []) (reply ∷ [])
         (known_by client.old) (line_of L.tape L.faults client.old)
         (known_by client.new) (line_of L.tape L.faults client.new)) }
-    ensures fails { IfErr result (λ e. Fails question.now
+    ensures fails { IfErr result (λ e. FailsQuestion question.now
         (known_by client.old) (line_of L.tape L.faults client.old)
         (known_by client.new) (line_of L.tape L.faults client.new) (is_broken client.new) e) }
     ensures cause { HasCause (line_of L.tape L.faults client.old).faults
@@ -133,13 +133,13 @@ pub fn ask_all<L: Link>(
         (client.new ≡ client.old) }
     // Whatever the client stood for, it stands for these questions besides: each reply is the answer
     // of its own request's segment, in order.
-    ensures adds { IfOk result (λ replies. Adds questions.now replies
+    ensures adds { IfOk result (λ replies. AddsQuestions questions.now replies
         (known_by client.old) (line_of L.tape L.faults client.old)
         (known_by client.new) (line_of L.tape L.faults client.new)) }
     ensures usable { OnOk result (is_broken client.new ≡ false) }
     // Behind an error the first questions were replied, and the client stands for them and, by that error, which has
     // its reason, for the next one; but for want of memory to keep a reply, behind which it stands for those up to it.
-    ensures stops { is_broken client.old ≡ false → IfErr result (λ e. Stops questions.now
+    ensures stops { is_broken client.old ≡ false → IfErr result (λ e. StopsQuestions questions.now
         (known_by client.old) (line_of L.tape L.faults client.old)
         (known_by client.new) (line_of L.tape L.faults client.new) (is_broken client.new) e) }
     // IoError comes only where a call of the link failed, and Broken from no other client than the one above.

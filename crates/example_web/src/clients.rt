@@ -1,6 +1,6 @@
 //! A few clients of one server, which are kept between the questions that they are asked.
 ghost use Rattle.std.specs.Prelude.{IfOk};
-ghost use Rattle.example_web.specs.Asked.{CanGoOn, GoesOn};
+ghost use Rattle.example_web.specs.Asked.{CanGoOn, WebStepGoesOn};
 
 use futures::task::{Context, Poll};
 use futures::{Future, ready};
@@ -156,7 +156,7 @@ impl<R: Host> Asked<R> {
     }
 
     fn connected(&self, connected: io::Result<TcpStream>) -> PgWireClientResult<Next>
-        ensures { IfOk result GoesOn }
+        ensures { IfOk result WebStepGoesOn }
     {
         Ok(Next::Step(self.clients.log_in(connected?)?))
     }
@@ -165,7 +165,7 @@ impl<R: Host> Asked<R> {
         &self,
         logged_in: Result<Client, NotLoggedIn<TcpStream>>,
     ) -> PgWireClientResult<Next>
-        ensures { IfOk result GoesOn }
+        ensures { IfOk result WebStepGoesOn }
     {
         match logged_in {
             Ok(client) => Ok(Next::Step(Step::Asking(client.simple_query(self.sql.clone()?)))),
@@ -174,7 +174,7 @@ impl<R: Host> Asked<R> {
     }
 
     fn answered(&mut self, answered: Answered<TcpStream>) -> PgWireClientResult<Next>
-        ensures { IfOk result GoesOn }
+        ensures { IfOk result WebStepGoesOn }
     {
         let Answered { client, answer } = answered;
         if client.is_usable() {

@@ -15,7 +15,7 @@ use Rattle.hothummei_c.specs.declared.held.Held.{Held}
 use Rattle.hothummei_c.specs.declared.held.HeldState.{HeldState}
 use Rattle.hothummei_c.specs.declared.held.HeldState.TheVariants as held
 use Rattle.hothummei_c.specs.Held.{HeldStarts, dialogue_of, state_of}
-use Rattle.hothummei_c.specs.Opening.{Opens, held_behind}
+use Rattle.hothummei_c.specs.Opening.{PutsStartup, held_behind}
 
 -- what is done with bytes behind an answer is what a dialogue does with them
 pub same_state : (answer : Result DialoguePhase ClientError) → state_of (held_behind answer) ≡ state_behind answer
@@ -44,7 +44,7 @@ broken_of s (inl is) = inl (ap state_of is)
 broken_of s (inr is) = inr (ap state_of is)
 
 -- what opened a session begins it
-pub held_starts : (input : Input) (limit : ℕ) (h : Held) (old new : List ℕ) → Opens input old new (Ok h.notes) → input_at (dialogue_of h) ≡ input → h.inbox ≡ [] → h.room ≡ limit → h.state ≡ held.Going
+pub held_starts : (input : Input) (limit : ℕ) (h : Held) (old new : List ℕ) → PutsStartup input old new (Ok h.notes) → input_at (dialogue_of h) ≡ input → h.inbox ≡ [] → h.room ≡ limit → h.state ≡ held.Going
     → HeldStarts input limit old new (Ok h)
 held_starts input limit h old new opened made empty room going = starts input limit (dialogue_of h) opened.0 old new opened.1 opened.2 made empty room (ap state_of going)
 

@@ -3,7 +3,7 @@ use Rattle.std.proofs.Common.{◌≡◌, ◌<◌, ◌≤◌, ◌-◌, ℕ, zero,
 use Rattle.std.specs.Prelude.{slice_get}
 use Rattle.pgw_rows.specs.Rows.{value_at}
 use Rattle.hothummei_c.specs.declared.values.Value.{Value}
-use Rattle.hothummei_c.specs.Reads.{Pushes, PutsNext, Shown, joined, led, values_in}
+use Rattle.hothummei_c.specs.Reads.{Pushes, PutsNext, Shown, values_by_cut, led, values_in}
 use Rattle.hothummei_c.specs.Values.{TellsAll, TellsValue}
 
 -- some values, and those that follow if there are such
@@ -45,7 +45,7 @@ goes_on count row values more (suc n) at next some s p =
     let v = p.0 in
     let shown = p.1 in
     let less : suc n - 1 ≡ n = omega arith in
-    let here : values_in (suc n) (drop at row) ≡ led v (values_in n (drop next row)) = ap (λ (c : Option (Option (List ℕ) × List ℕ)). joined c (values_in n)) p.2 in
+    let here : values_in (suc n) (drop at row) ≡ led v (values_in n (drop next row)) = ap (λ (c : Option (Option (List ℕ) × List ℕ)). values_by_cut c (values_in n)) p.2 in
     record {
       within = p.3;
       front = s.front ++ v ∷ [];
@@ -61,7 +61,7 @@ goes_on count row values more (suc n) at next some s p =
 pub stops : (count : ℕ) (row : List ℕ) (values more now : List Value) (left at code : ℕ) → 0 < left → Showing count row values left at → PutsNext values more row at (Err code) → Shown (values_in count row) now code
 stops count row values more now zero at code some s p = absurd (omega (arith, some))
 stops count row values more now (suc n) at code some s (inl missing) =
-    let here : values_in (suc n) (drop at row) ≡ None = ap (λ (c : Option (Option (List ℕ) × List ℕ)). joined c (values_in n)) missing.1 in
+    let here : values_in (suc n) (drop at row) ≡ None = ap (λ (c : Option (Option (List ℕ) × List ℕ)). values_by_cut c (values_in n)) missing.1 in
     let none : values_in count row ≡ None = sym s.all ∙ ap (led_all s.front) here ∙ led_none s.front in
     subst (λ (o : Option (List (Option (List ℕ)))). Shown o now code) (sym none) (inl missing.0)
 stops count row values more now (suc n) at code some s (inr lack) = lacks (values_in count row)

@@ -20,9 +20,9 @@ abbrev pub AsksRows : Session → Session → List ℕ → ℕ → ℕ → Type 
 AsksRows old new portal rows result = AsksWithin old new (2147483647 < rows) portal (request.Execute (name_of portal) (pos rows)) result
 
 -- a statement or a portal
-abbrev pub target_of : ℕ → Option (List ℕ) → Target
-target_of zero name = target.Statement name
-target_of (suc n) name = target.Portal name
+abbrev pub numbered_target : ℕ → Option (List ℕ) → Target
+numbered_target zero name = target.Statement name
+numbered_target (suc n) name = target.Portal name
 
 abbrev pub AddsParameter : Session → Session → Option (List ℕ) → ℕ → Type 0
 AddsParameter old new value result =

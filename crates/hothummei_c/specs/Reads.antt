@@ -33,7 +33,7 @@ use Rattle.hothummei_c.specs.declared.report.Told.{Told}
 use Rattle.hothummei_c.specs.declared.session.Session.{Session}
 use Rattle.hothummei_c.specs.declared.values.Value.{Value}
 use Rattle.hothummei_c.specs.Codes.{no_such_index, out_of_memory, out_of_place, value_missing}
-use Rattle.hothummei_c.specs.Values.{Tells, TellsAll, TellsValue}
+use Rattle.hothummei_c.specs.Values.{HoldsCBytes, TellsAll, TellsValue}
 
 -- ---- numbers
 
@@ -58,19 +58,19 @@ shape_number shape.Nothing = 0
 shape_number shape.Rows = 1
 shape_number shape.Command = 2
 
-abbrev pub format_number : FieldFormat → ℕ
-format_number format.Text = 0
-format_number format.Binary = 1
+abbrev pub c_format : FieldFormat → ℕ
+c_format format.Text = 0
+c_format format.Binary = 1
 
 -- ---- what is found
 
-abbrev answer_at : Option Report → ℕ → Option Told
-answer_at None index = None
-answer_at (Some report) index = slice_get report.answers index
+abbrev report_answer_at : Option Report → ℕ → Option Told
+report_answer_at None index = None
+report_answer_at (Some report) index = slice_get report.answers index
 
 -- the answer to a request
 abbrev pub answer_in : Session → ℕ → Option Told
-answer_in s index = answer_at s.report index
+answer_in s index = report_answer_at s.report index
 
 abbrev result_at : Option Told → ℕ → Option CommandResult
 result_at None index = None
@@ -84,18 +84,18 @@ abbrev column_at : Option CommandResult → ℕ → Option FieldInfo
 column_at None index = None
 column_at (Some found) index = slice_get found.fields index
 
-abbrev row_at : Option CommandResult → ℕ → Option DataRow
-row_at None index = None
-row_at (Some found) index = slice_get found.rows index
+abbrev result_row_at : Option CommandResult → ℕ → Option DataRow
+result_row_at None index = None
+result_row_at (Some found) index = slice_get found.rows index
 
 abbrev type_at : Option Told → ℕ → Option ℕ
 type_at None index = None
 type_at (Some told) index = slice_get (map oid_of told.types) index
 
 -- what is there is told, or there is nothing by that number
-abbrev pub Found : {A : Type 0} → Option A → (A → Type 0) → ℕ → Type 0
-Found None Is result = result ≡ no_such_index
-Found (Some a) Is result = (result ≡ 0) × Is a
+abbrev pub AnswersIndex : {A : Type 0} → Option A → (A → Type 0) → ℕ → Type 0
+AnswersIndex None Is result = result ≡ no_such_index
+AnswersIndex (Some a) Is result = (result ≡ 0) × Is a
 
 -- ---- the whole
 
@@ -105,7 +105,7 @@ pub record Summed (report : Report) (out : Summary) : Type 0 where
   pub process_is : out.process ≡ cast_unsigned w32 report.process_id
   pub parameters_are : out.parameters ≡ map.len report.parameters
   pub answers_are : out.answers ≡ length report.answers
-  pub key_is : Tells report.key out.key
+  pub key_is : HoldsCBytes report.key out.key
 
 abbrev SummedOf : Option Report → Summary → ℕ → Type 0
 SummedOf None out result = result ≡ out_of_place
@@ -116,12 +116,12 @@ SumsUp old new out result = (new ≡ old) × SummedOf old.report out result
 
 -- a parameter of the server, by its number in the order of their names
 abbrev pub TellsPair : Pair → List ℕ × List ℕ → Type 0
-TellsPair out pair = Tells pair.0 out.name × Tells pair.1 out.value
+TellsPair out pair = HoldsCBytes pair.0 out.name × HoldsCBytes pair.1 out.value
 
 abbrev PairOf : Option Report → ℕ → Pair → ℕ → Type 0
 PairOf None index out result = result ≡ out_of_place
 PairOf (Some report) index out result =
-    Found (slice_get (map.entries report.parameters) index) (TellsPair out) result
+    AnswersIndex (slice_get (map.entries report.parameters) index) (TellsPair out) result
 
 abbrev pub FindsPair : Session → Session → ℕ → Pair → ℕ → Type 0
 FindsPair old new index out result = (new ≡ old) × PairOf old.report index out result
@@ -132,10 +132,10 @@ abbrev pub TellsAnswer : AnswerInfo → Told → Type 0
 TellsAnswer out told = (out.kind ≡ kind_number told.kind) × (out.results ≡ length told.results) × (out.types ≡ length told.types)
 
 abbrev pub FindsAnswer : Session → Session → ℕ → AnswerInfo → ℕ → Type 0
-FindsAnswer old new index out result = (new ≡ old) × Found (answer_in old index) (TellsAnswer out) result
+FindsAnswer old new index out result = (new ≡ old) × AnswersIndex (answer_in old index) (TellsAnswer out) result
 
 abbrev pub FindsType : Session → Session → ℕ → ℕ → TypeInfo → ℕ → Type 0
-FindsType old new answer index out result = (new ≡ old) × Found (type_at (answer_in old answer) index) (λ oid. out.oid ≡ oid) result
+FindsType old new answer index out result = (new ≡ old) × AnswersIndex (type_at (answer_in old answer) index) (λ oid. out.oid ≡ oid) result
 
 -- ---- the fields of errors
 
@@ -148,13 +148,13 @@ abbrev pub first_field : ℕ → List (ℕ × List ℕ) → Option (List ℕ)
 first_field code [] = None
 first_field code (f ∷ fs) = field_if (f.0 == code) f.1 (first_field code fs)
 
-abbrev field_at : Option ErrorResponse → ℕ → Option (List ℕ)
-field_at None code = None
-field_at (Some e) code = first_field code e.fields
+abbrev error_field_at : Option ErrorResponse → ℕ → Option (List ℕ)
+error_field_at None code = None
+error_field_at (Some e) code = first_field code e.fields
 
 abbrev pub PutsFieldOf : Option ErrorResponse → ℕ → Value → ℕ → Type 0
 PutsFieldOf None code out result = result ≡ out_of_place
-PutsFieldOf (Some e) code out result = Found (first_field code e.fields) (λ text. Tells text out) result
+PutsFieldOf (Some e) code out result = AnswersIndex (first_field code e.fields) (λ text. HoldsCBytes text out) result
 
 abbrev pub error_now : Option (Bor ErrorResponse) → Option ErrorResponse
 error_now None = None
@@ -182,34 +182,34 @@ FindsFault old new code out result = (new ≡ old) × PutsFieldOf (remote_of old
 
 abbrev pub TellsCommand : Option Tag → Value → Type 0
 TellsCommand None out = (out.len ≡ 0) × (out.null ≡ 1)
-TellsCommand (Some tag) out = Tells tag.command out
+TellsCommand (Some tag) out = HoldsCBytes tag.command out
 
-abbrev pub count_of : Option Tag → Option ℕ
-count_of None = None
-count_of (Some tag) = tag.rows
+abbrev pub rows_of_tag : Option Tag → Option ℕ
+rows_of_tag None = None
+rows_of_tag (Some tag) = tag.rows
 
 -- the tag's number of rows, and whether it has one
 abbrev pub CountsAs : Option ℕ → ℕ → ℕ → Type 0
-CountsAs None count counted = (count ≡ 0) × (counted ≡ 0)
-CountsAs (Some n) count counted = (count ≡ n) × (counted ≡ 1)
+CountsAs None count row_value_count = (count ≡ 0) × (row_value_count ≡ 0)
+CountsAs (Some n) count row_value_count = (count ≡ n) × (row_value_count ≡ 1)
 
 pub record TellsResult (found : CommandResult) (out : ResultInfo) : Type 0 where
   pub kind_is : out.kind ≡ shape_number found.kind
   pub columns_are : out.columns ≡ length found.fields
   pub rows_are : out.rows ≡ length found.rows
   pub command_is : TellsCommand found.tag out.command
-  pub count_is : CountsAs (count_of found.tag) out.count out.counted
+  pub count_is : CountsAs (rows_of_tag found.tag) out.count out.counted
 
 abbrev pub FindsResult : Session → Session → ℕ → ℕ → ResultInfo → ℕ → Type 0
-FindsResult old new answer index out result = (new ≡ old) × Found (result_in old answer index) (λ found. TellsResult found out) result
+FindsResult old new answer index out result = (new ≡ old) × AnswersIndex (result_in old answer index) (λ found. TellsResult found out) result
 
 pub record TellsColumn (field : FieldInfo) (out : ColumnInfo) : Type 0 where
-  pub name_is : Tells field.name out.name
+  pub name_is : HoldsCBytes field.name out.name
   pub oid_is : out.oid ≡ oid_of field.datatype
-  pub format_is : out.format ≡ format_number field.format
+  pub format_is : out.format ≡ c_format field.format
 
 abbrev pub FindsColumn : Session → Session → ℕ → ℕ → ℕ → ColumnInfo → ℕ → Type 0
-FindsColumn old new answer number index out result = (new ≡ old) × Found (column_at (result_in old answer number) index) (λ field. TellsColumn field out) result
+FindsColumn old new answer number index out result = (new ≡ old) × AnswersIndex (column_at (result_in old answer number) index) (λ field. TellsColumn field out) result
 
 -- ---- rows
 
@@ -217,19 +217,19 @@ abbrev pub led : Option (List ℕ) → Option (List (Option (List ℕ))) → Opt
 led value None = None
 led value (Some values) = Some (value ∷ values)
 
-abbrev pub joined : Option (Option (List ℕ) × List ℕ) → (List ℕ → Option (List (Option (List ℕ)))) → Option (List (Option (List ℕ)))
-joined None more = None
-joined (Some cut) more = led cut.0 (more cut.1)
+abbrev pub values_by_cut : Option (Option (List ℕ) × List ℕ) → (List ℕ → Option (List (Option (List ℕ)))) → Option (List (Option (List ℕ)))
+values_by_cut None more = None
+values_by_cut (Some cut) more = led cut.0 (more cut.1)
 
 -- so many values, one behind the other; none where the bytes end within one
 abbrev pub values_in : ℕ → List ℕ → Option (List (Option (List ℕ)))
 values_in zero bytes = Some []
-values_in (suc n) bytes = joined (value_at bytes) (values_in n)
+values_in (suc n) bytes = values_by_cut (value_at bytes) (values_in n)
 
 -- a row tells no number of values below zero
-abbrev pub counted : ℤ → ℕ
-counted (pos n) = n
-counted (negsuc n) = 0
+abbrev pub row_value_count : ℤ → ℕ
+row_value_count (pos n) = n
+row_value_count (negsuc n) = 0
 
 -- one value more is shown
 abbrev pub Pushes : List Value → List Value → Value → ℕ → Result ℕ ℕ → Type 0
@@ -251,8 +251,8 @@ PutsValues values count row result = Shown (values_in count row) values result
 
 abbrev ShownRow : Option DataRow → Session → RowInfo → ℕ → Type 0
 ShownRow None new out result = result ≡ no_such_index
-ShownRow (Some row) new out result = Shown (values_in (counted row.field_count) row.payload) new.values.items result × (out.count ≡ length new.values.items)
+ShownRow (Some row) new out result = Shown (values_in (row_value_count row.field_count) row.payload) new.values.items result × (out.count ≡ length new.values.items)
 
 -- the row's values stand in the session, and nothing else of it changes
 abbrev pub FindsRow : Session → Session → ℕ → ℕ → ℕ → RowInfo → ℕ → Type 0
-FindsRow old new answer number index out result = (new ≡ record old { values = new.values }) × ShownRow (row_at (result_in old answer number) index) new out result
+FindsRow old new answer number index out result = (new ≡ record old { values = new.values }) × ShownRow (result_row_at (result_in old answer number) index) new out result

@@ -4,11 +4,11 @@ use Rattle.hothummei_c.specs.declared.session.Phase.{Phase}
 use Rattle.hothummei_c.specs.declared.session.Phase.TheVariants as phase
 use Rattle.hothummei_c.specs.declared.session.Session.{Session}
 use Rattle.hothummei_c.specs.declared.values.Value.{Value}
-use Rattle.hothummei_c.specs.Values.{Tells}
+use Rattle.hothummei_c.specs.Values.{HoldsCBytes}
 
 -- these bytes are shown, and nothing changes
 abbrev pub Shows : Session → Session → List ℕ → Value → ℕ → Type 0
-Shows old new bytes out result = (result ≡ 0) × (new ≡ old) × Tells bytes out
+Shows old new bytes out result = (result ≡ 0) × (new ≡ old) × HoldsCBytes bytes out
 
 abbrev pub phase_number : Phase → ℕ
 phase_number phase.New = 0

@@ -2,8 +2,8 @@
 ghost use Rattle.std.specs.Prelude.{◌≡◌, ◌<◌, ◌↔◌, [], IfOk, IsTrue, None, Some};
 ghost use Rattle.pgw_wire.specs.Reading.{name_of};
 ghost use Rattle.pgw_session.specs.declared.types.Request.TheVariants as request;
-ghost use Rattle.hothummei_c.specs.Asks.{AddsParameter, AddsRequest, AsksRows, target_of};
-ghost use Rattle.hothummei_c.specs.Session.{Asks, AsksWith, AsksWithin, Connects, Unread, UnreadOne};
+ghost use Rattle.hothummei_c.specs.Asks.{AddsParameter, AddsRequest, AsksRows, numbered_target};
+ghost use Rattle.hothummei_c.specs.Session.{HandleAsks, AsksWith, AsksWithin, ConnectsInC, RefusesText, UnreadOne};
 ghost use Rattle.hothummei_c.specs.declared.session.Phase.TheVariants as phase;
 
 use crate::codes::{NOT_UTF8, OK, OUT_OF_MEMORY, OUT_OF_PLACE, OUT_OF_RANGE};
@@ -20,7 +20,7 @@ use std::mem::replace;
 
 /// Reads the connection text, and takes the nonce.
 pub fn connection(session: &mut Session, text: &[u8], nonce: &[u8; 18]) -> u32
-    ensures { Connects session.old session.new text.now nonce.now result }
+    ensures { ConnectsInC session.old session.new text.now nonce.now result }
 {
     match session.phase {
         Phase::New => {}
@@ -75,7 +75,7 @@ fn named(alloc: Global, name: &str) -> Result<Option<Text>, OutOfMemory>
 
 /// A simple query.
 pub fn simple(session: &mut Session, sql: &[u8]) -> u32
-    ensures { Asks session.old session.new (Unread sql.now) (request.Simple sql.now)
+    ensures { HandleAsks session.old session.new (RefusesText sql.now) (request.Simple sql.now)
         result }
 {
     let Ok(sql) = str::from_utf8(sql) else {
@@ -90,7 +90,7 @@ pub fn simple(session: &mut Session, sql: &[u8]) -> u32
 
 /// A statement with its query; an empty name is none.
 pub fn prepare(session: &mut Session, name: &[u8], sql: &[u8]) -> u32
-    ensures { Asks session.old session.new (UnreadOne name.now sql.now)
+    ensures { HandleAsks session.old session.new (UnreadOne name.now sql.now)
         (request.Prepare (name_of name.now) sql.now []) result }
 {
     let Ok(name) = str::from_utf8(name) else {
@@ -173,7 +173,7 @@ pub fn execute(session: &mut Session, portal: &[u8], rows: u32) -> u32
 
 // What is named: a statement (0) or a portal.
 fn target(alloc: Global, kind: u32, name: &str) -> Result<Target, OutOfMemory>
-    ensures { IfOk result (λ t. t ≡ target_of kind (name_of name.now)) }
+    ensures { IfOk result (λ t. t ≡ numbered_target kind (name_of name.now)) }
 {
     let name = named(alloc, name)?;
     if kind == 0 {
@@ -184,13 +184,13 @@ fn target(alloc: Global, kind: u32, name: &str) -> Result<Target, OutOfMemory>
 }
 
 fn describe_of(alloc: Global, kind: u32, name: &str) -> Result<Request, OutOfMemory>
-    ensures { IfOk result (λ r. r ≡ request.Describe (target_of kind (name_of name.now))) }
+    ensures { IfOk result (λ r. r ≡ request.Describe (numbered_target kind (name_of name.now))) }
 {
     Ok(Request::Describe(target(alloc, kind, name)?))
 }
 
 fn close_of(alloc: Global, kind: u32, name: &str) -> Result<Request, OutOfMemory>
-    ensures { IfOk result (λ r. r ≡ request.Close (target_of kind (name_of name.now))) }
+    ensures { IfOk result (λ r. r ≡ request.Close (numbered_target kind (name_of name.now))) }
 {
     Ok(Request::Close(target(alloc, kind, name)?))
 }
@@ -198,7 +198,7 @@ fn close_of(alloc: Global, kind: u32, name: &str) -> Result<Request, OutOfMemory
 /// Describes a statement (0) or a portal (1).
 pub fn describe(session: &mut Session, kind: u32, name: &[u8]) -> u32
     ensures { AsksWithin session.old session.new (1 < kind) name.now
-        (request.Describe (target_of kind (name_of name.now))) result }
+        (request.Describe (numbered_target kind (name_of name.now))) result }
 {
     if kind > 1 {
         return OUT_OF_RANGE;
@@ -216,7 +216,7 @@ pub fn describe(session: &mut Session, kind: u32, name: &[u8]) -> u32
 /// Closes a statement (0) or a portal (1).
 pub fn close(session: &mut Session, kind: u32, name: &[u8]) -> u32
     ensures { AsksWithin session.old session.new (1 < kind) name.now
-        (request.Close (target_of kind (name_of name.now))) result }
+        (request.Close (numbered_target kind (name_of name.now))) result }
 {
     if kind > 1 {
         return OUT_OF_RANGE;
@@ -250,7 +250,7 @@ fn query_of(
 
 /// A query with the parameters that stand ready.
 pub fn query(session: &mut Session, sql: &[u8]) -> u32
-    ensures { AsksWith session.old session.new (Unread sql.now)
+    ensures { AsksWith session.old session.new (RefusesText sql.now)
         (request.Query sql.now [] session.old.parameters) result }
 {
     let Ok(sql) = str::from_utf8(sql) else {

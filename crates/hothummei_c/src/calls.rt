@@ -6,10 +6,10 @@ ghost use Rattle.std.specs.Prelude.{◌≡◌, ◌<◌, [], Some, None, string_b
 ghost use types.Logic.{sem};
 ghost use Rattle.pgw_session.specs.declared.types.Request.TheVariants as request;
 ghost use Rattle.pgw_wire.specs.Reading.{name_of};
-ghost use Rattle.hothummei_c.specs.Asks.{AddsParameter, AsksRows, target_of};
-ghost use Rattle.hothummei_c.specs.Handle.{behind, room_at_start, room_behind, session_at};
+ghost use Rattle.hothummei_c.specs.Asks.{AddsParameter, AsksRows, numbered_target};
+ghost use Rattle.hothummei_c.specs.Handle.{session_or_null, room_at_start, room_behind, session_at};
 ghost use Rattle.hothummei_c.specs.Reads.{FindsAnswer, FindsColumn, FindsFault, FindsField, FindsPair, FindsResult, FindsRow, FindsType, SumsUp};
-ghost use Rattle.hothummei_c.specs.Session.{Asks, AsksWith, AsksWithin, Begins, Connects, EndsAt, IsNew, Sends, TakesBytes, Unread, UnreadOne};
+ghost use Rattle.hothummei_c.specs.Session.{HandleAsks, AsksWith, AsksWithin, HandleBegins, ConnectsInC, MeetsBytesEnd, IsNewSession, HandleSends, TakesBytes, RefusesText, UnreadOne};
 ghost use Rattle.hothummei_c.specs.Turns.{Shows, phase_number};
 
 use crate::codes::NULL_POINTER;
@@ -37,7 +37,7 @@ pub extern "C" fn hothummei_c_size() -> usize {
 #[unsafe(no_mangle)]
 pub unsafe extern "C" fn hothummei_c_place(handle: *mut Handle, alloc: Global)
     requires* { sem 𝓛 (room_at_start handle) }
-    ensures* { sem 𝓛 (behind handle IsNew ⊥) }
+    ensures* { sem 𝓛 (session_or_null handle IsNewSession ⊥) }
 {
     handle.cast::<Session>().write(new_session(alloc));
 }
@@ -64,7 +64,7 @@ pub unsafe extern "C" fn hothummei_c_connection(
 ) -> u32
     ghost of: { Session }
     requires* { sem 𝓛 (session_at handle of) }
-    ensures* { sem 𝓛 (behind handle (λ s. Connects of s text.now nonce.now result) (result ≡ 1)) }
+    ensures* { sem 𝓛 (session_or_null handle (λ s. ConnectsInC of s text.now nonce.now result) (result ≡ 1)) }
 {
     if handle.is_null() {
         return NULL_POINTER;
@@ -77,7 +77,7 @@ pub unsafe extern "C" fn hothummei_c_connection(
 pub unsafe extern "C" fn hothummei_c_simple(handle: *mut Handle, sql: &[u8]) -> u32
     ghost of: { Session }
     requires* { sem 𝓛 (session_at handle of) }
-    ensures* { sem 𝓛 (behind handle (λ s. Asks of s (Unread sql.now) (request.Simple sql.now)
+    ensures* { sem 𝓛 (session_or_null handle (λ s. HandleAsks of s (RefusesText sql.now) (request.Simple sql.now)
         result) (result ≡ 1)) }
 {
     if handle.is_null() {
@@ -91,7 +91,7 @@ pub unsafe extern "C" fn hothummei_c_simple(handle: *mut Handle, sql: &[u8]) -> 
 pub unsafe extern "C" fn hothummei_c_prepare(handle: *mut Handle, name: &[u8], sql: &[u8]) -> u32
     ghost of: { Session }
     requires* { sem 𝓛 (session_at handle of) }
-    ensures* { sem 𝓛 (behind handle (λ s. Asks of s (UnreadOne name.now sql.now)
+    ensures* { sem 𝓛 (session_or_null handle (λ s. HandleAsks of s (UnreadOne name.now sql.now)
         (request.Prepare (name_of name.now) sql.now []) result) (result ≡ 1)) }
 {
     if handle.is_null() {
@@ -109,7 +109,7 @@ pub unsafe extern "C" fn hothummei_c_bind(
 ) -> u32
     ghost of: { Session }
     requires* { sem 𝓛 (session_at handle of) }
-    ensures* { sem 𝓛 (behind handle (λ s. AsksWith of s (UnreadOne portal.now statement.now)
+    ensures* { sem 𝓛 (session_or_null handle (λ s. AsksWith of s (UnreadOne portal.now statement.now)
         (request.Bind (name_of portal.now) (name_of statement.now) of.parameters []) result)
         (result ≡ 1)) }
 {
@@ -124,7 +124,7 @@ pub unsafe extern "C" fn hothummei_c_bind(
 pub unsafe extern "C" fn hothummei_c_execute(handle: *mut Handle, portal: &[u8], rows: u32) -> u32
     ghost of: { Session }
     requires* { sem 𝓛 (session_at handle of) }
-    ensures* { sem 𝓛 (behind handle (λ s. AsksRows of s portal.now rows result) (result ≡ 1)) }
+    ensures* { sem 𝓛 (session_or_null handle (λ s. AsksRows of s portal.now rows result) (result ≡ 1)) }
 {
     if handle.is_null() {
         return NULL_POINTER;
@@ -137,8 +137,8 @@ pub unsafe extern "C" fn hothummei_c_execute(handle: *mut Handle, portal: &[u8],
 pub unsafe extern "C" fn hothummei_c_describe(handle: *mut Handle, kind: u32, name: &[u8]) -> u32
     ghost of: { Session }
     requires* { sem 𝓛 (session_at handle of) }
-    ensures* { sem 𝓛 (behind handle (λ s. AsksWithin of s (1 < kind) name.now
-        (request.Describe (target_of kind (name_of name.now))) result) (result ≡ 1)) }
+    ensures* { sem 𝓛 (session_or_null handle (λ s. AsksWithin of s (1 < kind) name.now
+        (request.Describe (numbered_target kind (name_of name.now))) result) (result ≡ 1)) }
 {
     if handle.is_null() {
         return NULL_POINTER;
@@ -151,8 +151,8 @@ pub unsafe extern "C" fn hothummei_c_describe(handle: *mut Handle, kind: u32, na
 pub unsafe extern "C" fn hothummei_c_close(handle: *mut Handle, kind: u32, name: &[u8]) -> u32
     ghost of: { Session }
     requires* { sem 𝓛 (session_at handle of) }
-    ensures* { sem 𝓛 (behind handle (λ s. AsksWithin of s (1 < kind) name.now
-        (request.Close (target_of kind (name_of name.now))) result) (result ≡ 1)) }
+    ensures* { sem 𝓛 (session_or_null handle (λ s. AsksWithin of s (1 < kind) name.now
+        (request.Close (numbered_target kind (name_of name.now))) result) (result ≡ 1)) }
 {
     if handle.is_null() {
         return NULL_POINTER;
@@ -165,7 +165,7 @@ pub unsafe extern "C" fn hothummei_c_close(handle: *mut Handle, kind: u32, name:
 pub unsafe extern "C" fn hothummei_c_query(handle: *mut Handle, sql: &[u8]) -> u32
     ghost of: { Session }
     requires* { sem 𝓛 (session_at handle of) }
-    ensures* { sem 𝓛 (behind handle (λ s. AsksWith of s (Unread sql.now) (request.Query sql.now []
+    ensures* { sem 𝓛 (session_or_null handle (λ s. AsksWith of s (RefusesText sql.now) (request.Query sql.now []
         of.parameters) result) (result ≡ 1)) }
 {
     if handle.is_null() {
@@ -179,7 +179,7 @@ pub unsafe extern "C" fn hothummei_c_query(handle: *mut Handle, sql: &[u8]) -> u
 pub unsafe extern "C" fn hothummei_c_parameter(handle: *mut Handle, value: &[u8]) -> u32
     ghost of: { Session }
     requires* { sem 𝓛 (session_at handle of) }
-    ensures* { sem 𝓛 (behind handle (λ s. AddsParameter of s (Some value.now) result) (result ≡
+    ensures* { sem 𝓛 (session_or_null handle (λ s. AddsParameter of s (Some value.now) result) (result ≡
         1)) }
 {
     if handle.is_null() {
@@ -193,7 +193,7 @@ pub unsafe extern "C" fn hothummei_c_parameter(handle: *mut Handle, value: &[u8]
 pub unsafe extern "C" fn hothummei_c_null_parameter(handle: *mut Handle) -> u32
     ghost of: { Session }
     requires* { sem 𝓛 (session_at handle of) }
-    ensures* { sem 𝓛 (behind handle (λ s. AddsParameter of s None result) (result ≡ 1)) }
+    ensures* { sem 𝓛 (session_or_null handle (λ s. AddsParameter of s None result) (result ≡ 1)) }
 {
     if handle.is_null() {
         return NULL_POINTER;
@@ -206,7 +206,7 @@ pub unsafe extern "C" fn hothummei_c_null_parameter(handle: *mut Handle) -> u32
 pub unsafe extern "C" fn hothummei_c_start(handle: *mut Handle, limit: u64) -> u32
     ghost of: { Session }
     requires* { sem 𝓛 (session_at handle of) }
-    ensures* { sem 𝓛 (behind handle (λ s. Begins of s limit result) (result ≡ 1)) }
+    ensures* { sem 𝓛 (session_or_null handle (λ s. HandleBegins of s limit result) (result ≡ 1)) }
 {
     if handle.is_null() {
         return NULL_POINTER;
@@ -219,7 +219,7 @@ pub unsafe extern "C" fn hothummei_c_start(handle: *mut Handle, limit: u64) -> u
 pub unsafe extern "C" fn hothummei_c_take(handle: *mut Handle, piece: &[u8]) -> u32
     ghost of: { Session }
     requires* { sem 𝓛 (session_at handle of) }
-    ensures* { sem 𝓛 (behind handle (λ s. TakesBytes of s piece.now result) (result ≡ 1)) }
+    ensures* { sem 𝓛 (session_or_null handle (λ s. TakesBytes of s piece.now result) (result ≡ 1)) }
 {
     if handle.is_null() {
         return NULL_POINTER;
@@ -232,7 +232,7 @@ pub unsafe extern "C" fn hothummei_c_take(handle: *mut Handle, piece: &[u8]) -> 
 pub unsafe extern "C" fn hothummei_c_pending(handle: *mut Handle, out: &mut Value) -> u32
     ghost of: { Session }
     requires* { sem 𝓛 (session_at handle of) }
-    ensures* { sem 𝓛 (behind handle (λ s. Shows of s of.out.items out.new result) (result ≡ 1)) }
+    ensures* { sem 𝓛 (session_or_null handle (λ s. Shows of s of.out.items out.new result) (result ≡ 1)) }
 {
     if handle.is_null() {
         return NULL_POINTER;
@@ -245,7 +245,7 @@ pub unsafe extern "C" fn hothummei_c_pending(handle: *mut Handle, out: &mut Valu
 pub unsafe extern "C" fn hothummei_c_sent(handle: *mut Handle, count: usize) -> u32
     ghost of: { Session }
     requires* { sem 𝓛 (session_at handle of) }
-    ensures* { sem 𝓛 (behind handle (λ s. Sends of s count result) (result ≡ 1)) }
+    ensures* { sem 𝓛 (session_or_null handle (λ s. HandleSends of s count result) (result ≡ 1)) }
 {
     if handle.is_null() {
         return NULL_POINTER;
@@ -258,7 +258,7 @@ pub unsafe extern "C" fn hothummei_c_sent(handle: *mut Handle, count: usize) -> 
 pub unsafe extern "C" fn hothummei_c_phase(handle: *mut Handle) -> u32
     ghost of: { Session }
     requires* { sem 𝓛 (session_at handle of) }
-    ensures* { sem 𝓛 (behind handle (λ s. (result ≡ phase_number of.phase) × (s ≡ of)) (result ≡
+    ensures* { sem 𝓛 (session_or_null handle (λ s. (result ≡ phase_number of.phase) × (s ≡ of)) (result ≡
         1)) }
 {
     if handle.is_null() {
@@ -272,7 +272,7 @@ pub unsafe extern "C" fn hothummei_c_phase(handle: *mut Handle) -> u32
 pub unsafe extern "C" fn hothummei_c_at_end(handle: *mut Handle) -> u32
     ghost of: { Session }
     requires* { sem 𝓛 (session_at handle of) }
-    ensures* { sem 𝓛 (behind handle (λ s. EndsAt of s result) (result ≡ 1)) }
+    ensures* { sem 𝓛 (session_or_null handle (λ s. MeetsBytesEnd of s result) (result ≡ 1)) }
 {
     if handle.is_null() {
         return NULL_POINTER;
@@ -285,7 +285,7 @@ pub unsafe extern "C" fn hothummei_c_at_end(handle: *mut Handle) -> u32
 pub unsafe extern "C" fn hothummei_c_sentence(handle: *mut Handle, out: &mut Value) -> u32
     ghost of: { Session }
     requires* { sem 𝓛 (session_at handle of) }
-    ensures* { sem 𝓛 (behind handle (λ s. Shows of s (string_bytes of.sentence) out.new result)
+    ensures* { sem 𝓛 (session_or_null handle (λ s. Shows of s (string_bytes of.sentence) out.new result)
         (result ≡ 1)) }
 {
     if handle.is_null() {
@@ -299,7 +299,7 @@ pub unsafe extern "C" fn hothummei_c_sentence(handle: *mut Handle, out: &mut Val
 pub unsafe extern "C" fn hothummei_c_summary(handle: *mut Handle, out: &mut Summary) -> u32
     ghost of: { Session }
     requires* { sem 𝓛 (session_at handle of) }
-    ensures* { sem 𝓛 (behind handle (λ s. SumsUp of s out.new result) (result ≡ 1)) }
+    ensures* { sem 𝓛 (session_or_null handle (λ s. SumsUp of s out.new result) (result ≡ 1)) }
 {
     if handle.is_null() {
         return NULL_POINTER;
@@ -316,7 +316,7 @@ pub unsafe extern "C" fn hothummei_c_server_parameter(
 ) -> u32
     ghost of: { Session }
     requires* { sem 𝓛 (session_at handle of) }
-    ensures* { sem 𝓛 (behind handle (λ s. FindsPair of s index out.new result) (result ≡ 1)) }
+    ensures* { sem 𝓛 (session_or_null handle (λ s. FindsPair of s index out.new result) (result ≡ 1)) }
 {
     if handle.is_null() {
         return NULL_POINTER;
@@ -333,7 +333,7 @@ pub unsafe extern "C" fn hothummei_c_answer(
 ) -> u32
     ghost of: { Session }
     requires* { sem 𝓛 (session_at handle of) }
-    ensures* { sem 𝓛 (behind handle (λ s. FindsAnswer of s index out.new result) (result ≡ 1)) }
+    ensures* { sem 𝓛 (session_or_null handle (λ s. FindsAnswer of s index out.new result) (result ≡ 1)) }
 {
     if handle.is_null() {
         return NULL_POINTER;
@@ -351,7 +351,7 @@ pub unsafe extern "C" fn hothummei_c_parameter_type(
 ) -> u32
     ghost of: { Session }
     requires* { sem 𝓛 (session_at handle of) }
-    ensures* { sem 𝓛 (behind handle (λ s. FindsType of s answer index out.new result) (result ≡
+    ensures* { sem 𝓛 (session_or_null handle (λ s. FindsType of s answer index out.new result) (result ≡
         1)) }
 {
     if handle.is_null() {
@@ -369,7 +369,7 @@ pub unsafe extern "C" fn hothummei_c_error_field(
 ) -> u32
     ghost of: { Session }
     requires* { sem 𝓛 (session_at handle of) }
-    ensures* { sem 𝓛 (behind handle (λ s. FindsFault of s code out.new result) (result ≡ 1)) }
+    ensures* { sem 𝓛 (session_or_null handle (λ s. FindsFault of s code out.new result) (result ≡ 1)) }
 {
     if handle.is_null() {
         return NULL_POINTER;
@@ -387,7 +387,7 @@ pub unsafe extern "C" fn hothummei_c_answer_field(
 ) -> u32
     ghost of: { Session }
     requires* { sem 𝓛 (session_at handle of) }
-    ensures* { sem 𝓛 (behind handle (λ s. FindsField of s answer code out.new result) (result ≡
+    ensures* { sem 𝓛 (session_or_null handle (λ s. FindsField of s answer code out.new result) (result ≡
         1)) }
 {
     if handle.is_null() {
@@ -406,7 +406,7 @@ pub unsafe extern "C" fn hothummei_c_result(
 ) -> u32
     ghost of: { Session }
     requires* { sem 𝓛 (session_at handle of) }
-    ensures* { sem 𝓛 (behind handle (λ s. FindsResult of s answer index out.new result) (result
+    ensures* { sem 𝓛 (session_or_null handle (λ s. FindsResult of s answer index out.new result) (result
         ≡ 1)) }
 {
     if handle.is_null() {
@@ -426,7 +426,7 @@ pub unsafe extern "C" fn hothummei_c_column(
 ) -> u32
     ghost of: { Session }
     requires* { sem 𝓛 (session_at handle of) }
-    ensures* { sem 𝓛 (behind handle (λ s. FindsColumn of s answer number index out.new result)
+    ensures* { sem 𝓛 (session_or_null handle (λ s. FindsColumn of s answer number index out.new result)
         (result ≡ 1)) }
 {
     if handle.is_null() {
@@ -446,7 +446,7 @@ pub unsafe extern "C" fn hothummei_c_row(
 ) -> u32
     ghost of: { Session }
     requires* { sem 𝓛 (session_at handle of) }
-    ensures* { sem 𝓛 (behind handle (λ s. FindsRow of s answer number index out.new result)
+    ensures* { sem 𝓛 (session_or_null handle (λ s. FindsRow of s answer number index out.new result)
         (result ≡ 1)) }
 {
     if handle.is_null() {

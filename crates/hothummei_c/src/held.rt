@@ -3,10 +3,10 @@ ghost use Rattle.std.specs.Prelude.{◌≡◌, ◌↔◌, IfSome, IsTrue, take};
 ghost use Rattle.pgw_session.specs.Demands.{refused_config};
 ghost use Rattle.pgw_session.specs.Input.{input_with};
 ghost use Rattle.pgw_dialogue.specs.Answers.{answer_behind, waiting_answer};
-ghost use Rattle.pgw_dialogue.specs.Demands.{Refuses};
+ghost use Rattle.pgw_dialogue.specs.Demands.{RefusesKey};
 ghost use Rattle.pgw_dialogue.specs.Machine.{notes_end, report_at};
-ghost use Rattle.pgw_dialogue.specs.Wire.{IsEnd, Unless};
-ghost use Rattle.hothummei_c.specs.Opening.{Opens, held_behind};
+ghost use Rattle.pgw_dialogue.specs.Wire.{IsEndError, Unless};
+ghost use Rattle.hothummei_c.specs.Opening.{PutsStartup, held_behind};
 
 use crate::steps::feed;
 use bytes::BytesMut;
@@ -71,8 +71,8 @@ impl Drop for Held {
 
 // Puts out the message that logs in.
 fn open(alloc: Global, input: &Input<'_>, out: &mut BytesMut) -> PgWireClientResult<Notes>
-    ensures refused { IfSome (refused_config input.now.config.now) (λ key. Refuses key result) }
-    ensures opens { Opens (input_with input.now.config.now input.now.requests.now
+    ensures refused { IfSome (refused_config input.now.config.now) (λ key. RefusesKey key result) }
+    ensures opens { PutsStartup (input_with input.now.config.now input.now.requests.now
         input.now.nonce.now) out.old.items out.new.items result }
 {
     match check_config(alloc, input.config) {
@@ -158,7 +158,7 @@ impl Held {
         out: &mut BytesMut,
     ) -> PgWireClientResult<Held>
         // A configuration that demands what this client can't do is refused by that key, or memory is wanting.
-        ensures refused { IfSome (refused_config config) (λ key. Refuses key result) }
+        ensures refused { IfSome (refused_config config) (λ key. RefusesKey key result) }
         // It stands for no bytes given, and for the startup message put out. Else nothing is put out, and the error has its
         // cause.
         ensures starts { HeldStarts (input_with config requests nonce) limit out.old.items
@@ -232,7 +232,7 @@ impl Held {
 
     /// What it means that no more bytes come.
     pub fn at_end(&self) -> PgWireClientError
-        ensures end { IsEnd result }
+        ensures end { IsEndError result }
         ensures is { Unless result (result ≡ notes_end (dialogue_of self.now).notes) }
     {
         end_error(self.alloc, &self.notes)

@@ -3,7 +3,7 @@ ghost use Rattle.std.specs.Prelude.{◌≡◌, ◌≤◌, length, slice_get};
 ghost use Rattle.std.specs.FinMap as map;
 ghost use Rattle.std.specs.Option.{option_copied};
 ghost use Rattle.pgw_rows.specs.Cuts.{HasLength, Locates};
-ghost use Rattle.hothummei_c.specs.Reads.{CountsAs, FindsAnswer, FindsColumn, FindsFault, FindsField, FindsPair, FindsResult, FindsRow, FindsType, Found, PutsField, Pushes, PutsNext, PutsValues, SumsUp, Summed, TellsColumn, TellsCommand, TellsPair, TellsResult, answer_in, count_of, counted, first_field, kind_number, result_in, shape_number, status_number};
+ghost use Rattle.hothummei_c.specs.Reads.{CountsAs, FindsAnswer, FindsColumn, FindsFault, FindsField, FindsPair, FindsResult, FindsRow, FindsType, AnswersIndex, PutsField, Pushes, PutsNext, PutsValues, SumsUp, Summed, TellsColumn, TellsCommand, TellsPair, TellsResult, answer_in, rows_of_tag, row_value_count, first_field, kind_number, result_in, shape_number, status_number};
 
 use crate::codes::{NO_SUCH_INDEX, OK, OUT_OF_MEMORY, OUT_OF_PLACE};
 use crate::infos::{AnswerInfo, ColumnInfo, Pair, ResultInfo, RowInfo, Summary, TypeInfo};
@@ -70,7 +70,7 @@ fn pair_of(name: &Text, value: &Text) -> Pair
 // A parameter by its number.
 #[tactic(auto, using(crate::proofs::ReadLaws::one_later))]
 fn put_pair(parameters: &Params, index: usize, out: &mut Pair) -> u32
-    ensures { Found (slice_get (map.entries parameters.now) index) (TellsPair out.new) result }
+    ensures { AnswersIndex (slice_get (map.entries parameters.now) index) (TellsPair out.new) result }
 {
     let mut left = index;
     for (name, value) in parameters.iter() {
@@ -236,7 +236,7 @@ fn command_of(tag: &Option<Tag>) -> Value
 }
 
 fn count_of(tag: &Option<Tag>) -> Option<usize>
-    ensures { result ≡ count_of tag.now }
+    ensures { result ≡ rows_of_tag tag.now }
 {
     match tag {
         None => None,
@@ -370,7 +370,7 @@ fn put_next(values: &mut Vec<Value>, row: &[u8], at: usize) -> Result<usize, u32
 
 // How many values a row tells of.
 fn counted(count: i16) -> usize
-    ensures { result ≡ counted count }
+    ensures { result ≡ row_value_count count }
 {
     if count > 0 { count as usize } else { 0 }
 }

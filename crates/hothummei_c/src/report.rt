@@ -1,7 +1,7 @@
 //! What a session told, with the rows of its results by index.
 ghost use Rattle.std.specs.Prelude.{◌≡◌, [], map, IfOk};
 ghost use Rattle.pgw_wire.specs.Keys.{key_bytes};
-ghost use Rattle.hothummei_c.specs.Report.{described, kept_of, plain_told, result_of, rows_result, told_of, told_with};
+ghost use Rattle.hothummei_c.specs.Report.{told_described, kept_report, plain_told, command_result, rows_result, told_of, told_with};
 
 use crate::rows::Rows;
 use pgw_query::data_rows::DataRows;
@@ -94,7 +94,7 @@ fn rows_result(
 
 // What one command gave.
 fn result_of(alloc: Global, response: Response) -> Result<CommandResult, OutOfMemory>
-    ensures { IfOk result (λ r. r ≡ result_of response) }
+    ensures { IfOk result (λ r. r ≡ command_result response) }
 {
     match response {
         Response::EmptyQuery => Ok(CommandResult {
@@ -119,7 +119,7 @@ fn result_of(alloc: Global, response: Response) -> Result<CommandResult, OutOfMe
 }
 
 fn results_of(alloc: Global, responses: Vec<Response>) -> Result<Listed<CommandResult>, OutOfMemory>
-    ensures { IfOk result (λ all. all ≡ map result_of responses.items) }
+    ensures { IfOk result (λ all. all ≡ map command_result responses.items) }
 {
     let mut all = Listed::new(alloc);
     for response in responses {
@@ -169,7 +169,7 @@ fn with_rows(alloc: Global, kind: AnswerKind, rows: DataRows) -> Result<Told, Ou
 }
 
 fn described(alloc: Global, told: DescribeResponse) -> Result<Told, OutOfMemory>
-    ensures { IfOk result (λ all. all ≡ described told) }
+    ensures { IfOk result (λ all. all ≡ told_described told) }
 {
     let DescribeResponse {
         param_types,
@@ -241,7 +241,7 @@ fn key_of(alloc: Global, key: SecretKey) -> Result<Octets, OutOfMemory>
 
 /// What a session told, with an index of each result's rows.
 pub fn kept_of(alloc: Global, report: SessionReport) -> Result<Report, OutOfMemory>
-    ensures { IfOk result (λ kept. kept ≡ kept_of report) }
+    ensures { IfOk result (λ kept. kept ≡ kept_report report) }
 {
     let SessionReport {
         version,

@@ -1,7 +1,7 @@
 //! What stands behind a handle.
 ghost use Rattle.std.specs.Prelude.{◌≡◌, [], None, IsTrue, IfOk};
 ghost use Rattle.hothummei_c.specs.Codes.{code_of};
-ghost use Rattle.hothummei_c.specs.Session.{Fails, IsNew};
+ghost use Rattle.hothummei_c.specs.Session.{HandleFails, IsNewSession};
 
 use crate::codes::code_of;
 use crate::held::Held;
@@ -55,7 +55,7 @@ pub struct Session {
 
 /// A session with nothing in it.
 pub fn new_session(alloc: Global) -> Session
-    ensures { IsNew result }
+    ensures { IsNewSession result }
 {
     Session {
         alloc,
@@ -89,7 +89,7 @@ fn sentence_of(alloc: Global, e: &PgWireClientError) -> String {
 impl Session {
     /// Gives up, by this error.
     pub fn fail(&mut self, e: PgWireClientError) -> u32
-        ensures { Fails self.old self.new e result }
+        ensures { HandleFails self.old self.new e result }
     {
         let code = code_of(&e);
         self.sentence = sentence_of(self.alloc, &e);

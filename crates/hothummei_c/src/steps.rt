@@ -1,7 +1,7 @@
 //! Bytes that came, with the messages that are whole then.
 ghost use Rattle.std.specs.Prelude.{◌≡◌, ◌++◌, IfErr};
 ghost use Rattle.pgw_dialogue.specs.Input.{input_of};
-ghost use Rattle.pgw_dialogue.specs.Steps.{Took};
+ghost use Rattle.pgw_dialogue.specs.Steps.{TookInbox};
 ghost use Rattle.pgw_dialogue.specs.Wire.{IsOwn};
 
 use bytes::BytesMut;
@@ -21,7 +21,7 @@ fn take_all(
     out: &mut BytesMut,
 ) -> PgWireClientResult<bool>
     ensures own { IfErr result IsOwn }
-    ensures took { Took (input_of input.now) notes.old notes.new inbox.old inbox.new out.old.items
+    ensures took { TookInbox (input_of input.now) notes.old notes.new inbox.old inbox.new out.old.items
         out.new.items result }
 {
     'messages: loop {
@@ -44,7 +44,7 @@ pub fn feed(
     out: &mut BytesMut,
 ) -> PgWireClientResult<bool>
     ensures own { IfErr result IsOwn }
-    ensures took { Took (input_of input.now) notes.old notes.new (inbox.old ++ bytes.now) inbox.new
+    ensures took { TookInbox (input_of input.now) notes.old notes.new (inbox.old ++ bytes.now) inbox.new
         out.old.items out.new.items result }
 {
     match inbox.append(bytes) {

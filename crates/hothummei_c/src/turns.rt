@@ -1,6 +1,6 @@
 //! The turns of a session: bytes that came, and bytes that are to be sent.
 ghost use Rattle.std.specs.Prelude.{◌≡◌, string_bytes};
-ghost use Rattle.hothummei_c.specs.Session.{Began, Begins, EndsAt, Finishes, Sends, TakesBytes};
+ghost use Rattle.hothummei_c.specs.Session.{Began, HandleBegins, MeetsBytesEnd, FinishesReport, HandleSends, TakesBytes};
 ghost use Rattle.hothummei_c.specs.Turns.{Shows, phase_number};
 
 use crate::codes::{OK, OUT_OF_MEMORY, OUT_OF_PLACE, OUT_OF_RANGE};
@@ -33,7 +33,7 @@ fn begin(session: &mut Session, limit: u64) -> u32
 
 /// Begins the session: the message that logs in is to be sent.
 pub fn start(session: &mut Session, limit: u64) -> u32
-    ensures { Begins session.old session.new limit result }
+    ensures { HandleBegins session.old session.new limit result }
 {
     match session.phase {
         Phase::Asking => {}
@@ -47,7 +47,7 @@ pub fn start(session: &mut Session, limit: u64) -> u32
 
 // Makes the report of a dialogue that is done.
 fn finish(session: &mut Session, held: Held) -> u32
-    ensures { Finishes session.old session.new held result }
+    ensures { FinishesReport session.old session.new held result }
 {
     match kept_of(session.alloc, held.report()) {
         Ok(report) => {
@@ -98,7 +98,7 @@ pub fn pending(session: &mut Session, out: &mut Value) -> u32
 
 /// So many of these bytes are sent.
 pub fn sent(session: &mut Session, count: usize) -> u32
-    ensures { Sends session.old session.new count result }
+    ensures { HandleSends session.old session.new count result }
 {
     if count > session.out.len() {
         return OUT_OF_RANGE;
@@ -123,7 +123,7 @@ pub fn phase(session: &mut Session) -> u32
 
 /// No more bytes come.
 pub fn at_end(session: &mut Session) -> u32
-    ensures { EndsAt session.old session.new result }
+    ensures { MeetsBytesEnd session.old session.new result }
 {
     let Some(held) = &session.held else {
         return OUT_OF_PLACE;

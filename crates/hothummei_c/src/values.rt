@@ -1,7 +1,7 @@
 //! Bytes that are handed out, by where they lie.
 ghost use Rattle.std.specs.Prelude.{◌≡◌, length};
 ghost use Rattle.std.specs.Ptr.{as_ptr};
-ghost use Rattle.hothummei_c.specs.Values.{IsNull, Tells};
+ghost use Rattle.hothummei_c.specs.Values.{IsNull, HoldsCBytes};
 
 /// Bytes that lie in the session, or SQL's NULL.
 #[repr(C)]
@@ -23,7 +23,7 @@ fn pointer_of(bytes: &[u8]) -> *const u8
 /// These bytes.
 pub fn value_of(bytes: &[u8]) -> Value
     ensures at { result.at ≡ as_ptr bytes.entry }
-    ensures tells { Tells bytes.now result }
+    ensures tells { HoldsCBytes bytes.now result }
 {
     Value {
         at: pointer_of(bytes),

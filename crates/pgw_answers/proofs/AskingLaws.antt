@@ -16,13 +16,13 @@ use Rattle.pgw_answers.specs.declared.asking.Halt.TheVariants as halt
 use Rattle.pgw_answers.specs.declared.asking.AnswerEnd.{AnswerEnd}
 use Rattle.pgw_answers.specs.declared.asking.AnswerEnd.TheVariants as ends
 use Rattle.pgw_answers.specs.Said.{said_all}
-use Rattle.pgw_answers.specs.Answers.{answer_text, opened, rest_text}
-use Rattle.pgw_answers.specs.Lines.{Line, NotAsked}
-use Rattle.pgw_answers.specs.Pages.{Sheet, Prints, IsFront, HasStopped, whole_text, failed_behind}
-use Rattle.pgw_answers.specs.Asking.{Answered, Asked, unsent, starved, CountsEnd}
-use Rattle.pgw_answers.specs.Asking.{CountsHalt, EndsAt, AnswerLeaves, WrittenAt, Hearing}
-use Rattle.pgw_answers.specs.Asking.{PrintsAt, has_failed, said_at}
-use Rattle.pgw_answers.specs.Halting.{Closes, stopped, whole, part, end_at, end_behind, end_ready, halt_behind}
+use Rattle.pgw_answers.specs.Answers.{answer_text, columns_open, rest_text}
+use Rattle.pgw_answers.specs.Lines.{ServerLine, QueryNotAsked}
+use Rattle.pgw_answers.specs.Pages.{Sheet, PrintsHeard, IsFront, HasStopped, whole_text, failed_behind}
+use Rattle.pgw_answers.specs.Asking.{WritesAnswer, AsksAndPrints, unsent, starved, CountsEnd}
+use Rattle.pgw_answers.specs.Asking.{CountsHalt, IsAnswerEnd, AnswerLeaves, WrittenAt, HearsAnswers}
+use Rattle.pgw_answers.specs.Asking.{PrintsAtHalt, has_failed, said_at}
+use Rattle.pgw_answers.specs.Halting.{ClosesSheet, stopped, whole, part, end_at, end_behind, end_ready, halt_behind}
 use Rattle.pgw_answers.specs.Halting.{stop_in}
 
 -- the text of an answer that nothing was printed of
@@ -39,24 +39,24 @@ written_stopped : (by : Stop) (wrote text : List ℕ) → ((rest : List ℕ) × 
 written_stopped stop.Output wrote text f = f
 written_stopped stop.Memory wrote text f = f
 
-ends_stopped : (by : Stop) (saids : List Said) → EndsAt (end_behind by) saids
+ends_stopped : (by : Stop) (saids : List Said) → IsAnswerEnd (end_behind by) saids
 ends_stopped stop.Output saids = tt
 ends_stopped stop.Memory saids = tt
 
-leaves_stopped : (by : Stop) (old new : Line) (rest : List ℕ) → AnswerLeaves (end_behind by) old new rest
+leaves_stopped : (by : Stop) (old new : ServerLine) (rest : List ℕ) → AnswerLeaves (end_behind by) old new rest
 leaves_stopped stop.Output old new rest = tt
 leaves_stopped stop.Memory old new rest = tt
 
 -- what messages are where no result is open yet
 said_first : (f : RowFormat) (a : Sheet) (ms : List Backend)
     → a.answer ≡ record { format = f; printer = None; columns = 0 } → said_at a ms ≡ said_all None ms
-said_first f a ms answer = ap (λ (x : Answer). said_all (opened x) ms) answer
+said_first f a ms answer = ap (λ (x : Answer). said_all (columns_open x) ms) answer
 
-made : (f : RowFormat) (old new : Line) (a b : Sheet) (after : List ℕ) (why : Halt) (how : AnswerEnd)
-    → a.answer ≡ record { format = f; printer = None; columns = 0 } → (h : Hearing old new a b why)
-    → AnswerLeaves how old new h.rest → EndsAt how (said_at a h.messages)
+made : (f : RowFormat) (old new : ServerLine) (a b : Sheet) (after : List ℕ) (why : Halt) (how : AnswerEnd)
+    → a.answer ≡ record { format = f; printer = None; columns = 0 } → (h : HearsAnswers old new a b why)
+    → AnswerLeaves how old new h.rest → IsAnswerEnd how (said_at a h.messages)
     → WrittenAt how after (a.wrote ++ answer_text f (said_at a h.messages))
-    → Answered f old new a.wrote after how
+    → WritesAnswer f old new a.wrote after how
 made f old new a b after why how answer h leaves ends written = record {
   messages = h.messages;
   bytes = h.bytes;
@@ -64,14 +64,14 @@ made f old new a b after why how answer h leaves ends written = record {
   came = h.came;
   stand = h.stand;
   leaves = leaves;
-  ends = subst (λ (t : List Said). EndsAt how t) (said_first f a h.messages answer) ends;
+  ends = subst (λ (t : List Said). IsAnswerEnd how t) (said_first f a h.messages answer) ends;
   written = subst (λ (t : List Said). WrittenAt how after (a.wrote ++ answer_text f t)) (said_first f a h.messages
       answer) written;
 }
 
-stopped_by : (f : RowFormat) (old new : Line) (a b : Sheet) (after : List ℕ) (why : Halt) (by : Stop)
-    → a.answer ≡ record { format = f; printer = None; columns = 0 } → (h : Hearing old new a b why) → ((rest : List ℕ) × (after ++ rest ≡ a.wrote ++ answer_text f (said_at a h.messages)))
-    → Answered f old new a.wrote after (end_behind by)
+stopped_by : (f : RowFormat) (old new : ServerLine) (a b : Sheet) (after : List ℕ) (why : Halt) (by : Stop)
+    → a.answer ≡ record { format = f; printer = None; columns = 0 } → (h : HearsAnswers old new a b why) → ((rest : List ℕ) × (after ++ rest ≡ a.wrote ++ answer_text f (said_at a h.messages)))
+    → WritesAnswer f old new a.wrote after (end_behind by)
 stopped_by f old new a b after why by answer h front =
     made f old new a b after why (end_behind by) answer h (leaves_stopped by old new h.rest) (ends_stopped by
     (said_at a h.messages))
@@ -83,9 +83,9 @@ front_at : (f : RowFormat) (a : Sheet) (saids : List Said) (wrote : List ℕ)
 front_at f a saids wrote answer waits p = (p.0, p.1 ∙ text_is f a saids answer waits)
 
 -- printing stopped while messages were heard
-while_heard : (f : RowFormat) (old new : Line) (a b : Sheet) (why : Halt) (by : Stop)
+while_heard : (f : RowFormat) (old new : ServerLine) (a b : Sheet) (why : Halt) (by : Stop)
     → a.answer ≡ record { format = f; printer = None; columns = 0 } → a.waits ≡ [] → stop_in why ≡ Some by
-    → Hearing old new a b why → Answered f old new a.wrote b.wrote (end_behind by)
+    → HearsAnswers old new a b why → WritesAnswer f old new a.wrote b.wrote (end_behind by)
 while_heard f old new a b (halt.Stopped it) by answer waits is h =
     stopped_by f old new a b b.wrote (halt.Stopped it) by answer h (front_at f a (said_at a h.messages) b.wrote answer
     waits h.prints)
@@ -94,8 +94,8 @@ while_heard f old new a b halt.Ready by answer waits is h = absurd (cc)
 while_heard f old new a b halt.Misplaced by answer waits is h = absurd (cc)
 while_heard f old new a b halt.Lost by answer waits is h = absurd (cc)
 
-all_heard : (why : Halt) (ms : List Said) (a b : Sheet) → stop_in why ≡ None → PrintsAt why ms a b
-    → Prints ms a b
+all_heard : (why : Halt) (ms : List Said) (a b : Sheet) → stop_in why ≡ None → PrintsAtHalt why ms a b
+    → PrintsHeard ms a b
 all_heard halt.GoesOn ms a b is p = p
 all_heard halt.Ready ms a b is p = p
 all_heard halt.Misplaced ms a b is p = p
@@ -103,14 +103,14 @@ all_heard halt.Lost ms a b is p = p
 all_heard (halt.Stopped by) ms a b is p = absurd (cc)
 
 whole_is : (f : RowFormat) (a b : Sheet) (saids : List Said) → a.answer ≡ record { format = f; printer = None; columns = 0 }
-    → a.waits ≡ [] → Prints saids a b → whole_text b [] ≡ a.wrote ++ answer_text f saids
+    → a.waits ≡ [] → PrintsHeard saids a b → whole_text b [] ≡ a.wrote ++ answer_text f saids
 whole_is f a b saids answer waits p = p.text [] ∙ ap (whole_text a) (append-nil saids)
     ∙ text_is f a saids answer waits
 
 -- printing stopped at its end
-behind_heard : (f : RowFormat) (old new : Line) (a b : Sheet) (after : List ℕ) (why : Halt) (by : Stop)
+behind_heard : (f : RowFormat) (old new : ServerLine) (a b : Sheet) (after : List ℕ) (why : Halt) (by : Stop)
     → a.answer ≡ record { format = f; printer = None; columns = 0 } → a.waits ≡ [] → stop_in why ≡ None
-    → Hearing old new a b why → IsFront [] b after → Answered f old new a.wrote after (end_behind by)
+    → HearsAnswers old new a b why → IsFront [] b after → WritesAnswer f old new a.wrote after (end_behind by)
 behind_heard f old new a b after why by answer waits is h p =
     stopped_by f old new a b after why by answer h (
       p.0,
@@ -119,10 +119,10 @@ behind_heard f old new a b after why by answer waits is h p =
     )
 
 -- all was printed
-ready_heard : (f : RowFormat) (old new : Line) (a b : Sheet) (after : List ℕ) (failed : Bool)
-    → a.answer ≡ record { format = f; printer = None; columns = 0 } → (h : Hearing old new a b halt.Ready)
+ready_heard : (f : RowFormat) (old new : ServerLine) (a b : Sheet) (after : List ℕ) (failed : Bool)
+    → a.answer ≡ record { format = f; printer = None; columns = 0 } → (h : HearsAnswers old new a b halt.Ready)
     → has_failed (said_at a h.messages) ≡ failed → after ≡ a.wrote ++ answer_text f (said_at a h.messages)
-    → Answered f old new a.wrote after (end_ready failed)
+    → WritesAnswer f old new a.wrote after (end_ready failed)
 ready_heard f old new a b after true answer h failed text = made f old new a b after halt.Ready ends.Failed answer h
     h.leaves
     (h.halts, failed) text
@@ -130,10 +130,10 @@ ready_heard f old new a b after false answer h failed text = made f old new a b 
     h.leaves
     (h.halts, failed) text
 
-whole_heard : (f : RowFormat) (old new : Line) (a b : Sheet) (after : List ℕ) (why : Halt)
+whole_heard : (f : RowFormat) (old new : ServerLine) (a b : Sheet) (after : List ℕ) (why : Halt)
     → a.answer ≡ record { format = f; printer = None; columns = 0 } → a.waits ≡ [] → a.failed ≡ false → (why ≡ halt.GoesOn → ⊥)
-    → stop_in why ≡ None → Hearing old new a b why → after ≡ whole_text b []
-    → Answered f old new a.wrote after (end_at why b.failed)
+    → stop_in why ≡ None → HearsAnswers old new a b why → after ≡ whole_text b []
+    → WritesAnswer f old new a.wrote after (end_at why b.failed)
 whole_heard f old new a b after halt.GoesOn answer waits failed over is h text = absurd (over refl)
 whole_heard f old new a b after (halt.Stopped by) answer waits failed over is h text = absurd (cc)
 whole_heard f old new a b after halt.Ready answer waits failed over is h text =
@@ -149,10 +149,10 @@ whole_heard f old new a b after halt.Lost answer waits failed over is h text =
     ∙ whole_is f a b (said_at a h.messages) answer waits h.prints)
 
 -- an answer is its messages, and the end of its page
-pub answered : (f : RowFormat) (old new : Line) (a b : Sheet) (before now : ℕ) (after : List ℕ) (why : Halt) (how :
+pub answered : (f : RowFormat) (old new : ServerLine) (a b : Sheet) (before now : ℕ) (after : List ℕ) (why : Halt) (how :
     AnswerEnd) → a.answer ≡ record { format = f; printer = None; columns = 0 } → a.waits ≡ [] → a.failed ≡ false
-    → (why ≡ halt.GoesOn → ⊥) → Hearing old new a b why → Closes why b before now after how
-    → Answered f old new a.wrote after how
+    → (why ≡ halt.GoesOn → ⊥) → HearsAnswers old new a b why → ClosesSheet why b before now after how
+    → WritesAnswer f old new a.wrote after how
 answered f old new a b before now after why how answer waits failed over h (stopped by is text same end) =
     rw end (rw text (while_heard f old new a b why by answer waits is h))
 answered f old new a b before now after why how answer waits failed over h (whole is text same end) =
@@ -193,7 +193,7 @@ stops_halt halt.Misplaced by before now is c = absurd (cc)
 stops_halt halt.Lost by before now is c = absurd (cc)
 
 pub counted : (why : Halt) (s : Sheet) (first before now : ℕ) (after : List ℕ) (how : AnswerEnd)
-    → CountsHalt first before why → Closes why s before now after how → CountsEnd first now how
+    → CountsHalt first before why → ClosesSheet why s before now after how → CountsEnd first now how
 counted why s first before now after how c (stopped by is text same end) =
     rw end (rw same (counts_stopped by first before (stops_halt why by first before is c)))
 counted why s first before now after how c (whole is text same end) =
@@ -204,8 +204,8 @@ counted why s first before now after how c (part by is text stops end) =
 
 -- ---- a query that could not be sent
 
-pub unasked : (e : ClientError) (f : RowFormat) (query : List ℕ) (old new : Line) (wrote : List ℕ)
-    → NotAsked query old new e → Asked f query old new wrote wrote (end_at (halt_behind e) false)
+pub unasked : (e : ClientError) (f : RowFormat) (query : List ℕ) (old new : ServerLine) (wrote : List ℕ)
+    → QueryNotAsked query old new e → AsksAndPrints f query old new wrote wrote (end_at (halt_behind e) false)
 unasked client.OutOfMemory f query old new wrote n = starved n refl
 unasked e f query old new wrote n = unsent e n (λ is. absurd (cc)) refl
 

@@ -5,12 +5,12 @@ use Rattle.std.proofs.lemmas.List.{append-nil, take-append-drop}
 use Rattle.pgw_link.specs.Stream.{SinkTape}
 use Rattle.pgw_answers.specs.declared.said.Said.{Said}
 use Rattle.pgw_answers.specs.declared.answer.Answer.{Answer}
-use Rattle.pgw_answers.specs.Answers.{rest_text, open_text, opened, Hears, Shuts}
-use Rattle.pgw_answers.specs.Pages.{Sheet, Prints, IsFront, whole_text, failed_behind}
-use Rattle.pgw_answers.specs.Said.{is_failed, opened_by, opened_behind}
+use Rattle.pgw_answers.specs.Answers.{rest_text, open_text, columns_open, HearsSaid, Shuts}
+use Rattle.pgw_answers.specs.Pages.{Sheet, PrintsHeard, IsFront, whole_text, failed_behind}
+use Rattle.pgw_answers.specs.Said.{is_failed, open_columns, opened_behind}
 use Rattle.pgw_answers.specs.Written.{WroteFront}
 
-pub none_printed : (s : Sheet) → Prints [] s s
+pub none_printed : (s : Sheet) → PrintsHeard [] s s
 none_printed s = record { text = λ more. refl; failed = refl; open_is = refl }
 
 failed_on : (b : Bool) (xs ys : List Said) → failed_behind (failed_behind b xs) ys ≡ failed_behind b (xs ++ ys)
@@ -20,31 +20,31 @@ failed_on b (x ∷ xs) ys = failed_on (b || is_failed x) xs ys
 opened_on : (o : Option ℕ) (xs ys : List Said)
     → opened_behind (opened_behind o xs) ys ≡ opened_behind o (xs ++ ys)
 opened_on o [] ys = refl
-opened_on o (x ∷ xs) ys = opened_on (opened_by o x) xs ys
+opened_on o (x ∷ xs) ys = opened_on (open_columns o x) xs ys
 
-pub prints_on : (xs ys : List Said) (a b c : Sheet) → Prints xs a b → Prints ys b c → Prints (xs ++ ys) a c
+pub prints_on : (xs ys : List Said) (a b c : Sheet) → PrintsHeard xs a b → PrintsHeard ys b c → PrintsHeard (xs ++ ys) a c
 prints_on xs ys a b c p q = record {
   text = λ more. q.text more ∙ p.text (ys ++ more) ∙ ap (λ (t : List Said). whole_text a t) (sym (append_assoc xs ys
       more));
   failed = q.failed ∙ ap (λ (f : Bool). failed_behind f ys) p.failed ∙ failed_on a.failed xs ys;
-  open_is = q.open_is ∙ ap (λ (o : Option ℕ). opened_behind o ys) p.open_is ∙ opened_on (opened a.answer) xs ys;
+  open_is = q.open_is ∙ ap (λ (o : Option ℕ). opened_behind o ys) p.open_is ∙ opened_on (columns_open a.answer) xs ys;
 }
 
 -- what stops behind what was printed stops behind all of it
-pub front_on : (xs ys : List Said) (a b : Sheet) (wrote : List ℕ) → Prints xs a b → IsFront ys b wrote
+pub front_on : (xs ys : List Said) (a b : Sheet) (wrote : List ℕ) → PrintsHeard xs a b → IsFront ys b wrote
     → IsFront (xs ++ ys) a wrote
 front_on xs ys a b wrote p f = (f.0, f.1 ∙ p.text ys)
 
 -- what waits is written
 pub written_out : (a b : Sheet) → b.wrote ≡ a.wrote ++ a.waits → b.waits ≡ [] → b.answer ≡ a.answer
-    → b.failed ≡ a.failed → Prints [] a b
+    → b.failed ≡ a.failed → PrintsHeard [] a b
 written_out a b wrote waits answer failed = record {
   text = λ more.
       ap (λ (t : List ℕ). (b.wrote ++ t) ++ rest_text b.answer more) waits
       ∙ ap (λ (t : List ℕ). t ++ rest_text b.answer more) (append-nil b.wrote ∙ wrote)
       ∙ ap (λ (x : Answer). (a.wrote ++ a.waits) ++ rest_text x more) answer;
   failed = failed;
-  open_is = ap (λ (x : Answer). opened x) answer;
+  open_is = ap (λ (x : Answer). columns_open x) answer;
 }
 
 -- or a front of it
@@ -66,8 +66,8 @@ pub unwritten : (xs : List Said) (a : Sheet) → IsFront xs a a.wrote
 unwritten xs a = (a.waits ++ rest_text a.answer xs, sym (append_assoc a.wrote a.waits (rest_text a.answer xs)))
 
 -- what was heard waits
-pub heard_printed : (s : Said) (a b : Sheet) → Hears a.answer s a.waits b.waits b.answer → b.wrote ≡ a.wrote
-    → b.failed ≡ (a.failed || is_failed s) → Prints (s ∷ []) a b
+pub heard_printed : (s : Said) (a b : Sheet) → HearsSaid a.answer s a.waits b.waits b.answer → b.wrote ≡ a.wrote
+    → b.failed ≡ (a.failed || is_failed s) → PrintsHeard (s ∷ []) a b
 heard_printed s a b h wrote failed = record {
   text = λ more.
       append_assoc b.wrote b.waits (rest_text b.answer more)

@@ -3,32 +3,32 @@ use Rattle.std.specs.Prelude.{◌≡◌, ℕ, List, [], ◌∷◌, ◌++◌, Opt
 use Rattle.pgw_output.specs.declared.printer.RowFormat.{RowFormat}
 use Rattle.pgw_output.specs.declared.printer.RowPrinter.{RowPrinter}
 use Rattle.pgw_output.specs.Columns.{Value}
-use Rattle.pgw_output.specs.Printing.{result_text, text_for}
+use Rattle.pgw_output.specs.Printing.{output_text, text_for}
 use Rattle.pgw_answers.specs.declared.said.Said.{Said}
 use Rattle.pgw_answers.specs.declared.said.Said.TheVariants as said
 use Rattle.pgw_answers.specs.declared.answer.Answer.{Answer}
-use Rattle.pgw_answers.specs.Said.{opened_by}
+use Rattle.pgw_answers.specs.Said.{open_columns}
 
 -- the rows of a result, whose columns stand before these messages: up to the first that is neither
 -- a row nor beside the answer
-abbrev pub rows_of : List Said → List (List Value)
-rows_of [] = []
-rows_of (said.Row values ∷ more) = values ∷ rows_of more
-rows_of (said.Beside ∷ more) = rows_of more
-rows_of (m ∷ more) = []
+abbrev pub said_rows : List Said → List (List Value)
+said_rows [] = []
+said_rows (said.Row values ∷ more) = values ∷ said_rows more
+said_rows (said.Beside ∷ more) = said_rows more
+said_rows (m ∷ more) = []
 
 -- the text of each result of an answer, in order
 abbrev pub answer_text : RowFormat → List Said → List ℕ
 answer_text f [] = []
 answer_text f (said.Columns columns ∷ more) =
-    result_text f columns (rows_of more) ++ answer_text f more
+    output_text f columns (said_rows more) ++ answer_text f more
 answer_text f (m ∷ more) = answer_text f more
 
 -- ---- an answer of which these messages are still to come
 
 abbrev pub open_text : Option RowPrinter → List Said → List ℕ
 open_text None more = []
-open_text (Some printer) more = text_for printer (rows_of more)
+open_text (Some printer) more = text_for printer (said_rows more)
 
 -- what is to be printed: the rest of the result that is open, and the results behind it
 abbrev pub rest_text : Answer → List Said → List ℕ
@@ -39,14 +39,14 @@ abbrev pub opened_if : Option RowPrinter → ℕ → Option ℕ
 opened_if None count = None
 opened_if (Some printer) count = Some count
 
-abbrev pub opened : Answer → Option ℕ
-opened a = opened_if a.printer a.columns
+abbrev pub columns_open : Answer → Option ℕ
+columns_open a = opened_if a.printer a.columns
 
 -- whatever comes, what is printed now and then is what was to be printed of this and of that
-pub record Hears (old : Answer) (this : Said) (before after : List ℕ) (new : Answer) : Type 0 where
+pub record HearsSaid (old : Answer) (this : Said) (before after : List ℕ) (new : Answer) : Type 0 where
   pub text : (more : List Said) → after ++ rest_text new more ≡ before ++ rest_text old (this ∷
       more)
-  pub open_is : opened new ≡ opened_by (opened old) this
+  pub open_is : columns_open new ≡ open_columns (columns_open old) this
 
 -- what was open is printed to its end
 pub record Shuts (old : Answer) (before after : List ℕ) (new : Answer) : Type 0 where

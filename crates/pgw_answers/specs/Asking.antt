@@ -13,23 +13,23 @@ use Rattle.pgw_answers.specs.declared.asking.Halt.{Halt}
 use Rattle.pgw_answers.specs.declared.asking.Halt.TheVariants as halt
 use Rattle.pgw_answers.specs.declared.asking.AnswerEnd.{AnswerEnd}
 use Rattle.pgw_answers.specs.declared.asking.AnswerEnd.TheVariants as ends
-use Rattle.pgw_answers.specs.Said.{said_all, turn_of}
-use Rattle.pgw_answers.specs.Answers.{answer_text, opened}
-use Rattle.pgw_answers.specs.Lines.{Line, Stand, Came, Calm, Asks, NotAsked, IsLost}
+use Rattle.pgw_answers.specs.Said.{said_all, said_turn}
+use Rattle.pgw_answers.specs.Answers.{answer_text, columns_open}
+use Rattle.pgw_answers.specs.Lines.{ServerLine, Stand, LineBytesCame, Calm, AsksQuery, QueryNotAsked, IsLost}
 use Rattle.pgw_types.specs.Counts.{Rose}
-use Rattle.pgw_answers.specs.Pages.{Sheet, Prints, IsFront, HasStopped, failed_behind}
+use Rattle.pgw_answers.specs.Pages.{Sheet, PrintsHeard, IsFront, HasStopped, failed_behind}
 
 -- the answer goes on behind each of these
-abbrev pub GoesOn : List Said → Type 0
-GoesOn saids = All (λ s. turn_of s ≡ turn.GoesOn) saids
+abbrev pub AnswerGoesOn : List Said → Type 0
+AnswerGoesOn saids = All (λ s. said_turn s ≡ turn.GoesOn) saids
 
 -- it goes on up to the last one, whose turn is this
-pub record EndsBy (t : Turn) (saids : List Said) : Type 0 where
+pub record AnswerEndsBy (t : Turn) (saids : List Said) : Type 0 where
   pub front : List Said
   pub last : Said
   pub is : saids ≡ front ++ last ∷ []
-  pub goes_on : GoesOn front
-  pub ends : turn_of last ≡ t
+  pub goes_on : AnswerGoesOn front
+  pub ends : said_turn last ≡ t
 
 -- an error of the server is among them
 abbrev pub has_failed : List Said → Bool
@@ -39,58 +39,58 @@ has_failed saids = failed_behind false saids
 
 -- what was heard where hearing halts so
 abbrev pub HaltsAt : Halt → List Said → Type 0
-HaltsAt halt.GoesOn saids = GoesOn saids
-HaltsAt halt.Lost saids = GoesOn saids
-HaltsAt halt.Ready saids = EndsBy turn.Ready saids
-HaltsAt halt.Misplaced saids = EndsBy turn.Misplaced saids
+HaltsAt halt.GoesOn saids = AnswerGoesOn saids
+HaltsAt halt.Lost saids = AnswerGoesOn saids
+HaltsAt halt.Ready saids = AnswerEndsBy turn.Ready saids
+HaltsAt halt.Misplaced saids = AnswerEndsBy turn.Misplaced saids
 HaltsAt (halt.Stopped why) saids = Unit {0}
 
 -- the bytes that were not taken, and that hearing may go on, or why it cannot
-abbrev pub LeavesAt : Halt → Line → Line → List ℕ → Type 0
-LeavesAt halt.GoesOn old new rest = (rest ≡ new.buffer) × Calm old new
-LeavesAt halt.Ready old new rest = (rest ≡ new.buffer) × Calm old new
-LeavesAt halt.Misplaced old new rest = (rest ≡ new.buffer) × Calm old new
-LeavesAt halt.Lost old new rest = (rest ≡ new.buffer) × IsLost old new
-LeavesAt (halt.Stopped why) old new rest = Unit {0}
+abbrev pub LeavesAtHalt : Halt → ServerLine → ServerLine → List ℕ → Type 0
+LeavesAtHalt halt.GoesOn old new rest = (rest ≡ new.buffer) × Calm old new
+LeavesAtHalt halt.Ready old new rest = (rest ≡ new.buffer) × Calm old new
+LeavesAtHalt halt.Misplaced old new rest = (rest ≡ new.buffer) × Calm old new
+LeavesAtHalt halt.Lost old new rest = (rest ≡ new.buffer) × IsLost old new
+LeavesAtHalt (halt.Stopped why) old new rest = Unit {0}
 
 -- what was printed of them: all, but a front where printing stopped
-abbrev pub PrintsAt : Halt → List Said → Sheet → Sheet → Type 0
-PrintsAt (halt.Stopped why) saids old new = IsFront saids old new.wrote
-PrintsAt halt.GoesOn saids old new = Prints saids old new
-PrintsAt halt.Ready saids old new = Prints saids old new
-PrintsAt halt.Misplaced saids old new = Prints saids old new
-PrintsAt halt.Lost saids old new = Prints saids old new
+abbrev pub PrintsAtHalt : Halt → List Said → Sheet → Sheet → Type 0
+PrintsAtHalt (halt.Stopped why) saids old new = IsFront saids old new.wrote
+PrintsAtHalt halt.GoesOn saids old new = PrintsHeard saids old new
+PrintsAtHalt halt.Ready saids old new = PrintsHeard saids old new
+PrintsAtHalt halt.Misplaced saids old new = PrintsHeard saids old new
+PrintsAtHalt halt.Lost saids old new = PrintsHeard saids old new
 
 -- what messages are behind those that were heard
 abbrev pub said_at : Sheet → List Backend → List Said
-said_at s messages = said_all (opened s.answer) messages
+said_at s messages = said_all (columns_open s.answer) messages
 
 -- messages were heard that stand in the bytes that were not taken and in those that came
-pub record Hearing (old new : Line) (before after : Sheet) (why : Halt) : Type 0 where
+pub record HearsAnswers (old new : ServerLine) (before after : Sheet) (why : Halt) : Type 0 where
   pub messages : List Backend
   pub bytes : List ℕ
   pub rest : List ℕ
-  pub came : Came bytes old new
+  pub came : LineBytesCame bytes old new
   pub stand : Stand old.version (old.buffer ++ bytes) messages rest
-  pub leaves : LeavesAt why old new rest
+  pub leaves : LeavesAtHalt why old new rest
   pub halts : HaltsAt why (said_at before messages)
-  pub prints : PrintsAt why (said_at before messages) before after
+  pub prints : PrintsAtHalt why (said_at before messages) before after
 
 -- ---- an answer
 
 -- how it ended: with ReadyForQuery, behind no error of the server or behind one; with a message
 -- that has no place; before that; or printing stopped
-abbrev pub EndsAt : AnswerEnd → List Said → Type 0
-EndsAt ends.Well saids = EndsBy turn.Ready saids × (has_failed saids ≡ false)
-EndsAt ends.Failed saids = EndsBy turn.Ready saids × (has_failed saids ≡ true)
-EndsAt ends.Misplaced saids = EndsBy turn.Misplaced saids
-EndsAt ends.Lost saids = GoesOn saids
-EndsAt ends.NoOutput saids = Unit {0}
-EndsAt ends.NoMemory saids = Unit {0}
+abbrev pub IsAnswerEnd : AnswerEnd → List Said → Type 0
+IsAnswerEnd ends.Well saids = AnswerEndsBy turn.Ready saids × (has_failed saids ≡ false)
+IsAnswerEnd ends.Failed saids = AnswerEndsBy turn.Ready saids × (has_failed saids ≡ true)
+IsAnswerEnd ends.Misplaced saids = AnswerEndsBy turn.Misplaced saids
+IsAnswerEnd ends.Lost saids = AnswerGoesOn saids
+IsAnswerEnd ends.NoOutput saids = Unit {0}
+IsAnswerEnd ends.NoMemory saids = Unit {0}
 
 -- what stands behind its messages was not taken; and why no more of them are heard, where it was
 -- lost
-abbrev pub AnswerLeaves : AnswerEnd → Line → Line → List ℕ → Type 0
+abbrev pub AnswerLeaves : AnswerEnd → ServerLine → ServerLine → List ℕ → Type 0
 AnswerLeaves ends.Well old new rest = (rest ≡ new.buffer) × Calm old new
 AnswerLeaves ends.Failed old new rest = (rest ≡ new.buffer) × Calm old new
 AnswerLeaves ends.Misplaced old new rest = (rest ≡ new.buffer) × Calm old new
@@ -109,39 +109,39 @@ WrittenAt ends.Lost wrote text = wrote ≡ text
 
 -- An answer was printed: the messages that stood at the front of the bytes that were not taken and
 -- of those that came, and the text of their results.
-pub record Answered (f : RowFormat) (old new : Line) (before after : List ℕ) (how : AnswerEnd)
+pub record WritesAnswer (f : RowFormat) (old new : ServerLine) (before after : List ℕ) (how : AnswerEnd)
     : Type 0 where
   pub messages : List Backend
   pub bytes : List ℕ
   pub rest : List ℕ
-  pub came : Came bytes old new
+  pub came : LineBytesCame bytes old new
   pub stand : Stand old.version (old.buffer ++ bytes) messages rest
   pub leaves : AnswerLeaves how old new rest
-  pub ends : EndsAt how (said_all None messages)
+  pub ends : IsAnswerEnd how (said_all None messages)
   pub written : WrittenAt how after (before ++ answer_text f (said_all None messages))
 
 -- A query was asked and its answer printed; or it could not be sent, for this cause, of which one is
 -- want of memory, and nothing was printed.
-pub data Asked (f : RowFormat) (query : List ℕ) (old new : Line) (before after : List ℕ)
+pub data AsksAndPrints (f : RowFormat) (query : List ℕ) (old new : ServerLine) (before after : List ℕ)
     : AnswerEnd → Type 0 where
-  unsent : (e : ClientError) → NotAsked query old new e → (e ≡ client.OutOfMemory → ⊥)
-      → after ≡ before → Asked f query old new before after ends.Lost
-  starved : NotAsked query old new client.OutOfMemory → after ≡ before
-      → Asked f query old new before after ends.NoMemory
-  asked : (how : AnswerEnd) (sent : Line) → Asks query old sent
-      → Answered f sent new before after how → Asked f query old new before after how
+  unsent : (e : ClientError) → QueryNotAsked query old new e → (e ≡ client.OutOfMemory → ⊥)
+      → after ≡ before → AsksAndPrints f query old new before after ends.Lost
+  starved : QueryNotAsked query old new client.OutOfMemory → after ≡ before
+      → AsksAndPrints f query old new before after ends.NoMemory
+  asked : (how : AnswerEnd) (sent : ServerLine) → AsksQuery query old sent
+      → WritesAnswer f sent new before after how → AsksAndPrints f query old new before after how
 
 -- Queries were asked in turn, up to the first whose answer did not end well.
 pub data AskedAll (f : RowFormat)
-    : List (List ℕ) → Line → Line → List ℕ → List ℕ → AnswerEnd → Type 0 where
-  none : (l : Line) (wrote : List ℕ) → AskedAll f [] l l wrote wrote ends.Well
-  next : (query : List ℕ) (more : List (List ℕ)) (how : AnswerEnd) (old mid new : Line)
-      (before between after : List ℕ) → Asked f query old mid before between ends.Well
+    : List (List ℕ) → ServerLine → ServerLine → List ℕ → List ℕ → AnswerEnd → Type 0 where
+  none : (l : ServerLine) (wrote : List ℕ) → AskedAll f [] l l wrote wrote ends.Well
+  next : (query : List ℕ) (more : List (List ℕ)) (how : AnswerEnd) (old mid new : ServerLine)
+      (before between after : List ℕ) → AsksAndPrints f query old mid before between ends.Well
       → AskedAll f more mid new between after how
       → AskedAll f (query ∷ more) old new before after how
-  last : (query : List ℕ) (more : List (List ℕ)) (how : AnswerEnd) (old new : Line)
+  last : (query : List ℕ) (more : List (List ℕ)) (how : AnswerEnd) (old new : ServerLine)
       (before after : List ℕ) → (how ≡ ends.Well → ⊥)
-      → Asked f query old new before after how
+      → AsksAndPrints f query old new before after how
       → AskedAll f (query ∷ more) old new before after how
 
 -- ---- counts
@@ -164,8 +164,8 @@ CountsHalt before now halt.Misplaced = now ≡ before
 CountsHalt before now halt.Lost = now ≡ before
 
 -- how much there is to hear at most
-abbrev pub weight : Line → ℕ
-weight l = 2 * l.left + length l.buffer
+abbrev pub hearing_weight : ServerLine → ℕ
+hearing_weight l = 2 * l.left + length l.buffer
 
-abbrev pub Falls : Line → Line → Halt → Type 0
-Falls old new why = why ≡ halt.GoesOn → weight new < weight old
+abbrev pub Falls : ServerLine → ServerLine → Halt → Type 0
+Falls old new why = why ≡ halt.GoesOn → hearing_weight new < hearing_weight old

@@ -47,11 +47,11 @@ stop_in halt.Lost = None
 
 -- Nothing more is written where printing stopped; else the end of a page was written, or a front of
 -- it where printing stops in that.
-pub data Closes (why : Halt) (s : Sheet) (before now : ℕ) (after : List ℕ) (how : AnswerEnd)
+pub data ClosesSheet (why : Halt) (s : Sheet) (before now : ℕ) (after : List ℕ) (how : AnswerEnd)
     : Type 0 where
   stopped : (by : Stop) → stop_in why ≡ Some by → after ≡ s.wrote → now ≡ before
-      → how ≡ end_behind by → Closes why s before now after how
+      → how ≡ end_behind by → ClosesSheet why s before now after how
   whole : stop_in why ≡ None → after ≡ whole_text s [] → now ≡ before
-      → how ≡ end_at why s.failed → Closes why s before now after how
+      → how ≡ end_at why s.failed → ClosesSheet why s before now after how
   part : (by : Stop) → stop_in why ≡ None → IsFront [] s after → HasStopped before now by
-      → how ≡ end_behind by → Closes why s before now after how
+      → how ≡ end_behind by → ClosesSheet why s before now after how

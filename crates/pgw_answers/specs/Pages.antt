@@ -6,7 +6,7 @@ use Rattle.pgw_answers.specs.declared.answer.Answer.{Answer}
 use Rattle.pgw_answers.specs.declared.page.Page.{Page}
 use Rattle.pgw_answers.specs.declared.page.Stop.{Stop}
 use Rattle.pgw_answers.specs.declared.page.Stop.TheVariants as stop
-use Rattle.pgw_answers.specs.Answers.{opened, rest_text}
+use Rattle.pgw_answers.specs.Answers.{columns_open, rest_text}
 use Rattle.pgw_answers.specs.Said.{is_failed, opened_behind}
 
 -- what was written, what waits to be written, where the printing of the answer stands, and whether
@@ -35,10 +35,10 @@ failed_behind before [] = before
 failed_behind before (s ∷ more) = failed_behind (before || is_failed s) more
 
 -- these were heard: whatever comes, what is written in the end is as it was to be of these and that
-pub record Prints (heard : List Said) (old new : Sheet) : Type 0 where
+pub record PrintsHeard (heard : List Said) (old new : Sheet) : Type 0 where
   pub text : (more : List Said) → whole_text new more ≡ whole_text old (heard ++ more)
   pub failed : new.failed ≡ failed_behind old.failed heard
-  pub open_is : opened new.answer ≡ opened_behind (opened old.answer) heard
+  pub open_is : columns_open new.answer ≡ opened_behind (columns_open old.answer) heard
 
 -- what is written is a front of what was to be written of these
 abbrev pub IsFront : List Said → Sheet → List ℕ → Type 0

@@ -9,7 +9,7 @@ use Rattle.pgw_wire.specs.Values.{nullable_at}
 use Rattle.pgw_query.specs.declared.data.DataRow.{DataRow}
 use Rattle.pgw_query.specs.declared.data.FieldDescription.{FieldDescription}
 use Rattle.pgw_output.specs.declared.columns.Column.{Column}
-use Rattle.pgw_output.specs.Columns.{Value, kind_of}
+use Rattle.pgw_output.specs.Columns.{Value, column_kind}
 use Rattle.pgw_backend.specs.declared.backend.PgWireBackendMessage.{PgWireBackendMessage as Backend}
 use Rattle.pgw_backend.specs.declared.backend.PgWireBackendMessage.TheVariants as backend
 use Rattle.pgw_answers.specs.declared.said.Said.{Said}
@@ -19,14 +19,14 @@ use Rattle.pgw_answers.specs.declared.said.Turn.TheVariants as turn
 
 -- a column has the name and the type that its description tells
 abbrev pub column_of : FieldDescription → Column
-column_of field = record { name = field.name; kind = kind_of field.type_id }
+column_of field = record { name = field.name; kind = column_kind field.type_id }
 
 abbrev pub columns_of : List FieldDescription → List Column
 columns_of fields = map column_of fields
 
 -- its values come as text
-abbrev pub is_text : FieldDescription → Bool
-is_text field = int_eq field.format_code (pos 0)
+abbrev pub is_text_field : FieldDescription → Bool
+is_text_field field = int_eq field.format_code (pos 0)
 
 -- columns whose values are not all text have no place in the answer of a simple query
 abbrev pub columns_said : Bool → List Column → Said
@@ -47,7 +47,7 @@ row_said (Err e) = said.Misplaced
 -- place in it
 abbrev pub said_by : Backend → Said
 said_by (backend.RowDescription m) =
-    columns_said (list_all is_text m.fields) (columns_of m.fields)
+    columns_said (list_all is_text_field m.fields) (columns_of m.fields)
 said_by (backend.DataRow m) = row_said (values_of m)
 said_by (backend.CommandComplete m) = said.Done
 said_by (backend.EmptyQueryResponse m) = said.Done
@@ -62,44 +62,44 @@ said_by m = said.Misplaced
 
 -- a row has as many values as the result that is open has columns, and has no place where none is
 -- open
-abbrev pub row_in : Option ℕ → List Value → Said
-row_in (Some count) values = if length values == count then said.Row values else said.Misplaced
-row_in None values = said.Misplaced
+abbrev pub said_row : Option ℕ → List Value → Said
+said_row (Some count) values = if length values == count then said.Row values else said.Misplaced
+said_row None values = said.Misplaced
 
 abbrev pub placed : Option ℕ → Said → Said
-placed opened (said.Row values) = row_in opened values
+placed opened (said.Row values) = said_row opened values
 placed opened s = s
 
 abbrev pub said_in : Option ℕ → Backend → Said
 said_in opened m = placed opened (said_by m)
 
 -- how many columns the result has that is open behind it, where one is
-abbrev pub opened_by : Option ℕ → Said → Option ℕ
-opened_by opened (said.Columns columns) = Some (length columns)
-opened_by opened (said.Row values) = opened
-opened_by opened said.Beside = opened
-opened_by opened s = None
+abbrev pub open_columns : Option ℕ → Said → Option ℕ
+open_columns opened (said.Columns columns) = Some (length columns)
+open_columns opened (said.Row values) = opened
+open_columns opened said.Beside = opened
+open_columns opened s = None
 
 abbrev pub opened_behind : Option ℕ → List Said → Option ℕ
 opened_behind opened [] = opened
-opened_behind opened (s ∷ more) = opened_behind (opened_by opened s) more
+opened_behind opened (s ∷ more) = opened_behind (open_columns opened s) more
 
 -- what these messages are, one behind the other
 abbrev pub said_all : Option ℕ → List Backend → List Said
 said_all opened [] = []
 said_all opened (m ∷ more) =
-    said_in opened m ∷ said_all (opened_by opened (said_in opened m)) more
+    said_in opened m ∷ said_all (open_columns opened (said_in opened m)) more
 
 -- ---- how an answer goes on
 
-abbrev pub turn_of : Said → Turn
-turn_of said.Ready = turn.Ready
-turn_of said.Misplaced = turn.Misplaced
-turn_of (said.Columns columns) = turn.GoesOn
-turn_of (said.Row values) = turn.GoesOn
-turn_of said.Done = turn.GoesOn
-turn_of said.Failed = turn.GoesOn
-turn_of said.Beside = turn.GoesOn
+abbrev pub said_turn : Said → Turn
+said_turn said.Ready = turn.Ready
+said_turn said.Misplaced = turn.Misplaced
+said_turn (said.Columns columns) = turn.GoesOn
+said_turn (said.Row values) = turn.GoesOn
+said_turn said.Done = turn.GoesOn
+said_turn said.Failed = turn.GoesOn
+said_turn said.Beside = turn.GoesOn
 
 abbrev pub is_failed : Said → Bool
 is_failed said.Failed = true

@@ -2,7 +2,7 @@
 ghost use Rattle.std.specs.Prelude.{◌≡◌, None, IfOk};
 ghost use Rattle.pgw_output.specs.Columns.{Value};
 ghost use Rattle.pgw_answers.specs.declared.said.Said.TheVariants as said;
-ghost use Rattle.pgw_answers.specs.Answers.{Hears, Shuts, opened as opened_in};
+ghost use Rattle.pgw_answers.specs.Answers.{HearsSaid, Shuts, columns_open as opened_in};
 
 use crate::said::Said;
 use pgw_output::columns::Column;
@@ -67,7 +67,7 @@ impl Answer {
         out: &mut Vec<u8>,
     ) -> Result<Answer, OutOfMemory>
         requires { self.printer ≡ None }
-        ensures { IfOk result (Hears self (said.Columns columns) out.old.items out.new.items) }
+        ensures { IfOk result (HearsSaid self (said.Columns columns) out.old.items out.new.items) }
     {
         let Answer {
             format,
@@ -87,7 +87,7 @@ impl Answer {
     // Prints a row of the result that is open; one of none is passed over.
     #[tactic(auto, using(crate::proofs::AnswerLaws::row_printed, crate::proofs::AnswerLaws::row_passed))]
     fn row(self, alloc: Global, row: Row, out: &mut Vec<u8>) -> Result<Answer, OutOfMemory>
-        ensures { IfOk result (Hears self (said.Row row) out.old.items out.new.items) }
+        ensures { IfOk result (HearsSaid self (said.Row row) out.old.items out.new.items) }
     {
         let Answer {
             format,
@@ -113,7 +113,7 @@ impl Answer {
     /// Prints what comes next of an answer.
     #[tactic(auto, using(crate::proofs::AnswerLaws::columns_heard, crate::proofs::AnswerLaws::beside_heard, crate::proofs::AnswerLaws::done_heard, crate::proofs::AnswerLaws::failed_heard, crate::proofs::AnswerLaws::ready_heard, crate::proofs::AnswerLaws::misplaced_heard))]
     pub fn hear(self, alloc: Global, said: Said, out: &mut Vec<u8>) -> Result<Answer, OutOfMemory>
-        ensures { IfOk result (Hears self said out.old.items out.new.items) }
+        ensures { IfOk result (HearsSaid self said out.old.items out.new.items) }
     {
         match said {
             Said::Columns(columns) => {

@@ -1,10 +1,10 @@
 //! Queries that are asked, and their answers.
 ghost use Rattle.std.specs.Prelude.{◌≡◌, ℕ, [], Some, None, Ok};
 ghost use Rattle.pgw_answers.specs.declared.asking.Halt.TheVariants as halt;
-ghost use Rattle.pgw_answers.specs.Asking.{Answered, Asked, AskedAll, CountsEnd, CountsHalt, Falls, Hearing};
-ghost use Rattle.pgw_answers.specs.Halting.{Closes, end_at, end_behind, halt_behind, halt_of, stop_in};
-ghost use Rattle.pgw_answers.specs.Lines.{Awaits, Line, Takes};
-ghost use Rattle.pgw_answers.specs.Pages.{Prints, Sheet, sheet};
+ghost use Rattle.pgw_answers.specs.Asking.{WritesAnswer, AsksAndPrints, AskedAll, CountsEnd, CountsHalt, Falls, HearsAnswers};
+ghost use Rattle.pgw_answers.specs.Halting.{ClosesSheet, end_at, end_behind, halt_behind, halt_of, stop_in};
+ghost use Rattle.pgw_answers.specs.Lines.{NeedsBytes, ServerLine, LineTakes};
+ghost use Rattle.pgw_answers.specs.Pages.{PrintsHeard, Sheet, sheet};
 
 use crate::faults::told_of_error;
 use crate::messages::Messages;
@@ -73,8 +73,8 @@ fn lose<E: Sink>(alloc: Global, error: PgWireClientError, errors: &mut E) -> Hal
 
 // Waits for more bytes.
 fn fill<M: Messages, E: Sink>(alloc: Global, source: &mut M, errors: &mut E) -> Halt
-    ensures hears { (before after : Sheet) → Prints [] before after → Awaits (M.line source.old) →
-        Hearing (M.line source.old) (M.line source.new) before after result }
+    ensures hears { (before after : Sheet) → PrintsHeard [] before after → NeedsBytes (M.line source.old) →
+        HearsAnswers (M.line source.old) (M.line source.new) before after result }
     ensures falls { Falls (M.line source.old) (M.line source.new) result }
     ensures counts { (n : ℕ) → CountsHalt n n result }
 {
@@ -93,7 +93,7 @@ fn wait_for_more<M: Messages, O: Sink, E: Sink>(
     output: &mut O,
     errors: &mut E,
 ) -> Halt
-    ensures hears { Awaits (M.line source.old) → Hearing (M.line source.old) (M.line source.new)
+    ensures hears { NeedsBytes (M.line source.old) → HearsAnswers (M.line source.old) (M.line source.new)
         (sheet (O.tape output.old).wrote page.old) (sheet (O.tape output.new).wrote page.new)
         result }
     ensures counts { CountsHalt (O.faults output.old) (O.faults output.new) result }
@@ -114,7 +114,7 @@ fn hear_message<O: Sink, E: Sink>(
     output: &mut O,
     errors: &mut E,
 ) -> Halt
-    ensures hears { (old new : Line) → Takes old new (Ok (Some message.now)) → Hearing old new
+    ensures hears { (old new : ServerLine) → LineTakes old new (Ok (Some message.now)) → HearsAnswers old new
         (sheet (O.tape output.old).wrote page.old) (sheet (O.tape output.new).wrote page.new)
         result }
     ensures counts { CountsHalt (O.faults output.old) (O.faults output.new) result }
@@ -131,7 +131,7 @@ fn step<M: Messages, O: Sink, E: Sink>(
     output: &mut O,
     errors: &mut E,
 ) -> Halt
-    ensures hears { Hearing (M.line source.old) (M.line source.new)
+    ensures hears { HearsAnswers (M.line source.old) (M.line source.new)
         (sheet (O.tape output.old).wrote page.old) (sheet (O.tape output.new).wrote page.new)
         result }
     ensures counts { CountsHalt (O.faults output.old) (O.faults output.new) result }
@@ -154,7 +154,7 @@ fn hear_answer<M: Messages, O: Sink, E: Sink>(
     errors: &mut E,
 ) -> Halt
     ensures over { result ≡ halt.GoesOn → ⊥ }
-    ensures hears { Hearing (M.line source.old) (M.line source.new)
+    ensures hears { HearsAnswers (M.line source.old) (M.line source.new)
         (sheet (O.tape output.old).wrote page.old) (sheet (O.tape output.new).wrote page.new)
         result }
     ensures counts { CountsHalt (O.faults output.old) (O.faults output.new) result }
@@ -203,7 +203,7 @@ fn stop_of(halt: Halt) -> Option<Stop>
 // Prints the end of a page.
 fn end_page<O: Sink>(alloc: Global, halt: Halt, page: &mut Page, output: &mut O) -> AnswerEnd
     requires { stop_in halt ≡ None }
-    ensures { Closes halt (sheet (O.tape output.old).wrote page.old)
+    ensures { ClosesSheet halt (sheet (O.tape output.old).wrote page.old)
         (O.faults output.old) (O.faults output.new) (O.tape output.new).wrote result }
 {
     match page.finish(alloc, output) {
@@ -214,7 +214,7 @@ fn end_page<O: Sink>(alloc: Global, halt: Halt, page: &mut Page, output: &mut O)
 
 // The same, unless printing stopped.
 fn close<O: Sink>(alloc: Global, halt: Halt, page: &mut Page, output: &mut O) -> AnswerEnd
-    ensures { Closes halt (sheet (O.tape output.old).wrote page.old)
+    ensures { ClosesSheet halt (sheet (O.tape output.old).wrote page.old)
         (O.faults output.old) (O.faults output.new) (O.tape output.new).wrote result }
 {
     match stop_of(halt) {
@@ -232,7 +232,7 @@ fn answer<M: Messages, O: Sink, E: Sink>(
     output: &mut O,
     errors: &mut E,
 ) -> AnswerEnd
-    ensures answered { Answered format (M.line source.old) (M.line source.new)
+    ensures answered { WritesAnswer format (M.line source.old) (M.line source.new)
         (O.tape output.old).wrote (O.tape output.new).wrote result }
     ensures counts { CountsEnd (O.faults output.old) (O.faults output.new) result }
 {
@@ -250,7 +250,7 @@ pub fn ask<M: Messages, O: Sink, E: Sink>(
     output: &mut O,
     errors: &mut E,
 ) -> AnswerEnd
-    ensures asked { Asked format query.now (M.line source.old) (M.line source.new)
+    ensures asked { AsksAndPrints format query.now (M.line source.old) (M.line source.new)
         (O.tape output.old).wrote (O.tape output.new).wrote result }
     ensures counts { CountsEnd (O.faults output.old) (O.faults output.new) result }
 {

@@ -1,7 +1,7 @@
 //! The columns of a result.
 ghost use Rattle.std.specs.Prelude.{◌≡◌, IfOk};
 ghost use Rattle.std.specs.List.{list_all};
-ghost use Rattle.pgw_answers.specs.Said.{columns_of, is_text as comes_as_text};
+ghost use Rattle.pgw_answers.specs.Said.{columns_of, is_text_field as comes_as_text};
 
 use pgw_output::columns::{Column, ColumnKind};
 use pgw_query::data::FieldDescription;

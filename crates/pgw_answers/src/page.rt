@@ -1,9 +1,9 @@
 //! What is written of an answer, as it comes.
 ghost use Rattle.std.specs.Prelude.{◌≡◌, ◌⊎◌, ◌≤◌, ◌∷◌, [], ◌++◌, ◌||◌, false, None, IfOk, IfErr, OnOk, OnErr};
-ghost use Rattle.pgw_link.specs.Tape.{HasCause};
-ghost use Rattle.pgw_answers.specs.Answers.{Hears, open_text, opened};
-ghost use Rattle.pgw_answers.specs.Pages.{HasStopped, IsFront, Prints, sheet, whole_text};
-ghost use Rattle.pgw_answers.specs.Said.{is_failed, said_in, turn_of};
+ghost use Rattle.pgw_link.specs.Tape.{HasTapeCause};
+ghost use Rattle.pgw_answers.specs.Answers.{HearsSaid, open_text, columns_open};
+ghost use Rattle.pgw_answers.specs.Pages.{HasStopped, IsFront, PrintsHeard, sheet, whole_text};
+ghost use Rattle.pgw_answers.specs.Said.{is_failed, said_in, said_turn};
 ghost use Rattle.pgw_answers.specs.Written.{WroteFront};
 
 use crate::answer::Answer;
@@ -72,7 +72,7 @@ impl Page {
 
     // Prints what comes next.
     fn print(&mut self, alloc: Global, said: Said) -> Result<(), OutOfMemory>
-        ensures text { OnOk result (Hears self.old.answer said self.old.out.items
+        ensures text { OnOk result (HearsSaid self.old.answer said self.old.out.items
             self.new.out.items self.new.answer) }
         ensures failed { OnOk result (self.new.failed ≡ (self.old.failed || is_failed said)) }
     {
@@ -86,10 +86,10 @@ impl Page {
     /// Writes what waits.
     #[tactic(auto, using(crate::proofs::PageLaws::written_out, crate::proofs::PageLaws::written_part))]
     pub fn write_out<O: Sink>(&mut self, output: &mut O) -> Result<(), SinkFault>
-        ensures cause { HasCause (O.faults output.old) (O.faults output.new) result }
+        ensures cause { HasTapeCause (O.faults output.old) (O.faults output.new) result }
         ensures calm { OnOk result (O.faults output.new ≡ O.faults output.old) }
         ensures waits { OnOk result (self.new.out.items ≡ []) }
-        ensures prints { OnOk result (Prints [] (sheet (O.tape output.old).wrote self.old)
+        ensures prints { OnOk result (PrintsHeard [] (sheet (O.tape output.old).wrote self.old)
             (sheet (O.tape output.new).wrote self.new)) }
         ensures front { OnErr result (IsFront [] (sheet (O.tape output.old).wrote self.old)
             (O.tape output.new).wrote) }
@@ -126,9 +126,9 @@ impl Page {
         output: &mut O,
         errors: &mut E,
     ) -> Result<(), SinkFault>
-        ensures cause { HasCause (O.faults output.old) (O.faults output.new) result }
+        ensures cause { HasTapeCause (O.faults output.old) (O.faults output.new) result }
         ensures calm { OnOk result (O.faults output.new ≡ O.faults output.old) }
-        ensures prints { OnOk result (Prints [] (sheet (O.tape output.old).wrote self.old)
+        ensures prints { OnOk result (PrintsHeard [] (sheet (O.tape output.old).wrote self.old)
             (sheet (O.tape output.new).wrote self.new)) }
         ensures front { OnErr result (IsFront [] (sheet (O.tape output.old).wrote self.old)
             (O.tape output.new).wrote) }
@@ -151,15 +151,15 @@ impl Page {
         errors: &mut E,
     ) -> Result<Turn, Stop>
         ensures turn { IfOk result (λ turn. turn
-            ≡ turn_of (said_in (opened self.old.answer) message.now)) }
+            ≡ said_turn (said_in (columns_open self.old.answer) message.now)) }
         ensures calm { OnOk result (O.faults output.new ≡ O.faults output.old) }
         ensures cause { IfErr result (HasStopped (O.faults output.old) (O.faults output.new)) }
-        ensures prints { OnOk result (Prints (said_in (opened self.old.answer) message.now ∷ [])
+        ensures prints { OnOk result (PrintsHeard (said_in (columns_open self.old.answer) message.now ∷ [])
             (sheet (O.tape output.old).wrote self.old)
             (sheet (O.tape output.new).wrote self.new)) }
         ensures front { OnErr result (IsFront [] (sheet (O.tape output.old).wrote self.old)
             (O.tape output.new).wrote
-            ⊎ IsFront (said_in (opened self.old.answer) message.now ∷ [])
+            ⊎ IsFront (said_in (columns_open self.old.answer) message.now ∷ [])
             (sheet (O.tape output.old).wrote self.old) (O.tape output.new).wrote) }
     {
         let said = said_of(alloc, message)?;

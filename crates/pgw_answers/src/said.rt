@@ -1,7 +1,7 @@
 //! What a server's message is in the answer of a query.
 ghost use Rattle.std.specs.Prelude.{◌≡◌, IfOk, length};
 ghost use Rattle.std.specs.List.{list_all};
-ghost use Rattle.pgw_answers.specs.Said.{columns_of, columns_said as columns_mean, is_failed as fails, is_text, placed as place_of, row_in, row_said as row_means, said_by, turn_of, values_of};
+ghost use Rattle.pgw_answers.specs.Said.{columns_of, columns_said as columns_mean, is_failed as fails, is_text_field, placed as place_of, said_row, row_said as row_means, said_by, said_turn, values_of};
 
 use crate::columns::{are_text, columns};
 use crate::values::read_values;
@@ -42,7 +42,7 @@ pub enum Turn {
 
 impl Said {
     pub fn turn(&self) -> Turn
-        ensures { result ≡ turn_of self.now }
+        ensures { result ≡ said_turn self.now }
     {
         match self {
             Said::Ready => Turn::Ready,
@@ -74,7 +74,7 @@ impl Said {
 
 // A row is of the result that is open, and has a value for each of its columns.
 fn row_placed(row: Row, opened: Option<usize>) -> Said
-    ensures { result ≡ row_in opened row }
+    ensures { result ≡ said_row opened row }
 {
     match opened {
         Some(count) if row.len() == count => Said::Row(row),
@@ -87,7 +87,7 @@ fn row_placed(row: Row, opened: Option<usize>) -> Said
 
 fn columns_said(alloc: Global, fields: &[FieldDescription]) -> Result<Said, OutOfMemory>
     ensures { IfOk result (λ said. said
-        ≡ columns_mean (list_all is_text fields.now) (columns_of fields.now)) }
+        ≡ columns_mean (list_all is_text_field fields.now) (columns_of fields.now)) }
 {
     if are_text(fields) {
         Ok(Said::Columns(columns(alloc, fields)?))

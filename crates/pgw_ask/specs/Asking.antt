@@ -8,22 +8,22 @@ use Rattle.pgw_session.specs.declared.types.Request.TheVariants as request
 use Rattle.pgw_session.specs.declared.types.Answer.{Answer}
 use Rattle.pgw_session.specs.declared.types.Answer.TheVariants as answer
 use Rattle.pgw_handlers.specs.Client.{Client}
-use Rattle.pgw_connection.specs.Line.{Line, Moved, Pause, IsFlushed, EndedWell, Halts, AtEnd}
+use Rattle.pgw_connection.specs.Line.{Line, MovesLine, Pause, IsFlushed, EndedWell, Halts, AtEnd}
 use Rattle.pgw_connection.specs.Talk.{passes, is_remote}
 use Rattle.pgw_connection.specs.Calls.{IsHalted}
 use Rattle.pgw_calls.specs.Calls.{Comes}
 use Rattle.pgw_calls.specs.Turns.{Does, IsAnswered}
-use Rattle.pgw_calls.specs.Stands.{Made, Stands, OneMore, StandsBehind}
+use Rattle.pgw_calls.specs.Stands.{Made, StandsForCalls, OneMore, StandsBehind}
 
 -- the server's error is an answer, where the client can still be used
-abbrev pub answered : ClientError → Bool → Result Answer ClientError
-answered (client.RemoteError e) false = Ok (answer.Remote e)
-answered e broken = Err e
+abbrev pub error_as_answer : ClientError → Bool → Result Answer ClientError
+error_as_answer (client.RemoteError e) false = Ok (answer.Remote e)
+error_as_answer e broken = Err e
 
 -- the name that an answer tells again
-abbrev pub name_in : Request → Option (List ℕ)
-name_in (request.Prepare name query types) = name
-name_in q = None
+abbrev pub request_name : Request → Option (List ℕ)
+request_name (request.Prepare name query types) = name
+request_name q = None
 
 abbrev pub same : Answer → Answer
 same a = a
@@ -32,30 +32,30 @@ same a = a
 
 -- A client that stood for some requests stands for this one besides, with this answer of its own
 -- segment, and all that was written is flushed.
-pub record Asked (config : Config) (nonce : List ℕ) (ts : List Made) (read wrote : List ℕ)
+pub record AsksRequest (config : Config) (nonce : List ℕ) (ts : List Made) (read wrote : List ℕ)
     (q : Request) (a : Answer) (old now : Line) (after : Client) : Type 0 where
   pub taken : List ℕ
   pub sent : List ℕ
-  pub moved : Moved old now taken sent
+  pub moved : MovesLine old now taken sent
   pub flushed : IsFlushed now
   pub stands : OneMore config nonce ts q (IsAnswered q a) (read ++ taken) (wrote ++ sent)
       after now.buffer
 
 -- Whatever was done over the client before: from its buffer and what was read for the request, by what
 -- it knew, the segment of this answer was taken, and what that sends was sent.
-pub record Came (q : Request) (a : Answer) (before : Client) (old : Line) (after : Client)
+pub record AnswerCame (q : Request) (a : Answer) (before : Client) (old : Line) (after : Client)
     (now : Line) : Type 0 where
   pub taken : List ℕ
   pub sent : List ℕ
-  pub moved : Moved old now taken sent
+  pub moved : MovesLine old now taken sent
   pub segment : Does (IsAnswered q a) before (old.buffer ++ taken) sent after now.buffer
 
 -- So does one that stood for any.
-abbrev pub Adds : Request → Answer → Client → Line → Client → Line → Type 0
-Adds q a before old after now =
+abbrev pub AddsAskedRequest : Request → Answer → Client → Line → Client → Line → Type 0
+AddsAskedRequest q a before old after now =
     (config : Config) (nonce : List ℕ) (ts : List Made) (read wrote : List ℕ) →
-    Stands config nonce ts read wrote before old.buffer →
-    Asked config nonce ts read wrote q a old now after
+    StandsForCalls config nonce ts read wrote before old.buffer →
+    AsksRequest config nonce ts read wrote q a old now after
 
 -- ---- an error
 
@@ -63,40 +63,40 @@ Adds q a before old after now =
 -- what was read for the request and sent, and in what the link's calls did meanwhile.
 pub record IsReason (q : Request) (before : Client) (old : Line) (after : Client) (now : Line)
     (broken : Bool) (e : ClientError) : Type 0 where
-  pub no_answer : answered e broken ≡ Err e
+  pub no_answer : error_as_answer e broken ≡ Err e
   pub taken : List ℕ
   pub sent : List ℕ
-  pub moved : Moved old now taken sent
+  pub moved : MovesLine old now taken sent
   pub comes : Comes same (Pause old now) q before (old.buffer ++ taken) sent after now.buffer
       (Err e) broken
 
 -- The error has its reason. A client that stood for some requests stands behind this one by it: for
 -- the request too, or for a front of its segment, or for none more where it has no encoding.
-pub record Failed (q : Request) (before : Client) (old : Line) (after : Client) (now : Line)
+pub record FailsRequest (q : Request) (before : Client) (old : Line) (after : Client) (now : Line)
     (broken : Bool) (e : ClientError) : Type 0 where
   pub reason : IsReason q before old after now broken e
   pub stands : (config : Config) (nonce : List ℕ) (ts : List Made) (read wrote : List ℕ)
-      → Stands config nonce ts read wrote before old.buffer
-      → (taken sent : List ℕ) × Moved old now taken sent × (broken ≡ false → IsFlushed now)
+      → StandsForCalls config nonce ts read wrote before old.buffer
+      → (taken sent : List ℕ) × MovesLine old now taken sent × (broken ≡ false → IsFlushed now)
       × StandsBehind same config nonce ts q
       (read ++ taken) (wrote ++ sent) after now.buffer (Err e) broken
 
 -- So it ends; or memory was wanting to keep the name that the answer tells again, and nothing was
 -- done.
-pub data Fails (q : Request) (before : Client) (old : Line) (after : Client) (now : Line)
+pub data FailsToAsk (q : Request) (before : Client) (old : Line) (after : Client) (now : Line)
     (broken : Bool) : ClientError → Type 0 where
-  failed : (e : ClientError) → Failed q before old after now broken e →
-      Fails q before old after now broken e
-  wants : (name : List ℕ) → name_in q ≡ Some name → after ≡ before → now ≡ old → broken ≡ false →
-      Fails q before old after now broken client.OutOfMemory
+  failed : (e : ClientError) → FailsRequest q before old after now broken e →
+      FailsToAsk q before old after now broken e
+  wants : (name : List ℕ) → request_name q ≡ Some name → after ≡ before → now ≡ old → broken ≡ false →
+      FailsToAsk q before old after now broken client.OutOfMemory
 
 -- ---- either
 
 -- a request was asked
 abbrev pub Asks : Request → Client → Line → Client → Line → Bool → Result Answer ClientError →
     Type 0
-Asks q before old after now broken (Ok a) = Adds q a before old after now × (broken ≡ false)
-Asks q before old after now broken (Err e) = Fails q before old after now broken e
+Asks q before old after now broken (Ok a) = AddsAskedRequest q a before old after now × (broken ≡ false)
+Asks q before old after now broken (Err e) = FailsToAsk q before old after now broken e
 
 -- ---- how its call ends
 
@@ -107,7 +107,7 @@ passes_for (request.Simple sql) = passes
 passes_for q = is_remote
 
 -- What is flushed behind the request, and where the link's end is met.
-pub record Ended (q : Request) (old : Line) (after : Client) (now : Line) (broken : Bool)
+pub record EndsRequest (q : Request) (old : Line) (after : Client) (now : Line) (broken : Bool)
     (result : Result Answer ClientError) : Type 0 where
   -- behind any answer but IoError no call of the link failed, and all that was written is flushed; or
   -- memory was wanting, and nothing was done

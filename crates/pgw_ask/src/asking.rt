@@ -3,10 +3,10 @@ ghost use Rattle.std.specs.Prelude.{◌≡◌, ℕ, List, Err, IfOk, OnErr, Some
 ghost use Rattle.pgw_backend.specs.declared.client_error.PgWireClientError.TheVariants as failure;
 ghost use Rattle.pgw_session.specs.declared.types.Request.TheVariants as kind;
 ghost use Rattle.pgw_handlers.specs.Handling.{HasCause};
-ghost use Rattle.pgw_calls.specs.Extended.{executed, given};
+ghost use Rattle.pgw_calls.specs.Extended.{portal_result, call_answer};
 ghost use Rattle.pgw_connection.specs.Line.{Foretold, StaysWithin};
 ghost use Rattle.pgw_connection.specs.State.{line_of, link_of, known_by, is_broken};
-ghost use Rattle.pgw_ask.specs.Asking.{Asks, Came, Ended, answered, name_in};
+ghost use Rattle.pgw_ask.specs.Asking.{Asks, AnswerCame, EndsRequest, error_as_answer, request_name};
 
 use pgw_calls::laws::{
     extended_queries_are_segments, extended_queries_follow_one_another,
@@ -24,7 +24,7 @@ use std::alloc::Global;
 
 // An error of the server's is an answer, where the client can still be used.
 fn answered(error: PgWireClientError, broken: bool) -> PgWireClientResult<Answer>
-    ensures { result ≡ answered error broken }
+    ensures { result ≡ error_as_answer error broken }
 {
     if broken {
         return Err(error);
@@ -37,8 +37,8 @@ fn answered(error: PgWireClientError, broken: bool) -> PgWireClientResult<Answer
 
 // The name that the answer of a request tells again.
 fn name_in(request: &Request) -> Result<Option<Text>, OutOfMemory>
-    ensures copied { IfOk result (λ name. name ≡ name_in request.now) }
-    ensures wants { OnErr result ((name : List ℕ) × (name_in request.now ≡ Some name)) }
+    ensures copied { IfOk result (λ name. name ≡ request_name request.now) }
+    ensures wants { OnErr result ((name : List ℕ) × (request_name request.now ≡ Some name)) }
 {
     match request {
         Request::Prepare(Some(name), _, _) => Ok(Some(name.duplicate()?)),
@@ -47,7 +47,7 @@ fn name_in(request: &Request) -> Result<Option<Text>, OutOfMemory>
 }
 
 fn executed(rows: DataRows, suspended: bool) -> ExecuteResult<DataRows>
-    ensures { result ≡ executed suspended rows }
+    ensures { result ≡ portal_result suspended rows }
 {
     if suspended {
         ExecuteResult::Suspended(rows)
@@ -64,8 +64,8 @@ fn given(
     gathered: Gathered<DataRows>,
     suspended: bool,
 ) -> Answer
-    requires { name ≡ name_in request.now }
-    ensures { result ≡ given request.now (gathered, suspended) }
+    requires { name ≡ request_name request.now }
+    ensures { result ≡ call_answer request.now (gathered, suspended) }
 {
     let Gathered {
         types,
@@ -98,10 +98,10 @@ fn ask_simple<L: Link>(
     ensures asks { Asks (kind.Simple sql.now)
         (known_by client.old) (line_of L.tape L.faults client.old)
         (known_by client.new) (line_of L.tape L.faults client.new) (is_broken client.new) result }
-    ensures came { IfOk result (λ a. Came (kind.Simple sql.now) a
+    ensures came { IfOk result (λ a. AnswerCame (kind.Simple sql.now) a
         (known_by client.old) (line_of L.tape L.faults client.old)
         (known_by client.new) (line_of L.tape L.faults client.new)) }
-    ensures ended { Ended (kind.Simple sql.now) (line_of L.tape L.faults client.old)
+    ensures ended { EndsRequest (kind.Simple sql.now) (line_of L.tape L.faults client.old)
         (known_by client.new) (line_of L.tape L.faults client.new) (is_broken client.new) result }
     ensures cause { HasCause (line_of L.tape L.faults client.old).faults
         (line_of L.tape L.faults client.new).faults false result }
@@ -130,10 +130,10 @@ fn ask_extended<L: Link>(
     ensures asks { Asks request.now
         (known_by client.old) (line_of L.tape L.faults client.old)
         (known_by client.new) (line_of L.tape L.faults client.new) (is_broken client.new) result }
-    ensures came { IfOk result (λ a. Came request.now a
+    ensures came { IfOk result (λ a. AnswerCame request.now a
         (known_by client.old) (line_of L.tape L.faults client.old)
         (known_by client.new) (line_of L.tape L.faults client.new)) }
-    ensures ended { Ended request.now (line_of L.tape L.faults client.old)
+    ensures ended { EndsRequest request.now (line_of L.tape L.faults client.old)
         (known_by client.new) (line_of L.tape L.faults client.new) (is_broken client.new) result }
     ensures cause { HasCause (line_of L.tape L.faults client.old).faults
         (line_of L.tape L.faults client.new).faults false result }
@@ -175,12 +175,12 @@ pub fn ask<L: Link>(
         (known_by client.new) (line_of L.tape L.faults client.new) (is_broken client.new) result }
     // Whatever was done over the client before, by whichever calls: an answer comes from the segment
     // that was taken for it, as the client then knew.
-    ensures came { is_broken client.old ≡ false → IfOk result (λ a. Came request.now a
+    ensures came { is_broken client.old ≡ false → IfOk result (λ a. AnswerCame request.now a
         (known_by client.old) (line_of L.tape L.faults client.old)
         (known_by client.new) (line_of L.tape L.faults client.new)) }
     // The link's end is answered while the answer is awaited, and behind any answer but IoError all
     // that was written is flushed.
-    ensures ended { is_broken client.old ≡ false → Ended request.now
+    ensures ended { is_broken client.old ≡ false → EndsRequest request.now
         (line_of L.tape L.faults client.old) (known_by client.new)
         (line_of L.tape L.faults client.new) (is_broken client.new) result }
     // IoError comes only where a call of the link failed, and Broken from no other client than the

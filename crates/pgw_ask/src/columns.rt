@@ -1,6 +1,6 @@
 //! Columns of a result, by their names.
 ghost use Rattle.std.specs.Prelude.{◌≡◌, ◌≢◌, ◌↔◌, IsTrue, All, IfSome, IfNone};
-ghost use Rattle.pgw_ask.specs.Columns.{IsFirst};
+ghost use Rattle.pgw_ask.specs.Columns.{IsFirstColumn};
 
 use pgw_client::FieldInfo;
 
@@ -13,7 +13,7 @@ fn has_name(field: &FieldInfo, name: &str) -> bool
 
 /// The place of the first column of this name, counted from 0.
 pub fn column(fields: &[FieldInfo], name: &str) -> Option<usize>
-    ensures found { IfSome result (IsFirst fields.now name.now) }
+    ensures found { IfSome result (IsFirstColumn fields.now name.now) }
     ensures none { IfNone result (All (λ f. f.name ≢ name.now) fields.now) }
 {
     for (place, field) in fields.iter().enumerate() {

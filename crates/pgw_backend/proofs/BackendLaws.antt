@@ -6,7 +6,7 @@ use Rattle.std.proofs.lemmas.List.{append-nil}
 use Rattle.pgw_types.specs.declared.error.PgWireError.{PgWireError}
 use Rattle.pgw_types.specs.declared.context.DecodeContext.{DecodeContext}
 use Rattle.pgw_wire.specs.declared.framing.Framing.TheVariants.{Typed, OneByte}
-use Rattle.pgw_wire.specs.Framing.{front, Decodes, as_one_of}
+use Rattle.pgw_wire.specs.Framing.{wire_front, Decodes, as_one_of}
 use Rattle.pgw_wire.specs.Formats.{IsRow, SpellsTyped, NoBody}
 use Rattle.pgw_wire.proofs.Laws.{bind_ok, chosen}
 use Rattle.pgw_wire.proofs.MessageLaws.{some_is, made_of}
@@ -22,7 +22,7 @@ use Rattle.pgw_ext.proofs.RowLaws.{parse_complete, bind_complete, close_complete
 use Rattle.pgw_copy.proofs.RowLaws.{copy_data, copy_done, copy_fail, copy_in_response, copy_out_response, copy_both_response}
 use Rattle.pgw_backend.specs.declared.backend.PgWireBackendMessage.{PgWireBackendMessage}
 use Rattle.pgw_backend.specs.declared.backend.PgWireBackendMessage.TheVariants as backend
-use Rattle.pgw_backend.specs.Backend.{backend_by, typed_front, backend_front}
+use Rattle.pgw_backend.specs.Backend.{backend_by, backend_typed_front, backend_front}
 use Rattle.pgw_backend.specs.Front.{SpellsIn}
 use Rattle.pgw_backend.proofs.BackendStable.{typed_found, by_same}
 
@@ -45,8 +45,8 @@ module _ (ctx : DecodeContext) (m : PgWireBackendMessage) (bytes rest : List ℕ
       subst (λ (n : PgWireBackendMessage). (g : List ℕ) × (bytes ≡ g ++ rest) × SpellsIn ctx n g) x.2 (law x.0 (a.1 ∙ ap (λ o. Ok o) x.1))
 
   one_found : {A : Type 0} (make : A → PgWireBackendMessage) (byte limit : ℕ) (read : List ℕ → Result A PgWireError) (P : A → List ℕ → Type 0) → IsRow byte limit read P → ((x : A) (g : List ℕ) → SpellsTyped byte limit P x g → SpellsIn ctx (make x) g)
-      → (b : ℕ) → get_or bytes 0 0 ≡ b → eqb b byte ≡ true → as_one_of make (front (Typed byte) limit read bytes) ≡ Ok (Some (m, rest)) → Found
-  one_found make byte limit read P row as_all b first is = as_found make (front (Typed byte) limit read bytes) (λ x e. let c = row.found bytes x rest (first ∙ eqb-true _ _ is) e in (c.0, c.1, as_all x c.0 c.2))
+      → (b : ℕ) → get_or bytes 0 0 ≡ b → eqb b byte ≡ true → as_one_of make (wire_front (Typed byte) limit read bytes) ≡ Ok (Some (m, rest)) → Found
+  one_found make byte limit read P row as_all b first is = as_found make (wire_front (Typed byte) limit read bytes) (λ x e. let c = row.found bytes x rest (first ∙ eqb-true _ _ is) e in (c.0, c.1, as_all x c.0 c.2))
 
   choice : (b byte : ℕ) (one others : Result (Option (PgWireBackendMessage × List ℕ)) PgWireError) → (eqb b byte ≡ true → one ≡ Ok (Some (m, rest)) → Found) → (others ≡ Ok (Some (m, rest)) → Found) → cond (eqb b byte) one others ≡ Ok (Some (m, rest)) → Found
   choice b byte one others here there e = elim (chosen (eqb b byte) one others _ e) [ inl h ↦ here h.0 h.1 | inr h ↦ there h.1 ]
@@ -80,15 +80,15 @@ module _ (ctx : DecodeContext) (m : PgWireBackendMessage) (bytes rest : List ℕ
       (choice b 87 _ _ (one_found backend.CopyBothResponse 87 30000 (copy_both_response_of ctx) SpellsCopyBothResponse (copy_both_response ctx) (λ x g s. (typed, s)) b first)
       (λ e. absurd cc))))))))))))))))))))))))
 
-  typed_part : IsTyped ctx → typed_front ctx bytes ≡ Ok (Some (m, rest)) → Found
+  typed_part : IsTyped ctx → backend_typed_front ctx bytes ≡ Ok (Some (m, rest)) → Found
   typed_part typed e = by_found typed (get_or bytes 0 0) refl (typed_found ctx bytes m rest e)
 
   all_parts : backend_front ctx bytes ≡ Ok (Some (m, rest)) → Found
   unfolding backend_front IsTyped SpellsIn
   all_parts e = elim (chosen ctx.awaiting_backend_ssl_response _ _ _ e) [
-    | inl h ↦ as_found backend.SslResponse (front OneByte 10000 (ssl_response_of ctx) bytes) (λ x e. let c = (ssl_response ctx).found bytes x rest e in (c.0, c.1, (h.0, c.2))) h.1
+    | inl h ↦ as_found backend.SslResponse (wire_front OneByte 10000 (ssl_response_of ctx) bytes) (λ x e. let c = (ssl_response ctx).found bytes x rest e in (c.0, c.1, (h.0, c.2))) h.1
     | inr t ↦ elim (chosen ctx.awaiting_backend_gss_response _ _ _ t.1) [
-      | inl h ↦ as_found backend.GssEncResponse (front OneByte 10000 (gss_enc_response_of ctx) bytes) (λ x e. let c = (gss_enc_response ctx).found bytes x rest e in (c.0, c.1, ((t.0, h.0), c.2))) h.1
+      | inl h ↦ as_found backend.GssEncResponse (wire_front OneByte 10000 (gss_enc_response_of ctx) bytes) (λ x e. let c = (gss_enc_response ctx).found bytes x rest e in (c.0, c.1, ((t.0, h.0), c.2))) h.1
       | inr h ↦ typed_part (t.0, h.0) h.1
     ]
   ]
@@ -107,26 +107,26 @@ unless : {A : Type 0} (b : Bool) (x y : A) → b ≡ false → cond b x y ≡ y
 unless true x y is = absurd cc
 unless false x y is = refl
 
-typed_again : (ctx : DecodeContext) (bytes : List ℕ) (r : Result (Option (PgWireBackendMessage × List ℕ)) PgWireError) → IsTyped ctx → typed_front ctx bytes ≡ r → backend_front ctx bytes ≡ r
+typed_again : (ctx : DecodeContext) (bytes : List ℕ) (r : Result (Option (PgWireBackendMessage × List ℕ)) PgWireError) → IsTyped ctx → backend_typed_front ctx bytes ≡ r → backend_front ctx bytes ≡ r
 unfolding backend_front IsTyped
 typed_again ctx bytes r typed e = unless ctx.awaiting_backend_ssl_response _ _ typed.0 ∙ unless ctx.awaiting_backend_gss_response _ _ typed.1 ∙ e
 
 one_again : {A : Type 0} (ctx : DecodeContext) (make : A → PgWireBackendMessage) (byte limit : ℕ) (read : List ℕ → Result A PgWireError) (P : A → List ℕ → Type 0) → IsRow byte limit read P
-    → ((bytes : List ℕ) → backend_by byte ctx bytes ≡ as_one_of make (front (Typed byte) limit read bytes)) → IsTyped ctx
+    → ((bytes : List ℕ) → backend_by byte ctx bytes ≡ as_one_of make (wire_front (Typed byte) limit read bytes)) → IsTyped ctx
     → (x : A) (g rest : List ℕ) → SpellsTyped byte limit P x g → backend_front ctx (g ++ rest) ≡ Ok (Some (make x, rest))
 one_again ctx make byte limit read P row arm typed x g rest h =
     let long : 2 ≤ length (g ++ rest) = omega (arith, length-append g rest, ap length h.2, length-append h.0 h.1, h.3.0) in
     let first : get_or (g ++ rest) 0 0 ≡ byte = ap (λ (f : List ℕ). get_or (f ++ rest) 0 0) h.2 in
-    let one : front (Typed byte) limit read (g ++ rest) ≡ Ok (Some (x, rest)) = row.only x g rest h in
+    let one : wire_front (Typed byte) limit read (g ++ rest) ≡ Ok (Some (x, rest)) = row.only x g rest h in
     typed_again ctx (g ++ rest) (Ok (Some (make x, rest))) typed (by_same ctx (g ++ rest) byte (Ok (Some (make x, rest))) long first (arm (g ++ rest) ∙ rw one refl))
 
 pub backend_again : (ctx : DecodeContext) (m : PgWireBackendMessage) (g rest : List ℕ) → SpellsIn ctx m g → backend_front ctx (g ++ rest) ≡ Ok (Some (m, rest))
 unfolding SpellsIn IsTyped backend_front
 backend_again ctx (backend.SslResponse m) g rest h =
-    let read : front OneByte 10000 (ssl_response_of ctx) (g ++ rest) ≡ Ok (Some (m, rest)) = (ssl_response ctx).only m g rest h.1 in
+    let read : wire_front OneByte 10000 (ssl_response_of ctx) (g ++ rest) ≡ Ok (Some (m, rest)) = (ssl_response ctx).only m g rest h.1 in
     when ctx.awaiting_backend_ssl_response _ _ h.0 ∙ ap (as_one_of backend.SslResponse) read
 backend_again ctx (backend.GssEncResponse m) g rest h =
-    let read : front OneByte 10000 (gss_enc_response_of ctx) (g ++ rest) ≡ Ok (Some (m, rest)) = (gss_enc_response ctx).only m g rest h.1 in
+    let read : wire_front OneByte 10000 (gss_enc_response_of ctx) (g ++ rest) ≡ Ok (Some (m, rest)) = (gss_enc_response ctx).only m g rest h.1 in
     unless ctx.awaiting_backend_ssl_response _ _ h.0.0 ∙ when ctx.awaiting_backend_gss_response _ _ h.0.1 ∙ ap (as_one_of backend.GssEncResponse) read
 backend_again ctx (backend.Authentication m) g rest h = one_again ctx backend.Authentication 82 30000 (authentication_of ctx) SpellsAuthentication (authentication ctx) (λ bytes. refl) h.0 m g rest h.1
 backend_again ctx (backend.ParameterStatus m) g rest h = one_again ctx backend.ParameterStatus 83 30000 (parameter_status_of ctx) SpellsParameterStatus (parameter_status ctx) (λ bytes. refl) h.0 m g rest h.1

@@ -6,7 +6,7 @@ use Rattle.pgw_types.specs.declared.error.PgWireError.{PgWireError}
 use Rattle.pgw_types.specs.declared.error.PgWireError.TheVariants.{InvalidMessageType}
 use Rattle.pgw_types.specs.declared.context.DecodeContext.{DecodeContext}
 use Rattle.pgw_wire.specs.declared.framing.Framing.TheVariants.{Typed, OneByte}
-use Rattle.pgw_wire.specs.Framing.{front, as_one_of}
+use Rattle.pgw_wire.specs.Framing.{wire_front, as_one_of}
 use Rattle.pgw_wire.proofs.Laws.{bind_ok, chosen}
 use Rattle.pgw_wire.proofs.MessageLaws.{made_of}
 use Rattle.pgw_wire.proofs.Stable.{Stable, bind_err, front_stable, stable_choice, stable_refusal}
@@ -17,7 +17,7 @@ use Rattle.pgw_startup.specs.Response.{ssl_response_of, gss_enc_response_of}
 use Rattle.pgw_query.specs.Rows.{ready_for_query_of, command_complete_of, empty_query_response_of, error_response_of, notice_response_of, notification_response_of, parameter_description_of, row_description_of, data_row_of, no_data_of}
 use Rattle.pgw_ext.specs.Rows.{parse_complete_of, bind_complete_of, close_complete_of, portal_suspended_of}
 use Rattle.pgw_copy.specs.Rows.{copy_data_of, copy_done_of, copy_fail_of, copy_in_response_of, copy_out_response_of, copy_both_response_of}
-use Rattle.pgw_backend.specs.Backend.{backend_by, typed_front, backend_front}
+use Rattle.pgw_backend.specs.Backend.{backend_by, backend_typed_front, backend_front}
 
 -- ---- one kind of message among all kinds
 
@@ -45,8 +45,8 @@ stable_as {A} {B} make least p h = record {
 
 -- ---- all kinds
 
-one : {A : Type 0} (make : A → PgWireBackendMessage) (byte limit : ℕ) (read : List ℕ → Result A PgWireError) → Stable 5 (λ bytes. as_one_of make (front (Typed byte) limit read bytes))
-one make byte limit read = stable_as make 5 (front (Typed byte) limit read) (front_stable (Typed byte) limit read tt)
+one : {A : Type 0} (make : A → PgWireBackendMessage) (byte limit : ℕ) (read : List ℕ → Result A PgWireError) → Stable 5 (λ bytes. as_one_of make (wire_front (Typed byte) limit read bytes))
+one make byte limit read = stable_as make 5 (wire_front (Typed byte) limit read) (front_stable (Typed byte) limit read tt)
 
 by_stable : (byte : ℕ) (ctx : DecodeContext) → Stable 5 (backend_by byte ctx)
 by_stable byte ctx =
@@ -79,19 +79,19 @@ by_stable byte ctx =
 same_first : (n : ℕ) (a b : List ℕ) → 1 ≤ n → take n b ≡ take n a → get_or b 0 0 ≡ get_or a 0 0
 same_first n a b some same = sym (get_or-take n b 0 0 (omega (arith, some))) ∙ ap (λ (x : List ℕ). get_or x 0 0) same ∙ get_or-take n a 0 0 (omega (arith, some))
 
-pub by_same : (ctx : DecodeContext) (b : List ℕ) (byte : ℕ) (r : Result (Option (PgWireBackendMessage × List ℕ)) PgWireError) → 2 ≤ length b → get_or b 0 0 ≡ byte → backend_by byte ctx b ≡ r → typed_front ctx b ≡ r
+pub by_same : (ctx : DecodeContext) (b : List ℕ) (byte : ℕ) (r : Result (Option (PgWireBackendMessage × List ℕ)) PgWireError) → 2 ≤ length b → get_or b 0 0 ≡ byte → backend_by byte ctx b ≡ r → backend_typed_front ctx b ≡ r
 by_same ctx b byte r some is e =
     let long : ltb (length b) 2 ≡ false = le-ltb _ _ some in
     rw long (subst (λ (x : ℕ). backend_by x ctx b ≡ r) (sym is) e)
 
 -- a message was found by its type byte
-pub typed_found : (ctx : DecodeContext) (a : List ℕ) (m : PgWireBackendMessage) (rest : List ℕ) → typed_front ctx a ≡ Ok (Some (m, rest)) → backend_by (get_or a 0 0) ctx a ≡ Ok (Some (m, rest))
+pub typed_found : (ctx : DecodeContext) (a : List ℕ) (m : PgWireBackendMessage) (rest : List ℕ) → backend_typed_front ctx a ≡ Ok (Some (m, rest)) → backend_by (get_or a 0 0) ctx a ≡ Ok (Some (m, rest))
 typed_found ctx a m rest e = elim (chosen (ltb (length a) 2) _ _ _ e) [
   | inl h ↦ absurd cc
   | inr h ↦ h.1
 ]
 
-typed_bad : (ctx : DecodeContext) (a more : List ℕ) (e : PgWireError) → typed_front ctx a ≡ Err e → typed_front ctx (a ++ more) ≡ Err e
+typed_bad : (ctx : DecodeContext) (a more : List ℕ) (e : PgWireError) → backend_typed_front ctx a ≡ Err e → backend_typed_front ctx (a ++ more) ≡ Err e
 typed_bad ctx a more e is = elim (chosen (ltb (length a) 2) _ _ _ is) [
   | inl h ↦ absurd cc
   | inr h ↦
@@ -100,7 +100,7 @@ typed_bad ctx a more e is = elim (chosen (ltb (length a) 2) _ _ _ is) [
 ]
 
 -- some message takes one byte at least
-typed_stable : (ctx : DecodeContext) → Stable 1 (typed_front ctx)
+typed_stable : (ctx : DecodeContext) → Stable 1 (backend_typed_front ctx)
 typed_stable ctx = record {
   whole = λ a m rest e.
       let ends = (by_stable (get_or a 0 0) ctx).whole a m rest (typed_found ctx a m rest e) in
@@ -117,6 +117,6 @@ typed_stable ctx = record {
 pub backend_stable : (ctx : DecodeContext) → Stable 1 (backend_front ctx)
 unfolding backend_front
 backend_stable ctx =
-    stable_choice 1 ctx.awaiting_backend_ssl_response _ _ (stable_as backend.SslResponse 1 (front OneByte 10000 (ssl_response_of ctx)) (front_stable OneByte 10000 (ssl_response_of ctx) tt))
-    (stable_choice 1 ctx.awaiting_backend_gss_response _ _ (stable_as backend.GssEncResponse 1 (front OneByte 10000 (gss_enc_response_of ctx)) (front_stable OneByte 10000 (gss_enc_response_of ctx) tt))
+    stable_choice 1 ctx.awaiting_backend_ssl_response _ _ (stable_as backend.SslResponse 1 (wire_front OneByte 10000 (ssl_response_of ctx)) (front_stable OneByte 10000 (ssl_response_of ctx) tt))
+    (stable_choice 1 ctx.awaiting_backend_gss_response _ _ (stable_as backend.GssEncResponse 1 (wire_front OneByte 10000 (gss_enc_response_of ctx)) (front_stable OneByte 10000 (gss_enc_response_of ctx) tt))
     (typed_stable ctx))

@@ -24,7 +24,7 @@ use Rattle.pgw_backend.specs.declared.backend.PgWireBackendMessage.{PgWireBacken
 use Rattle.pgw_backend.specs.declared.backend.PgWireBackendMessage.TheVariants as backend
 use Rattle.pgw_backend.specs.Texts.{IsSound, Suits}
 use Rattle.pgw_backend.specs.Backend.{backend_front, backend_encoding}
-use Rattle.pgw_backend.specs.Front.{Spelled, Awaits, SpellsIn}
+use Rattle.pgw_backend.specs.Front.{Spelled, AwaitsBackend, SpellsIn}
 use Rattle.pgw_backend.proofs.BackendLaws.{backend_again}
 
 pub backend_written : (version : ProtocolVersion) (m : PgWireBackendMessage) (g : List ℕ) → IsSound m → Suits version m → backend_encoding m ≡ Ok g → Spelled version m g
@@ -57,7 +57,7 @@ backend_written version (backend.CopyOutResponse m) g sound suits is = typed_wri
 backend_written version (backend.CopyBothResponse m) g sound suits is = typed_written 87 30000 SpellsCopyBothResponse m (refused_if (is_miscounted m.columns m.column_formats)) (formats m.format m.columns m.column_formats) g (lit< tt) is (λ fine. columns_written m.format m.columns m.column_formats sound fine)
 
 pub is_spelled : (m : PgWireBackendMessage) (old new : List ℕ) (r : Result (Unit {0}) PgWireError) → IsSound m → Appends r old new (backend_encoding m)
-    → OnOk r ((ctx : DecodeContext) → Suits ctx.protocol_version m → Awaits ctx m → (g : List ℕ) × (new ≡ old ++ g) × SpellsIn ctx m g)
+    → OnOk r ((ctx : DecodeContext) → Suits ctx.protocol_version m → AwaitsBackend ctx m → (g : List ℕ) × (new ≡ old ++ g) × SpellsIn ctx m g)
 unfolding SpellsIn
 is_spelled m old new (Ok x) sound h = λ ctx suits awaits.
     let a = appended (backend_encoding m) old new h in
@@ -65,7 +65,7 @@ is_spelled m old new (Ok x) sound h = λ ctx suits awaits.
 is_spelled m old new (Err e) sound h = tt
 
 pub is_read_again : (m : PgWireBackendMessage) (old new : List ℕ) (r : Result (Unit {0}) PgWireError) → IsSound m → Appends r old new (backend_encoding m)
-    → OnOk r ((ctx : DecodeContext) (rest : List ℕ) → Suits ctx.protocol_version m → Awaits ctx m → (g : List ℕ) × (new ≡ old ++ g) × (backend_front ctx (g ++ rest) ≡ Ok (Some (m, rest))))
+    → OnOk r ((ctx : DecodeContext) (rest : List ℕ) → Suits ctx.protocol_version m → AwaitsBackend ctx m → (g : List ℕ) × (new ≡ old ++ g) × (backend_front ctx (g ++ rest) ≡ Ok (Some (m, rest))))
 is_read_again m old new (Ok x) sound h = λ ctx rest suits awaits.
     let s = is_spelled m old new (Ok x) sound h ctx suits awaits in
     (s.0, s.1, backend_again ctx m s.0 rest s.2)

@@ -4,7 +4,7 @@ use Rattle.pgw_types.specs.declared.error.PgWireError.{PgWireError}
 use Rattle.pgw_types.specs.declared.error.PgWireError.TheVariants.{InvalidMessageType}
 use Rattle.pgw_types.specs.declared.context.DecodeContext.{DecodeContext}
 use Rattle.pgw_wire.specs.declared.framing.Framing.TheVariants.{Typed, OneByte}
-use Rattle.pgw_wire.specs.Framing.{front, as_one_of, encoded}
+use Rattle.pgw_wire.specs.Framing.{wire_front, as_one_of, encoded}
 use Rattle.pgw_wire.specs.Counted.{counted16, is_too_long}
 use Rattle.pgw_wire.specs.Writing.{text, u32, has_zero, refused_if}
 use Rattle.pgw_wire.specs.Keys.{key_fault}
@@ -19,59 +19,59 @@ use Rattle.pgw_backend.specs.declared.backend.PgWireBackendMessage.TheVariants a
 -- COPY; another byte is no message
 abbrev pub copy_by : ℕ → DecodeContext → List ℕ → Result (Option (PgWireBackendMessage × List ℕ)) PgWireError
 copy_by byte ctx bytes =
-    if byte == 100 then as_one_of backend.CopyData (front (Typed 100) 1073741822 (copy_data_of ctx) bytes)
-    else (if byte == 99 then as_one_of backend.CopyDone (front (Typed 99) 10000 (copy_done_of ctx) bytes)
-    else (if byte == 102 then as_one_of backend.CopyFail (front (Typed 102) 10000 (copy_fail_of ctx) bytes)
-    else (if byte == 71 then as_one_of backend.CopyInResponse (front (Typed 71) 30000 (copy_in_response_of ctx) bytes)
-    else (if byte == 72 then as_one_of backend.CopyOutResponse (front (Typed 72) 30000 (copy_out_response_of ctx) bytes)
-    else (if byte == 87 then as_one_of backend.CopyBothResponse (front (Typed 87) 30000 (copy_both_response_of ctx) bytes)
+    if byte == 100 then as_one_of backend.CopyData (wire_front (Typed 100) 1073741822 (copy_data_of ctx) bytes)
+    else (if byte == 99 then as_one_of backend.CopyDone (wire_front (Typed 99) 10000 (copy_done_of ctx) bytes)
+    else (if byte == 102 then as_one_of backend.CopyFail (wire_front (Typed 102) 10000 (copy_fail_of ctx) bytes)
+    else (if byte == 71 then as_one_of backend.CopyInResponse (wire_front (Typed 71) 30000 (copy_in_response_of ctx) bytes)
+    else (if byte == 72 then as_one_of backend.CopyOutResponse (wire_front (Typed 72) 30000 (copy_out_response_of ctx) bytes)
+    else (if byte == 87 then as_one_of backend.CopyBothResponse (wire_front (Typed 87) 30000 (copy_both_response_of ctx) bytes)
     else (Err (InvalidMessageType byte)))))))
 
 -- the extended query, and COPY
 abbrev pub extended_by : ℕ → DecodeContext → List ℕ → Result (Option (PgWireBackendMessage × List ℕ)) PgWireError
 extended_by byte ctx bytes =
-    if byte == 49 then as_one_of backend.ParseComplete (front (Typed 49) 30000 (parse_complete_of ctx) bytes)
-    else (if byte == 50 then as_one_of backend.BindComplete (front (Typed 50) 30000 (bind_complete_of ctx) bytes)
-    else (if byte == 51 then as_one_of backend.CloseComplete (front (Typed 51) 30000 (close_complete_of ctx) bytes)
-    else (if byte == 115 then as_one_of backend.PortalSuspended (front (Typed 115) 30000 (portal_suspended_of ctx) bytes)
-    else (if byte == 110 then as_one_of backend.NoData (front (Typed 110) 30000 (no_data_of ctx) bytes)
-    else (if byte == 116 then as_one_of backend.ParameterDescription (front (Typed 116) 2147483647 (parameter_description_of ctx) bytes)
+    if byte == 49 then as_one_of backend.ParseComplete (wire_front (Typed 49) 30000 (parse_complete_of ctx) bytes)
+    else (if byte == 50 then as_one_of backend.BindComplete (wire_front (Typed 50) 30000 (bind_complete_of ctx) bytes)
+    else (if byte == 51 then as_one_of backend.CloseComplete (wire_front (Typed 51) 30000 (close_complete_of ctx) bytes)
+    else (if byte == 115 then as_one_of backend.PortalSuspended (wire_front (Typed 115) 30000 (portal_suspended_of ctx) bytes)
+    else (if byte == 110 then as_one_of backend.NoData (wire_front (Typed 110) 30000 (no_data_of ctx) bytes)
+    else (if byte == 116 then as_one_of backend.ParameterDescription (wire_front (Typed 116) 2147483647 (parameter_description_of ctx) bytes)
     else (copy_by byte ctx bytes))))))
 
 -- queries, and those
 abbrev pub query_by : ℕ → DecodeContext → List ℕ → Result (Option (PgWireBackendMessage × List ℕ)) PgWireError
 query_by byte ctx bytes =
-    if byte == 67 then as_one_of backend.CommandComplete (front (Typed 67) 30000 (command_complete_of ctx) bytes)
-    else (if byte == 73 then as_one_of backend.EmptyQueryResponse (front (Typed 73) 30000 (empty_query_response_of ctx) bytes)
-    else (if byte == 90 then as_one_of backend.ReadyForQuery (front (Typed 90) 30000 (ready_for_query_of ctx) bytes)
-    else (if byte == 69 then as_one_of backend.ErrorResponse (front (Typed 69) 2147483647 (error_response_of ctx) bytes)
-    else (if byte == 78 then as_one_of backend.NoticeResponse (front (Typed 78) 2147483647 (notice_response_of ctx) bytes)
-    else (if byte == 65 then as_one_of backend.NotificationResponse (front (Typed 65) 2147483647 (notification_response_of ctx) bytes)
-    else (if byte == 84 then as_one_of backend.RowDescription (front (Typed 84) 2147483647 (row_description_of ctx) bytes)
-    else (if byte == 68 then as_one_of backend.DataRow (front (Typed 68) 2147483647 (data_row_of ctx) bytes)
+    if byte == 67 then as_one_of backend.CommandComplete (wire_front (Typed 67) 30000 (command_complete_of ctx) bytes)
+    else (if byte == 73 then as_one_of backend.EmptyQueryResponse (wire_front (Typed 73) 30000 (empty_query_response_of ctx) bytes)
+    else (if byte == 90 then as_one_of backend.ReadyForQuery (wire_front (Typed 90) 30000 (ready_for_query_of ctx) bytes)
+    else (if byte == 69 then as_one_of backend.ErrorResponse (wire_front (Typed 69) 2147483647 (error_response_of ctx) bytes)
+    else (if byte == 78 then as_one_of backend.NoticeResponse (wire_front (Typed 78) 2147483647 (notice_response_of ctx) bytes)
+    else (if byte == 65 then as_one_of backend.NotificationResponse (wire_front (Typed 65) 2147483647 (notification_response_of ctx) bytes)
+    else (if byte == 84 then as_one_of backend.RowDescription (wire_front (Typed 84) 2147483647 (row_description_of ctx) bytes)
+    else (if byte == 68 then as_one_of backend.DataRow (wire_front (Typed 68) 2147483647 (data_row_of ctx) bytes)
     else (extended_by byte ctx bytes))))))))
 
 -- by the type byte: the login, and those
 abbrev pub backend_by : ℕ → DecodeContext → List ℕ → Result (Option (PgWireBackendMessage × List ℕ)) PgWireError
 backend_by byte ctx bytes =
-    if byte == 82 then as_one_of backend.Authentication (front (Typed 82) 30000 (authentication_of ctx) bytes)
-    else (if byte == 83 then as_one_of backend.ParameterStatus (front (Typed 83) 30000 (parameter_status_of ctx) bytes)
-    else (if byte == 75 then as_one_of backend.BackendKeyData (front (Typed 75) 30000 (backend_key_data_of ctx) bytes)
-    else (if byte == 118 then as_one_of backend.NegotiateProtocolVersion (front (Typed 118) 30000 (negotiate_of ctx) bytes)
+    if byte == 82 then as_one_of backend.Authentication (wire_front (Typed 82) 30000 (authentication_of ctx) bytes)
+    else (if byte == 83 then as_one_of backend.ParameterStatus (wire_front (Typed 83) 30000 (parameter_status_of ctx) bytes)
+    else (if byte == 75 then as_one_of backend.BackendKeyData (wire_front (Typed 75) 30000 (backend_key_data_of ctx) bytes)
+    else (if byte == 118 then as_one_of backend.NegotiateProtocolVersion (wire_front (Typed 118) 30000 (negotiate_of ctx) bytes)
     else (query_by byte ctx bytes))))
 
 -- two bytes are looked for before the type byte is
-abbrev pub typed_front : DecodeContext → List ℕ → Result (Option (PgWireBackendMessage × List ℕ)) PgWireError
-typed_front ctx bytes =
+abbrev pub backend_typed_front : DecodeContext → List ℕ → Result (Option (PgWireBackendMessage × List ℕ)) PgWireError
+backend_typed_front ctx bytes =
     if nat_lt (length bytes) 2 then Ok None
     else backend_by (slice_index bytes 0) ctx bytes
 
 -- one byte answers a request for encryption
 unfoldable pub backend_front : DecodeContext → List ℕ → Result (Option (PgWireBackendMessage × List ℕ)) PgWireError
 backend_front ctx bytes =
-    if ctx.awaiting_backend_ssl_response then as_one_of backend.SslResponse (front OneByte 10000 (ssl_response_of ctx) bytes)
-    else (if ctx.awaiting_backend_gss_response then as_one_of backend.GssEncResponse (front OneByte 10000 (gss_enc_response_of ctx) bytes)
-    else typed_front ctx bytes)
+    if ctx.awaiting_backend_ssl_response then as_one_of backend.SslResponse (wire_front OneByte 10000 (ssl_response_of ctx) bytes)
+    else (if ctx.awaiting_backend_gss_response then as_one_of backend.GssEncResponse (wire_front OneByte 10000 (gss_enc_response_of ctx) bytes)
+    else backend_typed_front ctx bytes)
 
 -- the one spelling that is written of a message, or why there is none
 unfoldable pub backend_encoding : PgWireBackendMessage → Result (List ℕ) PgWireError

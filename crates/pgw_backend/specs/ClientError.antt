@@ -18,9 +18,9 @@ IsUnexpected m (client.UnexpectedMessage x) = x ≡ m
 IsUnexpected m client.OutOfMemory = Unit {0}
 IsUnexpected m e = ⊥
 
-unfoldable pub of_wire : PgWireError → PgWireClientError
-of_wire wire.OutOfMemory = client.OutOfMemory
-of_wire e = client.PgWireError e
+unfoldable pub client_of_wire : PgWireError → PgWireClientError
+client_of_wire wire.OutOfMemory = client.OutOfMemory
+client_of_wire e = client.PgWireError e
 
 abbrev pub of_config : ConfigError → PgWireClientError
 of_config (config.InvalidConfig key) = client.InvalidConfig key

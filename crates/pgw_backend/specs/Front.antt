@@ -13,10 +13,10 @@ use Rattle.pgw_copy.specs.Rows.{SpellsCopyData, SpellsCopyDone, SpellsCopyFail, 
 use Rattle.pgw_backend.specs.Backend.{backend_front}
 
 -- more bytes are needed, or a refusal, or a message with its length
-pub data Front : Type 0 where
-  More : Front
-  Bad : (why : PgWireError) → Front
-  Whole : (m : PgWireBackendMessage) → (len : ℕ) → Front
+pub data BackendFront : Type 0 where
+  More : BackendFront
+  Bad : (why : PgWireError) → BackendFront
+  Whole : (m : PgWireBackendMessage) → (len : ℕ) → BackendFront
 
 -- the phase in which each message has a type byte
 abbrev pub typed_phase : ProtocolVersion → DecodeContext
@@ -28,12 +28,12 @@ typed_phase version = record {
   awaiting_backend_gss_response = false;
 }
 
-abbrev pub front_of : List ℕ → Result (Option (PgWireBackendMessage × List ℕ)) PgWireError → Front
+abbrev pub front_of : List ℕ → Result (Option (PgWireBackendMessage × List ℕ)) PgWireError → BackendFront
 front_of bytes (Err e) = Bad e
 front_of bytes (Ok None) = More
 front_of bytes (Ok (Some x)) = Whole x.0 (length bytes - length x.1)
 
-unfoldable pub front : ProtocolVersion → List ℕ → Front
+unfoldable pub front : ProtocolVersion → List ℕ → BackendFront
 front version bytes = front_of bytes (backend_front (typed_phase version) bytes)
 
 -- these bytes, and no others, spell the message: its type byte, a length that is at most the row's limit, and its fields; or the one byte of an answer
@@ -66,14 +66,14 @@ Spelled version (backend.CopyOutResponse m) = SpellsTyped 72 30000 SpellsCopyOut
 Spelled version (backend.CopyBothResponse m) = SpellsTyped 87 30000 SpellsCopyBothResponse m
 
 -- the phase in which the message comes
-abbrev pub Awaits : DecodeContext → PgWireBackendMessage → Type 0
-Awaits ctx (backend.SslResponse m) = ctx.awaiting_backend_ssl_response ≡ true
-Awaits ctx (backend.GssEncResponse m) = (ctx.awaiting_backend_ssl_response ≡ false) × (ctx.awaiting_backend_gss_response ≡ true)
-Awaits ctx m = (ctx.awaiting_backend_ssl_response ≡ false) × (ctx.awaiting_backend_gss_response ≡ false)
+abbrev pub AwaitsBackend : DecodeContext → PgWireBackendMessage → Type 0
+AwaitsBackend ctx (backend.SslResponse m) = ctx.awaiting_backend_ssl_response ≡ true
+AwaitsBackend ctx (backend.GssEncResponse m) = (ctx.awaiting_backend_ssl_response ≡ false) × (ctx.awaiting_backend_gss_response ≡ true)
+AwaitsBackend ctx m = (ctx.awaiting_backend_ssl_response ≡ false) × (ctx.awaiting_backend_gss_response ≡ false)
 
 -- the bytes spell the message in this context
 unfoldable pub SpellsIn : DecodeContext → PgWireBackendMessage → List ℕ → Type 0
-SpellsIn ctx m bytes = Awaits ctx m × Spelled ctx.protocol_version m bytes
+SpellsIn ctx m bytes = AwaitsBackend ctx m × Spelled ctx.protocol_version m bytes
 
 abbrev pub Spells : ProtocolVersion → PgWireBackendMessage → List ℕ → Type 0
 Spells version m bytes = SpellsIn (typed_phase version) m bytes

@@ -1,8 +1,8 @@
 //! All messages of a server.
 ghost use Rattle.std.specs.Prelude.{◌≡◌, ◌++◌, ℕ, List, IfOk, IfSome, OnOk, Ok, Some};
 ghost use Rattle.pgw_wire.specs.Framing.{Decodes, Appends};
-ghost use Rattle.pgw_backend.specs.Backend.{copy_by, extended_by, query_by, backend_by, typed_front, backend_front, backend_encoding};
-ghost use Rattle.pgw_backend.specs.Front.{Awaits, SpellsIn};
+ghost use Rattle.pgw_backend.specs.Backend.{copy_by, extended_by, query_by, backend_by, backend_typed_front, backend_front, backend_encoding};
+ghost use Rattle.pgw_backend.specs.Front.{AwaitsBackend, SpellsIn};
 ghost use Rattle.pgw_backend.specs.Texts.{Suits};
 ghost use Rattle.pgw_types.specs.declared.context.DecodeContext.{DecodeContext as TheContext};
 ghost use Rattle.pgw_backend.specs.declared.backend.PgWireBackendMessage.{PgWireBackendMessage as TheMessage};
@@ -129,7 +129,7 @@ impl PgWireBackendMessage {
         ctx: &DecodeContext,
     ) -> PgWireResult<Option<PgWireBackendMessage>>
         ensures { Decodes result (B.held buf.old) (B.held buf.new)
-            (typed_front ctx.now (B.held buf.old)) }
+            (backend_typed_front ctx.now (B.held buf.old)) }
     {
         let bytes = buf.bytes();
         if bytes.len() < 2 {
@@ -229,11 +229,11 @@ impl PgWireBackendMessage {
     pub fn encode(&self, buf: &mut BytesMut) -> PgWireResult<()>
         // What is written spells the message, in each context that awaits it and whose version its key suits.
         ensures spelled { OnOk result ((ctx : TheContext) → Suits ctx.protocol_version self.now →
-            Awaits ctx self.now → (g : List ℕ) × (buf.new.items ≡ buf.old.items ++ g)
+            AwaitsBackend ctx self.now → (g : List ℕ) × (buf.new.items ≡ buf.old.items ++ g)
             × SpellsIn ctx self.now g) }
         // What is written is read again as the message in these contexts, whatever follows it, and that is left.
         ensures read_again { OnOk result ((ctx : TheContext) (rest : List ℕ) →
-            Suits ctx.protocol_version self.now → Awaits ctx self.now → (g : List ℕ)
+            Suits ctx.protocol_version self.now → AwaitsBackend ctx self.now → (g : List ℕ)
             × (buf.new.items ≡ buf.old.items ++ g)
             × (backend_front ctx (g ++ rest) ≡ Ok (Some (self.now, rest)))) }
         // Which bytes are written, or which refusal it is.

@@ -158,11 +158,11 @@ impl From<RowError> for PgWireClientError {
     }
 }
 
-#[tactic(auto, unfolding(crate::specs::ClientError::of_wire))]
+#[tactic(auto, unfolding(crate::specs::ClientError::client_of_wire))]
 impl From<PgWireError> for PgWireClientError {
-    ghost use Rattle.pgw_backend.specs.ClientError.{of_wire};
+    ghost use Rattle.pgw_backend.specs.ClientError.{client_of_wire};
 
-    ghost from_gives = { λ e r. r ≡ of_wire e };
+    ghost from_gives = { λ e r. r ≡ client_of_wire e };
 
     fn from(e: PgWireError) -> PgWireClientError {
         match e {

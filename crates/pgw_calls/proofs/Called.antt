@@ -16,8 +16,8 @@ use Rattle.pgw_session.specs.Answers.{no_tally, answer_by, answer_of, tally_of, 
 use Rattle.pgw_session.proofs.Events.{encodings_append}
 use Rattle.pgw_handlers.specs.Client.{Client}
 use Rattle.pgw_connection.specs.Line.{Reasons}
-use Rattle.pgw_calls.specs.Turns.{standing_of_client, Exchanged, IsAnswered, IsPassedSegment, IsFrontOf, IsOpenFor, Opened}
-use Rattle.pgw_calls.specs.Calls.{Answers, Misplaces, Breaks, Comes, IsUnwritten, IsStarved}
+use Rattle.pgw_calls.specs.Turns.{standing_of_client, AreExchanged, IsAnswered, IsPassedSegment, IsCallFront, IsOpenFor, Opened}
+use Rattle.pgw_calls.specs.Calls.{AnswersCall, CallMisplaces, BreaksClient, Comes, IsUnwritten, IsStarvedCall}
 use Rattle.pgw_calls.proofs.Exchanges.{exchanged_none, exchanged_sent}
 use Rattle.pgw_calls.proofs.Came.{Shape, Meets, CameOn, Broke, Came, Onto, within, came_onto}
 
@@ -25,10 +25,10 @@ abbrev whole : Request → Shape
 whole q = record {
   answered = IsAnswered q;
   passed = IsPassedSegment q;
-  stops = IsFrontOf q;
+  stops = IsCallFront q;
   meets = λ m. Opened q (IsOpenFor (kind_of q) false m);
   passes = passes_over (kind_of q);
-  starves = IsStarved q;
+  starves = IsStarvedCall q;
 }
 
 pub tally_opened : (t : Tally) (fs : List Frontend) (es : List Event) → fold tally_at t (map Sent fs ++ es) ≡ fold tally_at t es
@@ -39,7 +39,7 @@ pub answer_opened : (q : Request) (es : List Event) → answer_of q (map Sent (s
 unfolding tally_of
 answer_opened q es = ap (answer_by q) (tally_opened no_tally (sends_of q) es)
 
-starved_opened : (q : Request) (out sent : List ℕ) → encodings (sends_of q) ≡ Ok out → (sent ≡ []) ⊎ (encodings (sends (behind_error (kind_of q))) ≡ Ok sent) → IsStarved q (out ++ sent)
+starved_opened : (q : Request) (out sent : List ℕ) → encodings (sends_of q) ≡ Ok out → (sent ≡ []) ⊎ (encodings (sends (behind_error (kind_of q))) ≡ Ok sent) → IsStarvedCall q (out ++ sent)
 starved_opened q out sent is (inl none) = inr (inl (is ∙ ap Ok (sym (append-nil out) ∙ ap (λ (l : List ℕ). out ++ l) (sym none))))
 starved_opened q out sent is (inr one) = inr (inr (encodings_append (sends_of q) (sends (behind_error (kind_of q))) ∙ ap (λ o. both o (encodings (sends (behind_error (kind_of q))))) is ∙ ap (both (Ok out)) one))
 
@@ -56,17 +56,17 @@ opened_onto q c out bytes is = record {
 }
 
 module _ {A : Type 0} (give : A → Answer) (P : Reasons) (q : Request) (c : Client) (bytes sent : List ℕ) (info : Client) (rest : List ℕ) where
-  answers : (result : Result A ClientError) → CameOn (whole q) give c bytes sent info rest result → Answers give q c bytes sent info rest result
+  answers : (result : Result A ClientError) → CameOn (whole q) give c bytes sent info rest result → AnswersCall give q c bytes sent info rest result
   answers (Ok x) y = y
   answers (Err (client.RemoteError e)) y = y
   answers (Err (client.UnexpectedMessage m)) y = y
   answers (Err e) y = absurd y
 
-  misplaces : (m : Backend) (b : Bool) → Meets b (whole q) P c bytes sent m info rest → Misplaces b P q c bytes sent m info rest
+  misplaces : (m : Backend) (b : Bool) → Meets b (whole q) P c bytes sent m info rest → CallMisplaces b P q c bytes sent m info rest
   misplaces m true y = y
   misplaces m false y = y
 
-  breaks : (result : Result A ClientError) → Broke (whole q) P c bytes sent info rest result → Breaks P q c bytes sent info rest result
+  breaks : (result : Result A ClientError) → Broke (whole q) P c bytes sent info rest result → BreaksClient P q c bytes sent info rest result
   breaks (Ok x) y = absurd y
   breaks (Err client.OutOfMemory) y = y
   breaks (Err (client.PgWireError why)) y = y
@@ -96,8 +96,8 @@ cut_opening P q c bytes part lost info why is same = (
   (
     map Sent (sends_of q) ++ [],
     ([], refl, record { ms = []; behind = false; rest = []; are = refl; taken = refl; ends = inl (refl, refl) }),
-    subst (λ (d : Client). Exchanged c.config (standing_of_client c) bytes (part ++ lost) (map Sent (sends_of q) ++ []) d bytes) (sym same)
-        (subst (λ (w : List ℕ). Exchanged c.config (standing_of_client c) bytes w (map Sent (sends_of q) ++ []) c bytes) (append-nil (part ++ lost))
+    subst (λ (d : Client). AreExchanged c.config (standing_of_client c) bytes (part ++ lost) (map Sent (sends_of q) ++ []) d bytes) (sym same)
+        (subst (λ (w : List ℕ). AreExchanged c.config (standing_of_client c) bytes w (map Sent (sends_of q) ++ []) c bytes) (append-nil (part ++ lost))
         (exchanged_sent c.config (standing_of_client c) (sends_of q) (part ++ lost) bytes [] [] c bytes is (exchanged_none c.config (standing_of_client c) bytes))),
   ),
 )

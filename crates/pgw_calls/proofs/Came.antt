@@ -1,7 +1,7 @@
 -- A call, from where it stands to its end.
 use Rattle.std.proofs.Common.{append_assoc, ◌≡◌, ◌⊎◌, ℕ, Bool, true, false, List, [], ◌∷◌, ◌++◌, map, fold, Result, Ok, Err, inl, inr, refl, sym, ap, subst}
 use Rattle.pgw_types.specs.declared.error.PgWireError.{PgWireError}
-use Rattle.pgw_backend.specs.Front.{Front, front, More, Bad}
+use Rattle.pgw_backend.specs.Front.{BackendFront, front, More, Bad}
 use Rattle.pgw_backend.specs.declared.backend.PgWireBackendMessage.{PgWireBackendMessage as Backend}
 use Rattle.pgw_backend.specs.declared.backend.PgWireBackendMessage.TheVariants as backend
 use Rattle.pgw_backend.specs.declared.client_error.PgWireClientError.{PgWireClientError as ClientError}
@@ -19,8 +19,8 @@ use Rattle.pgw_session.specs.Requests.{kind_of, passes_over, role, behind_error}
 use Rattle.pgw_session.specs.Segments.{IsAnswer, IsQuiet, IsPassedOver, is_ready, is_other, sends}
 use Rattle.pgw_session.specs.Answers.{tally_at, tally_after, answer_by}
 use Rattle.pgw_handlers.specs.Client.{Client}
-use Rattle.pgw_connection.specs.Talk.{Lack, Next, told, in_place_of, first_of, passes, Passing}
-use Rattle.pgw_calls.specs.Turns.{standing_of_client, Exchanged, Does, IsMisplaced, IsFront, IsOpenFor}
+use Rattle.pgw_connection.specs.Talk.{Lack, Next, client_after, in_place_of, first_error_of, passes, Passing}
+use Rattle.pgw_calls.specs.Turns.{standing_of_client, AreExchanged, Does, IsMisplaced, IsCutCall, IsOpenFor}
 use Rattle.pgw_connection.specs.Line.{Reasons}
 use Rattle.pgw_calls.proofs.Openings.{IsLinkEnd}
 use Rattle.pgw_calls.proofs.Exchanges.{exchanged_none, got_one, got_last}
@@ -36,7 +36,7 @@ pub record Shape : Type 1 where
   pub passes : Bool
   pub starves : List ℕ → Type 0
 
-abbrev pub CutOff : Shape → Client → List ℕ → List ℕ → ClientError → Client → List ℕ → Front → Type 0
+abbrev pub CutOff : Shape → Client → List ℕ → List ℕ → ClientError → Client → List ℕ → BackendFront → Type 0
 CutOff S c bytes sent e info rest next = Does (S.stops e) c bytes sent info rest × (front info.protocol_version rest ≡ next)
 
 abbrev pub CameOn : {A : Type 0} → Shape → (A → Answer) → Client → List ℕ → List ℕ → Client → List ℕ → Result A ClientError → Type 0
@@ -74,10 +74,10 @@ pub record Onto (S T : Shape) (c d : Client) (bytes more wrote : List ℕ) : Typ
   pub meets : (m : Backend) (es : List Event) → S.meets m es → T.meets m (before es)
   pub passes : S.passes ≡ T.passes
   pub starves : (sent : List ℕ) → S.starves sent → T.starves (wrote ++ sent)
-  pub exchanged : (sent : List ℕ) (es : List Event) (info : Client) (rest : List ℕ) → Exchanged c.config (standing_of_client c) bytes sent es info rest → Exchanged d.config (standing_of_client d) more (wrote ++ sent) (before es) info rest
+  pub exchanged : (sent : List ℕ) (es : List Event) (info : Client) (rest : List ℕ) → AreExchanged c.config (standing_of_client c) bytes sent es info rest → AreExchanged d.config (standing_of_client d) more (wrote ++ sent) (before es) info rest
 
 module _ (S T : Shape) (c d : Client) (bytes more wrote sent : List ℕ) (info : Client) (rest : List ℕ) (o : Onto S T c d bytes more wrote) where
-  cut_onto : (e : ClientError) (next : Front) → CutOff S c bytes sent e info rest next → CutOff T d more (wrote ++ sent) e info rest next
+  cut_onto : (e : ClientError) (next : BackendFront) → CutOff S c bytes sent e info rest next → CutOff T d more (wrote ++ sent) e info rest next
   cut_onto e next x = let y = x.0 in ((o.before y.0, o.stops e y.0 y.1, o.exchanged sent y.0 info rest y.2), x.1)
 
   answered_onto : (a : Answer) → Does (S.answered a) c bytes sent info rest → Does (T.answered a) d more (wrote ++ sent) info rest
@@ -94,7 +94,7 @@ module _ (S T : Shape) (c d : Client) (bytes more wrote sent : List ℕ) (info :
   meets_onto P m false y = let x = y.1 in (y.0, (o.before x.0, o.meets m x.0 x.1, o.exchanged sent x.0 info y.0 x.2), y.2)
 
   lost_onto : (lost : List ℕ) (e : ClientError) → Does (S.stops e) c bytes (sent ++ lost) info rest → Does (T.stops e) d more ((wrote ++ sent) ++ lost) info rest
-  lost_onto lost e x = (o.before x.0, o.stops e x.0 x.1, subst (λ (w : List ℕ). Exchanged d.config (standing_of_client d) more w (o.before x.0) info rest) (sym (append_assoc wrote sent lost)) (o.exchanged (sent ++ lost) x.0 info rest x.2))
+  lost_onto lost e x = (o.before x.0, o.stops e x.0 x.1, subst (λ (w : List ℕ). AreExchanged d.config (standing_of_client d) more w (o.before x.0) info rest) (sym (append_assoc wrote sent lost)) (o.exchanged (sent ++ lost) x.0 info rest x.2))
 
   broke_onto : {A : Type 0} (P : Reasons) (result : Result A ClientError) → Broke S P c bytes sent info rest result → Broke T P d more (wrote ++ sent) info rest result
   broke_onto P (Ok x) y = absurd y
@@ -119,7 +119,7 @@ abbrev pub within : Request → Bool → Tally → Shape
 within q rows t = record {
   answered = λ a es. IsAnswer (kind_of q) rows es × (answer_by q (fold tally_at t es) ≡ a);
   passed = λ m es. IsMisplaced (kind_of q) rows m es;
-  stops = λ e es. IsFront (kind_of q) rows e es;
+  stops = λ e es. IsCutCall (kind_of q) rows e es;
   meets = λ m es. IsOpenFor (kind_of q) rows m es;
   passes = passes_over (kind_of q);
   starves = λ sent. (sent ≡ []) ⊎ (encodings (sends (behind_error (kind_of q))) ≡ Ok sent);
@@ -131,14 +131,14 @@ answer_more k rows next m es is r = record { ms = m ∷ r.ms; behind = r.behind;
 misplaced_more : (k : Kind) (rows next : Bool) (m x : Backend) (es : List Event) → role k rows m ≡ Taken next → IsMisplaced k next x es → IsMisplaced k rows x (Got m ∷ es)
 misplaced_more k rows next m x es is r = record { ms = m ∷ r.ms; behind = r.behind; rest = r.rest; are = ap (λ (l : List Event). Got m ∷ l) r.are; taken = (next, is, r.taken); misplaced = r.misplaced; passed = r.passed; passes = r.passes }
 
-front_more : (k : Kind) (rows next : Bool) (m : Backend) (e : ClientError) (es : List Event) → role k rows m ≡ Taken next → IsFront k next e es → IsFront k rows e (Got m ∷ es)
+front_more : (k : Kind) (rows next : Bool) (m : Backend) (e : ClientError) (es : List Event) → role k rows m ≡ Taken next → IsCutCall k next e es → IsCutCall k rows e (Got m ∷ es)
 front_more k rows next m e es is r = record { ms = m ∷ r.ms; behind = r.behind; rest = r.rest; are = ap (λ (l : List Event). Got m ∷ l) r.are; taken = (next, is, r.taken); ends = r.ends }
 
 open_more : (k : Kind) (rows next : Bool) (m x : Backend) (es : List Event) → role k rows m ≡ Taken next → IsOpenFor k next x es → IsOpenFor k rows x (Got m ∷ es)
 open_more k rows next m x es is r = record { ms = m ∷ r.ms; behind = r.behind; are = ap (λ (l : List Event). Got m ∷ l) r.are; taken = (next, is, r.taken); misplaced = r.misplaced }
 
 -- a message that is taken
-pub taken_onto : (q : Request) (rows next : Bool) (t : Tally) (c d : Client) (m : Backend) (bytes left : List ℕ) → role (kind_of q) rows m ≡ Taken next → Next c bytes m left → d ≡ told m c → Onto (within q next (tally_after t m)) (within q rows t) d c left bytes []
+pub taken_onto : (q : Request) (rows next : Bool) (t : Tally) (c d : Client) (m : Backend) (bytes left : List ℕ) → role (kind_of q) rows m ≡ Taken next → Next c bytes m left → d ≡ client_after m c → Onto (within q next (tally_after t m)) (within q rows t) d c left bytes []
 taken_onto q rows next t c d m bytes left is whole behind = record {
   before = λ es. Got m ∷ es;
   answered = λ a es x. (answer_more (kind_of q) rows next m es is x.0, x.1);
@@ -193,7 +193,7 @@ AreQuiet es = (ms : List Backend) × (es ≡ map Got ms) × IsQuiet ms
 -- the error behind the messages that are passed over
 abbrev pub kept : ClientError → List Backend → ClientError
 kept e [] = e
-kept e (m ∷ ms) = kept (first_of e m) ms
+kept e (m ∷ ms) = kept (first_error_of e m) ms
 
 abbrev pub PassingTo : Reasons → ClientError → Client → List ℕ → ClientError → Client → List ℕ → Bool → Type 0
 PassingTo P e c bytes x last left false = (q : Does IsPassedOver c bytes [] last left) × (x ≡ kept e (q.1).ms)
@@ -223,11 +223,11 @@ passed_last : (m : Backend) → is_ready m ≡ true → IsPassedOver (Got m ∷ 
 passed_last m is = let r = ready_is m is in record { ms = []; ready = r.0; are = ap (λ (x : Backend). Got x ∷ []) r.1; all = tt }
 
 does_more : (p r : List Event → Type 0) (c : Client) (m : Backend) (bytes rest sent : List ℕ) (info : Client) (left : List ℕ) → Next c bytes m rest → ((es : List Event) → p es → r (Got m ∷ es)) →
-    Does p (told m c) rest sent info left → Does r c bytes sent info left
-does_more p r c m bytes rest sent info left next f y = (Got m ∷ y.0, f y.0 y.1, got_one c (told m c) m bytes rest sent y.0 info left next refl y.2)
+    Does p (client_after m c) rest sent info left → Does r c bytes sent info left
+does_more p r c m bytes rest sent info left next f y = (Got m ∷ y.0, f y.0 y.1, got_one c (client_after m c) m bytes rest sent y.0 info left next refl y.2)
 
 goes_to : (P : Reasons) (e : ClientError) (c : Client) (m : Backend) (bytes rest : List ℕ) (x : ClientError) (last : Client) (left : List ℕ) (broken : Bool) → Next c bytes m rest → is_ready m ≡ false →
-    PassingTo P (first_of e m) (told m c) rest x last left broken → PassingTo P e c bytes x last left broken
+    PassingTo P (first_error_of e m) (client_after m c) rest x last left broken → PassingTo P e c bytes x last left broken
 unfolding does_more passed_more quiet_more
 goes_to P e c m bytes rest x last left false next is y = (does_more IsPassedOver IsPassedOver c m bytes rest [] last left next (λ es q. passed_more m es is q) y.0, y.1)
 goes_to P e c m bytes rest x last left true next is (inl y) = inl y
@@ -235,11 +235,11 @@ goes_to P e c m bytes rest x last left true next is (inr y) = inr (does_more Are
 
 lacks_to : (P : Reasons) (e : ClientError) (c : Client) (bytes rest : List ℕ) (y : ClientError) → (y ≡ client.OutOfMemory) ⊎ (Lacking P c rest y × (rest ≡ bytes)) → PassingTo P e c bytes (in_place_of e y) c rest true
 lacks_to P e c bytes rest y (inl starved) = inl (ap (in_place_of e) starved)
-lacks_to P e c bytes rest y (inr l) = inr (([], ([], refl, tt), subst (λ (b : List ℕ). Exchanged c.config (standing_of_client c) b [] [] c rest) l.1 (exchanged_none c.config (standing_of_client c) rest)), y, refl, l.0)
+lacks_to P e c bytes rest y (inr l) = inr (([], ([], refl, tt), subst (λ (b : List ℕ). AreExchanged c.config (standing_of_client c) b [] [] c rest) l.1 (exchanged_none c.config (standing_of_client c) rest)), y, refl, l.0)
 
 pub passing_to : (P : Reasons) (e : ClientError) (c : Client) (bytes : List ℕ) (x : ClientError) (last : Client) (left : List ℕ) (broken : Bool) → Passing P e c bytes x last left broken → PassingTo P e c bytes x last left broken
 unfolding passed_last
 passing_to P _ _ _ _ _ _ _ (Passing.lacks e c bytes rest y l) = lacks_to P e c bytes rest y (lacking P c bytes rest y l)
 passing_to P _ _ _ _ _ _ _ (Passing.closes e c bytes m rest next is) = ((Got m ∷ [], passed_last m is, got_last c m bytes rest next), refl)
-passing_to P _ _ _ _ _ _ _ (Passing.goes e c bytes m rest x last left broken next is d) = goes_to P e c m bytes rest x last left broken next is (passing_to P (first_of e m) (told m c) rest x last left broken d)
+passing_to P _ _ _ _ _ _ _ (Passing.goes e c bytes m rest x last left broken next is d) = goes_to P e c m bytes rest x last left broken next is (passing_to P (first_error_of e m) (client_after m c) rest x last left broken d)
 passing_to P _ _ _ _ _ _ _ (Passing.starves e c bytes rest) = inl refl

@@ -15,14 +15,14 @@ use Rattle.pgw_session.specs.Transcript.{SpellsGot}
 use Rattle.pgw_session.proofs.Hears.{sents_append, sents_sends}
 use Rattle.pgw_session.proofs.Events.{encodings_append}
 use Rattle.pgw_handlers.specs.Client.{Client}
-use Rattle.pgw_connection.specs.Talk.{Next, told}
-use Rattle.pgw_calls.specs.Turns.{knowing, standing_of_client, Exchanged}
+use Rattle.pgw_connection.specs.Talk.{Next, client_after}
+use Rattle.pgw_calls.specs.Turns.{knowing, standing_of_client, AreExchanged}
 
-pub exchanged_none : (config : Config) (s : Standing) (bytes : List ℕ) → Exchanged config s bytes [] [] (knowing config s) bytes
+pub exchanged_none : (config : Config) (s : Standing) (bytes : List ℕ) → AreExchanged config s bytes [] [] (knowing config s) bytes
 exchanged_none config s bytes = record { spelled = []; begins = refl; got = refl; put = refl; knows = refl }
 
 pub exchanged_got : (config : Config) (s next : Standing) (m : Backend) (bytes rest sent : List ℕ) (len : ℕ) (es : List Event) (info : Client) (left : List ℕ) →
-    front s.version bytes ≡ Whole m len → rest ≡ drop len bytes → next ≡ standing_by s m → Exchanged config next rest sent es info left → Exchanged config s bytes sent (Got m ∷ es) info left
+    front s.version bytes ≡ Whole m len → rest ≡ drop len bytes → next ≡ standing_by s m → AreExchanged config next rest sent es info left → AreExchanged config s bytes sent (Got m ∷ es) info left
 exchanged_got config s next m bytes rest sent len es info left is are behind x = record {
   spelled = take len bytes ++ x.spelled;
   begins = sym (take-append-drop len bytes) ∙ ap (λ (l : List ℕ). take len bytes ++ l) (sym are ∙ x.begins) ∙ sym (append_assoc (take len bytes) x.spelled left);
@@ -40,7 +40,7 @@ fold_sends s [] es = refl
 fold_sends s (f ∷ fs) es = fold_sends s fs es
 
 pub exchanged_sent : (config : Config) (s : Standing) (fs : List Frontend) (out bytes sent : List ℕ) (es : List Event) (info : Client) (left : List ℕ) →
-    encodings fs ≡ Ok out → Exchanged config s bytes sent es info left → Exchanged config s bytes (out ++ sent) (map Sent fs ++ es) info left
+    encodings fs ≡ Ok out → AreExchanged config s bytes sent es info left → AreExchanged config s bytes (out ++ sent) (map Sent fs ++ es) info left
 exchanged_sent config s fs out bytes sent es info left is x = record {
   spelled = x.spelled;
   begins = x.begins;
@@ -51,22 +51,22 @@ exchanged_sent config s fs out bytes sent es info left is x = record {
 
 -- ---- behind ReadyForQuery
 
-pub told_standing : (c : Client) (m : Backend) → standing_of_client (told m c) ≡ standing_by (standing_of_client c) m
+pub told_standing : (c : Client) (m : Backend) → standing_of_client (client_after m c) ≡ standing_by (standing_of_client c) m
 told_standing c (backend.ParameterStatus m) = refl
 told_standing c (backend.ReadyForQuery m) = refl
 told_standing c m = refl
 
-told_config : (c : Client) (m : Backend) → (told m c).config ≡ c.config
+told_config : (c : Client) (m : Backend) → (client_after m c).config ≡ c.config
 told_config c (backend.ParameterStatus m) = refl
 told_config c (backend.ReadyForQuery m) = refl
 told_config c m = refl
 
-pub got_one : (c d : Client) (m : Backend) (bytes rest sent : List ℕ) (es : List Event) (info : Client) (left : List ℕ) → Next c bytes m rest → d ≡ told m c →
-    Exchanged d.config (standing_of_client d) rest sent es info left → Exchanged c.config (standing_of_client c) bytes sent (Got m ∷ es) info left
+pub got_one : (c d : Client) (m : Backend) (bytes rest sent : List ℕ) (es : List Event) (info : Client) (left : List ℕ) → Next c bytes m rest → d ≡ client_after m c →
+    AreExchanged d.config (standing_of_client d) rest sent es info left → AreExchanged c.config (standing_of_client c) bytes sent (Got m ∷ es) info left
 got_one c d m bytes rest sent es info left next is x =
     exchanged_got c.config (standing_of_client c) (standing_of_client d) m bytes rest sent next.0 es info left next.1 next.2
     (ap standing_of_client is ∙ told_standing c m)
-    (subst (λ (k : Config). Exchanged k (standing_of_client d) rest sent es info left) (ap (λ (x : Client). x.config) is ∙ told_config c m) x)
+    (subst (λ (k : Config). AreExchanged k (standing_of_client d) rest sent es info left) (ap (λ (x : Client). x.config) is ∙ told_config c m) x)
 
-pub got_last : (c : Client) (m : Backend) (bytes rest : List ℕ) → Next c bytes m rest → Exchanged c.config (standing_of_client c) bytes [] (Got m ∷ []) (told m c) rest
-got_last c m bytes rest next = got_one c (told m c) m bytes rest [] [] (told m c) rest next refl (exchanged_none (told m c).config (standing_of_client (told m c)) rest)
+pub got_last : (c : Client) (m : Backend) (bytes rest : List ℕ) → Next c bytes m rest → AreExchanged c.config (standing_of_client c) bytes [] (Got m ∷ []) (client_after m c) rest
+got_last c m bytes rest next = got_one c (client_after m c) m bytes rest [] [] (client_after m c) rest next refl (exchanged_none (client_after m c).config (standing_of_client (client_after m c)) rest)

@@ -29,14 +29,14 @@ use Rattle.pgw_session.specs.declared.stage.Kind.TheVariants as kind
 use Rattle.pgw_session.specs.declared.stage.Role.{Role}
 use Rattle.pgw_session.specs.declared.stage.Role.TheVariants.{Taken, Closing, Completing, Misplaced}
 use Rattle.pgw_session.specs.Requests.{kind_of, role}
-use Rattle.pgw_session.specs.Answers.{tally_after, with_end, response_of, answer_with, noted_unless, answer_by, result_of, columns_of, rows_until, no_tally}
+use Rattle.pgw_session.specs.Answers.{tally_after, with_end, response_of, answer_with, noted_unless, answer_by, result_of, last_columns, rows_until, no_tally}
 use Rattle.pgw_handlers.specs.Client.{Client}
 use Rattle.pgw_default_handlers.specs.declared.extended.DefaultExtendedQueryHandler.{DefaultExtendedQueryHandler}
 use Rattle.pgw_default_handlers.specs.Extended.{ExtendedMeans}
 use Rattle.pgw_connection.specs.declared.gathered.Gathered.{Gathered}
-use Rattle.pgw_connection.specs.Extended.{none_gathered, with_gift, Heeds, is_suspended, place}
+use Rattle.pgw_connection.specs.Extended.{none_gathered, with_gift, Heeds, is_suspended, call_role}
 use Rattle.pgw_handlers.specs.Extended.{Gift, Given, response, nothing}
-use Rattle.pgw_calls.specs.Extended.{IsExtended, given}
+use Rattle.pgw_calls.specs.Extended.{IsExtended, call_answer}
 
 -- a row of the table of extended queries
 abbrev pub IsAsked : Kind → Type 0
@@ -66,7 +66,7 @@ ends_often k = false
 -- what was gathered is what the tally says
 pub record Gathers (k : Kind) (g : Gathered (List DataRow)) (t : Tally) : Type 0 where
   pub types : g.types ≡ t.param_types
-  pub columns : g.columns ≡ columns_of t.opened
+  pub columns : g.columns ≡ last_columns t.opened
   pub rows : g.responses ≡ rows_until t.executed ++ t.rows
   pub remote : t.remote ≡ None
   pub unopened : has_rows k ≡ true → t.opened ≡ None
@@ -105,7 +105,7 @@ abbrev ok : Gift DataRow → Given DataRow
 ok gift = Ok gift
 
 -- a notification is refused, so the place of a message that is heeded is that of the table
-pub by_table : (k : Kind) (h after : DefaultExtendedQueryHandler) (c : Client) (g more : Gathered (List DataRow)) (m : Backend) (r : Role) → place k m ≡ r → Heeds ExtendedMeans h c g m after more → role k false m ≡ r
+pub by_table : (k : Kind) (h after : DefaultExtendedQueryHandler) (c : Client) (g more : Gathered (List DataRow)) (m : Backend) (r : Role) → call_role k m ≡ r → Heeds ExtendedMeans h c g m after more → role k false m ≡ r
 by_table k h after c g more (backend.NotificationResponse m) r is heeds = absurd (heeds.1)
 by_table k h after c g more m r is heeds = is
 
@@ -167,7 +167,7 @@ module _ (k : Kind) (h after : DefaultExtendedQueryHandler) (c : Client) (g more
       Gathers k g (with_end t.executed u (execute.Complete t.rows))
   ended_gathers u None query is types opened rows remote ended = rw is (record {
     types = s.types ∙ sym types;
-    columns = s.columns ∙ ap columns_of (s.unopened (ap has_rows query)) ∙ sym (ap columns_of opened);
+    columns = s.columns ∙ ap last_columns (s.unopened (ap has_rows query)) ∙ sym (ap last_columns opened);
     rows = s.rows ∙ ap (λ (o : Option (ExecuteResult (List DataRow))). rows_until o ++ t.rows) is ∙ sym (append-nil t.rows);
     remote = remote;
     unopened = λ yes. opened;
@@ -175,7 +175,7 @@ module _ (k : Kind) (h after : DefaultExtendedQueryHandler) (c : Client) (g more
   })
   ended_gathers u (Some x) query is types opened rows remote ended = rw is (record {
     types = s.types ∙ sym types;
-    columns = s.columns ∙ ap columns_of (s.unopened (ap has_rows query)) ∙ sym (ap columns_of opened);
+    columns = s.columns ∙ ap last_columns (s.unopened (ap has_rows query)) ∙ sym (ap last_columns opened);
     rows = s.rows ∙ ap (λ (o : Option (ExecuteResult (List DataRow))). rows_until o ++ t.rows) (sym ended) ∙ ap (λ (l : List DataRow). rows_until u.executed ++ l) (sym rows);
     remote = remote;
     unopened = λ yes. opened;
@@ -220,13 +220,13 @@ abbrev IsPlain : Request → Type 0
 IsPlain (request.Execute portal max_rows) = ⊥
 IsPlain q = Unit {0}
 
-plain_answer : (q : Request) (g : Gathered (List DataRow)) (t : Tally) → IsExtended q → IsPlain q → Gathers (kind_of q) g t → answer_by q t ≡ given q (g, false)
+plain_answer : (q : Request) (g : Gathered (List DataRow)) (t : Tally) → IsExtended q → IsPlain q → Gathers (kind_of q) g t → answer_by q t ≡ call_answer q (g, false)
 plain_answer (request.Simple query) g t e p s = absurd e
 plain_answer (request.Prepare name query types) g t e p s = ap (λ o. answer_with o (result_of (request.Prepare name query types) t)) s.remote ∙ ap (λ ts. answer.Prepared (record { name = name; param_types = ts })) (sym s.types)
 plain_answer (request.Bind portal statement parameters formats) g t e p s = ap (λ o. answer_with o answer.Bound) s.remote
 plain_answer (request.Execute portal max_rows) g t e p s = absurd p
 plain_answer (request.Describe target) g t e p s =
-    ap (λ o. answer_with o (result_of (request.Describe target) t)) s.remote ∙ ap (λ ts. answer.Described (record { param_types = ts; fields = columns_of t.opened })) (sym s.types)
+    ap (λ o. answer_with o (result_of (request.Describe target) t)) s.remote ∙ ap (λ ts. answer.Described (record { param_types = ts; fields = last_columns t.opened })) (sym s.types)
     ∙ ap (λ fs. answer.Described (record { param_types = g.types; fields = fs })) (sym s.columns)
 plain_answer (request.Close target) g t e p s = ap (λ o. answer_with o answer.Closed) s.remote
 plain_answer (request.Query query types parameters) g t e p s = ap (λ o. answer_with o (result_of (request.Query query types parameters) t)) s.remote ∙ ap answer.Rows (sym s.rows)
@@ -341,7 +341,7 @@ taken_false k m rows a is = subst Undescribed is (undescribed k m a)
 
 -- ---- the closing message
 
-suspended_answer : (q : Request) (m : PortalSuspended) (g : Gathered (List DataRow)) (t : Tally) → IsExtended q → role (kind_of q) false (backend.PortalSuspended m) ≡ Closing → Gathers (kind_of q) g t → answer_by q (tally_after t (backend.PortalSuspended m)) ≡ given q (g, true)
+suspended_answer : (q : Request) (m : PortalSuspended) (g : Gathered (List DataRow)) (t : Tally) → IsExtended q → role (kind_of q) false (backend.PortalSuspended m) ≡ Closing → Gathers (kind_of q) g t → answer_by q (tally_after t (backend.PortalSuspended m)) ≡ call_answer q (g, true)
 suspended_answer (request.Simple query) m g t e is s = absurd e
 suspended_answer (request.Execute portal max_rows) m g t e is s =
     let unended : t.executed ≡ None = s.unended refl in
@@ -355,18 +355,18 @@ suspended_answer (request.Close target) m g t e is s = absurd (cc)
 suspended_answer (request.Query query types parameters) m g t e is s = absurd (cc)
 
 module _ (q : Request) (e : IsExtended q) (h after : DefaultExtendedQueryHandler) (c : Client) (g more : Gathered (List DataRow)) (t : Tally) (s : Gathers (kind_of q) g t) where
-  silent : (m : Backend) → tally_after t m ≡ t → more ≡ g → IsPlain q → answer_by q (tally_after t m) ≡ given q (more, false)
-  silent m is are plain = ap (answer_by q) is ∙ plain_answer q g t e plain s ∙ ap (λ (x : Gathered (List DataRow)). given q (x, false)) (sym are)
+  silent : (m : Backend) → tally_after t m ≡ t → more ≡ g → IsPlain q → answer_by q (tally_after t m) ≡ call_answer q (more, false)
+  silent m is are plain = ap (answer_by q) is ∙ plain_answer q g t e plain s ∙ ap (λ (x : Gathered (List DataRow)). call_answer q (x, false)) (sym are)
 
   nothing_is : {x : Gift DataRow} → ok x ≡ ok nothing → x ≡ nothing
   nothing_is {x} is = cc
 
-  pub closing_answer : (m : Backend) → role (kind_of q) false m ≡ Closing → Heeds ExtendedMeans h c g m after more → answer_by q (tally_after t m) ≡ given q (more, is_suspended m)
+  pub closing_answer : (m : Backend) → role (kind_of q) false m ≡ Closing → Heeds ExtendedMeans h c g m after more → answer_by q (tally_after t m) ≡ call_answer q (more, is_suspended m)
   closing_answer (backend.ReadyForQuery m) is heeds = silent (backend.ReadyForQuery m) (rw s.remote refl) heeds.1 (ready_plain q m is)
   closing_answer (backend.BindComplete m) is heeds = silent (backend.BindComplete m) (rw s.remote refl) heeds.1 (bind_plain q m is)
   closing_answer (backend.NoData m) is heeds = silent (backend.NoData m) (rw s.remote refl) heeds.1 (none_plain q m is)
   closing_answer (backend.RowDescription m) is heeds =
       plain_answer q more (tally_after t (backend.RowDescription m)) e (described_plain q m is)
       (description_gathers (kind_of q) h after c g more t (asked q e) s m (described_kind (kind_of q) m is) (heeds.2 ∙ ap (with_gift g) (heeds.1).1))
-  closing_answer (backend.PortalSuspended m) is heeds = suspended_answer q m g t e is s ∙ ap (λ (x : Gathered (List DataRow)). given q (x, true)) (sym (heeds.2 ∙ ap (with_gift g) (nothing_is (heeds.1).1)))
+  closing_answer (backend.PortalSuspended m) is heeds = suspended_answer q m g t e is s ∙ ap (λ (x : Gathered (List DataRow)). call_answer q (x, true)) (sym (heeds.2 ∙ ap (with_gift g) (nothing_is (heeds.1).1)))
   closing_answer m is heeds = absurd (subst (λ (r : Role). Fits (kind_of q) r m) is (fits (kind_of q) m))

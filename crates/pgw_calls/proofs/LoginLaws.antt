@@ -22,9 +22,9 @@ use Rattle.pgw_session.specs.Standings.{first_standing, standing_by, standing_of
 use Rattle.pgw_session.specs.Answers.{tally_of}
 use Rattle.pgw_session.specs.Segments.{sends, startup_message}
 use Rattle.pgw_session.specs.Faults.{IsStartupError}
-use Rattle.pgw_session.specs.Failures.{LeftWith, Told as Tells}
-use Rattle.pgw_session.specs.Reading.{reading}
-use Rattle.pgw_session.specs.Table.{after as table}
+use Rattle.pgw_session.specs.Failures.{LeftWith, BytesTell as Tells}
+use Rattle.pgw_session.specs.Reading.{version_front}
+use Rattle.pgw_session.specs.Table.{next_after as table}
 use Rattle.pgw_session.specs.Machine.{Outcome, Complete, Unencoded, Unexpected, Unread, Refused, error_of, sending, moves_by}
 use Rattle.pgw_session.specs.Talk.{Talk as Session, Ending, between, talk_book, talk_rules, conversation}
 use Rattle.pgw_session.proofs.ReadingLaws.{steady_by, reads_more, reads_bad, reads_whole}
@@ -37,13 +37,13 @@ use Rattle.pgw_handlers.specs.declared.client_info.ReadyState.TheVariants.{Pendi
 use Rattle.pgw_handlers.specs.declared.client_info.ServerInformation.{ServerInformation}
 use Rattle.pgw_handlers.specs.Client.{Client, Sight}
 use Rattle.pgw_handlers.specs.Sending.{NotSent}
-use Rattle.pgw_handlers.specs.Handling.{Standing, standing, IsCaused}
+use Rattle.pgw_handlers.specs.Handling.{HandlerView, standing, IsCaused}
 use Rattle.pgw_handlers.specs.Startup.{HeardAtStartup, startup}
-use Rattle.pgw_default_handlers.specs.Startup.{begun, exchanges, Begins, StartupMeans}
-use Rattle.pgw_connection.specs.Talk.{fresh, Next as NextIs, IsCut, is_refusal, End, end, Talk, Asked}
-use Rattle.pgw_calls.specs.Turns.{knowing, Exchanged}
+use Rattle.pgw_default_handlers.specs.Startup.{fresh_startup, exchanges, BeginsStartup, StartupMeans}
+use Rattle.pgw_connection.specs.Talk.{fresh, Next as NextIs, IsCutPiece, is_refusal, CallEnd, end, CallTalk, OpensTalk}
+use Rattle.pgw_calls.specs.Turns.{knowing, AreExchanged}
 use Rattle.pgw_calls.specs.Stands.{login}
-use Rattle.pgw_calls.specs.Startup.{IsRefused, LoginFails, LoginEnds, LoginCall}
+use Rattle.pgw_calls.specs.Startup.{IsRefusedStartup, LoginFails, LoginEnds, LoginCall}
 use Rattle.pgw_calls.proofs.Exchanges.{exchanged_none, exchanged_got, exchanged_sent}
 use Rattle.pgw_connection.specs.Desk.{first_client}
 use Rattle.pgw_connection.specs.Line.{Line, Reasons, Pause}
@@ -57,13 +57,13 @@ use Rattle.pgw_calls.proofs.Logins.{informed, informed_is, Handler, login_standi
 pub record LedTo (input : Input) (h : Handler) (c : Client) (bytes sent : List ℕ) (information : ServerInformation) (info : Client) (rest : List ℕ) : Type 0 where
   pub es : List Event
   pub segment : Rest input h.stage es
-  pub exchanged : Exchanged input.config (login_standing h c) bytes sent es (informed information info) rest
+  pub exchanged : AreExchanged input.config (login_standing h c) bytes sent es (informed information info) rest
   pub parameters : information.parameters ≡ info.parameters
 
 config_is : (input : Input) (h : Handler) (c : Client) → IsAt input h c → c.config ≡ input.config
 config_is input h c at = ap (λ (i : Input). i.config) at.input_is
 
-led_on : (input : Input) (h : Handler) (c : Client) (bytes : List ℕ) (m : Backend) (rest : List ℕ) (after : Standing Handler) (sent : List ℕ) (x : ServerInformation) (info : Client) (left : List ℕ) → NextIs c bytes m rest → Welcomed input h c m after →
+led_on : (input : Input) (h : Handler) (c : Client) (bytes : List ℕ) (m : Backend) (rest : List ℕ) (after : HandlerView Handler) (sent : List ℕ) (x : ServerInformation) (info : Client) (left : List ℕ) → NextIs c bytes m rest → Welcomed input h c m after →
     LedTo input after.handler after.sight.client rest sent x info left → LedTo input h c bytes (after.sight.wrote ++ sent) x info left
 led_on input h c bytes m rest after sent x info left next w l = record {
   es = Got m ∷ (map Sent (sends w.reply) ++ l.es);
@@ -73,7 +73,7 @@ led_on input h c bytes m rest after sent x info left next w l = record {
   parameters = l.parameters;
 }
 
-led_last : (input : Input) (h : Handler) (c : Client) (bytes : List ℕ) (m : Backend) (rest : List ℕ) (after : Standing Handler) (x : ServerInformation) → IsAt input h c → NextIs c bytes m rest → Informed input h c m after x →
+led_last : (input : Input) (h : Handler) (c : Client) (bytes : List ℕ) (m : Backend) (rest : List ℕ) (after : HandlerView Handler) (x : ServerInformation) → IsAt input h c → NextIs c bytes m rest → Informed input h c m after x →
     LedTo input h c bytes after.sight.wrote x after.sight.client rest
 led_last input h c bytes m rest after x at next i =
     let stands = standing_by (login_standing h c) m in
@@ -81,9 +81,9 @@ led_last input h c bytes m rest after x at next i =
     record {
       es = Got m ∷ [];
       segment = by_rest input h.stage m [] (subst (λ (n : Next). RestBy input n []) (sym i.closes) refl);
-      exchanged = subst (λ (w : List ℕ). Exchanged input.config (login_standing h c) bytes w (Got m ∷ []) (informed x after.sight.client) rest) (sym i.wrote)
+      exchanged = subst (λ (w : List ℕ). AreExchanged input.config (login_standing h c) bytes w (Got m ∷ []) (informed x after.sight.client) rest) (sym i.wrote)
           (exchanged_got input.config (login_standing h c) stands m bytes rest [] next.0 [] (informed x after.sight.client) rest next.1 next.2 refl
-          (subst (λ (d : Client). Exchanged input.config stands rest [] [] d rest) (sym knows) (exchanged_none input.config stands rest)));
+          (subst (λ (d : Client). AreExchanged input.config stands rest [] [] d rest) (sym knows) (exchanged_none input.config stands rest)));
       parameters = i.parameters;
     }
 
@@ -111,8 +111,8 @@ abbrev from : Input → Handler → List Event → List ℕ → List ℕ → Cou
 from input h es wrote bytes = run (talk_rules input) (Waits (at es h.stage) wrote []) bytes
 
 module _ (input : Input) (h : Handler) (c : Client) (es : List Event) (alike : Alike input h c es) where
-  read_is : (bytes : List ℕ) → (talk_rules input).read (at es h.stage) bytes ≡ reading c.protocol_version bytes
-  read_is bytes = ap (λ (l : List Event). reading (standing_of input.config l).version bytes) (append-nil es) ∙ ap (λ (r : Told). reading r.version bytes) alike.stands
+  read_is : (bytes : List ℕ) → (talk_rules input).read (at es h.stage) bytes ≡ version_front c.protocol_version bytes
+  read_is bytes = ap (λ (l : List Event). version_front (standing_of input.config l).version bytes) (append-nil es) ∙ ap (λ (r : Told). version_front r.version bytes) alike.stands
 
   read_whole : (bytes : List ℕ) (m : Backend) (rest : List ℕ) (next : NextIs c bytes m rest) → (talk_rules input).read (at es h.stage) bytes ≡ Whole m next.0
   read_whole bytes m rest next = read_is bytes ∙ reads_whole c.protocol_version bytes m next.0 next.1
@@ -120,14 +120,14 @@ module _ (input : Input) (h : Handler) (c : Client) (es : List Event) (alike : A
   step_is : (m : Backend) (n : Next) → table input h.stage m ≡ n → (talk_rules input).step (at es h.stage) m ≡ moves_by (talk_book input) input (at es h.stage) m n
   step_is m n is = ap (moves_by (talk_book input) input (at es h.stage) m) is
 
-  pub goes : (m : Backend) (after : Standing Handler) (wrote bytes rest : List ℕ) → NextIs c bytes m rest → (w : Welcomed input h c m after) →
+  pub goes : (m : Backend) (after : HandlerView Handler) (wrote bytes rest : List ℕ) → NextIs c bytes m rest → (w : Welcomed input h c m after) →
       from input h es wrote bytes ≡ from input after.handler (es ++ Got m ∷ map Sent (sends w.reply)) (wrote ++ after.sight.wrote) rest
   goes m after wrote bytes rest next w =
       run_goes (talk_rules input) (steady_by (talk_book input) input) (at es h.stage) wrote bytes m next.0 (at (es ++ Got m ∷ map Sent (sends w.reply)) after.handler.stage) after.sight.wrote (read_whole bytes m rest next)
       (step_is m (Goes after.handler.stage w.reply) w.goes ∙ ap (sending (at (es ++ Got m ∷ []) after.handler.stage) (at (es ++ Got m ∷ map Sent (sends w.reply)) after.handler.stage)) w.encodes)
       ∙ ap (run (talk_rules input) (Waits (at (es ++ Got m ∷ map Sent (sends w.reply)) after.handler.stage) (wrote ++ after.sight.wrote) [])) (sym next.2)
 
-  pub alike_on : (m : Backend) (after : Standing Handler) → (w : Welcomed input h c m after) → Alike input after.handler after.sight.client (es ++ Got m ∷ map Sent (sends w.reply))
+  pub alike_on : (m : Backend) (after : HandlerView Handler) → (w : Welcomed input h c m after) → Alike input after.handler after.sight.client (es ++ Got m ∷ map Sent (sends w.reply))
   alike_on m after w = record {
     stands = ap (standing_of input.config) (sym (append_assoc es (Got m ∷ []) (map Sent (sends w.reply)))) ∙ standing_more input.config es m (sends w.reply) ∙ ap (λ (r : Told). standing_by r m) alike.stands ∙ sym w.stands;
     plain = ap (λ (t : Tally). t.remote) (tally_on es m w.reply ∙ w.plain (tally_of es)) ∙ alike.plain;
@@ -152,7 +152,7 @@ module _ (input : Input) (h : Handler) (c : Client) (es : List Event) (alike : A
   led_lacks P wrote bytes rest e (inr (inr more, are)) =
       inr (inr (inl (more.0, es, h.stage, bytes, run_more (talk_rules input) (steady_by (talk_book input) input) (at es h.stage) wrote bytes (read_is bytes ∙ reads_more c.protocol_version bytes (ap (message.front c.protocol_version) (sym are) ∙ more.1)), alike.plain)))
 
-  pub led_unwritten : (P : Reasons) (m : Backend) (after : Standing Handler) (wrote part bytes rest : List ℕ) → NextIs c bytes m rest → Welcomed input h c m after → IsCut P after.sight.wrote part → Led P client.IoError (from input h es wrote bytes) (wrote ++ part)
+  pub led_unwritten : (P : Reasons) (m : Backend) (after : HandlerView Handler) (wrote part bytes rest : List ℕ) → NextIs c bytes m rest → Welcomed input h c m after → IsCutPiece P after.sight.wrote part → Led P client.IoError (from input h es wrote bytes) (wrote ++ part)
   led_unwritten P m after wrote part bytes rest taken w cut =
       let more = sent_grows (talk_rules input) (Waits (at (es ++ Got m ∷ map Sent (sends w.reply)) after.handler.stage) (wrote ++ after.sight.wrote) []) rest in
       inr (inr (inr (
@@ -174,7 +174,7 @@ To input P h c bytes sent info rest (Ok x) false = LedTo input h c bytes sent x 
 To input P h c bytes sent info rest (Err e) true = (es : List Event) (wrote : List ℕ) → Alike input h c es → Led P e (from input h es wrote bytes) (wrote ++ sent)
 To input P h c bytes sent info rest result broken = ⊥
 
-hears_on : (input : Input) (P : Reasons) (h : Handler) (c : Client) (bytes : List ℕ) (m : Backend) (rest : List ℕ) (after : Standing Handler) (sent : List ℕ) (info : Client) (left : List ℕ) (result : Result ServerInformation ClientError) (broken : Bool) →
+hears_on : (input : Input) (P : Reasons) (h : Handler) (c : Client) (bytes : List ℕ) (m : Backend) (rest : List ℕ) (after : HandlerView Handler) (sent : List ℕ) (info : Client) (left : List ℕ) (result : Result ServerInformation ClientError) (broken : Bool) →
     NextIs c bytes m rest → Welcomed input h c m after → To input P after.handler after.sight.client rest sent info left result broken → To input P h c bytes (after.sight.wrote ++ sent) info left result broken
 hears_on input P h c bytes m rest after sent info left (Ok x) false taken w l = led_on input h c bytes m rest after sent x info left taken w l
 hears_on input P h c bytes m rest after sent info left (Ok x) true taken w l = absurd l
@@ -188,24 +188,24 @@ hears_on input P h c bytes m rest after sent info left (Err e) true taken w l = 
 still : (P : Reasons) (e : ClientError) (course : Course Session Ending) (wrote : List ℕ) → Led P e course wrote → Led P e course (wrote ++ [])
 still P e course wrote l = subst (Led P e course) (sym (append-nil wrote)) l
 
-unwritten_on : (input : Input) (P : Reasons) (h : Handler) (c : Client) (bytes : List ℕ) (m : Backend) (rest : List ℕ) (after : Standing Handler) (answer : ReadyState ServerInformation) (part : List ℕ) → IsAt input h c → NextIs c bytes m rest →
-    HeardAtStartup exchanges StartupMeans (standing h (fresh c)) m after (Ok answer) → IsCut P after.sight.wrote part → To input P h c bytes part after.sight.client rest (Err client.IoError) true
+unwritten_on : (input : Input) (P : Reasons) (h : Handler) (c : Client) (bytes : List ℕ) (m : Backend) (rest : List ℕ) (after : HandlerView Handler) (answer : ReadyState ServerInformation) (part : List ℕ) → IsAt input h c → NextIs c bytes m rest →
+    HeardAtStartup exchanges StartupMeans (standing h (fresh c)) m after (Ok answer) → IsCutPiece P after.sight.wrote part → To input P h c bytes part after.sight.client rest (Err client.IoError) true
 unwritten_on input P h c bytes m rest after Pending part is taken heard cut = λ es wrote alike. led_unwritten input h c es alike P m after wrote part bytes rest taken (welcomed input h c is m after heard) cut
 unwritten_on input P h c bytes m rest after (Ready x) part is taken heard cut = absurd (cut.0 (informs input h c is m after x heard).wrote)
 
-pub talk_to : (input : Input) (P : Reasons) (h : Handler) (c : Client) (bytes sent : List ℕ) (last : End ServerInformation) → Talk (HeardAtStartup exchanges StartupMeans) P never h c bytes sent last → IsAt input h c →
+pub talk_to : (input : Input) (P : Reasons) (h : Handler) (c : Client) (bytes sent : List ℕ) (last : CallEnd ServerInformation) → CallTalk (HeardAtStartup exchanges StartupMeans) P never h c bytes sent last → IsAt input h c →
     To input P h c bytes sent last.info last.rest last.answer last.broken
-talk_to input P _ _ _ _ _ (Talk.lacks h c bytes rest e l) is = λ es wrote alike. still P e (from input h es wrote bytes) wrote (led_lacks input h c es alike P wrote bytes rest e (lacking P c bytes rest e l))
-talk_to input P _ _ _ _ _ (Talk.hears h c bytes m rest after sent last taken heard usable quiet talk) is =
+talk_to input P _ _ _ _ _ (CallTalk.lacks h c bytes rest e l) is = λ es wrote alike. still P e (from input h es wrote bytes) wrote (led_lacks input h c es alike P wrote bytes rest e (lacking P c bytes rest e l))
+talk_to input P _ _ _ _ _ (CallTalk.hears h c bytes m rest after sent last taken heard usable quiet talk) is =
     let w = welcomed input h c is m after heard in
     hears_on input P h c bytes m rest after sent last.info last.rest last.answer last.broken taken w (talk_to input P after.handler after.sight.client rest sent last talk w.at)
-talk_to input P _ _ _ _ _ (Talk.closes h c bytes m rest after x taken heard usable ready) is = led_last input h c bytes m rest after x is taken (informs input h c is m after x heard)
-talk_to input P _ _ _ _ _ (Talk.unwritten h c bytes m rest after answer part taken heard usable cut) is = unwritten_on input P h c bytes m rest after answer part is taken heard cut
-talk_to input P _ _ _ _ _ (Talk.breaks h c bytes m rest after e taken heard caused why usable) is = λ es wrote alike.
+talk_to input P _ _ _ _ _ (CallTalk.closes h c bytes m rest after x taken heard usable ready) is = led_last input h c bytes m rest after x is taken (informs input h c is m after x heard)
+talk_to input P _ _ _ _ _ (CallTalk.unwritten h c bytes m rest after answer part taken heard usable cut) is = unwritten_on input P h c bytes m rest after answer part is taken heard cut
+talk_to input P _ _ _ _ _ (CallTalk.breaks h c bytes m rest after e taken heard caused why usable) is = λ es wrote alike.
     still P e (from input h es wrote bytes) wrote (led_fails input h c es alike P m wrote bytes rest e taken (fails_by input h c is m after e heard caused))
-talk_to input P _ _ _ _ _ (Talk.fails h c bytes m rest after e taken heard goes usable ready) is = let no_error : false ≡ true = goes in absurd (cc)
-talk_to input P _ _ _ _ _ (Talk.passes_over h c bytes m rest after e x last left broken taken heard goes usable other passing) is = let no_error : false ≡ true = goes in absurd (cc)
-talk_to input P _ _ _ _ _ (Talk.starves h c bytes last rest) is = λ es wrote alike. inl refl
+talk_to input P _ _ _ _ _ (CallTalk.fails h c bytes m rest after e taken heard goes usable ready) is = let no_error : false ≡ true = goes in absurd (cc)
+talk_to input P _ _ _ _ _ (CallTalk.passes_over h c bytes m rest after e x last left broken taken heard goes usable other passing) is = let no_error : false ≡ true = goes in absurd (cc)
+talk_to input P _ _ _ _ _ (CallTalk.starves h c bytes last rest) is = λ es wrote alike. inl refl
 
 -- ---- a login
 
@@ -218,7 +218,7 @@ refused_at P input bytes sent ending e x is why same =
     let f = ended_refused input bytes sent ending x is why in
     subst (LoginFails P input bytes sent) same (go x f (startup_error input bytes sent x f.0))
   where
-    go : (x : ClientError) → IsRefused input bytes sent x → IsStartupError x → LoginFails P input bytes sent x
+    go : (x : ClientError) → IsRefusedStartup input bytes sent x → IsStartupError x → LoginFails P input bytes sent x
     go (client.RemoteError e) f s = f
     go (client.ScramError e) f s = f
     go (client.UnsupportedSASLAuthMethods e) f s = f
@@ -261,12 +261,12 @@ first_alike input h c is = record { stands = first_sends input.config (startup_m
 
 -- what a login comes to behind its startup message
 ends_on : (P : Reasons) (ends : (x : ClientError) → P.halts x → IsLinkEnd x) (config : Config) (h : Handler) (out bytes sent : List ℕ) (info : Client) (rest : List ℕ) (result : Result ServerInformation ClientError) (broken : Bool) → encodings (startup_message (login config h.nonce) ∷ []) ≡ Ok out →
-    To (login config h.nonce) P (begun h) (first_client config) bytes sent info rest result broken → LoginEnds P config h.nonce bytes (out ++ sent) info rest result broken
+    To (login config h.nonce) P (fresh_startup h) (first_client config) bytes sent info rest result broken → LoginEnds P config h.nonce bytes (out ++ sent) info rest result broken
 ends_on P ends config h out bytes sent info rest (Ok x) true is l = absurd l
 ends_on P ends config h out bytes sent info rest (Ok x) false is l = record {
   es = Sent (startup_message (login config h.nonce)) ∷ l.es;
   segment = (l.es, refl, l.segment);
-  exchanged = subst (λ (d : Client). Exchanged config (first_standing config) bytes (out ++ sent) (Sent (startup_message (login config h.nonce)) ∷ l.es) d rest) (sym (informed_is x info l.parameters))
+  exchanged = subst (λ (d : Client). AreExchanged config (first_standing config) bytes (out ++ sent) (Sent (startup_message (login config h.nonce)) ∷ l.es) d rest) (sym (informed_is x info l.parameters))
       (exchanged_sent config (first_standing config) (startup_message (login config h.nonce) ∷ []) out bytes sent l.es (informed x info) rest is l.exchanged);
   parameters = l.parameters;
 }
@@ -274,24 +274,24 @@ ends_on P ends config h out bytes sent info rest (Err e) false is l = absurd l
 ends_on P ends config h out bytes sent info rest (Err e) true is l =
     let input = login config h.nonce in
     cause_of P ends input bytes (out ++ sent) e
-    (subst (λ (r : Course Session Ending). Led P e r (out ++ sent)) (sym (begins input out bytes is)) (l (Sent (startup_message input) ∷ []) out (first_alike input (begun h) (first_client config) refl)))
+    (subst (λ (r : Course Session Ending). Led P e r (out ++ sent)) (sym (begins input out bytes is)) (l (Sent (startup_message input) ∷ []) out (first_alike input (fresh_startup h) (first_client config) refl)))
 
-begins_at : (config : Config) (h : Handler) → IsAt (login config h.nonce) (begun h) (first_client config)
+begins_at : (config : Config) (h : Handler) → IsAt (login config h.nonce) (fresh_startup h) (first_client config)
 begins_at config h = record { input_is = refl; login = tt }
 
-opened_to : (P : Reasons) (ends : (x : ClientError) → P.halts x → IsLinkEnd x) (config : Config) (h : Handler) (bytes sent : List ℕ) (last : End ServerInformation) (after : Standing Handler) → Begins (standing h (fresh (first_client config))) after (Ok Pending) →
-    Talk (HeardAtStartup exchanges StartupMeans) P never after.handler after.sight.client bytes sent last → LoginCall config h.nonce bytes (after.sight.wrote ++ sent) P last
+opened_to : (P : Reasons) (ends : (x : ClientError) → P.halts x → IsLinkEnd x) (config : Config) (h : Handler) (bytes sent : List ℕ) (last : CallEnd ServerInformation) (after : HandlerView Handler) → BeginsStartup (standing h (fresh (first_client config))) after (Ok Pending) →
+    CallTalk (HeardAtStartup exchanges StartupMeans) P never after.handler after.sight.client bytes sent last → LoginCall config h.nonce bytes (after.sight.wrote ++ sent) P last
 opened_to P ends config h bytes sent last after opens talk =
     let s = opens.1 in
     let info : after.sight.client ≡ first_client config = ap (λ (x : Sight). x.client) s.after in
     let wrote : after.sight.wrote ≡ s.bytes = ap (λ (x : Sight). x.wrote) s.after in
-    let same : Talk (HeardAtStartup exchanges StartupMeans) P never (begun h) (first_client config) bytes sent last =
-    subst (λ (d : Client). Talk (HeardAtStartup exchanges StartupMeans) P never (begun h) d bytes sent last) info (subst (λ (g : Handler). Talk (HeardAtStartup exchanges StartupMeans) P never g after.sight.client bytes sent last) opens.0 talk) in
+    let same : CallTalk (HeardAtStartup exchanges StartupMeans) P never (fresh_startup h) (first_client config) bytes sent last =
+    subst (λ (d : Client). CallTalk (HeardAtStartup exchanges StartupMeans) P never (fresh_startup h) d bytes sent last) info (subst (λ (g : Handler). CallTalk (HeardAtStartup exchanges StartupMeans) P never g after.sight.client bytes sent last) opens.0 talk) in
     subst (λ (w : List ℕ). LoginCall config h.nonce bytes (w ++ sent) P last) (sym wrote)
     (ends_on P ends config h s.bytes bytes sent last.info last.rest last.answer last.broken (one_encoding (startup_message (login config h.nonce)) s.bytes s.spells)
-    (talk_to (login config h.nonce) P (begun h) (first_client config) bytes sent last same (begins_at config h)))
+    (talk_to (login config h.nonce) P (fresh_startup h) (first_client config) bytes sent last same (begins_at config h)))
 
-cut_to : (P : Reasons) (config : Config) (h : Handler) (bytes part : List ℕ) (after : Standing Handler) → Begins (standing h (fresh (first_client config))) after (Ok Pending) → IsCut P after.sight.wrote part →
+cut_to : (P : Reasons) (config : Config) (h : Handler) (bytes part : List ℕ) (after : HandlerView Handler) → BeginsStartup (standing h (fresh (first_client config))) after (Ok Pending) → IsCutPiece P after.sight.wrote part →
     LoginCall config h.nonce bytes part P (end (Err client.IoError) after.sight.client true bytes)
 cut_to P config h bytes part after opens cut =
     let input = login config h.nonce in
@@ -302,7 +302,7 @@ cut_to P config h bytes part after opens cut =
     ap sent_of (begins input s.bytes bytes (one_encoding (startup_message input) s.bytes s.spells)) ∙ more.1 ∙ ap (λ (l : List ℕ). l ++ more.0) (sym wrote ∙ cut.2) ∙ append_assoc part cut.1 more.0 in
     inr (cut.1, cut.3, more.0, subst (Tells input bytes) all (told_of input bytes))
 
-refused_to : (P : Reasons) (config : Config) (h : Handler) (bytes : List ℕ) (after : Standing Handler) (e : ClientError) → Begins (standing h (fresh (first_client config))) after (Err e) → is_refusal e ≡ true →
+refused_to : (P : Reasons) (config : Config) (h : Handler) (bytes : List ℕ) (after : HandlerView Handler) (e : ClientError) → BeginsStartup (standing h (fresh (first_client config))) after (Err e) → is_refusal e ≡ true →
     LoginCall config h.nonce bytes [] P (end (Err e) after.sight.client false bytes)
 refused_to P config h bytes after (client.PgWireError why) opens is = go opens.1
   where
@@ -312,7 +312,7 @@ refused_to P config h bytes after (client.PgWireError why) opens is = go opens.1
     go (inr n) = let other = n.1 in absurd (cc)
 refused_to P config h bytes after e opens is = let not_one : false ≡ true = is in absurd (cc)
 
-unsent_to : (P : Reasons) (config : Config) (h : Handler) (bytes : List ℕ) (after : Standing Handler) (e : ClientError) → NotSent (encoding (startup_message (login config h.nonce))) (fresh (first_client config)) after.sight e → IsCaused e 0 0 after.sight.broken →
+unsent_to : (P : Reasons) (config : Config) (h : Handler) (bytes : List ℕ) (after : HandlerView Handler) (e : ClientError) → NotSent (encoding (startup_message (login config h.nonce))) (fresh (first_client config)) after.sight e → IsCaused e 0 0 after.sight.broken →
     is_refusal e ≡ false → LoginCall config h.nonce bytes [] P (end (Err e) after.sight.client true bytes)
 unsent_to P config h bytes after client.OutOfMemory n caused why = tt
 unsent_to P config h bytes after client.Broken n caused why = let broken : false ≡ true = n.0 in absurd (cc)
@@ -320,7 +320,7 @@ unsent_to P config h bytes after client.IoError n caused why = absurd (never_ros
 unsent_to P config h bytes after (client.PgWireError x) n caused why = let refusal : true ≡ false = why in absurd (cc)
 unsent_to P config h bytes after e n caused why = absurd n
 
-breaks_to : (P : Reasons) (config : Config) (h : Handler) (bytes : List ℕ) (after : Standing Handler) (e : ClientError) → Begins (standing h (fresh (first_client config))) after (Err e) → IsCaused e 0 0 after.sight.broken →
+breaks_to : (P : Reasons) (config : Config) (h : Handler) (bytes : List ℕ) (after : HandlerView Handler) (e : ClientError) → BeginsStartup (standing h (fresh (first_client config))) after (Err e) → IsCaused e 0 0 after.sight.broken →
     is_refusal e ≡ false → LoginCall config h.nonce bytes [] P (end (Err e) after.sight.client true bytes)
 breaks_to P config h bytes after e opens caused why = go opens.1
   where
@@ -328,14 +328,14 @@ breaks_to P config h bytes after e opens caused why = go opens.1
     go (inl n) = unsent_to P config h bytes after e n caused why
     go (inr n) = subst (λ (z : ClientError). LoginCall config h.nonce bytes [] P (end (Err z) after.sight.client true bytes)) (sym n.1) tt
 
-pub asked_to : (P : Reasons) (ends : (x : ClientError) → P.halts x → IsLinkEnd x) (config : Config) (h : Handler) (bytes sent : List ℕ) (last : End ServerInformation) →
-    Asked (λ old new answer. StartupMeans old startup new answer) (HeardAtStartup exchanges StartupMeans) P never h (first_client config) bytes sent last → LoginCall config h.nonce bytes sent P last
-asked_to P ends config h bytes _ _ (Asked.opened after sent last opens usable talk) = opened_to P ends config h bytes sent last after opens talk
-asked_to P ends config h bytes _ _ (Asked.unwritten after part opens usable cut) = cut_to P config h bytes part after opens cut
-asked_to P ends config h bytes _ _ (Asked.refused after e opens is usable) = refused_to P config h bytes after e opens is
-asked_to P ends config h bytes _ _ (Asked.breaks after e opens caused why usable) = breaks_to P config h bytes after e opens caused why
-asked_to P ends config h bytes _ _ (Asked.starves last rest) = tt
+pub asked_to : (P : Reasons) (ends : (x : ClientError) → P.halts x → IsLinkEnd x) (config : Config) (h : Handler) (bytes sent : List ℕ) (last : CallEnd ServerInformation) →
+    OpensTalk (λ old new answer. StartupMeans old startup new answer) (HeardAtStartup exchanges StartupMeans) P never h (first_client config) bytes sent last → LoginCall config h.nonce bytes sent P last
+asked_to P ends config h bytes _ _ (OpensTalk.opened after sent last opens usable talk) = opened_to P ends config h bytes sent last after opens talk
+asked_to P ends config h bytes _ _ (OpensTalk.unwritten after part opens usable cut) = cut_to P config h bytes part after opens cut
+asked_to P ends config h bytes _ _ (OpensTalk.refused after e opens is usable) = refused_to P config h bytes after e opens is
+asked_to P ends config h bytes _ _ (OpensTalk.breaks after e opens caused why usable) = breaks_to P config h bytes after e opens caused why
+asked_to P ends config h bytes _ _ (OpensTalk.starves last rest) = tt
 
-pub login_call : (before now : Line) (config : Config) (h : Handler) (bytes sent : List ℕ) (last : End ServerInformation) →
-    Asked (λ old new answer. StartupMeans old startup new answer) (HeardAtStartup exchanges StartupMeans) (Pause before now) (λ e. false) h (first_client config) bytes sent last → LoginCall config h.nonce bytes sent (Pause before now) last
+pub login_call : (before now : Line) (config : Config) (h : Handler) (bytes sent : List ℕ) (last : CallEnd ServerInformation) →
+    OpensTalk (λ old new answer. StartupMeans old startup new answer) (HeardAtStartup exchanges StartupMeans) (Pause before now) (λ e. false) h (first_client config) bytes sent last → LoginCall config h.nonce bytes sent (Pause before now) last
 login_call before now config h bytes sent last asked = asked_to (Pause before now) (paused_ends before now) config h bytes sent last asked

@@ -7,7 +7,7 @@ use Rattle.pgw_backend.specs.declared.client_error.PgWireClientError.{PgWireClie
 use Rattle.pgw_backend.specs.declared.client_error.PgWireClientError.TheVariants as client
 use Rattle.pgw_frontend.specs.Frontend.{both, encoding, encodings}
 use Rattle.pgw_config.specs.declared.config.Config.{Config}
-use Rattle.pgw_link.specs.Foresight.{Ends}
+use Rattle.pgw_link.specs.Foresight.{TapeEnds}
 use Rattle.pgw_course.specs.Course.{Over}
 use Rattle.pgw_session.specs.Events.{Event, sents}
 use Rattle.pgw_session.specs.Failures.{IsHopeless, IsUnfinished}
@@ -20,7 +20,7 @@ use Rattle.pgw_session.proofs.Whole.{conversation_completes}
 use Rattle.pgw_client.proofs.SessionLaws.{known_rest}
 use Rattle.pgw_handlers.specs.declared.client_info.ServerInformation.{ServerInformation}
 use Rattle.pgw_handlers.specs.Client.{Client}
-use Rattle.pgw_connection.specs.Line.{Foretold, Line, Moved, Pause, Reasons}
+use Rattle.pgw_connection.specs.Line.{Foretold, Line, MovesLine, Pause, Reasons}
 use Rattle.pgw_calls.specs.Startup.{IsLetIn, LoggedIn, LoginEnds, LoginFails, StillLogsIn}
 use Rattle.pgw_calls.specs.Stands.{login}
 use Rattle.pgw_calls.specs.Turns.{knowing}
@@ -108,11 +108,11 @@ module _ (P : Reasons) (config : Config) (nonce bytes left sent : List ℕ) (inf
   ends_in (Err e) false y = absurd y
 
 pub lets_in : (config : Config) (nonce : List ℕ) (old now : Line) (coming taken sent rest : List ℕ) (is : Option (List ℕ)) (es : List Event) (answer : Result ServerInformation ClientError) (info : Client) (broken : Bool)
-    → LoginEnds (Pause old now) config nonce (old.buffer ++ taken) sent info rest answer broken → Moved old now taken sent → Foretold (Some coming) is old.tape now.tape → StillLogsIn config nonce old coming es → (Rose old.faults now.faults → ⊥) → IsLetIn config es answer info broken
+    → LoginEnds (Pause old now) config nonce (old.buffer ++ taken) sent info rest answer broken → MovesLine old now taken sent → Foretold (Some coming) is old.tape now.tape → StillLogsIn config nonce old coming es → (Rose old.faults now.faults → ⊥) → IsLetIn config es answer info broken
 lets_in config nonce old now coming taken sent rest is es answer info broken ends moved f w calm =
     let k = known_rest coming taken f.foreseen moved.took in
     let are : (old.buffer ++ taken) ++ k.0 ≡ w.spelled ++ w.more = append_assoc old.buffer taken k.0 ∙ ap (λ (l : List ℕ). old.buffer ++ l) (sym k.2) ∙ w.begins in
-    let last : Ends (Some k.0) old.tape now.tape = subst (λ (o : Option (List ℕ)). Ends o old.tape now.tape) k.1 f.ends in
+    let last : TapeEnds (Some k.0) old.tape now.tape = subst (λ (o : Option (List ℕ)). TapeEnds o old.tape now.tape) k.1 f.ends in
     let whole = completes config nonce es (length w.spelled) ((old.buffer ++ taken) ++ k.0) w.spelled w.more w.sent w.segment are (omega arith) w.got w.put in
     ends_in (Pause old now) config nonce (old.buffer ++ taken) k.0 sent info rest es (length w.spelled) whole
     (λ e why.

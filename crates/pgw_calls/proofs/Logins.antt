@@ -32,16 +32,16 @@ use Rattle.pgw_session.specs.Logins.{must_bind, cleartext_message, md5_message, 
 use Rattle.pgw_session.specs.Segments.{is_news, is_early, is_known, sends}
 use Rattle.pgw_session.specs.Standings.{standing_by}
 use Rattle.pgw_session.specs.Answers.{tally_after, noted_unless}
-use Rattle.pgw_session.specs.Table.{after as table, news_or, by_login, by_welcome, by_first, by_final, unless, unless_bound}
+use Rattle.pgw_session.specs.Table.{next_after as table, news_or, by_login, by_welcome, by_first, by_final, next_unless, unless_bound}
 use Rattle.pgw_handlers.specs.declared.client_info.ReadyState.{ReadyState}
 use Rattle.pgw_handlers.specs.declared.client_info.ReadyState.TheVariants.{Pending, Ready}
 use Rattle.pgw_handlers.specs.declared.client_info.ServerInformation.{ServerInformation}
-use Rattle.pgw_handlers.specs.Client.{Client, Sight, with_version, with_parameter, with_status}
+use Rattle.pgw_handlers.specs.Client.{Client, Sight, with_sight_version, with_parameter, with_sight_status}
 use Rattle.pgw_handlers.specs.Sending.{NotSent, after_sending}
-use Rattle.pgw_handlers.specs.Handling.{Standing, standing, Answer, IsCaused}
-use Rattle.pgw_handlers.specs.Startup.{may_come, Hears, HearsIf, HeardAtStartup, SettlesBy}
+use Rattle.pgw_handlers.specs.Handling.{HandlerView, standing, CallAnswer, IsCaused}
+use Rattle.pgw_handlers.specs.Startup.{may_come_in_login, HearsStartup, HearsIf, HeardAtStartup, SettlesBy}
 use Rattle.pgw_default_handlers.specs.declared.startup.DefaultStartupHandler.{DefaultStartupHandler}
-use Rattle.pgw_default_handlers.specs.Startup.{login_input, with_stage, with_key, is_exchange, exchanges, Follows, information, closes, Concludes, GivesInformation, StartupMeans}
+use Rattle.pgw_default_handlers.specs.Startup.{login_input, with_stage, with_handler_key, is_exchange, exchanges, FollowsNext, information, closes, Concludes, GivesInformation, StartupMeans}
 use Rattle.pgw_session.proofs.Grammar.{early_news}
 use Rattle.pgw_connection.specs.Talk.{fresh}
 use Rattle.pgw_calls.proofs.Openings.{one_encoding, never_rose}
@@ -109,17 +109,17 @@ error_refused input (Answering k rows) e l = absurd l
 error_refused input PassingOver e l = absurd l
 
 -- within an exchange
-by_first_wrong : (login : ClientLogin) (m : Backend) → may_come true m ≡ false → by_first login m ≡ Wrong
+by_first_wrong : (login : ClientLogin) (m : Backend) → may_come_in_login true m ≡ false → by_first login m ≡ Wrong
 by_first_wrong login (backend.Authentication a) is = absurd (cc)
 by_first_wrong login (backend.ErrorResponse e) is = absurd (cc)
 by_first_wrong login m is = refl
 
-by_final_wrong : (expected : List ℕ) (m : Backend) → may_come true m ≡ false → by_final expected m ≡ Wrong
+by_final_wrong : (expected : List ℕ) (m : Backend) → may_come_in_login true m ≡ false → by_final expected m ≡ Wrong
 by_final_wrong expected (backend.Authentication a) is = absurd (cc)
 by_final_wrong expected (backend.ErrorResponse e) is = absurd (cc)
 by_final_wrong expected m is = refl
 
-exchange_wrong : (input : Input) (s : Stage) (m : Backend) → is_exchange s ≡ true → may_come true m ≡ false → table input s m ≡ Wrong
+exchange_wrong : (input : Input) (s : Stage) (m : Backend) → is_exchange s ≡ true → may_come_in_login true m ≡ false → table input s m ≡ Wrong
 exchange_wrong input (Challenged login) m within is = by_first_wrong login m is
 exchange_wrong input (Proving expected) m within is = by_final_wrong expected m is
 exchange_wrong input s m within is = absurd (cc)
@@ -139,7 +139,7 @@ Lands Closes = ⊥
 Lands PassesOver = ⊥
 Lands n = Unit {0}
 
-unless_lands : (o : Option ClientError) (n : Next) → Lands n → Lands (unless o n)
+unless_lands : (o : Option ClientError) (n : Next) → Lands n → Lands (next_unless o n)
 unless_lands None n l = l
 unless_lands (Some e) n l = tt
 
@@ -186,7 +186,7 @@ pub record IsAt (input : Input) (h : Handler) (c : Client) : Type 0 where
   pub input_is : login_input h c.config ≡ input
   pub login : IsLogin h.stage
 
-pub record Welcomed (input : Input) (h : Handler) (c : Client) (m : Backend) (after : Standing Handler) : Type 0 where
+pub record Welcomed (input : Input) (h : Handler) (c : Client) (m : Backend) (after : HandlerView Handler) : Type 0 where
   pub reply : Option Frontend
   pub goes : table input h.stage m ≡ Goes after.handler.stage reply
   pub encodes : encodings (sends reply) ≡ Ok after.sight.wrote
@@ -195,7 +195,7 @@ pub record Welcomed (input : Input) (h : Handler) (c : Client) (m : Backend) (af
   pub plain : (t : Tally) → tally_after t m ≡ t
 
 -- the last message: the client was told what the information says
-pub record Informed (input : Input) (h : Handler) (c : Client) (m : Backend) (after : Standing Handler) (x : ServerInformation) : Type 0 where
+pub record Informed (input : Input) (h : Handler) (c : Client) (m : Backend) (after : HandlerView Handler) (x : ServerInformation) : Type 0 where
   pub closes : table input h.stage m ≡ Closes
   pub wrote : after.sight.wrote ≡ []
   pub config : after.sight.client.config ≡ c.config
@@ -233,11 +233,11 @@ module _ (input : Input) (h : Handler) (c : Client) (at : IsAt input h c) where
   pending_not_ready : {A : Type 0} {x : ServerInformation} → Pending ≡ Ready x → A
   pending_not_ready {A} {x} e = absurd (cc)
 
-  welcomed_by : (m : Backend) (g : Handler) (s : Sight) (after : Standing Handler) → after.handler ≡ g → after.sight ≡ s → Welcomed input h c m (standing g s) → Welcomed input h c m after
+  welcomed_by : (m : Backend) (g : Handler) (s : Sight) (after : HandlerView Handler) → after.handler ≡ g → after.sight ≡ s → Welcomed input h c m (standing g s) → Welcomed input h c m after
   welcomed_by m g s after handler sight w = subst (λ (x : Handler). Welcomed input h c m (standing x after.sight)) (sym handler) (subst (λ (x : Sight). Welcomed input h c m (standing g x)) (sym sight) w)
 
-  goes_welcomed : (a : Authentication) (stage : Stage) (reply : Option Frontend) (after : Standing Handler) → table input h.stage (backend.Authentication a) ≡ Goes stage reply → Lands (Goes stage reply) →
-      Follows (Goes stage reply) (backend.Authentication a) (standing h (fresh c)) after (Ok Pending) → Welcomed input h c (backend.Authentication a) after
+  goes_welcomed : (a : Authentication) (stage : Stage) (reply : Option Frontend) (after : HandlerView Handler) → table input h.stage (backend.Authentication a) ≡ Goes stage reply → Lands (Goes stage reply) →
+      FollowsNext (Goes stage reply) (backend.Authentication a) (standing h (fresh c)) after (Ok Pending) → Welcomed input h c (backend.Authentication a) after
   goes_welcomed a stage None after is land follows = welcomed_by (backend.Authentication a) (with_stage stage h) (fresh c) after follows.0 follows.1 (record {
     reply = None;
     goes = is;
@@ -260,8 +260,8 @@ module _ (input : Input) (h : Handler) (c : Client) (at : IsAt input h c) where
   next_is : (m : Backend) → table (login_input h c.config) h.stage m ≡ table input h.stage m
   next_is m = ap (λ (i : Input). table i h.stage m) at.input_is
 
-  follows_welcomed : (a : Authentication) (n : Next) (after : Standing Handler) → table input h.stage (backend.Authentication a) ≡ n → Lands n →
-      Follows n (backend.Authentication a) (standing h (fresh c)) after (Ok Pending) → Welcomed input h c (backend.Authentication a) after
+  follows_welcomed : (a : Authentication) (n : Next) (after : HandlerView Handler) → table input h.stage (backend.Authentication a) ≡ n → Lands n →
+      FollowsNext n (backend.Authentication a) (standing h (fresh c)) after (Ok Pending) → Welcomed input h c (backend.Authentication a) after
   follows_welcomed a (Goes stage reply) after is land follows = goes_welcomed a stage reply after is land follows
   follows_welcomed a Closes after is land follows = absurd land
   follows_welcomed a Wrong after is land follows = absurd (follows.1)
@@ -269,15 +269,15 @@ module _ (input : Input) (h : Handler) (c : Client) (at : IsAt input h c) where
   follows_welcomed a PassesOver after is land follows = absurd land
 
   -- outside an exchange a message has its function
-  admitted : (m : Backend) (b : Bool) (after : Standing Handler) (r : ReadyState ServerInformation) → HearsIf (not b) StartupMeans (standing h (fresh c)) m after (Ok r) → (b ≡ false) × Hears StartupMeans (standing h (fresh c)) m after (Ok r)
+  admitted : (m : Backend) (b : Bool) (after : HandlerView Handler) (r : ReadyState ServerInformation) → HearsIf (not b) StartupMeans (standing h (fresh c)) m after (Ok r) → (b ≡ false) × HearsStartup StartupMeans (standing h (fresh c)) m after (Ok r)
   admitted m true after r heard = absurd (heard.1)
   admitted m false after r heard = (refl, heard)
 
   -- news change no stage
-  news_welcomed : (m : Backend) (g : Handler) (s : Sight) (after : Standing Handler) → is_exchange h.stage ≡ false → AreNews m → after ≡ standing g s → g.stage ≡ h.stage → login_input g s.client.config ≡ login_input h c.config → s.wrote ≡ [] →
+  news_welcomed : (m : Backend) (g : Handler) (s : Sight) (after : HandlerView Handler) → is_exchange h.stage ≡ false → AreNews m → after ≡ standing g s → g.stage ≡ h.stage → login_input g s.client.config ≡ login_input h c.config → s.wrote ≡ [] →
       login_standing g s.client ≡ standing_by (login_standing h c) m → ((t : Tally) → tally_after t m ≡ t) → Welcomed input h c m after
   news_welcomed m g s after out news is stage same wrote stands plain =
-      welcomed_by m g s after (ap (λ (x : Standing Handler). x.handler) is) (ap (λ (x : Standing Handler). x.sight) is) (record {
+      welcomed_by m g s after (ap (λ (x : HandlerView Handler). x.handler) is) (ap (λ (x : HandlerView Handler). x.sight) is) (record {
         reply = None;
         goes = news_taken input h.stage m at.login out news ∙ ap (λ (x : Stage). Goes x None) (sym stage);
         encodes = ap Ok (sym wrote);
@@ -286,22 +286,22 @@ module _ (input : Input) (h : Handler) (c : Client) (at : IsAt input h c) where
         plain = plain;
       })
 
-  negotiate_welcomed : (m : NegotiateProtocolVersion) (v : Option ProtocolVersion) (after : Standing Handler) → is_exchange h.stage ≡ false → negotiated_version m.newest_minor_protocol ≡ v → SettlesBy {A = ServerInformation} v m (standing h (fresh c)) after (Ok Pending) →
+  negotiate_welcomed : (m : NegotiateProtocolVersion) (v : Option ProtocolVersion) (after : HandlerView Handler) → is_exchange h.stage ≡ false → negotiated_version m.newest_minor_protocol ≡ v → SettlesBy {A = ServerInformation} v m (standing h (fresh c)) after (Ok Pending) →
       Welcomed input h c (backend.NegotiateProtocolVersion m) after
   negotiate_welcomed m None after out is heard = absurd (heard.1)
   negotiate_welcomed m (Some version) after out is heard =
-      news_welcomed (backend.NegotiateProtocolVersion m) h (with_version version (fresh c)) after out (λ b. ap is_known is) heard.0 refl refl refl (rw is refl) (λ t. negotiate_plain t t.remote m)
+      news_welcomed (backend.NegotiateProtocolVersion m) h (with_sight_version version (fresh c)) after out (λ b. ap is_known is) heard.0 refl refl refl (rw is refl) (λ t. negotiate_plain t t.remote m)
 
-  concludes_pending : {A : Type 0} (m : Backend) (n : Next) (before after : Standing Handler) → Concludes (closes n) m before after (Ok Pending) → A
+  concludes_pending : {A : Type 0} (m : Backend) (n : Next) (before after : HandlerView Handler) → Concludes (closes n) m before after (Ok Pending) → A
   concludes_pending m Closes before after given = pending_not_ready given.1
   concludes_pending m Wrong before after given = absurd (given.1)
   concludes_pending m PassesOver before after given = absurd (given.1)
   concludes_pending m (Goes stage reply) before after given = absurd (given.1)
   concludes_pending m (next.Refuses e) before after given = absurd (given.1)
 
-  pub welcomed : (m : Backend) (after : Standing Handler) → HeardAtStartup exchanges StartupMeans (standing h (fresh c)) m after (Ok Pending) → Welcomed input h c m after
+  pub welcomed : (m : Backend) (after : HandlerView Handler) → HeardAtStartup exchanges StartupMeans (standing h (fresh c)) m after (Ok Pending) → Welcomed input h c m after
   welcomed (backend.Authentication a) after (inl follows) =
-      follows_welcomed a (table input h.stage (backend.Authentication a)) after refl (lands input h.stage a at.login) (subst (λ (n : Next). Follows n (backend.Authentication a) (standing h (fresh c)) after (Ok Pending)) (next_is (backend.Authentication a)) follows)
+      follows_welcomed a (table input h.stage (backend.Authentication a)) after refl (lands input h.stage a at.login) (subst (λ (n : Next). FollowsNext n (backend.Authentication a) (standing h (fresh c)) after (Ok Pending)) (next_is (backend.Authentication a)) follows)
   welcomed (backend.Authentication a) after (inr starves) = absurd (starves.1)
   welcomed (backend.NegotiateProtocolVersion m) after heard = let x = admitted (backend.NegotiateProtocolVersion m) (is_exchange h.stage) after Pending heard in negotiate_welcomed m (negotiated_version m.newest_minor_protocol) after x.0 refl x.1
   welcomed (backend.ParameterStatus m) after heard =
@@ -311,14 +311,14 @@ module _ (input : Input) (h : Handler) (c : Client) (at : IsAt input h c) where
   welcomed (backend.BackendKeyData m) after heard =
       let x = admitted (backend.BackendKeyData m) (is_exchange h.stage) after Pending heard in
       let kept = x.1 in
-      news_welcomed (backend.BackendKeyData m) (with_key m h) (fresh c) after x.0 (λ b. refl) kept.0 refl refl refl refl (λ t. key_plain t t.remote m)
+      news_welcomed (backend.BackendKeyData m) (with_handler_key m h) (fresh c) after x.0 (λ b. refl) kept.0 refl refl refl refl (λ t. key_plain t t.remote m)
   welcomed (backend.NoticeResponse m) after heard =
       let x = admitted (backend.NoticeResponse m) (is_exchange h.stage) after Pending heard in
       let kept = x.1 in
       news_welcomed (backend.NoticeResponse m) h (fresh c) after x.0 (λ b. refl) kept.0 refl refl refl refl (λ t. notice_plain t t.remote m)
   welcomed (backend.ReadyForQuery m) after heard =
       let x = admitted (backend.ReadyForQuery m) (is_exchange h.stage) after Pending heard in
-      concludes_pending (backend.ReadyForQuery m) (table (login_input h c.config) h.stage (backend.ReadyForQuery m)) (standing h (with_status m.status (fresh c))) after x.1
+      concludes_pending (backend.ReadyForQuery m) (table (login_input h c.config) h.stage (backend.ReadyForQuery m)) (standing h (with_sight_status m.status (fresh c))) after x.1
   welcomed (backend.ErrorResponse m) after heard = absurd (heard.1)
   welcomed m after heard = let x = admitted m (is_exchange h.stage) after Pending heard in let refused = x.1 in absurd (refused.1)
 
@@ -327,10 +327,10 @@ module _ (input : Input) (h : Handler) (c : Client) (at : IsAt input h c) where
   ready_is : {x y : ServerInformation} → Ready x ≡ Ready y → x ≡ y
   ready_is {x} {y} e = cc
 
-  abbrev ok : ReadyState ServerInformation → Answer ServerInformation
+  abbrev ok : ReadyState ServerInformation → CallAnswer ServerInformation
   ok r = Ok r
 
-  abbrev err : ClientError → Answer ServerInformation
+  abbrev err : ClientError → CallAnswer ServerInformation
   err e = Err e
 
   not_pending : {A : Type 0} {x : ServerInformation} → Ready x ≡ Pending → A
@@ -339,26 +339,26 @@ module _ (input : Input) (h : Handler) (c : Client) (at : IsAt input h c) where
   not_ok_pending : {A : Type 0} {x : ServerInformation} → ok (Ready x) ≡ ok Pending → A
   not_ok_pending {A} {x} e = absurd (cc)
 
-  follows_not : {A : Type 0} (m : Backend) (n : Next) (after : Standing Handler) (x : ServerInformation) → Follows n m (standing h (fresh c)) after (Ok (Ready x)) → A
+  follows_not : {A : Type 0} (m : Backend) (n : Next) (after : HandlerView Handler) (x : ServerInformation) → FollowsNext n m (standing h (fresh c)) after (Ok (Ready x)) → A
   follows_not m (Goes stage reply) after x follows = not_pending follows.2
   follows_not m Closes after x follows = absurd (follows.1)
   follows_not m Wrong after x follows = absurd (follows.1)
   follows_not m (next.Refuses e) after x follows = absurd (follows.1)
   follows_not m PassesOver after x follows = absurd (follows.1)
 
-  settles_not : {A : Type 0} (m : NegotiateProtocolVersion) (v : Option ProtocolVersion) (after : Standing Handler) (x : ServerInformation) → SettlesBy {A = ServerInformation} v m (standing h (fresh c)) after (Ok (Ready x)) → A
+  settles_not : {A : Type 0} (m : NegotiateProtocolVersion) (v : Option ProtocolVersion) (after : HandlerView Handler) (x : ServerInformation) → SettlesBy {A = ServerInformation} v m (standing h (fresh c)) after (Ok (Ready x)) → A
   settles_not m None after x heard = absurd (heard.1)
   settles_not m (Some version) after x heard = not_ok_pending heard.1
 
   -- where the information is given, the table closes the segment
-  concludes : (m : Backend) (n : Next) (before after : Standing Handler) (x : ServerInformation) → Concludes (closes n) m before after (Ok (Ready x)) → (n ≡ Closes) × GivesInformation before after (Ok (Ready x))
+  concludes : (m : Backend) (n : Next) (before after : HandlerView Handler) (x : ServerInformation) → Concludes (closes n) m before after (Ok (Ready x)) → (n ≡ Closes) × GivesInformation before after (Ok (Ready x))
   concludes m Closes before after x given = (refl, given)
   concludes m Wrong before after x given = absurd (given.1)
   concludes m PassesOver before after x given = absurd (given.1)
   concludes m (Goes stage reply) before after x given = absurd (given.1)
   concludes m (next.Refuses e) before after x given = absurd (given.1)
 
-  pub informs : (m : Backend) (after : Standing Handler) (x : ServerInformation) → HeardAtStartup exchanges StartupMeans (standing h (fresh c)) m after (Ok (Ready x)) → Informed input h c m after x
+  pub informs : (m : Backend) (after : HandlerView Handler) (x : ServerInformation) → HeardAtStartup exchanges StartupMeans (standing h (fresh c)) m after (Ok (Ready x)) → Informed input h c m after x
   informs (backend.Authentication a) after x (inl follows) = follows_not (backend.Authentication a) _ after x follows
   informs (backend.Authentication a) after x (inr starves) = absurd (starves.1)
   informs (backend.NegotiateProtocolVersion m) after x heard = let y = admitted (backend.NegotiateProtocolVersion m) (is_exchange h.stage) after (Ready x) heard in settles_not m (negotiated_version m.newest_minor_protocol) after x y.1
@@ -367,16 +367,16 @@ module _ (input : Input) (h : Handler) (c : Client) (at : IsAt input h c) where
   informs (backend.NoticeResponse m) after x heard = let y = admitted (backend.NoticeResponse m) (is_exchange h.stage) after (Ready x) heard in let kept = y.1 in not_ok_pending kept.1
   informs (backend.ReadyForQuery m) after x heard =
       let y = admitted (backend.ReadyForQuery m) (is_exchange h.stage) after (Ready x) heard in
-      let before : Standing Handler = standing h (with_status m.status (fresh c)) in
+      let before : HandlerView Handler = standing h (with_sight_status m.status (fresh c)) in
       let ended = concludes (backend.ReadyForQuery m) (table (login_input h c.config) h.stage (backend.ReadyForQuery m)) before after x y.1 in
       let given = ended.1 in
-      let told : x ≡ information h (with_status m.status (fresh c)).client = ready_is given.1 in
-      let sight : after.sight ≡ with_status m.status (fresh c) = ap (λ (s : Standing Handler). s.sight) given.0 in
+      let told : x ≡ information h (with_sight_status m.status (fresh c)).client = ready_is given.1 in
+      let sight : after.sight ≡ with_sight_status m.status (fresh c) = ap (λ (s : HandlerView Handler). s.sight) given.0 in
       record {
         closes = sym (next_is (backend.ReadyForQuery m)) ∙ ended.0;
         wrote = ap (λ (s : Sight). s.wrote) sight;
         config = ap (λ (s : Sight). s.client.config) sight;
-        knows = ap (λ (i : ServerInformation). informed i after.sight.client) told ∙ ap (λ (s : Sight). informed (information h (with_status m.status (fresh c)).client) s.client) sight;
+        knows = ap (λ (i : ServerInformation). informed i after.sight.client) told ∙ ap (λ (s : Sight). informed (information h (with_sight_status m.status (fresh c)).client) s.client) sight;
         parameters = ap (λ (i : ServerInformation). i.parameters) told ∙ sym (ap (λ (s : Sight). s.client.parameters) sight);
       }
   informs (backend.ErrorResponse m) after x heard = absurd (heard.1)
@@ -395,7 +395,7 @@ module _ (input : Input) (h : Handler) (c : Client) (at : IsAt input h c) where
   misplaced m (client.UnexpectedMessage x) is u = inr (inr (inl (is, ap client.UnexpectedMessage u)))
   misplaced m e is u = absurd u
 
-  not_sent : (a : Authentication) (stage : Stage) (f : Frontend) (after : Standing Handler) (e : ClientError) → table input h.stage (backend.Authentication a) ≡ Goes stage (Some f) → NotSent (encoding f) (fresh c) after.sight e → IsCaused e 0 0 after.sight.broken →
+  not_sent : (a : Authentication) (stage : Stage) (f : Frontend) (after : HandlerView Handler) (e : ClientError) → table input h.stage (backend.Authentication a) ≡ Goes stage (Some f) → NotSent (encoding f) (fresh c) after.sight e → IsCaused e 0 0 after.sight.broken →
       FailsBy input h.stage (backend.Authentication a) e
   not_sent a stage f after client.Broken is n caused = let broken : false ≡ true = n.0 in absurd (cc)
   not_sent a stage f after client.IoError is n caused = absurd (never_rose caused)
@@ -403,7 +403,7 @@ module _ (input : Input) (h : Handler) (c : Client) (at : IsAt input h c) where
   not_sent a stage f after (client.PgWireError why) is n caused = inr (inr (inr (stage, Some f, why, is, ap (λ o. both o (Ok [])) n.1, refl)))
   not_sent a stage f after e is n caused = absurd n
 
-  follows_fails : (a : Authentication) (n : Next) (after : Standing Handler) (e : ClientError) → table input h.stage (backend.Authentication a) ≡ n → Lands n → Follows n (backend.Authentication a) (standing h (fresh c)) after (Err e) → IsCaused e 0 0 after.sight.broken →
+  follows_fails : (a : Authentication) (n : Next) (after : HandlerView Handler) (e : ClientError) → table input h.stage (backend.Authentication a) ≡ n → Lands n → FollowsNext n (backend.Authentication a) (standing h (fresh c)) after (Err e) → IsCaused e 0 0 after.sight.broken →
       FailsBy input h.stage (backend.Authentication a) e
   follows_fails a (Goes stage None) after e is land follows caused = absurd (follows.1)
   follows_fails a (Goes stage (Some f)) after e is land follows caused = not_sent a stage f after e is follows.1 caused
@@ -413,25 +413,25 @@ module _ (input : Input) (h : Handler) (c : Client) (at : IsAt input h c) where
   follows_fails a PassesOver after e is land follows caused = absurd land
 
   -- within an exchange a message has no place, and outside it its function refuses it
-  refused : (m : Backend) (b : Bool) (after : Standing Handler) (e : ClientError) → is_exchange h.stage ≡ b → may_come true m ≡ false → (is_exchange h.stage ≡ false → Hears StartupMeans (standing h (fresh c)) m after (Err e) → FailsBy input h.stage m e) →
+  refused : (m : Backend) (b : Bool) (after : HandlerView Handler) (e : ClientError) → is_exchange h.stage ≡ b → may_come_in_login true m ≡ false → (is_exchange h.stage ≡ false → HearsStartup StartupMeans (standing h (fresh c)) m after (Err e) → FailsBy input h.stage m e) →
       HearsIf (not b) StartupMeans (standing h (fresh c)) m after (Err e) → FailsBy input h.stage m e
   refused m true after e is never f heard = misplaced m e (exchange_wrong input h.stage m is never) heard.1
   refused m false after e is never f heard = f is heard
 
-  settles_fails : (m : NegotiateProtocolVersion) (v : Option ProtocolVersion) (after : Standing Handler) (e : ClientError) → is_exchange h.stage ≡ false → negotiated_version m.newest_minor_protocol ≡ v → SettlesBy {A = ServerInformation} v m (standing h (fresh c)) after (Err e) →
+  settles_fails : (m : NegotiateProtocolVersion) (v : Option ProtocolVersion) (after : HandlerView Handler) (e : ClientError) → is_exchange h.stage ≡ false → negotiated_version m.newest_minor_protocol ≡ v → SettlesBy {A = ServerInformation} v m (standing h (fresh c)) after (Err e) →
       FailsBy input h.stage (backend.NegotiateProtocolVersion m) e
   settles_fails m None after e out is heard = misplaced (backend.NegotiateProtocolVersion m) e (outside_wrong input h.stage (backend.NegotiateProtocolVersion m) at.login out (ap is_known is) (ap is_known is) refl refl) heard.1
   settles_fails m (Some version) after e out is heard = err_not_ok heard.1
 
-  concludes_fails : (m : Backend) (n : Next) (before after : Standing Handler) (e : ClientError) → table input h.stage m ≡ n → Ends n → Concludes (closes n) m before after (Err e) → FailsBy input h.stage m e
+  concludes_fails : (m : Backend) (n : Next) (before after : HandlerView Handler) (e : ClientError) → table input h.stage m ≡ n → Ends n → Concludes (closes n) m before after (Err e) → FailsBy input h.stage m e
   concludes_fails m Closes before after e is ends given = inl given.1
   concludes_fails m Wrong before after e is ends given = misplaced m e is given.1
   concludes_fails m n before after e is (inl closes) given = absurd (cc)
   concludes_fails m n before after e is (inr wrong) given = absurd (cc)
 
-  pub fails_by : (m : Backend) (after : Standing Handler) (e : ClientError) → HeardAtStartup exchanges StartupMeans (standing h (fresh c)) m after (Err e) → IsCaused e 0 0 after.sight.broken → FailsBy input h.stage m e
+  pub fails_by : (m : Backend) (after : HandlerView Handler) (e : ClientError) → HeardAtStartup exchanges StartupMeans (standing h (fresh c)) m after (Err e) → IsCaused e 0 0 after.sight.broken → FailsBy input h.stage m e
   fails_by (backend.Authentication a) after e (inl follows) caused =
-      follows_fails a (table input h.stage (backend.Authentication a)) after e refl (lands input h.stage a at.login) (subst (λ (n : Next). Follows n (backend.Authentication a) (standing h (fresh c)) after (Err e)) (next_is (backend.Authentication a)) follows) caused
+      follows_fails a (table input h.stage (backend.Authentication a)) after e refl (lands input h.stage a at.login) (subst (λ (n : Next). FollowsNext n (backend.Authentication a) (standing h (fresh c)) after (Err e)) (next_is (backend.Authentication a)) follows) caused
   fails_by (backend.Authentication a) after e (inr starves) caused = inl starves.1
   fails_by (backend.NegotiateProtocolVersion m) after e heard caused = refused (backend.NegotiateProtocolVersion m) (is_exchange h.stage) after e refl refl (λ out x. settles_fails m (negotiated_version m.newest_minor_protocol) after e out refl x) heard
   fails_by (backend.ParameterStatus m) after e heard caused = refused (backend.ParameterStatus m) (is_exchange h.stage) after e refl refl (λ out x. inl x.1) heard
@@ -439,7 +439,7 @@ module _ (input : Input) (h : Handler) (c : Client) (at : IsAt input h c) where
   fails_by (backend.NoticeResponse m) after e heard caused = refused (backend.NoticeResponse m) (is_exchange h.stage) after e refl refl (λ out x. err_not_ok x.1) heard
   fails_by (backend.ReadyForQuery m) after e heard caused =
       refused (backend.ReadyForQuery m) (is_exchange h.stage) after e refl refl
-      (λ out x. concludes_fails (backend.ReadyForQuery m) (table input h.stage (backend.ReadyForQuery m)) (standing h (with_status m.status (fresh c))) after e refl (ready_ends input h.stage m at.login out)
-      (subst (λ (n : Next). Concludes (closes n) (backend.ReadyForQuery m) (standing h (with_status m.status (fresh c))) after (Err e)) (next_is (backend.ReadyForQuery m)) x)) heard
+      (λ out x. concludes_fails (backend.ReadyForQuery m) (table input h.stage (backend.ReadyForQuery m)) (standing h (with_sight_status m.status (fresh c))) after e refl (ready_ends input h.stage m at.login out)
+      (subst (λ (n : Next). Concludes (closes n) (backend.ReadyForQuery m) (standing h (with_sight_status m.status (fresh c))) after (Err e)) (next_is (backend.ReadyForQuery m)) x)) heard
   fails_by (backend.ErrorResponse m) after e heard caused = inr (inl (error_refused input h.stage m at.login ∙ ap next.Refuses (sym heard.1)))
   fails_by m after e heard caused = refused m (is_exchange h.stage) after e refl refl (λ out x. misplaced m e (outside_wrong input h.stage m at.login out refl refl refl refl) x.1) heard

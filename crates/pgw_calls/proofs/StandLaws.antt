@@ -6,7 +6,7 @@ use Rattle.pgw_backend.specs.declared.backend.PgWireBackendMessage.{PgWireBacken
 use Rattle.pgw_backend.specs.declared.backend.PgWireBackendMessage.TheVariants as backend
 use Rattle.pgw_backend.specs.declared.client_error.PgWireClientError.{PgWireClientError as ClientError}
 use Rattle.pgw_backend.specs.declared.client_error.PgWireClientError.TheVariants as client
-use Rattle.pgw_backend.specs.Front.{Front, More, Bad}
+use Rattle.pgw_backend.specs.Front.{BackendFront, More, Bad}
 use Rattle.pgw_frontend.specs.Frontend.{encodings, both}
 use Rattle.pgw_query.specs.declared.response.ReadyForQuery.{ReadyForQuery}
 use Rattle.pgw_config.specs.declared.config.Config.{Config}
@@ -15,7 +15,7 @@ use Rattle.pgw_session.specs.declared.types.Answer.{Answer}
 use Rattle.pgw_session.specs.declared.types.Answer.TheVariants as answer
 use Rattle.pgw_session.specs.declared.standing.Standing.{Standing}
 use Rattle.pgw_session.specs.Input.{Input}
-use Rattle.pgw_session.specs.Events.{Event, Sent, Got, sents, joined}
+use Rattle.pgw_session.specs.Events.{Event, Sent, Got, sents, all_events}
 use Rattle.pgw_session.specs.Standings.{first_standing, standing_at, standing_by, standing_of}
 use Rattle.pgw_session.specs.Requests.{kind_of, passes_over}
 use Rattle.pgw_session.specs.Logins.{login_events}
@@ -25,13 +25,13 @@ use Rattle.pgw_session.proofs.Grammar.{startup_same}
 use Rattle.pgw_session.proofs.Hears.{sents_append}
 use Rattle.pgw_session.proofs.Events.{encodings_append}
 use Rattle.pgw_handlers.specs.Client.{Client}
-use Rattle.pgw_calls.specs.Turns.{knowing, standing_of_client, Exchanged, Does, IsAnswered, IsFrontOf, IsOpenFor, Opened}
+use Rattle.pgw_calls.specs.Turns.{knowing, standing_of_client, AreExchanged, Does, IsAnswered, IsCallFront, IsOpenFor, Opened}
 use Rattle.pgw_handlers.specs.declared.client_info.ServerInformation.{ServerInformation}
 use Rattle.pgw_calls.specs.Startup.{LoggedIn}
 use Rattle.pgw_connection.specs.Desk.{with_information}
 use Rattle.pgw_connection.specs.Line.{Reasons}
-use Rattle.pgw_calls.specs.Calls.{Breaks, Comes, Misplaces, Stops}
-use Rattle.pgw_calls.specs.Stands.{login, Made, made, IsMade, AreMade, events_of, Stands, OneMore, StandsCut, MisplacedBehind, BrokenBehind, StandsBehind, requests_of, segments_of, AreAnswered, IsSession}
+use Rattle.pgw_calls.specs.Calls.{BreaksClient, Comes, CallMisplaces, StopsCall}
+use Rattle.pgw_calls.specs.Stands.{login, Made, made_call, IsMade, AreMade, events_of, StandsForCalls, OneMore, StandsCut, MisplacedBehind, BrokenBehind, StandsBehind, requests_of, segments_of, AreAnswered, IsSession}
 
 -- ---- exchanges, one behind the other
 
@@ -41,7 +41,7 @@ spells_append s (Sent m ∷ xs) ys a b x y = spells_append s xs ys a b x y
 spells_append s (Got m ∷ xs) ys a b x y = (x.0, x.1 ++ b, ap (λ (l : List ℕ). l ++ b) x.2 ∙ append_assoc x.0 x.1 b, x.3, spells_append (standing_by s m) xs ys x.1 b x.4 y)
 
 pub exchanged_append : (config : Config) (s : Standing) (read wrote more out : List ℕ) (xs ys : List Event) (c info : Client) (buffer rest : List ℕ) →
-    Exchanged config s read wrote xs c buffer → Exchanged config (fold standing_at s xs) (buffer ++ more) out ys info rest → Exchanged config s (read ++ more) (wrote ++ out) (xs ++ ys) info rest
+    AreExchanged config s read wrote xs c buffer → AreExchanged config (fold standing_at s xs) (buffer ++ more) out ys info rest → AreExchanged config s (read ++ more) (wrote ++ out) (xs ++ ys) info rest
 exchanged_append config s read wrote more out xs ys c info buffer rest x y = record {
   spelled = x.spelled ++ y.spelled;
   begins = ap (λ (l : List ℕ). l ++ more) x.begins ∙ append_assoc x.spelled buffer more ∙ ap (λ (l : List ℕ). x.spelled ++ l) y.begins ∙ sym (append_assoc x.spelled y.spelled rest);
@@ -51,7 +51,7 @@ exchanged_append config s read wrote more out xs ys c info buffer rest x y = rec
 }
 
 -- more bytes alone
-pub exchanged_more : (config : Config) (s : Standing) (read wrote more : List ℕ) (es : List Event) (c : Client) (buffer : List ℕ) → Exchanged config s read wrote es c buffer → Exchanged config s (read ++ more) wrote es c (buffer ++ more)
+pub exchanged_more : (config : Config) (s : Standing) (read wrote more : List ℕ) (es : List Event) (c : Client) (buffer : List ℕ) → AreExchanged config s read wrote es c buffer → AreExchanged config s (read ++ more) wrote es c (buffer ++ more)
 exchanged_more config s read wrote more es c buffer x = record {
   spelled = x.spelled;
   begins = ap (λ (l : List ℕ). l ++ more) x.begins ∙ append_assoc x.spelled buffer more;
@@ -108,30 +108,30 @@ are_more [] t are is = (is, tt)
 are_more (x ∷ ts) t are is = (are.0, are_more ts t are.1 is)
 
 -- what is exchanged behind requests is exchanged from the login on
-exchanged_behind : (config : Config) (nonce : List ℕ) (ts : List Made) (read wrote more out : List ℕ) (c info : Client) (buffer rest : List ℕ) (es : List Event) (s : Stands config nonce ts read wrote c buffer) →
-    Exchanged c.config (standing_of_client c) (buffer ++ more) out es info rest → Exchanged config (first_standing config) (read ++ more) (wrote ++ out) (s.startup ++ (events_of ts ++ es)) info rest
+exchanged_behind : (config : Config) (nonce : List ℕ) (ts : List Made) (read wrote more out : List ℕ) (c info : Client) (buffer rest : List ℕ) (es : List Event) (s : StandsForCalls config nonce ts read wrote c buffer) →
+    AreExchanged c.config (standing_of_client c) (buffer ++ more) out es info rest → AreExchanged config (first_standing config) (read ++ more) (wrote ++ out) (s.startup ++ (events_of ts ++ es)) info rest
 exchanged_behind config nonce ts read wrote more out c info buffer rest es s x =
     let said = s.startup ++ events_of ts in
     let told = fold standing_at (first_standing config) said in
     let knows : c ≡ knowing config told = s.exchanged.knows in
     let stands : standing_of_client c ≡ told = standing_is config told c knows (settled_startup (login config nonce) (first_standing config) s.startup (events_of ts) s.begins) in
-    let y : Exchanged config told (buffer ++ more) out es info rest = subst (λ (r : Standing). Exchanged config r (buffer ++ more) out es info rest) stands (subst (λ (k : Config). Exchanged k (standing_of_client c) (buffer ++ more) out es info rest) (config_is config told c knows) x) in
-    subst (λ (l : List Event). Exchanged config (first_standing config) (read ++ more) (wrote ++ out) l info rest) (append_assoc s.startup (events_of ts) es)
+    let y : AreExchanged config told (buffer ++ more) out es info rest = subst (λ (r : Standing). AreExchanged config r (buffer ++ more) out es info rest) stands (subst (λ (k : Config). AreExchanged k (standing_of_client c) (buffer ++ more) out es info rest) (config_is config told c knows) x) in
+    subst (λ (l : List Event). AreExchanged config (first_standing config) (read ++ more) (wrote ++ out) l info rest) (append_assoc s.startup (events_of ts) es)
     (exchanged_append config (first_standing config) read wrote more out said es c info buffer rest s.exchanged y)
 
-one_more : (config : Config) (nonce : List ℕ) (ts : List Made) (q : Request) (read wrote more out : List ℕ) (c info : Client) (buffer rest : List ℕ) (es : List Event) → Stands config nonce ts read wrote c buffer → IsMade (made q es) →
-    Exchanged c.config (standing_of_client c) (buffer ++ more) out es info rest → Stands config nonce (ts ++ made q es ∷ []) (read ++ more) (wrote ++ out) info rest
+one_more : (config : Config) (nonce : List ℕ) (ts : List Made) (q : Request) (read wrote more out : List ℕ) (c info : Client) (buffer rest : List ℕ) (es : List Event) → StandsForCalls config nonce ts read wrote c buffer → IsMade (made_call q es) →
+    AreExchanged c.config (standing_of_client c) (buffer ++ more) out es info rest → StandsForCalls config nonce (ts ++ made_call q es ∷ []) (read ++ more) (wrote ++ out) info rest
 one_more config nonce ts q read wrote more out c info buffer rest es s is x =
     record {
       startup = s.startup;
       begins = s.begins;
-      are = are_more ts (made q es) s.are is;
-      exchanged = subst (λ (l : List Event). Exchanged config (first_standing config) (read ++ more) (wrote ++ out) l info rest) (ap (λ (l : List Event). s.startup ++ l) (sym (events_more ts (made q es))))
+      are = are_more ts (made_call q es) s.are is;
+      exchanged = subst (λ (l : List Event). AreExchanged config (first_standing config) (read ++ more) (wrote ++ out) l info rest) (ap (λ (l : List Event). s.startup ++ l) (sym (events_more ts (made_call q es))))
           (exchanged_behind config nonce ts read wrote more out c info buffer rest es s x);
     }
 
 -- a front of one request more
-one_cut : (config : Config) (nonce : List ℕ) (ts : List Made) (read wrote more out : List ℕ) (c info : Client) (buffer rest : List ℕ) (property : List Event → Type 0) → Stands config nonce ts read wrote c buffer →
+one_cut : (config : Config) (nonce : List ℕ) (ts : List Made) (read wrote more out : List ℕ) (c info : Client) (buffer rest : List ℕ) (property : List Event → Type 0) → StandsForCalls config nonce ts read wrote c buffer →
     Does property c (buffer ++ more) out info rest → StandsCut config nonce ts property (read ++ more) (wrote ++ out) info rest
 one_cut config nonce ts read wrote more out c info buffer rest property s x = record {
   startup = s.startup;
@@ -143,7 +143,7 @@ one_cut config nonce ts read wrote more out c info buffer rest property s x = re
 }
 
 -- more bytes alone
-pub stands_more : (config : Config) (nonce : List ℕ) (ts : List Made) (read wrote more : List ℕ) (c : Client) (buffer : List ℕ) → Stands config nonce ts read wrote c buffer → Stands config nonce ts (read ++ more) wrote c (buffer ++ more)
+pub stands_more : (config : Config) (nonce : List ℕ) (ts : List Made) (read wrote more : List ℕ) (c : Client) (buffer : List ℕ) → StandsForCalls config nonce ts read wrote c buffer → StandsForCalls config nonce ts (read ++ more) wrote c (buffer ++ more)
 stands_more config nonce ts read wrote more c buffer s = record {
   startup = s.startup;
   begins = s.begins;
@@ -151,29 +151,29 @@ stands_more config nonce ts read wrote more c buffer s = record {
   exchanged = exchanged_more config (first_standing config) read wrote more (s.startup ++ events_of ts) c buffer s.exchanged;
 }
 
-module _ {A : Type 0} (give : A → Answer) (P : Reasons) (config : Config) (nonce : List ℕ) (ts : List Made) (q : Request) (read wrote more out : List ℕ) (c info : Client) (buffer rest : List ℕ) (s : Stands config nonce ts read wrote c buffer) where
+module _ {A : Type 0} (give : A → Answer) (P : Reasons) (config : Config) (nonce : List ℕ) (ts : List Made) (q : Request) (read wrote more out : List ℕ) (c info : Client) (buffer rest : List ℕ) (s : StandsForCalls config nonce ts read wrote c buffer) where
   answered_behind : (a : Answer) → Does (IsAnswered q a) c (buffer ++ more) out info rest → OneMore config nonce ts q (IsAnswered q a) (read ++ more) (wrote ++ out) info rest
   answered_behind a x = (x.0, x.1, one_more config nonce ts q read wrote more out c info buffer rest x.0 s (inl (x.1).0) x.2)
 
   cut_here : (property : List Event → Type 0) → Does property c (buffer ++ more) out info rest → StandsCut config nonce ts property (read ++ more) (wrote ++ out) info rest
   cut_here property x = one_cut config nonce ts read wrote more out c info buffer rest property s x
 
-  stopped : (e : ClientError) (next : Front) → Stops q c (buffer ++ more) out e info rest next → StandsCut config nonce ts (IsFrontOf q e) (read ++ more) (wrote ++ out) info rest
-  stopped e next x = cut_here (IsFrontOf q e) x.0
+  stopped : (e : ClientError) (next : BackendFront) → StopsCall q c (buffer ++ more) out e info rest next → StandsCut config nonce ts (IsCallFront q e) (read ++ more) (wrote ++ out) info rest
+  stopped e next x = cut_here (IsCallFront q e) x.0
 
-  unwritten : (lost : List ℕ) (e : ClientError) → Does (IsFrontOf q e) c (buffer ++ more) (out ++ lost) info rest → StandsCut config nonce ts (IsFrontOf q e) (read ++ more) ((wrote ++ out) ++ lost) info rest
+  unwritten : (lost : List ℕ) (e : ClientError) → Does (IsCallFront q e) c (buffer ++ more) (out ++ lost) info rest → StandsCut config nonce ts (IsCallFront q e) (read ++ more) ((wrote ++ out) ++ lost) info rest
   unwritten lost e x =
-      subst (λ (w : List ℕ). StandsCut config nonce ts (IsFrontOf q e) (read ++ more) w info rest) (sym (append_assoc wrote out lost))
-      (one_cut config nonce ts read wrote more (out ++ lost) c info buffer rest (IsFrontOf q e) s x)
+      subst (λ (w : List ℕ). StandsCut config nonce ts (IsCallFront q e) (read ++ more) w info rest) (sym (append_assoc wrote out lost))
+      (one_cut config nonce ts read wrote more (out ++ lost) c info buffer rest (IsCallFront q e) s x)
 
-  none_lost : (e : ClientError) → StandsCut config nonce ts (IsFrontOf q e) (read ++ more) (wrote ++ out) info rest → StandsCut config nonce ts (IsFrontOf q e) (read ++ more) ((wrote ++ out) ++ []) info rest
-  none_lost e x = subst (λ (w : List ℕ). StandsCut config nonce ts (IsFrontOf q e) (read ++ more) w info rest) (sym (append-nil (wrote ++ out))) x
+  none_lost : (e : ClientError) → StandsCut config nonce ts (IsCallFront q e) (read ++ more) (wrote ++ out) info rest → StandsCut config nonce ts (IsCallFront q e) (read ++ more) ((wrote ++ out) ++ []) info rest
+  none_lost e x = subst (λ (w : List ℕ). StandsCut config nonce ts (IsCallFront q e) (read ++ more) w info rest) (sym (append-nil (wrote ++ out))) x
 
-  misplaced_behind : (m : Backend) (b : Bool) → Misplaces b P q c (buffer ++ more) out m info rest → MisplacedBehind b config nonce ts q (read ++ more) (wrote ++ out) info rest m
+  misplaced_behind : (m : Backend) (b : Bool) → CallMisplaces b P q c (buffer ++ more) out m info rest → MisplacedBehind b config nonce ts q (read ++ more) (wrote ++ out) info rest m
   misplaced_behind m true (why, x) = stopped (client.UnexpectedMessage m) More x
   misplaced_behind m false (left, x, next) = (left, one_cut config nonce ts read wrote more out c info buffer left (Opened q (IsOpenFor (kind_of q) false m)) s x, next)
 
-  broken_behind : (e : ClientError) → Breaks {A = A} P q c (buffer ++ more) out info rest (Err e) → BrokenBehind config nonce ts q (read ++ more) (wrote ++ out) info rest e
+  broken_behind : (e : ClientError) → BreaksClient {A = A} P q c (buffer ++ more) out info rest (Err e) → BrokenBehind config nonce ts q (read ++ more) (wrote ++ out) info rest e
   broken_behind client.OutOfMemory x = tt
   broken_behind client.IoError (inl (why, e, x)) = ([], e, none_lost e (stopped e More x))
   broken_behind client.IoError (inr (lost, why, e, x)) = (lost, e, unwritten lost e x)
@@ -196,17 +196,17 @@ module _ {A : Type 0} (give : A → Answer) (P : Reasons) (config : Config) (non
 
 -- ---- a login
 
-pub stands_first : (config : Config) (nonce bytes sent : List ℕ) (information : ServerInformation) (info : Client) (rest : List ℕ) → LoggedIn config nonce bytes sent information info rest → Stands config nonce [] bytes sent (with_information information info) rest
+pub stands_first : (config : Config) (nonce bytes sent : List ℕ) (information : ServerInformation) (info : Client) (rest : List ℕ) → LoggedIn config nonce bytes sent information info rest → StandsForCalls config nonce [] bytes sent (with_information information info) rest
 stands_first config nonce bytes sent information info rest l = record {
   startup = l.es;
   begins = l.segment;
   are = tt;
-  exchanged = subst (λ (es : List Event). Exchanged config (first_standing config) bytes sent es (with_information information info) rest) (sym (append-nil l.es)) l.exchanged;
+  exchanged = subst (λ (es : List Event). AreExchanged config (first_standing config) bytes sent es (with_information information info) rest) (sym (append-nil l.es)) l.exchanged;
 }
 
 -- ---- a session
 
-joined_is : (ts : List Made) → joined (segments_of ts) ≡ events_of ts
+joined_is : (ts : List Made) → all_events (segments_of ts) ≡ events_of ts
 joined_is [] = refl
 joined_is (t ∷ ts) = ap (λ (l : List Event). t.events ++ l) (joined_is ts)
 
@@ -214,11 +214,11 @@ are_segments : (ts : List Made) → AreAnswered ts → AreSegments (requests_of 
 are_segments [] are = tt
 are_segments (t ∷ ts) are = (are.0, are_segments ts are.1)
 
-pub is_session : (config : Config) (nonce : List ℕ) (ts : List Made) (read wrote : List ℕ) (c : Client) (buffer : List ℕ) → Stands config nonce ts read wrote c buffer → AreAnswered ts → IsSession config nonce ts read wrote c buffer
+pub is_session : (config : Config) (nonce : List ℕ) (ts : List Made) (read wrote : List ℕ) (c : Client) (buffer : List ℕ) → StandsForCalls config nonce ts read wrote c buffer → AreAnswered ts → IsSession config nonce ts read wrote c buffer
 unfolding standing_of
 is_session config nonce ts read wrote c buffer s are =
     let x = s.exchanged in
-    let whole : s.startup ++ events_of ts ≡ joined (s.startup ∷ segments_of ts) = ap (λ (l : List Event). s.startup ++ l) (sym (joined_is ts)) in
+    let whole : s.startup ++ events_of ts ≡ all_events (s.startup ∷ segments_of ts) = ap (λ (l : List Event). s.startup ++ l) (sym (joined_is ts)) in
     record {
       startup = s.startup;
       transcript = (startup_same (login config nonce) (requests_of ts) s.startup s.begins, are_segments ts are);

@@ -13,9 +13,9 @@ use Rattle.pgw_session.specs.declared.types.ExecuteResult.TheVariants as execute
 use Rattle.pgw_session.specs.declared.tally.Tally.{Tally}
 use Rattle.pgw_session.specs.declared.tally.Opened.{Opened}
 use Rattle.pgw_session.specs.Events.{Event, Sent, Got}
-use Rattle.pgw_session.specs.Answers.{tally_after, tally_at, noted, noted_unless, with_end, with_row, first_error}
+use Rattle.pgw_session.specs.Answers.{tally_after, tally_at, tally_with, noted_unless, with_end, with_row, first_error}
 use Rattle.pgw_session.specs.Machine.{end_with}
-use Rattle.pgw_connection.specs.Talk.{first_of}
+use Rattle.pgw_connection.specs.Talk.{first_error_of}
 use Rattle.pgw_calls.proofs.Came.{kept, kept_stays}
 
 pub fold_remote : (t : Tally) (e : ErrorResponse) (es : List Event) → t.remote ≡ Some e → (fold tally_at t es).remote ≡ Some e
@@ -32,7 +32,7 @@ row_executed : (t : Tally) (row : DataRow) (o : Option Opened) → (with_row o t
 row_executed t row None = refl
 row_executed t row (Some opened) = refl
 
-noted_executed : (t : Tally) (m : Backend) (x : ExecuteResult (List DataRow)) → t.executed ≡ Some x → (noted t m).executed ≡ Some x
+noted_executed : (t : Tally) (m : Backend) (x : ExecuteResult (List DataRow)) → t.executed ≡ Some x → (tally_with t m).executed ≡ Some x
 noted_executed t (backend.DataRow row) x is = row_executed t row t.opened ∙ is
 noted_executed t (backend.CommandComplete m) x is = rw is refl
 noted_executed t (backend.EmptyQueryResponse m) x is = rw is refl
@@ -58,7 +58,7 @@ end_remote : (o : Option (ExecuteResult (List DataRow))) (t : Tally) (x : Execut
 end_remote None t x = refl
 end_remote (Some y) t x = refl
 
-noted_error : (t : Tally) (m : Backend) → t.remote ≡ None → first_of client.UnexpectedEOF m ≡ end_with None (noted t m).remote
+noted_error : (t : Tally) (m : Backend) → t.remote ≡ None → first_error_of client.UnexpectedEOF m ≡ end_with None (tally_with t m).remote
 noted_error t (backend.ErrorResponse e) none = refl
 noted_error t (backend.DataRow row) none = ap (end_with None) (sym (row_remote t row t.opened ∙ none))
 noted_error t (backend.CommandComplete m) none = ap (end_with None) (sym (end_remote t.executed _ (execute.Complete t.rows) ∙ none))
@@ -66,7 +66,7 @@ noted_error t (backend.EmptyQueryResponse m) none = ap (end_with None) (sym (end
 noted_error t (backend.PortalSuspended m) none = ap (end_with None) (sym (end_remote t.executed _ (execute.Suspended t.rows) ∙ none))
 noted_error t m none = ap (end_with None) (sym none)
 
-error_on : (o : Option ErrorResponse) (t : Tally) (m : Backend) → t.remote ≡ o → first_of (end_with None o) m ≡ end_with None (noted_unless o t m).remote
+error_on : (o : Option ErrorResponse) (t : Tally) (m : Backend) → t.remote ≡ o → first_error_of (end_with None o) m ≡ end_with None (noted_unless o t m).remote
 error_on None t m is = noted_error t m is
 error_on (Some e) t m is = ap (end_with None) (sym is)
 

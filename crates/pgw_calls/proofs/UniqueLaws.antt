@@ -1,7 +1,7 @@
 -- Bytes begin with one answer only; so where it is whole, a call gives it.
 use Rattle.std.proofs.Common.{◌≡◌, ℕ, Bool, true, false, List, [], ◌∷◌, ◌++◌, length, map, fold, drop, Result, Ok, Err, inl, inr, refl, sym, ◌∙◌, ap, subst, append_assoc}
 use Rattle.std.proofs.lemmas.List.{drop_at}
-use Rattle.pgw_backend.specs.Front.{Front, front, More, Bad, Whole}
+use Rattle.pgw_backend.specs.Front.{BackendFront, front, More, Bad, Whole}
 use Rattle.pgw_backend.proofs.FrontLaws.{spells_front}
 use Rattle.pgw_backend.specs.declared.backend.PgWireBackendMessage.{PgWireBackendMessage as Backend}
 use Rattle.pgw_backend.specs.declared.backend.PgWireBackendMessage.TheVariants as backend
@@ -24,8 +24,8 @@ use Rattle.pgw_session.specs.Answers.{answer_of}
 use Rattle.pgw_session.specs.Transcript.{SpellsGot}
 use Rattle.pgw_handlers.specs.Client.{Client}
 use Rattle.pgw_connection.specs.Line.{Reasons}
-use Rattle.pgw_calls.specs.Turns.{standing_of_client, Exchanged, Does, IsAnswered, IsPassedSegment, IsPassing, IsCutOff}
-use Rattle.pgw_calls.specs.Calls.{Answers, Stops, Misplaces, Breaks, Comes, Reports}
+use Rattle.pgw_calls.specs.Turns.{standing_of_client, AreExchanged, Does, IsAnswered, IsPassedSegment, IsPassing, IsCutOff}
+use Rattle.pgw_calls.specs.Calls.{AnswersCall, StopsCall, CallMisplaces, BreaksClient, Comes, CallReports}
 use Rattle.pgw_calls.proofs.Exchanges.{fold_sends}
 use Rattle.pgw_calls.proofs.PassedLaws.{Behind, behind_first}
 
@@ -257,7 +257,7 @@ module _ (P : Reasons) (q : Request) (c : Client) (bytes sent : List ℕ) (info 
   begins : Begins from segment.0 bytes
   begins = begins_unsent from (sends_of q) segment.0 es bytes segment.1 (spelled, more, are, got)
 
-  unique : (xs : List Event) → IsRequestSegment q xs → Exchanged c.config from bytes sent xs info rest → es ≡ xs
+  unique : (xs : List Event) → IsRequestSegment q xs → AreExchanged c.config from bytes sent xs info rest → es ≡ xs
   unique xs s x =
       let a = s.2 in
       let l : Leaves from (map Got a.ms ++ Got a.last ∷ a.rest) bytes rest = subst (λ (y : List Event). Leaves from y bytes rest) a.are (leaves_unsent from (sends_of q) s.0 xs bytes rest s.1 (x.spelled, x.begins, x.got)) in
@@ -266,7 +266,7 @@ module _ (P : Reasons) (q : Request) (c : Client) (bytes sent : List ℕ) (info 
   pub answered : (a : Answer) → Does (IsAnswered q a) c bytes sent info rest → a ≡ answer_of q es
   answered a x = sym (ap (answer_of q) (unique x.0 (x.1).0 x.2) ∙ (x.1).1)
 
-  pub stops : (e : ClientError) (next : Front) → ((m : Backend) (len : ℕ) → next ≡ Whole m len → ⊥) → Stops q c bytes sent e info rest next → ⊥
+  pub stops : (e : ClientError) (next : BackendFront) → ((m : Backend) (len : ℕ) → next ≡ Whole m len → ⊥) → StopsCall q c bytes sent e info rest next → ⊥
   stops e next ends x =
       let xs = (x.0).0 in
       let o = (x.0).1 in
@@ -277,10 +277,10 @@ module _ (P : Reasons) (q : Request) (c : Client) (bytes sent : List ℕ) (info 
       let last = ended_unsent from (sends_of q) o.0 xs rest o.1 ended in
       no_front (kind_of q) a.ms false a.behind e a.rest segment.0 from bytes rest a.taken a.ends segment.2 begins (subst (λ (z : List Event). Leaves from z bytes rest) a.are l) (subst (λ (z : List Event). Ended (fold standing_at from z) rest) a.are last)
 
-  no_more : (e : ClientError) → Stops q c bytes sent e info rest More → ⊥
+  no_more : (e : ClientError) → StopsCall q c bytes sent e info rest More → ⊥
   no_more e x = stops e More more_not x
 
-  pub opens : (m : Backend) → Misplaces false P q c bytes sent m info rest → ⊥
+  pub opens : (m : Backend) → CallMisplaces false P q c bytes sent m info rest → ⊥
   opens m x =
       let left = x.0 in
       let o = (x.1).1 in
@@ -291,7 +291,7 @@ module _ (P : Reasons) (q : Request) (c : Client) (bytes sent : List ℕ) (info 
       no_open (kind_of q) a.ms false a.behind m (x.2).0 segment.0 from bytes left a.taken a.misplaced segment.2 begins (subst (λ (z : List Event). Leaves from z bytes left) a.are l)
       (ap (λ v. front v left) (sym at ∙ sym (ap (λ (k : Client). k.protocol_version) y.knows)) ∙ (x.2).1)
 
-  misplaces : (m : Backend) (b : Bool) → Misplaces b P q c bytes sent m info rest → ⊥
+  misplaces : (m : Backend) (b : Bool) → CallMisplaces b P q c bytes sent m info rest → ⊥
   misplaces m true x = no_more (client.UnexpectedMessage m) x.1
   misplaces m false x = opens m x
 
@@ -306,13 +306,13 @@ module _ (P : Reasons) (q : Request) (c : Client) (bytes sent : List ℕ) (info 
 
 module _ {A : Type 0} (give : A → Answer) (P : Reasons) (q : Request) (c : Client) (bytes sent : List ℕ) (info : Client) (rest : List ℕ) (es : List Event) (spelled more : List ℕ) (segment : IsRequestSegment q es)
     (got : SpellsGot (standing_of_client c) es spelled) (are : bytes ≡ spelled ++ more) where
-  ends_not : (e : ClientError) → Stops q c bytes sent e info rest More → ⊥
+  ends_not : (e : ClientError) → StopsCall q c bytes sent e info rest More → ⊥
   ends_not e x = no_more P q c bytes sent info rest es spelled more segment got are e x
 
   answers : (a : Answer) → Does (IsAnswered q a) c bytes sent info rest → a ≡ answer_of q es
   answers a x = answered P q c bytes sent info rest es spelled more segment got are a x
 
-  reports_broken : (result : Result A ClientError) → Breaks P q c bytes sent info rest result → Reports give P q (answer_of q es) c bytes sent info rest result
+  reports_broken : (result : Result A ClientError) → BreaksClient P q c bytes sent info rest result → CallReports give P q (answer_of q es) c bytes sent info rest result
   reports_broken (Err client.OutOfMemory) x = tt
   reports_broken (Err (client.PgWireError why)) x = absurd (stops P q c bytes sent info rest es spelled more segment got are x.0 (Bad why) (λ m len is. cc) x.1)
   reports_broken (Err client.ReadLimit) x = absurd (ends_not x.1 x.2)
@@ -323,13 +323,13 @@ module _ {A : Type 0} (give : A → Answer) (P : Reasons) (q : Request) (c : Cli
   reports_broken (Err (client.UnexpectedMessage m)) x = absurd (misplaces P q c bytes sent info rest es spelled more segment got are m (passes_over (kind_of q)) x)
   reports_broken result x = absurd x
 
-  reports_usable : (result : Result A ClientError) → Answers give q c bytes sent info rest result → Reports give P q (answer_of q es) c bytes sent info rest result
+  reports_usable : (result : Result A ClientError) → AnswersCall give q c bytes sent info rest result → CallReports give P q (answer_of q es) c bytes sent info rest result
   reports_usable (Ok x) y = answers (give x) y
   reports_usable (Err (client.RemoteError e)) y = answers (answer.Remote e) y
   reports_usable (Err (client.UnexpectedMessage m)) y = absurd (passed P q c bytes sent info rest es spelled more segment got are m y)
   reports_usable (Err (client.PgWireError why)) y = y.0
   reports_usable (Err e) y = absurd y
 
-  pub reports : (result : Result A ClientError) (broken : Bool) → Comes give P q c bytes sent info rest result broken → Reports give P q (answer_of q es) c bytes sent info rest result
+  pub reports : (result : Result A ClientError) (broken : Bool) → Comes give P q c bytes sent info rest result broken → CallReports give P q (answer_of q es) c bytes sent info rest result
   reports result false y = reports_usable result y
   reports result true y = reports_broken result y

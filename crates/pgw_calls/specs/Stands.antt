@@ -8,14 +8,14 @@ use Rattle.pgw_session.specs.declared.types.Request.{Request}
 use Rattle.pgw_session.specs.declared.types.Answer.{Answer}
 use Rattle.pgw_session.specs.declared.types.Answer.TheVariants as answer
 use Rattle.pgw_session.specs.Input.{Input, input_with}
-use Rattle.pgw_session.specs.Events.{Event, joined}
+use Rattle.pgw_session.specs.Events.{Event, all_events}
 use Rattle.pgw_session.specs.Standings.{first_standing, standing_of}
 use Rattle.pgw_session.specs.Requests.{kind_of, passes_over}
 use Rattle.pgw_session.specs.Segments.{IsStartupSegment, IsRequestSegment}
 use Rattle.pgw_session.specs.Transcript.{IsTranscript, SpellsGot, EncodesSent}
 use Rattle.pgw_handlers.specs.Client.{Client}
 use Rattle.pgw_connection.specs.Talk.{Next}
-use Rattle.pgw_calls.specs.Turns.{knowing, Exchanged, IsAnswered, IsPassedSegment, IsFrontOf, IsOpenFor, Opened}
+use Rattle.pgw_calls.specs.Turns.{knowing, AreExchanged, IsAnswered, IsPassedSegment, IsCallFront, IsOpenFor, Opened}
 
 -- what a client logs in with
 abbrev pub login : Config → List ℕ → Input
@@ -26,8 +26,8 @@ pub record Made : Type 0 where
   pub request : Request
   pub events : List Event
 
-abbrev pub made : Request → List Event → Made
-made q es = record { request = q; events = es }
+abbrev pub made_call : Request → List Event → Made
+made_call q es = record { request = q; events = es }
 
 -- they are its segment, or one that was passed over
 abbrev pub IsMade : Made → Type 0
@@ -43,15 +43,15 @@ events_of (t ∷ ts) = t.events ++ events_of ts
 
 -- A login and these requests were made: of the bytes read those in the buffer are left, and the client knows what the
 -- others tell.
-pub record Stands (config : Config) (nonce : List ℕ) (ts : List Made) (read wrote : List ℕ) (c : Client) (buffer : List ℕ) : Type 0 where
+pub record StandsForCalls (config : Config) (nonce : List ℕ) (ts : List Made) (read wrote : List ℕ) (c : Client) (buffer : List ℕ) : Type 0 where
   pub startup : List Event
   pub begins : IsStartupSegment (login config nonce) startup
   pub are : AreMade ts
-  pub exchanged : Exchanged config (first_standing config) read wrote (startup ++ events_of ts) c buffer
+  pub exchanged : AreExchanged config (first_standing config) read wrote (startup ++ events_of ts) c buffer
 
 -- one request more was made, whose events are so
 abbrev pub OneMore : Config → List ℕ → List Made → Request → (List Event → Type 0) → List ℕ → List ℕ → Client → List ℕ → Type 0
-OneMore config nonce ts q property read wrote c buffer = (es : List Event) × property es × Stands config nonce (ts ++ made q es ∷ []) read wrote c buffer
+OneMore config nonce ts q property read wrote c buffer = (es : List Event) × property es × StandsForCalls config nonce (ts ++ made_call q es ∷ []) read wrote c buffer
 
 -- A login and these requests were made, and behind them these events of one request more.
 pub record StandsCut (config : Config) (nonce : List ℕ) (ts : List Made) (property : List Event → Type 0) (read wrote : List ℕ) (c : Client) (buffer : List ℕ) : Type 0 where
@@ -60,11 +60,11 @@ pub record StandsCut (config : Config) (nonce : List ℕ) (ts : List Made) (prop
   pub are : AreMade ts
   pub events : List Event
   pub front : property events
-  pub exchanged : Exchanged config (first_standing config) read wrote (startup ++ (events_of ts ++ events)) c buffer
+  pub exchanged : AreExchanged config (first_standing config) read wrote (startup ++ (events_of ts ++ events)) c buffer
 
 -- a message has no place: where others are passed over behind it, it was taken; else it is next
 abbrev pub MisplacedBehind : Bool → Config → List ℕ → List Made → Request → List ℕ → List ℕ → Client → List ℕ → Backend → Type 0
-MisplacedBehind true config nonce ts q read wrote c buffer m = StandsCut config nonce ts (IsFrontOf q (client.UnexpectedMessage m)) read wrote c buffer
+MisplacedBehind true config nonce ts q read wrote c buffer m = StandsCut config nonce ts (IsCallFront q (client.UnexpectedMessage m)) read wrote c buffer
 MisplacedBehind false config nonce ts q read wrote c buffer m =
     (left : List ℕ) × StandsCut config nonce ts (Opened q (IsOpenFor (kind_of q) false m)) read wrote c left × Next c left m buffer
 
@@ -73,11 +73,11 @@ MisplacedBehind false config nonce ts q read wrote c buffer m =
 abbrev pub BrokenBehind : Config → List ℕ → List Made → Request → List ℕ → List ℕ → Client → List ℕ → ClientError → Type 0
 BrokenBehind config nonce ts q read wrote c buffer client.OutOfMemory = Unit {0}
 BrokenBehind config nonce ts q read wrote c buffer client.IoError =
-    (lost : List ℕ) × (e : ClientError) × StandsCut config nonce ts (IsFrontOf q e) read (wrote ++ lost) c buffer
-BrokenBehind config nonce ts q read wrote c buffer client.ReadLimit = (e : ClientError) × StandsCut config nonce ts (IsFrontOf q e) read wrote c buffer
-BrokenBehind config nonce ts q read wrote c buffer (client.PgWireError why) = (e : ClientError) × StandsCut config nonce ts (IsFrontOf q e) read wrote c buffer
-BrokenBehind config nonce ts q read wrote c buffer client.UnexpectedEOF = StandsCut config nonce ts (IsFrontOf q client.UnexpectedEOF) read wrote c buffer
-BrokenBehind config nonce ts q read wrote c buffer (client.RemoteError e) = StandsCut config nonce ts (IsFrontOf q (client.RemoteError e)) read wrote c buffer
+    (lost : List ℕ) × (e : ClientError) × StandsCut config nonce ts (IsCallFront q e) read (wrote ++ lost) c buffer
+BrokenBehind config nonce ts q read wrote c buffer client.ReadLimit = (e : ClientError) × StandsCut config nonce ts (IsCallFront q e) read wrote c buffer
+BrokenBehind config nonce ts q read wrote c buffer (client.PgWireError why) = (e : ClientError) × StandsCut config nonce ts (IsCallFront q e) read wrote c buffer
+BrokenBehind config nonce ts q read wrote c buffer client.UnexpectedEOF = StandsCut config nonce ts (IsCallFront q client.UnexpectedEOF) read wrote c buffer
+BrokenBehind config nonce ts q read wrote c buffer (client.RemoteError e) = StandsCut config nonce ts (IsCallFront q (client.RemoteError e)) read wrote c buffer
 BrokenBehind config nonce ts q read wrote c buffer (client.UnexpectedMessage m) = MisplacedBehind (passes_over (kind_of q)) config nonce ts q read wrote c buffer m
 BrokenBehind config nonce ts q read wrote c buffer e = ⊥
 
@@ -89,7 +89,7 @@ StandsBehind give config nonce ts q read wrote c buffer (Err e) true = BrokenBeh
 StandsBehind give config nonce ts q read wrote c buffer (Ok x) false = OneMore config nonce ts q (IsAnswered q (give x)) read wrote c buffer
 StandsBehind give config nonce ts q read wrote c buffer (Err (client.RemoteError e)) false = OneMore config nonce ts q (IsAnswered q (answer.Remote e)) read wrote c buffer
 StandsBehind give config nonce ts q read wrote c buffer (Err (client.UnexpectedMessage m)) false = OneMore config nonce ts q (IsPassedSegment q m) read wrote c buffer
-StandsBehind give config nonce ts q read wrote c buffer (Err (client.PgWireError why)) false = Stands config nonce ts read wrote c buffer
+StandsBehind give config nonce ts q read wrote c buffer (Err (client.PgWireError why)) false = StandsForCalls config nonce ts read wrote c buffer
 StandsBehind give config nonce ts q read wrote c buffer (Err e) false = ⊥
 
 -- ---- a client as a session
@@ -118,6 +118,6 @@ pub record IsSession (config : Config) (nonce : List ℕ) (ts : List Made) (read
   pub transcript : IsTranscript (session config nonce ts) (startup ∷ segments_of ts)
   pub spelled : List ℕ
   pub begins : read ≡ spelled ++ buffer
-  pub got : SpellsGot (first_standing config) (joined (startup ∷ segments_of ts)) spelled
-  pub put : EncodesSent (joined (startup ∷ segments_of ts)) wrote
-  pub knows : c ≡ knowing config (standing_of config (joined (startup ∷ segments_of ts)))
+  pub got : SpellsGot (first_standing config) (all_events (startup ∷ segments_of ts)) spelled
+  pub put : EncodesSent (all_events (startup ∷ segments_of ts)) wrote
+  pub knows : c ≡ knowing config (standing_of config (all_events (startup ∷ segments_of ts)))

@@ -9,14 +9,14 @@ use Rattle.pgw_session.specs.Input.{Input}
 use Rattle.pgw_session.specs.Events.{Event}
 use Rattle.pgw_session.specs.Standings.{first_standing, standing_of}
 use Rattle.pgw_session.specs.Segments.{IsStartupSegment, startup_message}
-use Rattle.pgw_session.specs.Failures.{HasNoPlace, FailsAtStartup, Unreadable, Unsendable, LeftWith, WaitsStill, IsHopeless, IsUnfinished, Told}
+use Rattle.pgw_session.specs.Failures.{HasNoPlace, FailsAtStartup, Unreadable, Unsendable, LeftWith, WaitsStill, IsHopeless, IsUnfinished, BytesTell}
 use Rattle.pgw_handlers.specs.declared.client_info.ServerInformation.{ServerInformation}
 use Rattle.pgw_handlers.specs.Client.{Client}
 use Rattle.pgw_session.specs.Transcript.{SpellsGot, EncodesSent}
 use Rattle.pgw_connection.specs.Line.{Line, Reasons}
-use Rattle.pgw_connection.specs.Talk.{End}
+use Rattle.pgw_connection.specs.Talk.{CallEnd}
 use Rattle.pgw_connection.specs.Desk.{first_client, with_information}
-use Rattle.pgw_calls.specs.Turns.{Exchanged, knowing}
+use Rattle.pgw_calls.specs.Turns.{AreExchanged, knowing}
 use Rattle.pgw_calls.specs.Stands.{login}
 
 -- The events are the startup segment. A client that is given the information knows what they tell, and the parameters of
@@ -24,7 +24,7 @@ use Rattle.pgw_calls.specs.Stands.{login}
 pub record LoggedIn (config : Config) (nonce bytes sent : List ℕ) (information : ServerInformation) (info : Client) (rest : List ℕ) : Type 0 where
   pub es : List Event
   pub segment : IsStartupSegment (login config nonce) es
-  pub exchanged : Exchanged config (first_standing config) bytes sent es (with_information information info) rest
+  pub exchanged : AreExchanged config (first_standing config) bytes sent es (with_information information info) rest
   pub parameters : information.parameters ≡ info.parameters
 
 -- The startup message has no encoding, and nothing was done.
@@ -32,26 +32,26 @@ abbrev pub IsUnopened : Config → List ℕ → List ℕ → List ℕ → PgWire
 IsUnopened config nonce bytes sent why info rest = (encodings (startup_message (login config nonce) ∷ []) ≡ Err why) × (sent ≡ []) × (info ≡ first_client config) × (rest ≡ bytes)
 
 -- a message is next at startup for which this error stands
-abbrev pub IsRefused : Input → List ℕ → List ℕ → ClientError → Type 0
-IsRefused input bytes sent e = FailsAtStartup input bytes sent e × IsHopeless input bytes
+abbrev pub IsRefusedStartup : Input → List ℕ → List ℕ → ClientError → Type 0
+IsRefusedStartup input bytes sent e = FailsAtStartup input bytes sent e × IsHopeless input bytes
 
 -- of what the login tells over these bytes, some was not written and flushed, which P says why, and what would follow it
-abbrev pub IsUnsent : Reasons → Input → List ℕ → List ℕ → Type 0
-IsUnsent P input bytes sent = (lost : List ℕ) × P.unsent lost × (more : List ℕ) × Told input bytes (sent ++ (lost ++ more))
+abbrev pub IsUnsentStartup : Reasons → Input → List ℕ → List ℕ → Type 0
+IsUnsentStartup P input bytes sent = (lost : List ℕ) × P.unsent lost × (more : List ℕ) × BytesTell input bytes (sent ++ (lost ++ more))
 
 -- The cause of each error, where these bytes came and these were written. P says why no more came, and why some were not
 -- written. No other error comes.
 abbrev pub LoginFails : Reasons → Input → List ℕ → List ℕ → ClientError → Type 0
 LoginFails P input bytes sent client.OutOfMemory = Unit {0}
-LoginFails P input bytes sent (client.PgWireError why) = ((Unreadable input bytes sent why ⊎ Unsendable input bytes sent why) × IsHopeless input bytes) ⊎ IsRefused input bytes sent (client.PgWireError why)
+LoginFails P input bytes sent (client.PgWireError why) = ((Unreadable input bytes sent why ⊎ Unsendable input bytes sent why) × IsHopeless input bytes) ⊎ IsRefusedStartup input bytes sent (client.PgWireError why)
 LoginFails P input bytes sent (client.UnexpectedMessage m) = HasNoPlace input ⊥ bytes sent m × IsHopeless input bytes
 LoginFails P input bytes sent client.UnexpectedEOF = P.halts client.UnexpectedEOF × LeftWith input bytes sent None × IsUnfinished input bytes
 LoginFails P input bytes sent client.ReadLimit = P.halts client.ReadLimit × WaitsStill input bytes sent
-LoginFails P input bytes sent client.IoError = (P.halts client.IoError × WaitsStill input bytes sent) ⊎ IsUnsent P input bytes sent
-LoginFails P input bytes sent (client.RemoteError e) = IsRefused input bytes sent (client.RemoteError e)
-LoginFails P input bytes sent (client.ScramError fault) = IsRefused input bytes sent (client.ScramError fault)
-LoginFails P input bytes sent (client.UnsupportedSASLAuthMethods methods) = IsRefused input bytes sent (client.UnsupportedSASLAuthMethods methods)
-LoginFails P input bytes sent (client.InvalidConfig key) = IsRefused input bytes sent (client.InvalidConfig key)
+LoginFails P input bytes sent client.IoError = (P.halts client.IoError × WaitsStill input bytes sent) ⊎ IsUnsentStartup P input bytes sent
+LoginFails P input bytes sent (client.RemoteError e) = IsRefusedStartup input bytes sent (client.RemoteError e)
+LoginFails P input bytes sent (client.ScramError fault) = IsRefusedStartup input bytes sent (client.ScramError fault)
+LoginFails P input bytes sent (client.UnsupportedSASLAuthMethods methods) = IsRefusedStartup input bytes sent (client.UnsupportedSASLAuthMethods methods)
+LoginFails P input bytes sent (client.InvalidConfig key) = IsRefusedStartup input bytes sent (client.InvalidConfig key)
 LoginFails P input bytes sent e = ⊥
 
 abbrev pub LoginEnds : Reasons → Config → List ℕ → List ℕ → List ℕ → Client → List ℕ → Result ServerInformation ClientError → Bool → Type 0
@@ -62,7 +62,7 @@ LoginEnds P config nonce bytes sent info rest (Err (client.PgWireError why)) fal
 LoginEnds P config nonce bytes sent info rest (Err e) false = ⊥
 
 -- a login came to this end
-abbrev pub LoginCall : Config → List ℕ → List ℕ → List ℕ → Reasons → End ServerInformation → Type 0
+abbrev pub LoginCall : Config → List ℕ → List ℕ → List ℕ → Reasons → CallEnd ServerInformation → Type 0
 LoginCall config nonce bytes sent P end = LoginEnds P config nonce bytes sent end.info end.rest end.answer end.broken
 
 -- ---- where a link still has a whole startup segment

@@ -30,7 +30,7 @@ standing_of_client c = record { version = c.protocol_version; settled = true; pa
 
 -- Behind a standing, the bytes begin with spellings of the messages got, and those sent are encoded as the bytes written.
 -- The client knows what all of it tells, and these bytes are left.
-pub record Exchanged (config : Config) (s : Standing) (bytes sent : List ℕ) (es : List Event) (info : Client) (rest : List ℕ) : Type 0 where
+pub record AreExchanged (config : Config) (s : Standing) (bytes sent : List ℕ) (es : List Event) (info : Client) (rest : List ℕ) : Type 0 where
   pub spelled : List ℕ
   pub begins : bytes ≡ spelled ++ rest
   pub got : SpellsGot s es spelled
@@ -39,7 +39,7 @@ pub record Exchanged (config : Config) (s : Standing) (bytes sent : List ℕ) (e
 
 -- events with this property were exchanged by a client that knew c
 abbrev pub Does : (List Event → Type 0) → Client → List ℕ → List ℕ → Client → List ℕ → Type 0
-Does property c bytes sent info rest = (es : List Event) × property es × Exchanged c.config (standing_of_client c) bytes sent es info rest
+Does property c bytes sent info rest = (es : List Event) × property es × AreExchanged c.config (standing_of_client c) bytes sent es info rest
 
 -- ---- how a call's events go
 
@@ -76,7 +76,7 @@ IsCutOff k rows e es =
     ((es ≡ []) × (e ≡ client.UnexpectedEOF))
     ⊎ ((m : Backend) × (more : List Event) × (es ≡ Got m ∷ more) × IsPassing k (role k rows m) more × (e ≡ error_behind (role k rows m) m more))
 
-pub record IsFront (k : Kind) (rows : Bool) (e : ClientError) (es : List Event) : Type 0 where
+pub record IsCutCall (k : Kind) (rows : Bool) (e : ClientError) (es : List Event) : Type 0 where
   pub ms : List Backend
   pub behind : Bool
   pub rest : List Event
@@ -100,5 +100,5 @@ Opened q property es = (answer : List Event) × (es ≡ map Sent (sends_of q) ++
 abbrev pub IsPassedSegment : Request → Backend → List Event → Type 0
 IsPassedSegment q m es = Opened q (IsMisplaced (kind_of q) false m) es
 
-abbrev pub IsFrontOf : Request → ClientError → List Event → Type 0
-IsFrontOf q e es = Opened q (IsFront (kind_of q) false e) es
+abbrev pub IsCallFront : Request → ClientError → List Event → Type 0
+IsCallFront q e es = Opened q (IsCutCall (kind_of q) false e) es

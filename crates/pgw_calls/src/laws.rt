@@ -11,10 +11,10 @@ ghost use Rattle.pgw_handlers.specs.Client.{Client};
 ghost use Rattle.pgw_handlers.specs.Simple.{HeardInQuery, simple_query};
 ghost use Rattle.pgw_default_handlers.specs.declared.simple.DefaultSimpleQueryHandler.{DefaultSimpleQueryHandler as TheHandler};
 ghost use Rattle.pgw_default_handlers.specs.Simple.{QueryMeans};
-ghost use Rattle.pgw_connection.specs.Talk.{End, end, Asked, passes};
+ghost use Rattle.pgw_connection.specs.Talk.{CallEnd, end, OpensTalk, passes};
 ghost use Rattle.pgw_connection.specs.Desk.{first_client, with_information};
 ghost use Rattle.pgw_types.specs.Counts.{Rose};
-ghost use Rattle.pgw_connection.specs.Line.{Line, Drew, Moved, Pause, IsFlushed, Foretold};
+ghost use Rattle.pgw_connection.specs.Line.{Line, Drew, MovesLine, Pause, IsFlushed, Foretold};
 ghost use Rattle.pgw_config.specs.declared.config.Config.{Config as TheConfig};
 ghost use Rattle.pgw_session.specs.declared.types.Answer.TheVariants as answer;
 ghost use Rattle.pgw_session.specs.declared.types.Request.TheVariants as request;
@@ -26,31 +26,31 @@ ghost use Rattle.pgw_calls.specs.Startup.{LoginCall, StillLogsIn, IsLetIn};
 ghost use Rattle.pgw_query.specs.declared.data.DataRow.{DataRow as TheRow};
 ghost use Rattle.pgw_default_handlers.specs.declared.extended.DefaultExtendedQueryHandler.{DefaultExtendedQueryHandler as TheExtended};
 ghost use Rattle.pgw_default_handlers.specs.Extended.{ExtendedMeans};
-ghost use Rattle.pgw_connection.specs.Calls.{Call};
-ghost use Rattle.pgw_connection.specs.Reading.{Grew, Ended};
+ghost use Rattle.pgw_connection.specs.Calls.{LineCall};
+ghost use Rattle.pgw_connection.specs.Reading.{LineGrows, MeetsLinkEnd};
 ghost use Rattle.pgw_connection.specs.Extended.{Finish, Requested};
-ghost use Rattle.pgw_connection.specs.ExtendedSteps.{Called};
-ghost use Rattle.pgw_calls.specs.Calls.{SimpleCall, Reports, StillHas, IsReported};
+ghost use Rattle.pgw_connection.specs.ExtendedSteps.{MakesCall};
+ghost use Rattle.pgw_calls.specs.Calls.{SimpleCallEnds, CallReports, StillHas, IsReported};
 ghost use Rattle.pgw_calls.specs.Turns.{standing_of_client};
 ghost use Rattle.pgw_session.specs.Answers.{answer_of};
 ghost use Rattle.pgw_session.specs.Transcript.{SpellsGot};
-ghost use Rattle.pgw_calls.specs.Extended.{ExtendedCall, IsExtended, given};
-ghost use Rattle.pgw_calls.specs.Stands.{Made, Stands, StandsBehind, AreAnswered, IsSession};
+ghost use Rattle.pgw_calls.specs.Extended.{EndsExtendedCall, IsExtended, call_answer};
+ghost use Rattle.pgw_calls.specs.Stands.{Made, StandsForCalls, StandsBehind, AreAnswered, IsSession};
 
 /// A simple query is one segment, and its answer is that of its own segment.
 pub fn simple_queries_are_segments()
     ensures { (q : List ℕ) (before now : Line) (h : TheHandler) (c : Client) (bytes sent : List ℕ)
-        (end : End (List TheResponse)) →
-        Asked (λ old new answer. QueryMeans old (simple_query q) new answer)
+        (end : CallEnd (List TheResponse)) →
+        OpensTalk (λ old new answer. QueryMeans old (simple_query q) new answer)
         (HeardInQuery QueryMeans) (Pause before now) passes h c bytes sent end →
-        SimpleCall q c bytes sent (Pause before now) end }
+        SimpleCallEnds q c bytes sent (Pause before now) end }
 {}
 
 /// A login is the startup segment, and each of its errors has the cause that it has in a session.
 pub fn logins_are_startup_segments()
     ensures { (before now : Line) (config : TheConfig) (h : TheLogin) (bytes sent : List ℕ)
-        (end : End TheInformation) →
-        Asked (λ old new answer. StartupMeans old startup new answer)
+        (end : CallEnd TheInformation) →
+        OpensTalk (λ old new answer. StartupMeans old startup new answer)
         (HeardAtStartup exchanges StartupMeans) (Pause before now) (λ e. false) h
         (first_client config) bytes sent end →
         LoginCall config h.nonce bytes sent (Pause before now) end }
@@ -60,12 +60,12 @@ pub fn logins_are_startup_segments()
 /// gives that segment's answer.
 pub fn whole_segments_are_reported()
     ensures { (q : List ℕ) (before now : Line) (h : TheHandler) (c : Client) (bytes sent : List ℕ)
-        (end : End (List TheResponse)) (es : List Event) (spelled more : List ℕ) →
-        Asked (λ old new answer. QueryMeans old (simple_query q) new answer)
+        (end : CallEnd (List TheResponse)) (es : List Event) (spelled more : List ℕ) →
+        OpensTalk (λ old new answer. QueryMeans old (simple_query q) new answer)
         (HeardInQuery QueryMeans) (Pause before now) passes h c bytes sent end →
         IsRequestSegment (request.Simple q) es → SpellsGot (standing_of_client c) es spelled → bytes
         ≡ spelled ++ more →
-        Reports answer.Responses (Pause before now) (request.Simple q)
+        CallReports answer.Responses (Pause before now) (request.Simple q)
         (answer_of (request.Simple q) es) c bytes sent end.info end.rest end.answer }
 {}
 
@@ -74,7 +74,7 @@ pub fn extended_queries_are_segments()
     ensures { (q : TheRequest) (before now : Line) (h : TheExtended) (c : Client)
         (bytes sent : List ℕ) (end : Finish TheExtended TheRow) → IsExtended q →
         Requested ExtendedMeans (Pause before now) q h c bytes sent end →
-        ExtendedCall q c bytes sent (Pause before now) end }
+        EndsExtendedCall q c bytes sent (Pause before now) end }
 {}
 
 /// Where those bytes begin with spellings of a segment of such a request, the call gives that segment's answer.
@@ -84,7 +84,7 @@ pub fn whole_extended_segments_are_reported()
         (spelled more : List ℕ) → IsExtended q →
         Requested ExtendedMeans (Pause before now) q h c bytes sent end → IsRequestSegment q es →
         SpellsGot (standing_of_client c) es spelled → bytes ≡ spelled ++ more →
-        Reports (given q) (Pause before now) q (answer_of q es) c bytes sent end.info end.rest
+        CallReports (call_answer q) (Pause before now) q (answer_of q es) c bytes sent end.info end.rest
         end.answer }
 {}
 
@@ -92,9 +92,9 @@ pub fn whole_extended_segments_are_reported()
 /// and no call of the link fails, the call gives that segment's answer, or memory was wanting.
 pub fn waiting_segments_are_reported()
     ensures { (q : List ℕ) (h : TheHandler) (c : Client) (old now : Line)
-        (last : End (List TheResponse)) (coming : List ℕ) (is : Option (List ℕ))
+        (last : CallEnd (List TheResponse)) (coming : List ℕ) (is : Option (List ℕ))
         (es : List Event) →
-        Call (λ before after answer. QueryMeans before (simple_query q) after answer)
+        LineCall (λ before after answer. QueryMeans before (simple_query q) after answer)
         (HeardInQuery QueryMeans) passes h c old now last →
         Foretold (Some coming) is old.tape now.tape →
         StillHas (request.Simple q) c old coming es → (Rose old.faults now.faults → ⊥) →
@@ -105,19 +105,19 @@ pub fn waiting_segments_are_reported()
 pub fn waiting_extended_segments_are_reported()
     ensures { (q : TheRequest) (h : TheExtended) (c : Client) (old now : Line)
         (last : Finish TheExtended TheRow) (coming : List ℕ) (is : Option (List ℕ))
-        (es : List Event) → IsExtended q → Called ExtendedMeans q h c old now last →
+        (es : List Event) → IsExtended q → MakesCall ExtendedMeans q h c old now last →
         Foretold (Some coming) is old.tape now.tape → StillHas q c old coming es →
         (Rose old.faults now.faults → ⊥) →
-        IsReported (given q) (answer_of q es) last.answer last.broken }
+        IsReported (call_answer q) (answer_of q es) last.answer last.broken }
 {}
 
 /// Of a link that knows what is to come: where the buffer and that begin with a whole startup segment, within the limit,
 /// whose messages to the server have encodings, and no call of the link fails, the login gives a client that knows what
 /// that segment tells, or memory was wanting.
 pub fn waiting_logins_are_reported()
-    ensures { (config : TheConfig) (h : TheLogin) (old now : Line) (last : End TheInformation)
+    ensures { (config : TheConfig) (h : TheLogin) (old now : Line) (last : CallEnd TheInformation)
         (coming : List ℕ) (is : Option (List ℕ)) (es : List Event) →
-        Call (λ before after answer. StartupMeans before startup after answer)
+        LineCall (λ before after answer. StartupMeans before startup after answer)
         (HeardAtStartup exchanges StartupMeans) (λ e. false) h (first_client config) old now last →
         Foretold (Some coming) is old.tape now.tape →
         StillLogsIn config h.nonce old coming es → (Rose old.faults now.faults → ⊥) →
@@ -136,21 +136,21 @@ pub fn misplaced_messages_begin_no_segment()
 pub fn logins_begin_a_client()
     ensures { (config : TheConfig) (h : TheLogin) (old now : Line) (told : Client)
         (information : TheInformation) → old.buffer ≡ [] →
-        Call (λ before after answer. StartupMeans before startup after answer)
+        LineCall (λ before after answer. StartupMeans before startup after answer)
         (HeardAtStartup exchanges StartupMeans) (λ e. false) h (first_client config) old now
         (end (Ok information) told false now.buffer) →
-        (read wrote : List ℕ) × Moved old now read wrote × IsFlushed now ×
-        Stands config h.nonce [] read wrote (with_information information told) now.buffer }
+        (read wrote : List ℕ) × MovesLine old now read wrote × IsFlushed now ×
+        StandsForCalls config h.nonce [] read wrote (with_information information told) now.buffer }
 {}
 
 /// A simple query takes a client that stands for some requests to one that stands for one request more.
 pub fn simple_queries_follow_one_another()
     ensures { (config : TheConfig) (nonce : List ℕ) (ts : List Made) (read wrote : List ℕ)
         (q : List ℕ) (h : TheHandler) (c : Client) (old now : Line)
-        (last : End (List TheResponse)) → Stands config nonce ts read wrote c old.buffer →
-        Call (λ before after answer. QueryMeans before (simple_query q) after answer)
+        (last : CallEnd (List TheResponse)) → StandsForCalls config nonce ts read wrote c old.buffer →
+        LineCall (λ before after answer. QueryMeans before (simple_query q) after answer)
         (HeardInQuery QueryMeans) passes h c old now last →
-        (more sent : List ℕ) × Moved old now more sent × (last.broken ≡ false → IsFlushed now) ×
+        (more sent : List ℕ) × MovesLine old now more sent × (last.broken ≡ false → IsFlushed now) ×
         StandsBehind answer.Responses config nonce ts (request.Simple q)
         (read ++ more) (wrote ++ sent) last.info last.rest last.answer last.broken }
 {}
@@ -160,30 +160,30 @@ pub fn extended_queries_follow_one_another()
     ensures { (config : TheConfig) (nonce : List ℕ) (ts : List Made) (read wrote : List ℕ)
         (q : TheRequest) (h : TheExtended) (c : Client) (old now : Line)
         (last : Finish TheExtended TheRow) → IsExtended q →
-        Stands config nonce ts read wrote c old.buffer → Called ExtendedMeans q h c old now last →
-        (more sent : List ℕ) × Moved old now more sent × (last.broken ≡ false → IsFlushed now) ×
-        StandsBehind (given q) config nonce ts q
+        StandsForCalls config nonce ts read wrote c old.buffer → MakesCall ExtendedMeans q h c old now last →
+        (more sent : List ℕ) × MovesLine old now more sent × (last.broken ≡ false → IsFlushed now) ×
+        StandsBehind (call_answer q) config nonce ts q
         (read ++ more) (wrote ++ sent) last.info last.rest last.answer last.broken }
 {}
 
 /// A client whose buffer is filled stands for the same requests.
 pub fn filled_clients_stand()
     ensures { (config : TheConfig) (nonce : List ℕ) (ts : List Made) (read wrote : List ℕ)
-        (c : Client) (old now : Line) → Stands config nonce ts read wrote c old.buffer →
-        Grew old now → (more : List ℕ) × Drew old now more ×
-        Stands config nonce ts (read ++ more) wrote c now.buffer }
+        (c : Client) (old now : Line) → StandsForCalls config nonce ts read wrote c old.buffer →
+        LineGrows old now → (more : List ℕ) × Drew old now more ×
+        StandsForCalls config nonce ts (read ++ more) wrote c now.buffer }
 {}
 
 /// So does one that is told that nothing is left to read.
 pub fn ended_clients_stand()
     ensures { (config : TheConfig) (nonce : List ℕ) (ts : List Made) (read wrote : List ℕ)
-        (c : Client) (old now : Line) → Stands config nonce ts read wrote c old.buffer →
-        Ended old now → Drew old now [] × Stands config nonce ts read wrote c now.buffer }
+        (c : Client) (old now : Line) → StandsForCalls config nonce ts read wrote c old.buffer →
+        MeetsLinkEnd old now → Drew old now [] × StandsForCalls config nonce ts read wrote c now.buffer }
 {}
 
 /// A client that stands for requests, each answered by its own segment, is a session of them.
 pub fn clients_are_sessions()
     ensures { (config : TheConfig) (nonce : List ℕ) (ts : List Made) (read wrote : List ℕ)
-        (c : Client) (buffer : List ℕ) → Stands config nonce ts read wrote c buffer →
+        (c : Client) (buffer : List ℕ) → StandsForCalls config nonce ts read wrote c buffer →
         AreAnswered ts → IsSession config nonce ts read wrote c buffer }
 {}

@@ -9,20 +9,20 @@ use Rattle.pgw_places.specs.declared.places.Place.{Place}
 use Rattle.pgw_places.specs.declared.places.NoSession.{NoSession}
 use Rattle.pgw_places.specs.declared.targets.Fit.TheVariants as fit
 use Rattle.pgw_places.specs.Targets.{wanted_of, fit_of}
-use Rattle.pgw_places.specs.Fitting.{Asks}
+use Rattle.pgw_places.specs.Fitting.{AsksPlace}
 use Rattle.pgw_places.specs.Telling.{Telling}
-use Rattle.pgw_places.specs.Places.{IsClosed, LetsIn, Looks, TriesAll, no_more, next, stopped, let_in}
+use Rattle.pgw_places.specs.Places.{IsClosed, PlaceLetsIn, Looks, TriesAll, no_more, next, stopped, let_in}
 use Rattle.pgw_places.specs.declared.notes.LoginNotes.{LoginNotes}
 use Rattle.pgw_config.specs.declared.config.Config.{Config}
 use Rattle.pgw_config.specs.Address.{address_of}
 use Rattle.pgw_check_command.specs.declared.report.CheckReport.{CheckReport}
 use Rattle.pgw_check_command.specs.Report.{report_text}
-use Rattle.pgw_check_command.specs.Check.{Tells, Visited, named_user, named_database}
+use Rattle.pgw_check_command.specs.Check.{TellsCheckReport, Visited, named_user, named_database}
 
 module _ {Y X : Type 0} (t : Telling Y X) where
   -- a server will do only behind an answer
   answered : (read_only : Bool) (before after : ClientState X) (answer : Result (List Response) ClientError)
-      → before.broken ≡ false → Asks t.knows t.left t.tape t.faults before after answer
+      → before.broken ≡ false → AsksPlace t.knows t.left t.tape t.faults before after answer
       → fit.Fits ≡ fit_of read_only answer → after.broken ≡ false
   answered read_only before after (Ok responses) fine asks is = asks.usable fine
   answered read_only before after (Err client.OutOfMemory) fine asks is = absurd (cc is)
@@ -33,7 +33,7 @@ module _ {Y X : Type 0} (t : Telling Y X) where
   looked None before after fine l = ap (λ (c : ClientState X). c.broken) l.0 ∙ fine
   looked (Some read_only) before after fine l = answered read_only before after l.0 fine l.1 l.2
 
-  one_usable : (place : Place) (old new : Y) (c : ClientState X) → LetsIn t place old new c → c.broken ≡ false
+  one_usable : (place : Place) (old new : Y) (c : ClientState X) → PlaceLetsIn t place old new c → c.broken ≡ false
   one_usable place old new c l =
       looked (wanted_of place.config.target_session_attrs) l.first c l.login.usable l.keeps.1
 
@@ -66,7 +66,7 @@ pub tells : {X : Type 0} (notes : LoginNotes) (c : ClientState X) (config : Conf
     → address_of config ≡ Ok (r.server).now → r.login ≡ notes.kind → r.proved ≡ notes.proved
     → r.version ≡ (c.known).protocol_version → (r.user).now ≡ named_user config
     → (r.database).now ≡ named_database config → r.process_id ≡ (c.known).process_id
-    → (r.parameters).now ≡ (c.known).parameters → Tells notes c text
+    → (r.parameters).now ≡ (c.known).parameters → TellsCheckReport notes c text
 tells notes c config r start text is none same leads login proved version user database process parameters = record {
   report = r;
   server = subst (λ (k : Config). address_of k ≡ Ok (r.server).now) same leads;

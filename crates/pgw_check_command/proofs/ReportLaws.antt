@@ -11,26 +11,26 @@ use Rattle.std.specs.FinMap as finite
 use Rattle.std.specs.Prelude.{chars, nat_lt}
 use Rattle.pgw_output.specs.Shown.{visible, without_controls}
 use Rattle.pgw_check_command.specs.declared.report.CheckReport.{CheckReport}
-use Rattle.pgw_check_command.specs.Report.{ended, lines_text, login_lines, parameter_line, report_lines, report_text}
+use Rattle.pgw_check_command.specs.Report.{clean_line, lines_text, login_lines, report_parameter, check_lines, report_text}
 use Rattle.pgw_check_command.specs.Report.{session_lines, time_lines}
 
 -- four pieces
 pub joined : (r : CheckReport) (old one two three new : List ℕ) → one ≡ old ++ lines_text (login_lines r)
     → two ≡ one ++ lines_text (session_lines r)
-    → three ≡ two ++ lines_text (map parameter_line (finite.entries r.parameters.now))
+    → three ≡ two ++ lines_text (map report_parameter (finite.entries r.parameters.now))
     → new ≡ three ++ lines_text (time_lines r) → new ≡ old ++ report_text r
-unfolding report_lines
+unfolding check_lines
 joined r old one two three new p q s u =
     let a = login_lines r in
     let b = session_lines r in
-    let c = map parameter_line (finite.entries r.parameters.now) in
+    let c = map report_parameter (finite.entries r.parameters.now) in
     let d = time_lines r in
     u ∙ joined_by (lines_text d) two three (lines_text c) s
     ∙ joined_by (lines_text c ++ lines_text d) one two (lines_text b) q
     ∙ joined_by (lines_text b ++ (lines_text c ++ lines_text d)) old one (lines_text a) p
     ∙ ap (λ (t : List ℕ). old ++ t) (ap (λ (t : List ℕ). lines_text a ++ (lines_text b ++ t)) (sym
-    (flat_map-append ended c d)) ∙ ap (λ (t : List ℕ). lines_text a ++ t) (sym
-    (flat_map-append ended b (c ++ d))) ∙ sym (flat_map-append ended a (b ++ (c ++ d)))) where
+    (flat_map-append clean_line c d)) ∙ ap (λ (t : List ℕ). lines_text a ++ t) (sym
+    (flat_map-append clean_line b (c ++ d))) ∙ sym (flat_map-append clean_line a (b ++ (c ++ d)))) where
       joined_by : (rest old new part : List ℕ) → new ≡ old ++ part → new ++ rest ≡ old ++ (part ++ rest)
       joined_by rest old new part is = ap (λ (t : List ℕ). t ++ rest) is ∙ append_assoc old part rest
 
@@ -117,7 +117,7 @@ shown_plain (c ∷ cs) =
     (visible_plain c) (shown_plain cs)
 
 -- a line has one, which ends it
-one_end : (line : List ℕ) → ends (ended line) ≡ 1
+one_end : (line : List ℕ) → ends (clean_line line) ≡ 1
 one_end line =
     ends_append (without_controls line) (10 ∷ []) ∙ rw (shown_plain (chars line)) refl
 
@@ -127,8 +127,8 @@ one_more m n k p q = omega (arith, p, q)
 lines_end : (lines : List (List ℕ)) → ends (lines_text lines) ≡ length lines
 lines_end [] = refl
 lines_end (line ∷ lines) =
-    ends_append (ended line) (lines_text lines) ∙ one_more (ends (ended line)) (ends (lines_text lines))
+    ends_append (clean_line line) (lines_text lines) ∙ one_more (ends (clean_line line)) (ends (lines_text lines))
     (length lines) (one_end line) (lines_end lines)
 
-pub lines_kept : (r : CheckReport) → ends (report_text r) ≡ length (report_lines r)
-lines_kept r = lines_end (report_lines r)
+pub lines_kept : (r : CheckReport) → ends (report_text r) ≡ length (check_lines r)
+lines_kept r = lines_end (check_lines r)

@@ -16,9 +16,9 @@ use Rattle.pgw_check_command.specs.declared.report.CheckReport.{CheckReport}
 use Rattle.pgw_check_command.specs.Report.{report_text}
 
 -- the status where no client was let in
-abbrev pub status_without : NoSession → ℕ
-status_without why.Refused = 1
-status_without why.Memory = 4
+abbrev pub unchecked_status : NoSession → ℕ
+unchecked_status why.Refused = 1
+unchecked_status why.Memory = 4
 
 -- the user and the database that a configuration asks for: the server takes the user's name for
 -- that of the database where none is sent
@@ -29,7 +29,7 @@ abbrev pub named_database : Config → List ℕ
 named_database config = unwrap_or config.dbname (named_user config)
 
 -- A text is that of a report of what a client knows and of what was noted of its login.
-pub record Tells {X : Type 0} (notes : LoginNotes) (c : ClientState X) (text : List ℕ) : Type 0 where
+pub record TellsCheckReport {X : Type 0} (notes : LoginNotes) (c : ClientState X) (text : List ℕ) : Type 0 where
   pub report : CheckReport
   pub server : address_of (c.known).config ≡ Ok (report.server).now
   pub login : report.login ≡ notes.kind
@@ -52,20 +52,20 @@ pub record Visited {Y X : Type 0} (t : Telling Y X) (places : List Place) (old n
       (t.failed mid) (t.failed new) result
 
 -- A text was printed whole; or a front of it, where a write failed.
-pub data Prints (text wrote printed : List ℕ) (before now : ℕ) : ℕ → Type 0 where
-  whole : printed ≡ wrote ++ text → now ≡ before → Prints text wrote printed before now 0
+pub data PrintsText (text wrote printed : List ℕ) (before now : ℕ) : ℕ → Type 0 where
+  whole : printed ≡ wrote ++ text → now ≡ before → PrintsText text wrote printed before now 0
   front : (count : ℕ) → printed ≡ wrote ++ take count text → Rose before now
-      → Prints text wrote printed before now 3
+      → PrintsText text wrote printed before now 3
 
 -- A client was let in at the first place that lets one in, and its report was printed; or memory
 -- was wanting for it; or none was let in; and else nothing was printed.
-pub data Checked {Y X : Type 0} (t : Telling Y X) (places : List Place) (notes : LoginNotes)
+pub data IsCheckRun {Y X : Type 0} (t : Telling Y X) (places : List Place) (notes : LoginNotes)
     (old new : Y) (wrote printed : List ℕ) (before now : ℕ) : ℕ → Type 0 where
   told : (c : ClientState X) (text : List ℕ) (status : ℕ) → Visited t places old new c
-      → Tells notes c text → Prints text wrote printed before now status
-      → Checked t places notes old new wrote printed before now status
+      → TellsCheckReport notes c text → PrintsText text wrote printed before now status
+      → IsCheckRun t places notes old new wrote printed before now status
   starved : (c : ClientState X) → Visited t places old new c → printed ≡ wrote → now ≡ before
-      → Checked t places notes old new wrote printed before now 4
+      → IsCheckRun t places notes old new wrote printed before now 4
   refused : (why : NoSession) → TriesAll {X = X} t places old new (Err why) → printed ≡ wrote
       → now ≡ before
-      → Checked t places notes old new wrote printed before now (status_without why)
+      → IsCheckRun t places notes old new wrote printed before now (unchecked_status why)

@@ -61,50 +61,50 @@ server_version parameters = unwrap_or (finite.get parameters (codes "server_vers
 -- ---- lines
 
 -- a word and what it stands for
-abbrev pub pair : List ℕ → List ℕ → List ℕ
-pair word value = word ++ codes " " ++ value
+abbrev pub report_pair : List ℕ → List ℕ → List ℕ
+report_pair word value = word ++ codes " " ++ value
 
 -- what the login came to
 abbrev pub login_lines : CheckReport → List (List ℕ)
 login_lines r =
-    pair (codes "server") (server_text r.server.now)
-    ∷ pair (codes "login") (login_text r.login)
-    ∷ pair (codes "server-proved") (truth_text r.proved)
-    ∷ pair (codes "protocol") (version_text r.version)
+    report_pair (codes "server") (server_text r.server.now)
+    ∷ report_pair (codes "login") (login_text r.login)
+    ∷ report_pair (codes "server-proved") (truth_text r.proved)
+    ∷ report_pair (codes "protocol") (version_text r.version)
     ∷ []
 
 -- and the session
 abbrev pub session_lines : CheckReport → List (List ℕ)
 session_lines r =
-    pair (codes "server-version") (server_version r.parameters.now)
-    ∷ pair (codes "user") r.user.now
-    ∷ pair (codes "database") r.database.now
-    ∷ pair (codes "process") (signed_decimal r.process_id)
+    report_pair (codes "server-version") (server_version r.parameters.now)
+    ∷ report_pair (codes "user") r.user.now
+    ∷ report_pair (codes "database") r.database.now
+    ∷ report_pair (codes "process") (signed_decimal r.process_id)
     ∷ []
 
 -- a name and a value that the server reported
-abbrev pub parameter_line : List ℕ × List ℕ → List ℕ
-parameter_line p = pair (codes "parameter") (pair p.0 p.1)
+abbrev pub report_parameter : List ℕ × List ℕ → List ℕ
+report_parameter p = report_pair (codes "parameter") (report_pair p.0 p.1)
 
 -- how many milliseconds the connection and the login took
 abbrev pub time_lines : CheckReport → List (List ℕ)
 time_lines r =
-    pair (codes "dial-ms") (decimal r.dial_took)
-    ∷ pair (codes "login-ms") (decimal r.login_took)
+    report_pair (codes "dial-ms") (decimal r.dial_took)
+    ∷ report_pair (codes "login-ms") (decimal r.login_took)
     ∷ []
 
 -- the parameters by name
-unfoldable pub report_lines : CheckReport → List (List ℕ)
-report_lines r =
+unfoldable pub check_lines : CheckReport → List (List ℕ)
+check_lines r =
     login_lines r
-    ++ (session_lines r ++ (map parameter_line (finite.entries r.parameters.now) ++ time_lines r))
+    ++ (session_lines r ++ (map report_parameter (finite.entries r.parameters.now) ++ time_lines r))
 
 -- a line without control characters, and its end
-abbrev pub ended : List ℕ → List ℕ
-ended line = without_controls line ++ 10 ∷ []
+abbrev pub clean_line : List ℕ → List ℕ
+clean_line line = without_controls line ++ 10 ∷ []
 
 abbrev pub lines_text : List (List ℕ) → List ℕ
-lines_text lines = flat_map ended lines
+lines_text lines = flat_map clean_line lines
 
 abbrev pub report_text : CheckReport → List ℕ
-report_text r = lines_text (report_lines r)
+report_text r = lines_text (check_lines r)

@@ -2,7 +2,7 @@
 ghost use Rattle.std.specs.Prelude.{◌≡◌, IfOk};
 ghost use Rattle.pgw_places.specs.Places.{DialsInTurn, IsClosed};
 ghost use Rattle.pgw_places.specs.Telling.{telling};
-ghost use Rattle.pgw_check_command.specs.Check.{Checked, Prints, Tells, named_database, named_user, status_without as status_lacking};
+ghost use Rattle.pgw_check_command.specs.Check.{IsCheckRun, PrintsText, TellsCheckReport, named_database, named_user, unchecked_status as status_lacking};
 
 use crate::report::{CheckReport, put_report};
 use pgw_answers::written::write_whole;
@@ -70,7 +70,7 @@ fn told<L: Link>(
     notes: &LoginNotes,
     spans: Spans,
 ) -> Result<Vec<u8>, OutOfMemory>
-    ensures { IfOk result (λ text. Tells notes.now client.now text.items) }
+    ensures { IfOk result (λ text. TellsCheckReport notes.now client.now text.items) }
 {
     let config = client.config();
     let Ok(server) = config.address(alloc) else {
@@ -103,7 +103,7 @@ fn hang_up<D: Dialer>(client: PgWireClient<D::Link>, dialer: &mut D)
 
 // Prints a text, and says with which status to end.
 fn print<O: Sink>(text: &[u8], output: &mut O) -> u8
-    ensures { Prints text.now (O.tape output.old).wrote (O.tape output.new).wrote
+    ensures { PrintsText text.now (O.tape output.old).wrote (O.tape output.new).wrote
         (O.faults output.old) (O.faults output.new) result }
 {
     match write_whole(output, text) {
@@ -127,7 +127,7 @@ pub fn run_check<D: Dialer, O: Sink, E: Sink, T: Clock>(
     dialer: &mut D,
 ) -> u8
     ensures dials { DialsInTurn places.now (D.tape dialer.old) (D.tape dialer.new) }
-    ensures checked { Checked (telling D.foretells D.offers D.tape D.faults
+    ensures checked { IsCheckRun (telling D.foretells D.offers D.tape D.faults
         D.Link.foretells D.Link.left D.Link.tape D.Link.faults)
         places.now notes.new dialer.old dialer.new
         (O.tape output.old).wrote (O.tape output.new).wrote

@@ -2,7 +2,7 @@
 ghost use Rattle.std.specs.Prelude.{◌≡◌, ◌++◌, codes, decimal, map, OnOk};
 ghost use Rattle.std.specs.Fmt.{signed_decimal};
 ghost use Rattle.std.specs.FinMap as finite;
-ghost use Rattle.pgw_check_command.specs.Report.{ended, lines_text, login_lines, pair, parameter_line, report_text as text_of, server_text as server_shown, server_version, session_lines, time_lines};
+ghost use Rattle.pgw_check_command.specs.Report.{clean_line, lines_text, login_lines, report_pair, report_parameter, report_text as text_of, server_text as server_shown, server_version, session_lines, time_lines};
 
 use crate::words::{login_name, server_text, truth_word, version_word};
 use pgw_output::pieces::put;
@@ -40,7 +40,7 @@ pub struct CheckReport<'a> {
 
 // A line, without control characters but for its end.
 fn put_line(alloc: Global, out: &mut Vec<u8>, line: &str) -> Result<(), OutOfMemory>
-    ensures { OnOk result (out.new.items ≡ out.old.items ++ ended line.now) }
+    ensures { OnOk result (out.new.items ≡ out.old.items ++ clean_line line.now) }
 {
     let shown = plain(alloc, line)?;
     put(out, shown.as_bytes())?;
@@ -49,7 +49,7 @@ fn put_line(alloc: Global, out: &mut Vec<u8>, line: &str) -> Result<(), OutOfMem
 
 // A word and what it stands for.
 fn put_pair(alloc: Global, out: &mut Vec<u8>, word: &str, value: &str) -> Result<(), OutOfMemory>
-    ensures { OnOk result (out.new.items ≡ out.old.items ++ ended (pair word.now value.now)) }
+    ensures { OnOk result (out.new.items ≡ out.old.items ++ clean_line (report_pair word.now value.now)) }
 {
     let line = format!(in alloc; "{word} {value}")?;
     put_line(alloc, out, line.as_str())
@@ -57,7 +57,7 @@ fn put_pair(alloc: Global, out: &mut Vec<u8>, word: &str, value: &str) -> Result
 
 fn put_server(alloc: Global, out: &mut Vec<u8>, server: &Address) -> Result<(), OutOfMemory>
     ensures { OnOk result (out.new.items ≡ out.old.items
-        ++ ended (pair (codes "server") (server_shown server.now))) }
+        ++ clean_line (report_pair (codes "server") (server_shown server.now))) }
 {
     let server = server_text(alloc, server)?;
     put_pair(alloc, out, "server", server.as_str())
@@ -75,7 +75,7 @@ fn version_told(parameters: &Params) -> &str
 
 fn put_process(alloc: Global, out: &mut Vec<u8>, process_id: i32) -> Result<(), OutOfMemory>
     ensures { OnOk result (out.new.items ≡ out.old.items
-        ++ ended (pair (codes "process") (signed_decimal process_id))) }
+        ++ clean_line (report_pair (codes "process") (signed_decimal process_id))) }
 {
     let line = format!(in alloc; "process {process_id}")?;
     put_line(alloc, out, line.as_str())
@@ -83,7 +83,7 @@ fn put_process(alloc: Global, out: &mut Vec<u8>, process_id: i32) -> Result<(), 
 
 fn put_took(alloc: Global, out: &mut Vec<u8>, word: &str, took: u64) -> Result<(), OutOfMemory>
     ensures { OnOk result (out.new.items ≡ out.old.items
-        ++ ended (pair word.now (decimal took))) }
+        ++ clean_line (report_pair word.now (decimal took))) }
 {
     let line = format!(in alloc; "{word} {took}")?;
     put_line(alloc, out, line.as_str())
@@ -126,7 +126,7 @@ fn put_parameter(
     value: &Text,
 ) -> Result<(), OutOfMemory>
     ensures { OnOk result (out.new.items ≡ out.old.items
-        ++ ended (parameter_line (name.now, value.now))) }
+        ++ clean_line (report_parameter (name.now, value.now))) }
 {
     let line = format!(in alloc; "parameter {name} {value}")?;
     put_line(alloc, out, line.as_str())
@@ -134,7 +134,7 @@ fn put_parameter(
 
 fn put_parameters(alloc: Global, out: &mut Vec<u8>, parameters: &Params) -> Result<(), OutOfMemory>
     ensures { OnOk result (out.new.items ≡ out.old.items
-        ++ lines_text (map parameter_line (finite.entries parameters.now))) }
+        ++ lines_text (map report_parameter (finite.entries parameters.now))) }
 {
     for (name, value) in parameters.iter() {
         put_parameter(alloc, out, name, value)?;

@@ -6,8 +6,8 @@ use Rattle.std.specs.Prelude.{IsErrOf}
 use Rattle.pgw_backend.specs.declared.client_error.PgWireClientError.{PgWireClientError as ClientError}
 use Rattle.pgw_backend.specs.declared.client_error.PgWireClientError.TheVariants as client
 use Rattle.pgw_link.specs.Tape.{Tape}
-use Rattle.pgw_link.specs.Foresight.{Ends, Foreseen}
-use Rattle.pgw_course.specs.Course.{Over, Waiting, sent_of}
+use Rattle.pgw_link.specs.Foresight.{TapeEnds, Foreseen}
+use Rattle.pgw_course.specs.Course.{Over, CourseWaits, sent_of}
 use Rattle.pgw_session.specs.declared.types.SessionReport.{SessionReport}
 use Rattle.pgw_session.specs.Input.{Input}
 use Rattle.pgw_session.specs.Machine.{error_of}
@@ -20,7 +20,7 @@ use Rattle.pgw_dialogue.proofs.DialogueLaws.{taken_below}
 use Rattle.pgw_dialogue.proofs.TalkLaws.{over_on}
 use Rattle.pgw_dialogue.proofs.ToldLaws.{sent_is, waits_by, whole_by}
 use Rattle.pgw_client.specs.Session.{HasEnded}
-use Rattle.pgw_client.specs.SessionSteps.{Session, Reason, memory, unsent, stopped, failed, unread, at_limit, at_end}
+use Rattle.pgw_client.specs.SessionSteps.{LinkSession, Reason, memory, unsent, stopped, failed, unread, at_limit, at_end}
 use Rattle.pgw_client.proofs.SessionLaws.{known_rest, nothing_left}
 
 -- a front within the limit that ends the conversation
@@ -34,7 +34,7 @@ over_at input limit all taken rest sent e are within is =
 stopped_agrees : (input : Input) (limit : ℕ) (all sent : List ℕ) (ending : Ending) (e : ClientError) → conversation input (taken_of limit all) ≡ Over ending sent → error_of ending.outcome ≡ Some e → answer_to input limit all ≡ Err e
 stopped_agrees input limit all sent ending e is why = ap (answer_at (limit - length all)) is ∙ ap ending_answer why
 
-limit_agrees : (input : Input) (limit : ℕ) (all taken rest sent : List ℕ) → all ≡ taken ++ rest → length taken ≡ limit → Waiting (conversation input taken) sent → answer_to input limit all ≡ Err client.ReadLimit
+limit_agrees : (input : Input) (limit : ℕ) (all taken rest sent : List ℕ) → all ≡ taken ++ rest → length taken ≡ limit → CourseWaits (conversation input taken) sent → answer_to input limit all ≡ Err client.ReadLimit
 limit_agrees input limit all taken rest sent are at w =
     let front : taken_of limit all ≡ taken = ap (take limit) are ∙ take_at taken rest limit at in
     let none : limit - length all ≡ 0 = omega (arith, ap length are, length-append taken rest, at) in
@@ -54,14 +54,14 @@ reason_agrees input limit before d all put taken rest sent h not are within none
     inr ((w.0, w.1), w.2 ∙ sym means)
 
 -- the session took a front of the bytes given, and all of them where it met the link's end
-rest_of : (input : Input) (limit : ℕ) (old new : Tape) (result : Result SessionReport ClientError) (given : List ℕ) (left : Option (List ℕ)) → (s : Session input limit old new result)
-    → Foreseen (Some given) left old new → Ends left old new → (rest : List ℕ) × (given ≡ s.taken ++ rest) × (HasEnded limit s.taken old new → rest ≡ [])
+rest_of : (input : Input) (limit : ℕ) (old new : Tape) (result : Result SessionReport ClientError) (given : List ℕ) (left : Option (List ℕ)) → (s : LinkSession input limit old new result)
+    → Foreseen (Some given) left old new → TapeEnds left old new → (rest : List ℕ) × (given ≡ s.taken ++ rest) × (HasEnded limit s.taken old new → rest ≡ [])
 rest_of input limit old new result given left s f ends =
     let r = known_rest {old = old} {new = new} given s.taken f s.took in
-    (r.0, r.2, nothing_left limit s.taken (subst (λ o. Ends o old new) r.1 ends))
+    (r.0, r.2, nothing_left limit s.taken (subst (λ o. TapeEnds o old new) r.1 ends))
 
-pub agrees : (input : Input) (limit : ℕ) (old new : Tape) (result : Result SessionReport ClientError) (d : Dialogue) (given put : List ℕ) (left : Option (List ℕ)) → Session input limit old new result
-    → Foreseen (Some given) left old new → Ends left old new → (IsErrOf result client.IoError → ⊥) → (IsErrOf result client.OutOfMemory → ⊥)
+pub agrees : (input : Input) (limit : ℕ) (old new : Tape) (result : Result SessionReport ClientError) (d : Dialogue) (given put : List ℕ) (left : Option (List ℕ)) → LinkSession input limit old new result
+    → Foreseen (Some given) left old new → TapeEnds left old new → (IsErrOf result client.IoError → ⊥) → (IsErrOf result client.OutOfMemory → ⊥)
     → Stands input limit d given put → (IsStarved d → ⊥) → Agrees input limit d given result
 agrees input limit old new (Ok report) d given put left s f ends no_io no_lack h not =
     let r = rest_of input limit old new (Ok report) given left s f ends in
@@ -86,8 +86,8 @@ sent_agrees_by input limit before all taken rest sent are within none (at_end t 
     let same : all ≡ taken = are ∙ ap (λ (l : List ℕ). taken ++ l) (none end) ∙ append-nil taken in
     ap (λ (b : List ℕ). sent_of (conversation input b)) (taken_below limit all (omega (arith, ap length same, end.below)) ∙ same) ∙ ap sent_of is
 
-pub sent_agrees : (input : Input) (limit : ℕ) (old new : Tape) (result : Result SessionReport ClientError) (d : Dialogue) (given put : List ℕ) (left : Option (List ℕ)) → Session input limit old new result
-    → Foreseen (Some given) left old new → Ends left old new → (IsErrOf result client.IoError → ⊥) → (IsErrOf result client.OutOfMemory → ⊥)
+pub sent_agrees : (input : Input) (limit : ℕ) (old new : Tape) (result : Result SessionReport ClientError) (d : Dialogue) (given put : List ℕ) (left : Option (List ℕ)) → LinkSession input limit old new result
+    → Foreseen (Some given) left old new → TapeEnds left old new → (IsErrOf result client.IoError → ⊥) → (IsErrOf result client.OutOfMemory → ⊥)
     → Stands input limit d given put → (IsStarved d → ⊥) → new.wrote ≡ old.wrote ++ put
 sent_agrees input limit old new (Ok report) d given put left s f ends no_io no_lack h not =
     let r = rest_of input limit old new (Ok report) given left s f ends in

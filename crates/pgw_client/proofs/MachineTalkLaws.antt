@@ -7,27 +7,27 @@ use Rattle.pgw_frontend.specs.Frontend.{encoding, encodings, both}
 use Rattle.pgw_backend.specs.declared.client_error.PgWireClientError.{PgWireClientError as ClientError}
 use Rattle.pgw_backend.specs.declared.client_error.PgWireClientError.TheVariants as client
 use Rattle.pgw_link.specs.Tape.{Tape}
-use Rattle.pgw_course.specs.Course.{Front, More, Bad, Whole, Move, On, Ends, Course, Waits, Over, Rules, onto, eat, feed, run, sent_of, seen}
+use Rattle.pgw_course.specs.Course.{Front, More, Bad, Whole, Move, On, Ends, Course, Waits, Over, Rules, onto, eat, feed, run, sent_of, map_course}
 use Rattle.pgw_session.specs.declared.types.SessionReport.{SessionReport}
 use Rattle.pgw_session.specs.declared.notes.Notes.{Notes}
 use Rattle.pgw_session.specs.Input.{Input}
-use Rattle.pgw_session.specs.Events.{Event, joined}
+use Rattle.pgw_session.specs.Events.{Event, all_events}
 use Rattle.pgw_session.specs.Standings.{standing_of}
 use Rattle.pgw_session.specs.Segments.{startup_message}
 use Rattle.pgw_session.specs.Transcript.{report_of}
-use Rattle.pgw_session.specs.Machine.{End, Complete, ended, error_of, sending, beginning_by, rules_by}
+use Rattle.pgw_session.specs.Machine.{End, Complete, map_end, error_of, sending, beginning_by, rules_by}
 use Rattle.pgw_session.specs.Talk.{Talk, Ending, conversation, heard_of}
 use Rattle.pgw_session.specs.Notes.{notes_book, first_notes, noted_of, view}
 use Rattle.pgw_session.proofs.Events.{clean_heard}
 use Rattle.pgw_session.proofs.Complete.{prefix_split}
 use Rattle.pgw_session.proofs.Sound.{SoundAt, Cause, conversation_sound}
 use Rattle.pgw_session.proofs.NotesLaws.{notes_tell}
-use Rattle.pgw_course.specs.Play.{behind}
-use Rattle.pgw_dialogue.specs.Machine.{NotesCourse, Started, notes_end, report_at, runs}
-use Rattle.pgw_client.specs.SessionSteps.{Paused, Because, Conversed, Session, Stopping, Reason, memory, unsent, stopped, failed, unread, at_limit, at_end}
+use Rattle.pgw_course.specs.Play.{course_behind}
+use Rattle.pgw_dialogue.specs.Machine.{NotesCourse, StartsRun, notes_end, report_at, runs}
+use Rattle.pgw_client.specs.SessionSteps.{Paused, SessionReason, Conversed, LinkSession, Stopping, Reason, memory, unsent, stopped, failed, unread, at_limit, at_end}
 use Rattle.pgw_link.specs.Sending.{Wrote, WroteSome}
 use Rattle.pgw_dialogue.specs.Machine.{talk_end}
-use Rattle.pgw_course.specs.Course.{Waiting}
+use Rattle.pgw_course.specs.Course.{CourseWaits}
 use Rattle.pgw_dialogue.proofs.WireLaws.{memory_or}
 
 cancel : (xs a b : List ℕ) → xs ++ a ≡ xs ++ b → a ≡ b
@@ -36,20 +36,20 @@ cancel (x ∷ xs) a b e = cancel xs a b (cc)
 
 -- ---- a course behind what was written before
 
-onto_behind : {S R : Type 0} (before sent : List ℕ) (move : Move S R) → onto (before ++ sent) move ≡ behind before (onto sent move)
+onto_behind : {S R : Type 0} (before sent : List ℕ) (move : Move S R) → onto (before ++ sent) move ≡ course_behind before (onto sent move)
 onto_behind before sent (On state out) = ap (λ (w : List ℕ). Waits state w []) (append_assoc before sent out)
 onto_behind before sent (Ends end out) = ap (Over end) (append_assoc before sent out)
 
-eat_behind : {S R M E : Type 0} (rules : Rules S R M E) (before : List ℕ) (state : S) (sent pending : List ℕ) (f : Front M E) → eat rules state (before ++ sent) pending f ≡ behind before (eat rules state sent pending f)
+eat_behind : {S R M E : Type 0} (rules : Rules S R M E) (before : List ℕ) (state : S) (sent pending : List ℕ) (f : Front M E) → eat rules state (before ++ sent) pending f ≡ course_behind before (eat rules state sent pending f)
 eat_behind rules before state sent pending More = refl
 eat_behind rules before state sent pending (Bad why) = refl
 eat_behind rules before state sent pending (Whole m len) = onto_behind before sent (rules.step state m)
 
-feed_behind : {S R M E : Type 0} (rules : Rules S R M E) (before : List ℕ) (c : Course S R) (byte : ℕ) → feed rules (behind before c) byte ≡ behind before (feed rules c byte)
+feed_behind : {S R M E : Type 0} (rules : Rules S R M E) (before : List ℕ) (c : Course S R) (byte : ℕ) → feed rules (course_behind before c) byte ≡ course_behind before (feed rules c byte)
 feed_behind rules before (Waits state sent pending) byte = eat_behind rules before state sent (pending ++ byte ∷ []) (rules.read state (pending ++ byte ∷ []))
 feed_behind rules before (Over end sent) byte = refl
 
-run_behind : {S R M E : Type 0} (rules : Rules S R M E) (before : List ℕ) (c : Course S R) (bytes : List ℕ) → run rules (behind before c) bytes ≡ behind before (run rules c bytes)
+run_behind : {S R M E : Type 0} (rules : Rules S R M E) (before : List ℕ) (c : Course S R) (bytes : List ℕ) → run rules (course_behind before c) bytes ≡ course_behind before (run rules c bytes)
 unfolding run
 run_behind rules before c [] = refl
 run_behind rules before c (byte ∷ bytes) = ap (λ d. run rules d bytes) (feed_behind rules before c byte) ∙ run_behind rules before (feed rules c byte) bytes
@@ -57,9 +57,9 @@ run_behind rules before c (byte ∷ bytes) = ap (λ d. run rules d bytes) (feed_
 -- ---- the notes' course as the conversation's
 
 abbrev told : Input → List ℕ → Course Talk Ending → NotesCourse
-told input before c = behind before (seen (view input) (ended (view input)) c)
+told input before c = course_behind before (map_course (view input) (map_end (view input)) c)
 
-over_in : (input : Input) (before : List ℕ) (c : Course Talk Ending) (end : End Notes) (w : List ℕ) → told input before c ≡ Over end w → (e : Ending) × (s : List ℕ) × (c ≡ Over e s) × (ended (view input) e ≡ end) × (w ≡ before ++ s)
+over_in : (input : Input) (before : List ℕ) (c : Course Talk Ending) (end : End Notes) (w : List ℕ) → told input before c ≡ Over end w → (e : Ending) × (s : List ℕ) × (c ≡ Over e s) × (map_end (view input) e ≡ end) × (w ≡ before ++ s)
 over_in input before (Waits t s p) end w is = cc
 over_in input before (Over e s) end w is = (e, s, refl, cc, cc)
 
@@ -71,12 +71,12 @@ sent_in : (input : Input) (before : List ℕ) (c : Course Talk Ending) → sent_
 sent_in input before (Waits t s p) = refl
 sent_in input before (Over e s) = refl
 
-told_nothing : (input : Input) (c : Course Talk Ending) → told input [] c ≡ seen (view input) (ended (view input)) c
+told_nothing : (input : Input) (c : Course Talk Ending) → told input [] c ≡ map_course (view input) (map_end (view input)) c
 told_nothing input (Waits t s p) = refl
 told_nothing input (Over e s) = refl
 
 -- before the first byte
-start_is : (input : Input) → beginning_by notes_book input (first_notes input) ≡ seen (view input) (ended (view input)) (conversation input [])
+start_is : (input : Input) → beginning_by notes_book input (first_notes input) ≡ map_course (view input) (map_end (view input)) (conversation input [])
 unfolding noted_of run
 start_is input = notes_tell input []
 
@@ -87,17 +87,17 @@ course_is input notes before out wrote taken start are =
     let rules = rules_by notes_book input in
     ap (λ (w : List ℕ). run rules (Waits notes w []) taken) are
     ∙ run_behind rules before (Waits notes out []) taken
-    ∙ ap (λ c. behind before (run rules c taken)) (sym start)
-    ∙ ap (behind before) (notes_tell input taken)
+    ∙ ap (λ c. course_behind before (run rules c taken)) (sym start)
+    ∙ ap (course_behind before) (notes_tell input taken)
 
 -- ---- the parts that an error's causes speak of
 
-over_at : (input : Input) (conv : Course Talk Ending) (before : List ℕ) {end : End Notes} {w m : List ℕ} → told input before conv ≡ Over end w → w ≡ before ++ m → (e : Ending) × (conv ≡ Over e m) × (ended (view input) e ≡ end)
+over_at : (input : Input) (conv : Course Talk Ending) (before : List ℕ) {end : End Notes} {w m : List ℕ} → told input before conv ≡ Over end w → w ≡ before ++ m → (e : Ending) × (conv ≡ Over e m) × (map_end (view input) e ≡ end)
 over_at input conv before {end} {w} {m} is grew =
     let o = over_in input before conv end w is in
     (o.0, o.2 ∙ ap (Over o.0) (cancel before o.1 m (sym o.4 ∙ grew)), o.3)
 
-waiting_at : (input : Input) (conv : Course Talk Ending) (before : List ℕ) {w m : List ℕ} → Waiting (told input before conv) w → w ≡ before ++ m → Waiting conv m
+waiting_at : (input : Input) (conv : Course Talk Ending) (before : List ℕ) {w m : List ℕ} → CourseWaits (told input before conv) w → w ≡ before ++ m → CourseWaits conv m
 waiting_at input conv before {w} {m} is grew =
     let o = waits_in input before conv is.0 w is.1 is.2 in
     (o.0, is.1, o.2 ∙ ap (λ (s : List ℕ). Waits o.0 s is.1) (cancel before o.1 m (sym o.3 ∙ grew)))
@@ -127,11 +127,11 @@ lift_paused input conv before old mid new grew same paused = elim paused [
 -- ---- a session
 
 pub lift_err : {next : Notes} {old mid new : Tape} (input : Input) (notes : Notes) (limit : ℕ) (out : List ℕ) (e : ClientError)
-    → Started input out (Ok notes) → Wrote old mid out → Conversed input notes next limit mid new (Err e) → Session input limit old new (Err e)
+    → StartsRun input out (Ok notes) → Wrote old mid out → Conversed input notes next limit mid new (Err e) → LinkSession input limit old new (Err e)
 lift_err {next} {old} {mid} {new} input notes limit out e start wrote conversed =
     let conv = conversation input conversed.taken in
     let is = course_is input notes old.wrote out mid.wrote conversed.taken start wrote.wrote in
-    let why = subst (λ c. Because c conversed.taken limit mid new e) is conversed.answered in
+    let why = subst (λ c. SessionReason c conversed.taken limit mid new e) is conversed.answered in
     let len_mid : length mid.wrote ≡ length old.wrote + length out = ap length wrote.wrote ∙ length-append old.wrote out in
     let grew = prefix_split old.wrote new.wrote (sent_of conv) why.begins.0 (sym (sent_in input old.wrote conv) ∙ why.begins.1) (omega (arith, len_mid, conversed.no_shorter)) in
     let len_new : length new.wrote ≡ length old.wrote + length grew.0 = ap length grew.1 ∙ length-append old.wrote grew.0 in
@@ -152,12 +152,12 @@ lift_err {next} {old} {mid} {new} input notes limit out e start wrote conversed 
 whole_report : (input : Input) (e : Ending) → (e.notes).open_events ≡ [] → (e.notes).passed ≡ [] → report_at (view input e.notes) ≡ report_of input (e.notes).closed
 unfolding report_of
 whole_report input e none clean =
-    let same : heard_of e.notes ≡ joined (e.notes).closed = sym (clean_heard e.notes clean) ∙ ap (λ (l : List Event). joined (e.notes).closed ++ l) none ∙ append-nil (joined (e.notes).closed) in
+    let same : heard_of e.notes ≡ all_events (e.notes).closed = sym (clean_heard e.notes clean) ∙ ap (λ (l : List Event). all_events (e.notes).closed ++ l) none ∙ append-nil (all_events (e.notes).closed) in
     let r = ap (standing_of input.config) same in
     cc
 
 pub lift_ok : {next : Notes} {old mid new : Tape} (input : Input) (notes : Notes) (limit : ℕ) (out : List ℕ) (done : Unit {0}) (report : SessionReport)
-    → Started input out (Ok notes) → Wrote old mid out → Conversed input notes next limit mid new (Ok done) → report ≡ report_at next → Session input limit old new (Ok report)
+    → StartsRun input out (Ok notes) → Wrote old mid out → Conversed input notes next limit mid new (Ok done) → report ≡ report_at next → LinkSession input limit old new (Ok report)
 lift_ok {next} {old} {mid} {new} input notes limit out done report start wrote conversed reported =
     let conv = conversation input conversed.taken in
     let is = course_is input notes old.wrote out mid.wrote conversed.taken start wrote.wrote in
@@ -189,7 +189,7 @@ lift_ok {next} {old} {mid} {new} input notes limit out done report start wrote c
 -- ---- the startup message
 
 -- it could not be made
-pub unstarted : (input : Input) (limit : ℕ) (tape : Tape) (out : List ℕ) (e : ClientError) → Started input out (Err e) → Session input limit tape tape (Err e)
+pub unstarted : (input : Input) (limit : ℕ) (tape : Tape) (out : List ℕ) (e : ClientError) → StartsRun input out (Err e) → LinkSession input limit tape tape (Err e)
 unstarted input limit tape out e start =
     let conv = conversation input [] in
     record {
@@ -234,7 +234,7 @@ started_bytes first second notes (Ok bytes) out is = ap Ok (cc)
 
 -- it was not all written, or not flushed
 pub unsent_start : {old new : Tape} (input : Input) (notes : Notes) (limit : ℕ) (out : List ℕ)
-    → old.flushed ≤ length old.wrote → Started input out (Ok notes) → WroteSome old new out → Session input limit old new (Err client.IoError)
+    → old.flushed ≤ length old.wrote → StartsRun input out (Ok notes) → WroteSome old new out → LinkSession input limit old new (Err client.IoError)
 unsent_start {old} {new} input notes limit out flushed_in start wrote =
     let conv = conversation input [] in
     let some = both_some (encoding (startup_message input)) out (startup_some input) (started_bytes _ _ notes (encodings (startup_message input ∷ [])) out start) in

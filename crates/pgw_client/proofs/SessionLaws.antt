@@ -7,7 +7,7 @@ use Rattle.pgw_query.specs.declared.response.ErrorResponse.{ErrorResponse}
 use Rattle.pgw_backend.specs.declared.client_error.PgWireClientError.{PgWireClientError as ClientError}
 use Rattle.pgw_backend.specs.declared.client_error.PgWireClientError.TheVariants as client
 use Rattle.pgw_link.specs.Tape.{Tape, MovedBy}
-use Rattle.pgw_link.specs.Foresight.{Ends, Foreseen}
+use Rattle.pgw_link.specs.Foresight.{TapeEnds, Foreseen}
 use Rattle.pgw_course.specs.Course.{Waits, Over, sent_of}
 use Rattle.pgw_session.specs.declared.types.SessionReport.{SessionReport}
 use Rattle.pgw_session.specs.Demands.{refused_config}
@@ -15,7 +15,7 @@ use Rattle.pgw_session.specs.Events.{Event}
 use Rattle.pgw_session.specs.Input.{Input}
 use Rattle.pgw_session.specs.Answers.{tally_of}
 use Rattle.pgw_session.specs.Transcript.{Completed, Completes, report_of}
-use Rattle.pgw_session.specs.Failures.{LeftWith, Told}
+use Rattle.pgw_session.specs.Failures.{LeftWith, BytesTell}
 use Rattle.pgw_session.specs.Faults.{IsStartupError}
 use Rattle.pgw_session.specs.Machine.{Outcome, Complete, Unencoded, Unexpected, Unread, Refused, error_of, end_with}
 use Rattle.pgw_session.specs.Talk.{Talk, Ending, conversation, first_passed}
@@ -23,9 +23,9 @@ use Rattle.pgw_session.proofs.Complete.{ended_whole, never_waits}
 use Rattle.pgw_session.proofs.FailureLaws.{complete_is_completed, ended_misplaced, ended_refused, ended_unread, unencoded, unfinished, misplaced_left, left_with, waits_still}
 use Rattle.pgw_session.proofs.FailureLaws as failures
 use Rattle.pgw_session.proofs.FaultLaws.{startup_error}
-use Rattle.pgw_client.specs.SessionSteps.{Session, Reason, memory, unsent, stopped, failed, unread, at_limit, at_end}
+use Rattle.pgw_client.specs.SessionSteps.{LinkSession, Reason, memory, unsent, stopped, failed, unread, at_limit, at_end}
 use Rattle.pgw_dialogue.specs.Machine.{talk_end}
-use Rattle.pgw_client.specs.Session.{ErrorCause, Causes, HasEnded, InLockstep, KeepsPace, LeavesUnsent, Reports, Tells}
+use Rattle.pgw_client.specs.Session.{ErrorCause, Causes, HasEnded, InLockstep, KeepsPace, LeavesUnsent, AnswersReport, TellsSession}
 use Rattle.pgw_session.specs.Failures.{IsRefused}
 
 -- ---- causes
@@ -73,7 +73,7 @@ caused_by : (input : Input) (limit : ℕ) (old : Tape) {new : Tape} (taken sent 
 caused_by input limit old {new} taken sent more none begins (failed (memory is)) = subst (ErrorCause input limit old new taken sent) (sym is) tt
 caused_by input limit old {new} taken sent more none begins (failed (unsent io short)) =
     let less = subst (λ (l : List ℕ). new.flushed < length old.wrote + length l) begins short in
-    subst (ErrorCause input limit old new taken sent) (sym io) (inl (more, subst (Told input taken) begins (failures.told input taken), less))
+    subst (ErrorCause input limit old new taken sent) (sym io) (inl (more, subst (BytesTell input taken) begins (failures.told input taken), less))
 caused_by input limit old {new} taken sent more {e} none begins (failed (stopped ending is why)) = ended_as input limit old new taken sent ending ending.outcome e none is refl why
 caused_by input limit old {new} taken sent more none begins (unread io waiting) = subst (ErrorCause input limit old new taken sent) (sym io) (inr (waits_still input taken sent waiting.1 waiting.0 waiting.2))
 caused_by input limit old {new} taken sent more none begins (at_limit is waiting at) = subst (ErrorCause input limit old new taken sent) (sym is) (waits_still input taken sent waiting.1 waiting.0 waiting.2, at)
@@ -81,7 +81,7 @@ caused_by input limit old {new} taken sent more none begins (at_end state pendin
     subst (ErrorCause input limit old new taken sent) (sym means) (end_as input limit old new taken sent pending state (first_passed state.passed) (tally_of state.open_events).remote refl refl is end)
 
 -- each error has its cause
-pub causes : (input : Input) (limit : ℕ) (old new : Tape) (result : Result SessionReport ClientError) → refused_config input.config ≡ None → Session input limit old new result → Causes input limit old new result
+pub causes : (input : Input) (limit : ℕ) (old new : Tape) (result : Result SessionReport ClientError) → refused_config input.config ≡ None → LinkSession input limit old new result → Causes input limit old new result
 causes input limit old new (Ok report) none s = tt
 causes input limit old new (Err e) none s =
     let b = (s.held).begins in
@@ -99,24 +99,24 @@ all_sent input taken sent more e begins (unread io waiting) no_io no_lack = absu
 all_sent input taken sent more e begins (at_limit is waiting at) no_io no_lack = ap sent_of waiting.2
 all_sent input taken sent more e begins (at_end state pending is end means) no_io no_lack = ap sent_of is
 
-tells : (input : Input) (result : Result SessionReport ClientError) (taken sent more : List ℕ) → sent_of (conversation input taken) ≡ sent ++ more → LeavesUnsent result more → Tells input result taken sent
-tells input result taken sent more begins leaves = (more, subst (Told input taken) begins (failures.told input taken), leaves)
+tells : (input : Input) (result : Result SessionReport ClientError) (taken sent more : List ℕ) → sent_of (conversation input taken) ≡ sent ++ more → LeavesUnsent result more → TellsSession input result taken sent
+tells input result taken sent more begins leaves = (more, subst (BytesTell input taken) begins (failures.told input taken), leaves)
 
 tells_by : (input : Input) {limit before : ℕ} {old new : Tape} (taken sent more : List ℕ) (e : ClientError) → sent_of (conversation input taken) ≡ sent ++ more → Reason talk_end (conversation input taken) sent before taken limit old new e
-    → Tells input (Err e) taken sent
+    → TellsSession input (Err e) taken sent
 tells_by input taken sent more client.IoError begins why = tells input (Err client.IoError) taken sent more begins tt
 tells_by input taken sent more client.OutOfMemory begins why = tells input (Err client.OutOfMemory) taken sent more begins tt
 tells_by input taken sent more e begins why = tells input (Err e) taken sent [] (all_sent input taken sent more e begins why (λ is. cc) (λ is. cc) ∙ sym (append-nil sent)) refl
 
 -- whatever the answer, the bytes taken are those of a legal prefix
-pub told : (input : Input) (limit : ℕ) (old new : Tape) (result : Result SessionReport ClientError) → Session input limit old new result → MovedBy old new (Tells input result)
+pub told : (input : Input) (limit : ℕ) (old new : Tape) (result : Result SessionReport ClientError) → LinkSession input limit old new result → MovedBy old new (TellsSession input result)
 told input limit old new (Ok report) s = (s.taken, s.sent, s.took, s.wrote, tells input (Ok report) s.taken s.sent [] (ap sent_of (s.held).1 ∙ sym (append-nil s.sent)) refl)
 told input limit old new (Err e) s = let b = (s.held).begins in (s.taken, s.sent, s.took, s.wrote, tells_by input s.taken s.sent b.0 e b.1 (s.held).reason)
 
-pub paced : (input : Input) (limit : ℕ) (old new : Tape) (result : Result SessionReport ClientError) → Session input limit old new result → MovedBy old new (KeepsPace limit old new)
+pub paced : (input : Input) (limit : ℕ) (old new : Tape) (result : Result SessionReport ClientError) → LinkSession input limit old new result → MovedBy old new (KeepsPace limit old new)
 paced input limit old new result s = (s.taken, s.sent, s.took, s.wrote, record { within = s.within; reads = s.reads; writes = s.writes })
 
-pub lockstep : (input : Input) (limit : ℕ) (old new : Tape) (result : Result SessionReport ClientError) → Session input limit old new result → InLockstep input old new
+pub lockstep : (input : Input) (limit : ℕ) (old new : Tape) (result : Result SessionReport ClientError) → LinkSession input limit old new result → InLockstep input old new
 lockstep input limit old new result s = elim s.paused [
   | inl same ↦ inl same
   | inr p ↦ inr (p.0, (s.taken, s.sent, s.took, s.wrote, waits_still input s.taken s.sent (p.1).1 (p.1).0 (p.1).2))
@@ -125,7 +125,7 @@ lockstep input limit old new result s = elim s.paused [
 -- ---- the report
 
 -- an answer is that of a completed session
-pub completed : (input : Input) (limit : ℕ) (old new : Tape) (result : Result SessionReport ClientError) → Session input limit old new result
+pub completed : (input : Input) (limit : ℕ) (old new : Tape) (result : Result SessionReport ClientError) → LinkSession input limit old new result
     → IfOk result (λ report. MovedBy old new (λ taken sent. Completed input taken sent report))
 completed input limit old new (Err e) s = tt
 completed input limit old new (Ok report) s =
@@ -139,13 +139,13 @@ known_rest {old} {new} {is = None} whole taken f took = absurd f.consumes
 known_rest {old} {new} {is = Some rest} whole taken f took = (rest, refl, subst (λ (t : List ℕ). whole ≡ t ++ rest) (append_cancel_left old.took f.taken taken (sym f.took ∙ took)) f.consumes)
 
 -- where the end was answered, nothing is to come any more
-pub nothing_left : {old new : Tape} {rest : List ℕ} (limit : ℕ) (taken : List ℕ) → Ends (Some rest) old new → HasEnded limit taken old new → rest ≡ []
+pub nothing_left : {old new : Tape} {rest : List ℕ} (limit : ℕ) (taken : List ℕ) → TapeEnds (Some rest) old new → HasEnded limit taken old new → rest ≡ []
 nothing_left {old} {new} limit taken ends end =
     let same = append_cancel_left old.ended ends.answers ((end.asked).0 ∷ []) (sym ends.ended ∙ (end.asked).1) in
     ends.at_end (omega (arith, ap length same))
 
 only_memory : (input : Input) (limit before : ℕ) (old : Tape) {new : Tape} (segments : List (List Event)) {e : ClientError} (whole taken rest : List ℕ) {sent : List ℕ}
-    → Completes input limit whole segments → whole ≡ taken ++ rest → Ends (Some rest) old new → Reason talk_end (conversation input taken) sent before taken limit old new e
+    → Completes input limit whole segments → whole ≡ taken ++ rest → TapeEnds (Some rest) old new → Reason talk_end (conversation input taken) sent before taken limit old new e
     → (e ≡ client.IoError → ⊥) → e ≡ client.OutOfMemory
 only_memory input limit before old segments whole taken rest c left ends (failed (memory is)) no_io = is
 only_memory input limit before old segments whole taken rest c left ends (failed (unsent io short)) no_io = absurd (no_io io)
@@ -160,11 +160,11 @@ only_memory input limit before old {new} segments whole taken rest {sent} c left
     absurd (never_waits input limit whole taken rest sent pending state segments left c (inr (nothing_left limit taken ends end)) is)
 
 -- a session that can complete reports, or memory is wanting
-pub reports : (input : Input) (limit : ℕ) (old new : Tape) (was is : Option (List ℕ)) (result : Result SessionReport ClientError) (whole : List ℕ) (segments : List (List Event)) → Session input limit old new result
-    → was ≡ Some whole → Foreseen was is old new → Ends is old new → Completes input limit whole segments → (IsErrOf result client.IoError → ⊥) → Reports (report_of input segments) result
+pub reports : (input : Input) (limit : ℕ) (old new : Tape) (was is : Option (List ℕ)) (result : Result SessionReport ClientError) (whole : List ℕ) (segments : List (List Event)) → LinkSession input limit old new result
+    → was ≡ Some whole → Foreseen was is old new → TapeEnds is old new → Completes input limit whole segments → (IsErrOf result client.IoError → ⊥) → AnswersReport (report_of input segments) result
 reports input limit old new was is (Err e) whole segments s known f ends c no_io =
     let r = known_rest whole s.taken (subst (λ o. Foreseen o is old new) known f) s.took in
-    only_memory input limit (length old.wrote) old segments whole s.taken r.0 c r.2 (subst (λ o. Ends o old new) r.1 ends) (s.held).reason (λ io. no_io (ap Err io))
+    only_memory input limit (length old.wrote) old segments whole s.taken r.0 c r.2 (subst (λ o. TapeEnds o old new) r.1 ends) (s.held).reason (λ io. no_io (ap Err io))
 reports input limit old new was is (Ok report) whole segments s known f ends c no_io =
     let h = s.held in
     let r = known_rest whole s.taken (subst (λ o. Foreseen o is old new) known f) s.took in

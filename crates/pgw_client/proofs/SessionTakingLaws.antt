@@ -13,14 +13,14 @@ use Rattle.pgw_session.specs.Notes.{notes_book}
 use Rattle.pgw_dialogue.specs.Wire.{Unless}
 use Rattle.pgw_dialogue.proofs.MachineLaws.{begins_at}
 use Rattle.pgw_dialogue.proofs.WireLaws.{memory_or}
-use Rattle.pgw_dialogue.specs.Machine.{IsWhole, NotesCourse, report_at, runs}
-use Rattle.pgw_client.specs.SessionSteps.{Broke, Going, Settled, memory, stopped}
+use Rattle.pgw_dialogue.specs.Machine.{IsWholeEnd, NotesCourse, report_at, runs}
+use Rattle.pgw_client.specs.SessionSteps.{Broke, ClientGoesOn, ClientSettles, memory, stopped}
 use Rattle.pgw_link.specs.Sending.{Wrote, WroteSome}
 use Rattle.pgw_course.specs.Course.{Begins}
 use Rattle.pgw_client.specs.SessionSteps as outcomes
 
 -- a message is refused
-pub refused : {input : Input} {old_notes notes : Notes} {old new : Tape} {old_buffer buffer : List ℕ} (e : ClientError) → Going input old_notes notes old new old_buffer buffer
+pub refused : {input : Input} {old_notes notes : Notes} {old new : Tape} {old_buffer buffer : List ℕ} (e : ClientError) → ClientGoesOn input old_notes notes old new old_buffer buffer
     → Unless e ((end : End Notes) × (error_of end.outcome ≡ Some e) × ((sent : List ℕ) → runs input notes sent buffer ≡ Over end sent))
     → Broke (runs input old_notes old.wrote old_buffer) old new e
 refused {input} {old_notes} {notes} {old} {new} {old_buffer} {buffer} e going step = record {
@@ -33,7 +33,7 @@ refused {input} {old_notes} {notes} {old} {new} {old_buffer} {buffer} e going st
 }
 
 -- a write or the flush failed
-pub unsent : {input : Input} {old_notes notes : Notes} {old mid new : Tape} {old_buffer buffer : List ℕ} (rest : List ℕ) (next : Notes) (out : List ℕ) → Going input old_notes notes old mid old_buffer buffer
+pub unsent : {input : Input} {old_notes notes : Notes} {old mid new : Tape} {old_buffer buffer : List ℕ} (rest : List ℕ) (next : Notes) (out : List ℕ) → ClientGoesOn input old_notes notes old mid old_buffer buffer
     → ((sent : List ℕ) → runs input notes sent buffer ≡ runs input next (sent ++ out) rest)
     → 0 < length out → WroteSome mid new out
     → Broke (runs input old_notes old.wrote old_buffer) old new client.IoError
@@ -61,9 +61,9 @@ unsent {input} {old_notes} {notes} {old} {mid} {new} {old_buffer} {buffer} rest 
     }
 
 -- what was put out was sent
-pub sent_on : {input : Input} {old_notes notes : Notes} {old mid new : Tape} {old_buffer buffer : List ℕ} (rest : List ℕ) (next : Notes) (out : List ℕ) → Going input old_notes notes old mid old_buffer buffer
+pub sent_on : {input : Input} {old_notes notes : Notes} {old mid new : Tape} {old_buffer buffer : List ℕ} (rest : List ℕ) (next : Notes) (out : List ℕ) → ClientGoesOn input old_notes notes old mid old_buffer buffer
     → ((sent : List ℕ) → runs input notes sent buffer ≡ runs input next (sent ++ out) rest)
-    → Wrote mid new out → Going input old_notes next old new old_buffer rest
+    → Wrote mid new out → ClientGoesOn input old_notes next old new old_buffer rest
 sent_on {input} {old_notes} {notes} {old} {mid} {new} rest next out going step wrote =
     let r = wrote.reads_nothing in
     let q = going.reads_nothing in
@@ -77,9 +77,9 @@ sent_on {input} {old_notes} {notes} {old} {mid} {new} rest next out going step w
     }
 
 -- nothing was put out
-pub silent_on : {input : Input} {old_notes notes : Notes} {old mid : Tape} {old_buffer buffer : List ℕ} (rest : List ℕ) (next : Notes) (out : List ℕ) → Going input old_notes notes old mid old_buffer buffer
+pub silent_on : {input : Input} {old_notes notes : Notes} {old mid : Tape} {old_buffer buffer : List ℕ} (rest : List ℕ) (next : Notes) (out : List ℕ) → ClientGoesOn input old_notes notes old mid old_buffer buffer
     → ((sent : List ℕ) → runs input notes sent buffer ≡ runs input next (sent ++ out) rest)
-    → out ≡ [] → Going input old_notes next old mid old_buffer rest
+    → out ≡ [] → ClientGoesOn input old_notes next old mid old_buffer rest
 silent_on {input} {old_notes} {notes} {old} {mid} rest next out going step none = record {
   reads_nothing = going.reads_nothing;
   course = going.course ∙ step mid.wrote ∙ ap (λ (w : List ℕ). runs input next (mid.wrote ++ w) rest) none ∙ ap (λ (w : List ℕ). runs input next w rest) (append-nil mid.wrote);
@@ -89,8 +89,8 @@ silent_on {input} {old_notes} {notes} {old} {mid} rest next out going step none 
 }
 
 -- the session is whole
-pub whole : {input : Input} {old_notes notes : Notes} {old new : Tape} {old_buffer buffer : List ℕ} (rest : List ℕ) (after : Notes) (end : End Notes) → Going input old_notes notes old new old_buffer buffer
-    → IsWhole end (report_at after) → ((sent : List ℕ) → runs input notes sent buffer ≡ Over end sent) → Settled input (runs input old_notes old.wrote old_buffer) after old new rest true
+pub whole : {input : Input} {old_notes notes : Notes} {old new : Tape} {old_buffer buffer : List ℕ} (rest : List ℕ) (after : Notes) (end : End Notes) → ClientGoesOn input old_notes notes old new old_buffer buffer
+    → IsWholeEnd end (report_at after) → ((sent : List ℕ) → runs input notes sent buffer ≡ Over end sent) → ClientSettles input (runs input old_notes old.wrote old_buffer) after old new rest true
 whole {input} {old_notes} {notes} {old} {new} rest after end going is step = record {
   reads_nothing = going.reads_nothing;
   came = (end, going.course ∙ step new.wrote, is);

@@ -3,8 +3,8 @@ use Rattle.std.proofs.Common.{◌≡◌, ◌<◌, ◌≤◌, ℕ, ◌+◌, List,
 use Rattle.std.proofs.lemmas.List.{append-nil, nil_from_length}
 use Rattle.std.specs.Io.KnownBytes.{Keeps}
 use Rattle.std.specs.Prelude.{IsSome}
-use Rattle.pgw_link.specs.Tape.{Tape, Took, Failed}
-use Rattle.pgw_link.specs.Foresight.{Ends, Foreseen}
+use Rattle.pgw_link.specs.Tape.{Tape, Took, LinkFails}
+use Rattle.pgw_link.specs.Foresight.{TapeEnds, Foreseen}
 use Rattle.pgw_link.proofs.LogLaws.{ends_further, ends_on, foreseen_kept, foreseen_on}
 use Rattle.pgw_backend.specs.Front.{front, More}
 use Rattle.pgw_backend.specs.declared.client_error.PgWireClientError.{PgWireClientError as ClientError}
@@ -18,9 +18,9 @@ use Rattle.pgw_session.specs.Notes.{notes_book}
 use Rattle.pgw_session.proofs.ReadingLaws.{reads_more, steady_by}
 use Rattle.pgw_dialogue.specs.Wire.{Unless}
 use Rattle.pgw_dialogue.specs.Machine.{NotesCourse, notes_end, runs}
-use Rattle.pgw_client.specs.SessionSteps.{Broke, Settled, Came, Reading, Conversed, Paused, FillFails, failed, memory, at_limit, at_end}
+use Rattle.pgw_client.specs.SessionSteps.{Broke, ClientSettles, SessionCameTo, Reading, Conversed, Paused, FillFails, failed, memory, at_limit, at_end}
 use Rattle.pgw_link.specs.Sending.{ReadsNothing}
-use Rattle.pgw_course.specs.Course.{Waiting}
+use Rattle.pgw_course.specs.Course.{CourseWaits}
 use Rattle.pgw_client.specs.SessionSteps as outcomes
 use Rattle.pgw_dialogue.proofs.MachineLaws.{begins_at}
 use Rattle.pgw_dialogue.proofs.WireLaws.{memory_or}
@@ -28,7 +28,7 @@ use Rattle.pgw_dialogue.proofs.WireLaws.{memory_or}
 -- ---- the link's end
 
 -- a read came to it where the course waits, or brought bytes
-paused_at : (course : NotesCourse) (old mid new : Tape) (piece : List ℕ) → Took mid new piece → mid.ended ≡ old.ended → mid.flushed ≡ length mid.wrote → (length piece ≡ 0 → Waiting course new.wrote)
+paused_at : (course : NotesCourse) (old mid new : Tape) (piece : List ℕ) → Took mid new piece → mid.ended ≡ old.ended → mid.flushed ≡ length mid.wrote → (length piece ≡ 0 → CourseWaits course new.wrote)
     → Paused course new.wrote old new
 paused_at course old mid new [] moved not flushed waiting =
     let all = flushed ∙ ap length (sym moved.wrote) in
@@ -45,7 +45,7 @@ took_on {mid} {new} {piece} old taken was moved = moved.took ∙ ap (λ (t : Lis
 pub foreseen_quiet : (a b c : Option (List ℕ)) (t u v : Tape) → Foreseen a b t u → Keeps b c → ReadsNothing u v → Foreseen a c t v
 foreseen_quiet a b c t u v f k r = foreseen_on a b c t u v f (foreseen_kept b c u v r.took k)
 
-pub ends_quiet : (a b : Option (List ℕ)) (t u v : Tape) → IsSome a → Ends a t u → Keeps a b → ReadsNothing u v → Ends b t v
+pub ends_quiet : (a b : Option (List ℕ)) (t u v : Tape) → IsSome a → TapeEnds a t u → Keeps a b → ReadsNothing u v → TapeEnds b t v
 ends_quiet a b t u v some e k r = ends_further a b t u v some e (foreseen_kept a b u v r.took k) (ends_on b u v r.ended)
 
 -- ---- between reads
@@ -53,10 +53,10 @@ ends_quiet a b t u v some e k r = ends_further a b t u v some e (foreseen_kept a
 -- the messages at the buffer's front were taken
 pub settled : {input : Input} {old_notes notes next : Notes} {old mid new : Tape} {buffer rest : List ℕ} {count : ℕ} (done : Bool)
     → Reading input old_notes notes old mid buffer count → done ≡ false
-    → Settled input (runs input notes mid.wrote buffer) next mid new rest done
+    → ClientSettles input (runs input notes mid.wrote buffer) next mid new rest done
     → Reading input old_notes next old new rest count × (front next.standing.version rest ≡ More)
 settled {input} {old_notes} {notes} {next} {old} {mid} {new} {buffer} {rest} {count} done reading not_done s =
-    let came = subst (λ d. Came input (runs input notes mid.wrote buffer) next new.wrote rest d) not_done s.came in
+    let came = subst (λ d. SessionCameTo input (runs input notes mid.wrote buffer) next new.wrote rest d) not_done s.came in
     let r = s.reads_nothing in (
       record {
         taken = reading.taken;
@@ -98,10 +98,10 @@ broke {input} {old_notes} {notes} {old} {mid} {new} {buffer} {count} next limit 
 
 -- the session was whole
 pub finished : {input : Input} {old_notes notes next : Notes} {old mid new : Tape} {buffer rest : List ℕ} {count : ℕ} (limit : ℕ) (done : Bool) (answer : Unit {0})
-    → Reading input old_notes notes old mid buffer count → count ≤ limit → done ≡ true → Settled input (runs input notes mid.wrote buffer) next mid new rest done
+    → Reading input old_notes notes old mid buffer count → count ≤ limit → done ≡ true → ClientSettles input (runs input notes mid.wrote buffer) next mid new rest done
     → Conversed input old_notes next limit old new (Ok answer)
 finished {input} {old_notes} {notes} {next} {old} {mid} {new} {buffer} {rest} {count} limit done answer reading within is_done s =
-    let came = subst (λ d. Came input (runs input notes mid.wrote buffer) next new.wrote rest d) is_done s.came in
+    let came = subst (λ d. SessionCameTo input (runs input notes mid.wrote buffer) next new.wrote rest d) is_done s.came in
     let r = s.reads_nothing in
     record {
       taken = reading.taken;
@@ -165,7 +165,7 @@ read_on {input} {old_notes} {notes} {old} {mid} {new} {buffer} {now} {count} pie
 
 -- it failed
 unread_io : {input : Input} {old_notes notes : Notes} {old mid new : Tape} {buffer : List ℕ} {count : ℕ} (next : Notes) (limit : ℕ) (e : ClientError)
-    → Reading input old_notes notes old mid buffer count → front notes.standing.version buffer ≡ More → count ≤ limit → e ≡ client.IoError → Failed mid new (mid.reads + 1) mid.writes
+    → Reading input old_notes notes old mid buffer count → front notes.standing.version buffer ≡ More → count ≤ limit → e ≡ client.IoError → LinkFails mid new (mid.reads + 1) mid.writes
     → Conversed input old_notes next limit old new (Err e)
 unread_io {input} {old_notes} {notes} {old} {mid} {new} {buffer} {count} next limit e reading more within is_io fault =
     let w = waits reading more ∙ ap (λ (o : List ℕ). Waits notes o buffer) (sym fault.wrote) in

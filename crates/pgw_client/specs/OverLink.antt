@@ -2,7 +2,7 @@
 use Rattle.std.specs.Prelude.{◌≡◌, ◌⊎◌, ◌<◌, ℕ, List, codes, Option, Some, None, Result, Err, IfOk, IfSome, IsErrOf}
 use Rattle.pgw_types.specs.Counts.{Rose}
 use Rattle.pgw_link.specs.Tape.{Tape, MovedBy}
-use Rattle.pgw_link.specs.Foresight.{Ends, Foreseen}
+use Rattle.pgw_link.specs.Foresight.{TapeEnds, Foreseen}
 use Rattle.pgw_backend.specs.declared.client_error.PgWireClientError.{PgWireClientError}
 use Rattle.pgw_backend.specs.declared.client_error.PgWireClientError.TheVariants as client
 use Rattle.pgw_session.specs.declared.types.SessionReport.{SessionReport}
@@ -10,9 +10,9 @@ use Rattle.pgw_session.specs.Demands.{refused_config}
 use Rattle.pgw_session.specs.Events.{Event}
 use Rattle.pgw_session.specs.Input.{Input}
 use Rattle.pgw_session.specs.Transcript.{Completed, Completes, report_of}
-use Rattle.pgw_dialogue.specs.Demands.{Refuses}
-use Rattle.pgw_client.specs.Session.{IoHasCause, Causes, Reports, KeepsPace, Tells, InLockstep, LeavesFlushed}
-use Rattle.pgw_client.specs.SessionSteps.{Session}
+use Rattle.pgw_dialogue.specs.Demands.{RefusesKey}
+use Rattle.pgw_client.specs.Session.{IoHasCause, Causes, AnswersReport, KeepsPace, TellsSession, InLockstep, LeavesFlushed}
+use Rattle.pgw_client.specs.SessionSteps.{LinkSession}
 
 -- What a link told before a session and behind it: its history, the bytes to come where they are known, how often it had
 -- failed.
@@ -34,7 +34,7 @@ pub record OverLink (input : Input) (limit : ℕ) (foretells : Type 0) (link : L
     (outcome : Result SessionReport PgWireClientError) : Type 0 where
   -- A configuration that demands an encrypted connection, or else a bound login without a certificate's hash, is refused
   -- by that key, or memory is wanting: nothing was read or written.
-  pub refused : IfSome (refused_config input.config) (λ key. Refuses key outcome × (link.new ≡ link.old))
+  pub refused : IfSome (refused_config input.config) (λ key. RefusesKey key outcome × (link.new ≡ link.old))
   -- No other is refused so, but for a user name that has no prepared form.
   pub demands : (key : List ℕ) → outcome ≡ Err (client.InvalidConfig key)
       → (refused_config input.config ≡ Some key) ⊎ (key ≡ codes "user")
@@ -49,7 +49,7 @@ pub record OverLink (input : Input) (limit : ℕ) (foretells : Type 0) (link : L
   -- Where nothing is demanded that is refused, whatever the answer: the bytes taken are those of a legal prefix. What was
   -- written are the encodings of the messages sent in it, all of them, or a front of them after IoError and want of
   -- memory.
-  pub told : refused_config input.config ≡ None → MovedBy link.old link.new (Tells input outcome)
+  pub told : refused_config input.config ≡ None → MovedBy link.old link.new (TellsSession input outcome)
   -- It is within the limit, in few calls.
   pub paced : MovedBy link.old link.new (KeepsPace limit link.old link.new)
   -- The link's end is answered at most once, behind it nothing is asked for any more. Then, whatever the answer, all that
@@ -61,12 +61,12 @@ pub record OverLink (input : Input) (limit : ℕ) (foretells : Type 0) (link : L
   pub flushed : refused_config input.config ≡ None → LeavesFlushed link.old link.new outcome
   -- Where nothing is demanded that is refused, it is a session by the record that laws cite: as that a dialogue which is
   -- given the same bytes puts out the same and answers the same.
-  pub session : refused_config input.config ≡ None → Session input limit link.old link.new outcome
+  pub session : refused_config input.config ≡ None → LinkSession input limit link.old link.new outcome
   -- Of a link that knows what is to come: the bytes taken are its front, and the end is answered behind the last byte.
   pub foreseen : foretells → Foreseen link.was link.is link.old link.new
-  pub ends : foretells → Ends link.is link.old link.new
+  pub ends : foretells → TapeEnds link.is link.old link.new
   -- Where nothing is demanded that is refused, the bytes to come are known and complete a transcript within the limit,
   -- and no call of the link failed, its report is the answer.
   pub reports : foretells → refused_config input.config ≡ None → (whole : List ℕ) → link.was ≡ Some whole
       → (segments : List (List Event)) → Completes input limit whole segments
-      → (Rose link.before link.now → ⊥) → Reports (report_of input segments) outcome
+      → (Rose link.before link.now → ⊥) → AnswersReport (report_of input segments) outcome

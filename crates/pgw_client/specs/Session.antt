@@ -7,7 +7,7 @@ use Rattle.pgw_backend.specs.declared.client_error.PgWireClientError.TheVariants
 use Rattle.pgw_session.specs.declared.types.SessionReport.{SessionReport}
 use Rattle.pgw_session.specs.Demands.{refused_config}
 use Rattle.pgw_session.specs.Input.{Input}
-use Rattle.pgw_session.specs.Failures.{Told, HasNoPlace, IsRefused, LeftWith, Unreadable, Unsendable, IsHopeless, IsUnfinished, WaitsStill}
+use Rattle.pgw_session.specs.Failures.{BytesTell, HasNoPlace, IsRefused, LeftWith, Unreadable, Unsendable, IsHopeless, IsUnfinished, WaitsStill}
 
 -- the count of faults never falls, and IoError is answered only where it rose
 pub record IoHasCause {T : Type 0} (before now : ℕ) (result : Result T ClientError) : Type 0 where
@@ -15,9 +15,9 @@ pub record IoHasCause {T : Type 0} (before now : ℕ) (result : Result T ClientE
   pub io : IsErrOf result client.IoError → Rose before now
 
 -- the answer is this report, or memory was wanting
-abbrev pub Reports : SessionReport → Result SessionReport ClientError → Type 0
-Reports report (Ok answer) = answer ≡ report
-Reports report (Err e) = e ≡ client.OutOfMemory
+abbrev pub AnswersReport : SessionReport → Result SessionReport ClientError → Type 0
+AnswersReport report (Ok answer) = answer ≡ report
+AnswersReport report (Err e) = e ≡ client.OutOfMemory
 
 -- no more was read than the limit, with one read more than bytes at most, and one write more than bytes
 pub record KeepsPace (limit : ℕ) (old new : Tape) (taken sent : List ℕ) : Type 0 where
@@ -34,16 +34,16 @@ LeavesUnsent (Err client.OutOfMemory) unsent = Unit {0}
 LeavesUnsent result unsent = unsent ≡ []
 
 -- what the bytes taken tell, and what was written of all that is to be sent by then
-abbrev pub Tells : Input → Result SessionReport ClientError → List ℕ → List ℕ → Type 0
-Tells input result taken sent = (unsent : List ℕ) × Told input taken (sent ++ unsent) × LeavesUnsent result unsent
+abbrev pub TellsSession : Input → Result SessionReport ClientError → List ℕ → List ℕ → Type 0
+TellsSession input result taken sent = (unsent : List ℕ) × BytesTell input taken (sent ++ unsent) × LeavesUnsent result unsent
 
 -- what a call wrote was flushed, if it wrote anything
-abbrev pub IsFlushed : Tape → Tape → Type 0
-IsFlushed old new = ((new.wrote ≡ old.wrote) × (new.flushed ≡ old.flushed)) ⊎ (new.flushed ≡ length new.wrote)
+abbrev pub FlushesSession : Tape → Tape → Type 0
+FlushesSession old new = ((new.wrote ≡ old.wrote) × (new.flushed ≡ old.flushed)) ⊎ (new.flushed ≡ length new.wrote)
 
 -- whatever the answer, but after IoError
 abbrev pub LeavesFlushed : {T : Type 0} → Tape → Tape → Result T ClientError → Type 0
-LeavesFlushed old new result = (IsErrOf result client.IoError → ⊥) → IsFlushed old new
+LeavesFlushed old new result = (IsErrOf result client.IoError → ⊥) → FlushesSession old new
 
 -- the link's end was not answered; or it was once, all that is written had been flushed, and a message was still awaited
 abbrev pub InLockstep : Input → Tape → Tape → Type 0
@@ -59,7 +59,7 @@ pub record HasEnded (limit : ℕ) (taken : List ℕ) (old new : Tape) : Type 0 w
 
 -- not all that the bytes taken make due was written and flushed; before is how many bytes were written before the call
 abbrev pub Unflushed : Input → List ℕ → List ℕ → ℕ → ℕ → Type 0
-Unflushed input taken sent before flushed = (unsent : List ℕ) × Told input taken (sent ++ unsent) × (flushed < before + length (sent ++ unsent))
+Unflushed input taken sent before flushed = (unsent : List ℕ) × BytesTell input taken (sent ++ unsent) × (flushed < before + length (sent ++ unsent))
 
 -- The cause of each error, where these bytes were taken and written. No other error comes.
 abbrev pub ErrorCause : Input → ℕ → Tape → Tape → List ℕ → List ℕ → ClientError → Type 0

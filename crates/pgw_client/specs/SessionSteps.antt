@@ -2,18 +2,18 @@
 -- claims on dialogues rest on it.
 use Rattle.std.specs.Prelude.{◌≡◌, ◌⊎◌, ◌<◌, ◌≤◌, ℕ, ◌+◌, List, [], ◌∷◌, ◌++◌, length, take, Some, Result, Ok, Err, IsErrOf, true, false, Bool}
 use Rattle.pgw_backend.specs.Front.{front, More}
-use Rattle.pgw_link.specs.Tape.{Tape, Took, Failed}
+use Rattle.pgw_link.specs.Tape.{Tape, Took, LinkFails}
 use Rattle.pgw_link.specs.Sending.{ReadsNothing}
 use Rattle.pgw_backend.specs.declared.client_error.PgWireClientError.{PgWireClientError as ClientError}
 use Rattle.pgw_backend.specs.declared.client_error.PgWireClientError.TheVariants as client
-use Rattle.pgw_course.specs.Course.{Begins, Course, Waits, Waiting, Over, sent_of}
+use Rattle.pgw_course.specs.Course.{Begins, Course, Waits, CourseWaits, Over, sent_of}
 use Rattle.pgw_session.specs.declared.types.SessionReport.{SessionReport}
 use Rattle.pgw_session.specs.declared.notes.Notes.{Notes}
 use Rattle.pgw_session.specs.Input.{Input}
 use Rattle.pgw_session.specs.Transcript.{report_of}
 use Rattle.pgw_session.specs.Machine.{End, Complete, error_of}
 use Rattle.pgw_session.specs.Talk.{Talk, Ending, conversation}
-use Rattle.pgw_dialogue.specs.Machine.{NotesCourse, IsWhole, notes_end, report_at, runs, talk_end}
+use Rattle.pgw_dialogue.specs.Machine.{NotesCourse, IsWholeEnd, notes_end, report_at, runs, talk_end}
 use Rattle.pgw_client.specs.Session.{HasEnded, LeavesFlushed}
 
 -- ---- single calls
@@ -21,7 +21,7 @@ use Rattle.pgw_client.specs.Session.{HasEnded, LeavesFlushed}
 -- why a read into a buffer failed: the link's, and nothing moved, or its bytes could not be kept
 abbrev pub FillFails : Tape → Tape → ℕ → ClientError → Type 0
 FillFails old new room e =
-    ((e ≡ client.IoError) × Failed old new (old.reads + 1) old.writes) ⊎ ((e ≡ client.OutOfMemory) × (piece : List ℕ) × (length piece ≤ room) × Took old new piece)
+    ((e ≡ client.IoError) × LinkFails old new (old.reads + 1) old.writes) ⊎ ((e ≡ client.OutOfMemory) × (piece : List ℕ) × (length piece ≤ room) × Took old new piece)
 
 abbrev pub Filled : Tape → Tape → List ℕ → List ℕ → ℕ → Result ℕ ClientError → Type 0
 Filled old new was now room (Ok n) = (piece : List ℕ) × (length piece ≡ n) × Took old new piece × (now ≡ was ++ piece)
@@ -38,25 +38,25 @@ pub data Stopping {N : Type 0} (course : Course N (End N)) (sent : List ℕ) (be
 -- Why a session did, where these bytes were taken; `means` says what the link's end means.
 pub data Reason {N : Type 0} (means : N → ClientError) (course : Course N (End N)) (sent : List ℕ) (before : ℕ) (taken : List ℕ) (limit : ℕ) (old new : Tape) (e : ClientError) : Type 0 where
   failed : Stopping course sent before new e → Reason means course sent before taken limit old new e
-  unread : e ≡ client.IoError → Waiting course sent → Reason means course sent before taken limit old new e
-  at_limit : e ≡ client.ReadLimit → Waiting course sent → length taken ≡ limit → Reason means course sent before taken limit old new e
+  unread : e ≡ client.IoError → CourseWaits course sent → Reason means course sent before taken limit old new e
+  at_limit : e ≡ client.ReadLimit → CourseWaits course sent → length taken ≡ limit → Reason means course sent before taken limit old new e
   at_end : (state : N) → (pending : List ℕ) → course ≡ Waits state sent pending → HasEnded limit taken old new → e ≡ means state → Reason means course sent before taken limit old new e
 
 -- the end was not answered; or it was once, all had been flushed, and the course waits
 abbrev pub Paused : {S R : Type 0} → Course S R → List ℕ → Tape → Tape → Type 0
 Paused course sent old new =
-    (new.ended ≡ old.ended) ⊎ ((new.ended ≡ old.ended ++ length new.wrote ∷ []) × Waiting course sent)
+    (new.ended ≡ old.ended) ⊎ ((new.ended ≡ old.ended ++ length new.wrote ∷ []) × CourseWaits course sent)
 
 -- ---- the messages at a buffer's front
 
 -- where the course has come, once they were taken
-abbrev pub Came : Input → NotesCourse → Notes → List ℕ → List ℕ → Bool → Type 0
-Came input course notes wrote rest true = (end : End Notes) × (course ≡ Over end wrote) × IsWhole end (report_at notes)
-Came input course notes wrote rest false = (course ≡ runs input notes wrote rest) × (front notes.standing.version rest ≡ More)
+abbrev pub SessionCameTo : Input → NotesCourse → Notes → List ℕ → List ℕ → Bool → Type 0
+SessionCameTo input course notes wrote rest true = (end : End Notes) × (course ≡ Over end wrote) × IsWholeEnd end (report_at notes)
+SessionCameTo input course notes wrote rest false = (course ≡ runs input notes wrote rest) × (front notes.standing.version rest ≡ More)
 
-pub record Settled (input : Input) (course : NotesCourse) (notes : Notes) (old new : Tape) (rest : List ℕ) (done : Bool) : Type 0 where
+pub record ClientSettles (input : Input) (course : NotesCourse) (notes : Notes) (old new : Tape) (rest : List ℕ) (done : Bool) : Type 0 where
   pub reads_nothing : ReadsNothing old new
-  pub came : Came input course notes new.wrote rest done
+  pub came : SessionCameTo input course notes new.wrote rest done
   pub flushed : new.flushed ≡ length new.wrote
   pub no_shorter : length old.wrote ≤ length new.wrote
   pub writes : new.writes + length old.wrote ≤ old.writes + length new.wrote
@@ -71,11 +71,11 @@ pub record Broke (course : NotesCourse) (old new : Tape) (e : ClientError) : Typ
 
 -- what taking them all leaves
 abbrev pub TookAll : Input → Notes → Notes → Tape → Tape → List ℕ → List ℕ → Result Bool ClientError → Type 0
-TookAll input old_notes notes old new old_buffer buffer (Ok done) = Settled input (runs input old_notes old.wrote old_buffer) notes old new buffer done
+TookAll input old_notes notes old new old_buffer buffer (Ok done) = ClientSettles input (runs input old_notes old.wrote old_buffer) notes old new buffer done
 TookAll input old_notes notes old new old_buffer buffer (Err e) = Broke (runs input old_notes old.wrote old_buffer) old new e
 
 -- on the way there: what is left in the buffer does the rest
-pub record Going (input : Input) (old_notes notes : Notes) (old new : Tape) (old_buffer buffer : List ℕ) : Type 0 where
+pub record ClientGoesOn (input : Input) (old_notes notes : Notes) (old new : Tape) (old_buffer buffer : List ℕ) : Type 0 where
   pub reads_nothing : ReadsNothing old new
   pub course : runs input old_notes old.wrote old_buffer ≡ runs input notes new.wrote buffer
   pub flushed : new.flushed ≡ length new.wrote
@@ -97,20 +97,20 @@ pub record Reading (input : Input) (old_notes notes : Notes) (old new : Tape) (b
   pub not_ended : new.ended ≡ old.ended
 
 -- why a session ended with an error
-pub record Because (course : NotesCourse) (taken : List ℕ) (limit : ℕ) (old new : Tape) (e : ClientError) : Type 0 where
+pub record SessionReason (course : NotesCourse) (taken : List ℕ) (limit : ℕ) (old new : Tape) (e : ClientError) : Type 0 where
   pub begins : Begins course new.wrote
   pub reason : Reason notes_end course new.wrote 0 taken limit old new e
 
-abbrev pub Answered : NotesCourse → Notes → List ℕ → ℕ → Tape → Tape → Result Unit ClientError → Type 0
-Answered course notes taken limit old new (Ok done) = (end : End Notes) × (course ≡ Over end new.wrote) × IsWhole end (report_at notes)
-Answered course notes taken limit old new (Err e) = Because course taken limit old new e
+abbrev pub SessionAnswers : NotesCourse → Notes → List ℕ → ℕ → Tape → Tape → Result Unit ClientError → Type 0
+SessionAnswers course notes taken limit old new (Ok done) = (end : End Notes) × (course ≡ Over end new.wrote) × IsWholeEnd end (report_at notes)
+SessionAnswers course notes taken limit old new (Err e) = SessionReason course taken limit old new e
 
 -- a session over a link, from its first read on
 pub record Conversed (input : Input) (old_notes notes : Notes) (limit : ℕ) (old new : Tape) (result : Result Unit ClientError) : Type 0 where
   pub taken : List ℕ
   pub took : new.took ≡ old.took ++ taken
   pub within : length taken ≤ limit
-  pub answered : Answered (runs input old_notes old.wrote taken) notes taken limit old new result
+  pub answered : SessionAnswers (runs input old_notes old.wrote taken) notes taken limit old new result
   pub flushed : (IsErrOf result client.IoError → ⊥) → new.flushed ≡ length new.wrote
   pub reads : new.reads ≤ old.reads + length taken + 1
   pub no_shorter : length old.wrote ≤ length new.wrote
@@ -122,18 +122,18 @@ pub record Caused (conv : Course Talk Ending) (taken : List ℕ) (limit : ℕ) (
   pub begins : Begins conv sent
   pub reason : Reason talk_end conv sent (length old.wrote) taken limit old new e
 
-abbrev pub Held : Input → Course Talk Ending → List ℕ → ℕ → List ℕ → Tape → Tape → Result SessionReport ClientError → Type 0
-Held input conv taken limit sent old new (Ok report) = (talk : Talk) × (conv ≡ Over (record { notes = talk; outcome = Complete }) sent) × (report ≡ report_of input talk.closed)
-Held input conv taken limit sent old new (Err e) = Caused conv taken limit sent old new e
+abbrev pub HoldsClientSession : Input → Course Talk Ending → List ℕ → ℕ → List ℕ → Tape → Tape → Result SessionReport ClientError → Type 0
+HoldsClientSession input conv taken limit sent old new (Ok report) = (talk : Talk) × (conv ≡ Over (record { notes = talk; outcome = Complete }) sent) × (report ≡ report_of input talk.closed)
+HoldsClientSession input conv taken limit sent old new (Err e) = Caused conv taken limit sent old new e
 
 -- what a session over a link leaves, whatever it answers: it took bytes and wrote others, as the conversation says
-pub record Session (input : Input) (limit : ℕ) (old new : Tape) (result : Result SessionReport ClientError) : Type 0 where
+pub record LinkSession (input : Input) (limit : ℕ) (old new : Tape) (result : Result SessionReport ClientError) : Type 0 where
   pub taken : List ℕ
   pub took : new.took ≡ old.took ++ taken
   pub within : length taken ≤ limit
   pub sent : List ℕ
   pub wrote : new.wrote ≡ old.wrote ++ sent
-  pub held : Held input (conversation input taken) taken limit sent old new result
+  pub held : HoldsClientSession input (conversation input taken) taken limit sent old new result
   pub reads : new.reads ≤ old.reads + length taken + 1
   pub writes : new.writes ≤ old.writes + length sent + 1
   pub paused : Paused (conversation input taken) sent old new

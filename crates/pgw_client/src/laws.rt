@@ -2,11 +2,11 @@
 ghost use Rattle.std.specs.Prelude.{◌≡◌, ℕ, List, ◌++◌, Option, Some, Result, IsErrOf};
 ghost use Rattle.pgw_backend.specs.declared.client_error.PgWireClientError.{PgWireClientError as ClientError};
 ghost use Rattle.pgw_backend.specs.declared.client_error.PgWireClientError.TheVariants as client;
-ghost use Rattle.pgw_client.specs.SessionSteps.{Session};
+ghost use Rattle.pgw_client.specs.SessionSteps.{LinkSession};
 ghost use Rattle.pgw_dialogue.specs.declared.dialogue.Dialogue.{Dialogue as TheDialogue};
 ghost use Rattle.pgw_dialogue.specs.Dialogue.{Agrees, IsStarved, Stands};
 ghost use Rattle.pgw_link.specs.Tape.{Tape as TheTape};
-ghost use Rattle.pgw_link.specs.Foresight.{Ends, Foreseen};
+ghost use Rattle.pgw_link.specs.Foresight.{TapeEnds, Foreseen};
 ghost use Rattle.pgw_session.specs.declared.types.SessionReport.{SessionReport as TheReport};
 ghost use Rattle.pgw_session.specs.Input.{Input as TheInput};
 
@@ -17,15 +17,15 @@ pub fn dialogues_are_sessions()
     ensures sent { (input : TheInput) (limit : ℕ) (old new : TheTape)
         (result : Result TheReport ClientError) →
         (d : TheDialogue) (given put : List ℕ) (left : Option (List ℕ)) →
-        Session input limit old new result →
-        Foreseen (Some given) left old new → Ends left old new →
+        LinkSession input limit old new result →
+        Foreseen (Some given) left old new → TapeEnds left old new →
         (IsErrOf result client.IoError → ⊥) → (IsErrOf result client.OutOfMemory → ⊥) →
         Stands input limit d given put → (IsStarved d → ⊥) → new.wrote ≡ old.wrote ++ put }
     ensures answered { (input : TheInput) (limit : ℕ) (old new : TheTape)
         (result : Result TheReport ClientError) →
         (d : TheDialogue) (given put : List ℕ) (left : Option (List ℕ)) →
-        Session input limit old new result →
-        Foreseen (Some given) left old new → Ends left old new →
+        LinkSession input limit old new result →
+        Foreseen (Some given) left old new → TapeEnds left old new →
         (IsErrOf result client.IoError → ⊥) → (IsErrOf result client.OutOfMemory → ⊥) →
         Stands input limit d given put → (IsStarved d → ⊥) → Agrees input limit d given result }
 {}

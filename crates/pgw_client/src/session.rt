@@ -1,8 +1,8 @@
 //! A session over a link.
 ghost use Rattle.std.specs.Prelude.{◌≡◌, ◌<◌, ◌≤◌, [], length, min, IfOk, IfErr, IfSome, IsErrOf, OnOk, OnErr};
 ghost use Rattle.std.specs.Io.KnownBytes.{Keeps};
-ghost use Rattle.pgw_link.specs.Tape.{HasCause};
-ghost use Rattle.pgw_link.specs.Foresight.{Ends, Foreseen};
+ghost use Rattle.pgw_link.specs.Tape.{HasTapeCause};
+ghost use Rattle.pgw_link.specs.Foresight.{TapeEnds, Foreseen};
 ghost use Rattle.pgw_link.specs.Sending.{ReadsNothing};
 ghost use Rattle.pgw_session.specs.Demands.{refused_config};
 ghost use Rattle.pgw_client.specs.Session.{IoHasCause};
@@ -10,7 +10,7 @@ ghost use Rattle.pgw_dialogue.specs.Wire.{IsNoDemand};
 ghost use Rattle.pgw_dialogue.specs.Input.{input_of};
 ghost use Rattle.pgw_session.specs.Input.{input_with};
 ghost use Rattle.pgw_client.specs.OverLink.{OverLink, link_span};
-ghost use Rattle.pgw_client.specs.SessionSteps.{Conversed, Filled, Session, TookAll};
+ghost use Rattle.pgw_client.specs.SessionSteps.{Conversed, Filled, LinkSession, TookAll};
 
 use bytes::BytesMut;
 use pgw_backend::client_error::{PgWireClientError, PgWireClientResult};
@@ -92,7 +92,7 @@ pub fn fill<L: Link>(
     ensures kept { L.plan link.new ≡ L.plan link.old }
     ensures foreseen { L.foretells → Foreseen (L.left link.old) (L.left link.new) (L.tape link.old)
         (L.tape link.new) }
-    ensures ends { L.foretells → Ends (L.left link.new) (L.tape link.old) (L.tape link.new) }
+    ensures ends { L.foretells → TapeEnds (L.left link.new) (L.tape link.old) (L.tape link.new) }
     ensures filled { Filled (L.tape link.old) (L.tape link.new) buffer.old buffer.new room result }
 {
     let size = chunk_size(room);
@@ -121,7 +121,7 @@ fn converse<L: Link>(
     ensures kept { L.plan link.new ≡ L.plan link.old }
     ensures foreseen { L.foretells → Foreseen (L.left link.old) (L.left link.new) (L.tape link.old)
         (L.tape link.new) }
-    ensures ends { L.foretells → Ends (L.left link.new) (L.tape link.old) (L.tape link.new) }
+    ensures ends { L.foretells → TapeEnds (L.left link.new) (L.tape link.old) (L.tape link.new) }
     ensures talks { (L.tape link.old).flushed ≡ length (L.tape link.old).wrote →
         Conversed (input_of input.now) notes.old notes.new limit (L.tape link.old) (L.tape link.new)
         result }
@@ -166,8 +166,8 @@ fn hold_session<L: Link>(
     ensures kept { L.plan link.new ≡ L.plan link.old }
     ensures foreseen { L.foretells → Foreseen (L.left link.old) (L.left link.new) (L.tape link.old)
         (L.tape link.new) }
-    ensures ends { L.foretells → Ends (L.left link.new) (L.tape link.old) (L.tape link.new) }
-    ensures session { Session (input_of input.now) limit (L.tape link.old) (L.tape link.new)
+    ensures ends { L.foretells → TapeEnds (L.left link.new) (L.tape link.old) (L.tape link.new) }
+    ensures session { LinkSession (input_of input.now) limit (L.tape link.old) (L.tape link.new)
         result }
 {
     let mut out = BytesMut::new(alloc);

@@ -12,5 +12,5 @@ phase_behind (frontend.SslNegotiation (negotiation.PostgresSsl m)) ctx = record 
 phase_behind (frontend.SslNegotiation (negotiation.PostgresGss m)) ctx = record ctx { awaiting_backend_gss_response = true }
 phase_behind m ctx = record ctx { awaiting_backend_ssl_response = false; awaiting_backend_gss_response = false }
 
-abbrev pub with_version : ProtocolVersion → DecodeContext → DecodeContext
-with_version version ctx = record ctx { protocol_version = version }
+abbrev pub with_codec_version : ProtocolVersion → DecodeContext → DecodeContext
+with_codec_version version ctx = record ctx { protocol_version = version }

@@ -6,7 +6,7 @@ ghost use Rattle.pgw_backend.specs.Backend.{backend_front};
 ghost use Rattle.pgw_backend.specs.Front.{SpellsIn};
 ghost use Rattle.pgw_backend.specs.declared.backend.PgWireBackendMessage.{PgWireBackendMessage as TheMessage};
 ghost use Rattle.pgw_frontend.specs.Frontend.{encoding};
-ghost use Rattle.pgw_codec.specs.Phase.{phase_behind, with_version};
+ghost use Rattle.pgw_codec.specs.Phase.{phase_behind, with_codec_version};
 
 use bytes::BytesMut;
 use pgw_backend::backend::PgWireBackendMessage;
@@ -49,7 +49,7 @@ impl PgWireMessageClientCodec {
 
     /// For the version that a server offers: no message that is read sets it.
     pub fn set_protocol_version(&mut self, version: ProtocolVersion)
-        ensures { self.new ≡ with_version version self.old }
+        ensures { self.new ≡ with_codec_version version self.old }
     {
         self.decode_context.protocol_version = version;
     }

@@ -34,30 +34,30 @@ no_options = record { passfile = None; timeout = None; format = None }
 
 -- ---- what stands behind an option: what it says, and the words behind that
 
-abbrev pub Parts : Type 0
-Parts = Options × List (List ℕ)
+abbrev pub WordParts : Type 0
+WordParts = Options × List (List ℕ)
 
-abbrev pub with_timeout : Options → List (List ℕ) → Option ℕ → Option Parts
+abbrev pub with_timeout : Options → List (List ℕ) → Option ℕ → Option WordParts
 with_timeout options rest None = None
 with_timeout options rest (Some seconds) = Some (record options { timeout = Some seconds }, rest)
 
-abbrev pub taken : Options → Flag → List (List ℕ) → Option Parts
-taken options (flag.Format f) rest = Some (record options { format = Some f }, rest)
-taken options flag.Passfile [] = None
-taken options flag.Passfile (path ∷ rest) = Some (record options { passfile = Some path }, rest)
-taken options flag.Timeout [] = None
-taken options flag.Timeout (number ∷ rest) = with_timeout options rest (seconds_in number)
-taken options flag.Unknown rest = None
-taken options flag.NoOption rest = None
+abbrev pub with_flag : Options → Flag → List (List ℕ) → Option WordParts
+with_flag options (flag.Format f) rest = Some (record options { format = Some f }, rest)
+with_flag options flag.Passfile [] = None
+with_flag options flag.Passfile (path ∷ rest) = Some (record options { passfile = Some path }, rest)
+with_flag options flag.Timeout [] = None
+with_flag options flag.Timeout (number ∷ rest) = with_timeout options rest (seconds_in number)
+with_flag options flag.Unknown rest = None
+with_flag options flag.NoOption rest = None
 
 -- ---- the options in front of words, and the words behind them; none where they are outside the
 -- grammar
 
 -- what a word is read as: the next option or other word, or what an option before it says
-pub data Awaits : Type 0 where
-  any : Awaits
-  path : Awaits
-  number : Awaits
+pub data AwaitedWord : Type 0 where
+  any : AwaitedWord
+  path : AwaitedWord
+  number : AwaitedWord
 
 -- whether a word is no option
 abbrev pub is_no_option : Flag → Bool
@@ -68,27 +68,27 @@ is_no_option (flag.Format f) = false
 is_no_option flag.Unknown = false
 
 -- the options so far go on with what stands behind, which the last argument reads
-abbrev pub going_on : Options → List ℕ → List (List ℕ) → Flag → (Awaits → Options
-    → Option Parts) → Option Parts
-going_on options word rest (flag.Format f) more = more any (record options { format = Some f })
-going_on options word rest flag.Passfile more = more path options
-going_on options word rest flag.Timeout more = more number options
-going_on options word rest flag.Unknown more = None
-going_on options word rest flag.NoOption more = Some (options, word ∷ rest)
+abbrev pub options_by_flag : Options → List ℕ → List (List ℕ) → Flag → (AwaitedWord → Options
+    → Option WordParts) → Option WordParts
+options_by_flag options word rest (flag.Format f) more = more any (record options { format = Some f })
+options_by_flag options word rest flag.Passfile more = more path options
+options_by_flag options word rest flag.Timeout more = more number options
+options_by_flag options word rest flag.Unknown more = None
+options_by_flag options word rest flag.NoOption more = Some (options, word ∷ rest)
 
-abbrev pub timed : Options → Option ℕ → (Options → Option Parts) → Option Parts
+abbrev pub timed : Options → Option ℕ → (Options → Option WordParts) → Option WordParts
 timed options None more = None
 timed options (Some seconds) more = more (record options { timeout = Some seconds })
 
-unfoldable pub read_as : Awaits → Options → List (List ℕ) → Option Parts
+unfoldable pub read_as : AwaitedWord → Options → List (List ℕ) → Option WordParts
 read_as any options [] = Some (options, [])
 read_as any options (word ∷ rest) =
-    going_on options word rest (flag_of word) (λ next o. read_as next o rest)
+    options_by_flag options word rest (flag_of word) (λ next o. read_as next o rest)
 read_as path options [] = None
 read_as path options (word ∷ rest) = read_as any (record options { passfile = Some word }) rest
 read_as number options [] = None
 read_as number options (word ∷ rest) =
     timed options (seconds_in word) (λ o. read_as any o rest)
 
-abbrev pub parted : Options → List (List ℕ) → Option Parts
+abbrev pub parted : Options → List (List ℕ) → Option WordParts
 parted options words = read_as any options words

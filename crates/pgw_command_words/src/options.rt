@@ -1,7 +1,7 @@
 //! The options in front of a command's other words.
 ghost use Rattle.std.specs.Prelude.{◌≡◌, map, option_map, string_bytes, IfOk, Some};
 ghost use Rattle.pgw_types.specs.Numbers.{number_in};
-ghost use Rattle.pgw_command_words.specs.Options.{flag_of as flag_for, is_no_option, no_options, parted, seconds_in, taken, with_timeout as timed};
+ghost use Rattle.pgw_command_words.specs.Options.{flag_of as flag_for, is_no_option, no_options, parted, seconds_in, with_flag, with_timeout as timed};
 ghost use Rattle.pgw_command_words.specs.Parting.{parts};
 
 use pgw_output::printer::RowFormat;
@@ -128,7 +128,7 @@ fn take<'a>(
     rest: &'a [String],
 ) -> Result<Option<Parted<'a>>, OutOfMemory>
     ensures { IfOk result (λ found. option_map parts found
-        ≡ taken options flag (map string_bytes rest.now)) }
+        ≡ with_flag options flag (map string_bytes rest.now)) }
 {
     match (flag, rest) {
         (Flag::Format(format), _) => {

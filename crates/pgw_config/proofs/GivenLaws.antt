@@ -10,15 +10,15 @@ use Rattle.pgw_types.specs.declared.config_error.ConfigError.{ConfigError}
 use Rattle.pgw_types.specs.Marks.{pieces_at}
 use Rattle.pgw_conninfo.specs.declared.part.Part.{Part}
 use Rattle.pgw_conninfo.specs.declared.part.Part.TheVariants as part
-use Rattle.pgw_config.specs.Choices.{with_value, ssl_mode_of, ssl_negotiation_of, target_of, channel_binding_of, load_balance_of}
+use Rattle.pgw_config.specs.Choices.{with_value, ssl_mode_of, ssl_negotiation_of, target_of_word, channel_binding_of, load_balance_of}
 use Rattle.pgw_config.specs.Config.{no_config, host_named}
 use Rattle.pgw_config.specs.HostAddr.{addr_of}
-use Rattle.pgw_config.specs.Keys.{is, text_key, choice_key, list_key, number_key, kind_or, key_of}
+use Rattle.pgw_config.specs.Keys.{is, text_key, choice_key, list_key, number_key, kind_or, setting_key}
 use Rattle.pgw_config.specs.Lists.{hosts_of, port_of}
 use Rattle.pgw_config.specs.Numbers.{signed_in, later_time, later_idle}
 use Rattle.pgw_config.specs.Pieces.{pushed, read_onto, all_read}
-use Rattle.pgw_config.specs.Settings.{taken, set_by, value_set, applied, next_applied, all_applied, with_text}
-use Rattle.pgw_config.specs.Given.{last_of, value_for, password_in, above_zero, time_in, is_not_zero, switch_in, hosts_in, hostaddrs_in, ports_in, Gives}
+use Rattle.pgw_config.specs.Settings.{config_or_invalid, set_by, value_set, applied, next_applied, all_applied, with_text}
+use Rattle.pgw_config.specs.Given.{last_of, value_for, password_in_part, above_zero, time_in, is_not_zero, switch_in, hosts_in_part, hostaddrs_in, ports_in, GivesConfig}
 use Rattle.pgw_config.specs.declared.config.Config.{Config}
 use Rattle.pgw_config.specs.declared.keys.Key.{Key}
 use Rattle.pgw_config.specs.declared.keys.Key.TheVariants as key
@@ -104,8 +104,8 @@ kind_word : {A : Type 0} (name : List ℕ) (make : A → Key) (o : Option A) (re
 kind_word name make None rest here there k e = there k e
 kind_word name make (Some x) rest here there k e = let same : make x ≡ k = cc in subst (λ (k : Key). name ≡ word_of k) same (here x refl)
 
-named : (name : List ℕ) (k : Key) → key_of name ≡ Some k → name ≡ word_of k
-unfolding key_of
+named : (name : List ℕ) (k : Key) → setting_key name ≡ Some k → name ≡ word_of k
+unfolding setting_key
 named name k e =
     kind_word name key.Text (text_key name) (kind_or key.Choice (choice_key name) (kind_or key.List (list_key name) (kind_or key.Number (number_key name) None))) (text_word name)
     (kind_word name key.Choice (choice_key name) (kind_or key.List (list_key name) (kind_or key.Number (number_key name) None)) (choice_word name)
@@ -148,7 +148,7 @@ only (key.Text text.Options) c new value e = let same : with_text c text.Options
 only (key.Text text.ApplicationName) c new value e = let same : with_text c text.ApplicationName value ≡ new = cc in subst (λ (n : Config). n ≡ merged (key.Text text.ApplicationName) c n) same refl
 only (key.Choice choice.SslMode) c new value e = let s = was_set (ssl_mode_of value) (λ x. record c { ssl_mode = x }) new e in subst (λ (n : Config). n ≡ merged (key.Choice choice.SslMode) c n) (sym s.2) refl
 only (key.Choice choice.SslNegotiation) c new value e = let s = was_set (ssl_negotiation_of value) (λ x. record c { ssl_negotiation = x }) new e in subst (λ (n : Config). n ≡ merged (key.Choice choice.SslNegotiation) c n) (sym s.2) refl
-only (key.Choice choice.TargetSessionAttrs) c new value e = let s = was_set (target_of value) (λ x. record c { target_session_attrs = x }) new e in subst (λ (n : Config). n ≡ merged (key.Choice choice.TargetSessionAttrs) c n) (sym s.2) refl
+only (key.Choice choice.TargetSessionAttrs) c new value e = let s = was_set (target_of_word value) (λ x. record c { target_session_attrs = x }) new e in subst (λ (n : Config). n ≡ merged (key.Choice choice.TargetSessionAttrs) c n) (sym s.2) refl
 only (key.Choice choice.ChannelBinding) c new value e = let s = was_set (channel_binding_of value) (λ x. record c { channel_binding = x }) new e in subst (λ (n : Config). n ≡ merged (key.Choice choice.ChannelBinding) c n) (sym s.2) refl
 only (key.Choice choice.LoadBalanceHosts) c new value e = let s = was_set (load_balance_of value) (λ x. record c { load_balance_hosts = x }) new e in subst (λ (n : Config). n ≡ merged (key.Choice choice.LoadBalanceHosts) c n) (sym s.2) refl
 only (key.List list.Host) c new value e = let same : record c { host = c.host ++ hosts_of (pieces_at 44 value) } ≡ new = cc in subst (λ (n : Config). n ≡ merged (key.List list.Host) c n) same refl
@@ -234,13 +234,13 @@ all_append gives (p ∷ parts) xs = all_append gives parts (xs ++ gives p) ∙ a
 
 -- a field is as a pair of each key makes it
 set_by_key : {A : Type 0} (f : Config → A) (by : Part → A → A) (c new : Config) (name value : List ℕ) (k : Key) (o : Option Config) → name ≡ word_of k → value_set c k value ≡ o
-    → (value_set c k value ≡ Some new → f new ≡ by (part.Pair (word_of k) value) (f c)) → taken name o ≡ Ok new → f new ≡ by (part.Pair name value) (f c)
+    → (value_set c k value ≡ Some new → f new ≡ by (part.Pair (word_of k) value) (f c)) → config_or_invalid name o ≡ Ok new → f new ≡ by (part.Pair name value) (f c)
 set_by_key f by c new name value k None word is keyed e = cc
 set_by_key f by c new name value k (Some d) word is keyed e =
     let same : d ≡ new = cc in
     subst (λ (word : List ℕ). f new ≡ by (part.Pair word value) (f c)) (sym word) (keyed (is ∙ ap Some same))
 
-pairs_by : {A : Type 0} (f : Config → A) (by : Part → A → A) (c new : Config) (name value : List ℕ) (o : Option Key) → key_of name ≡ o
+pairs_by : {A : Type 0} (f : Config → A) (by : Part → A → A) (c new : Config) (name value : List ℕ) (o : Option Key) → setting_key name ≡ o
     → ((k : Key) → value_set c k value ≡ Some new → f new ≡ by (part.Pair (word_of k) value) (f c)) → set_by c name value o ≡ Ok new → f new ≡ by (part.Pair name value) (f c)
 pairs_by f by c new name value None is keyed h = cc
 pairs_by f by c new name value (Some k) is keyed h = set_by_key f by c new name value k (value_set c k value) (named name k is) refl (keyed k) h
@@ -250,7 +250,7 @@ steps_by : {A : Type 0} (f : Config → A) (by : Part → A → A)
     → ((c : Config) (name : List ℕ) → (new : Config) → applied c (part.Host name) ≡ Ok new → f new ≡ by (part.Host name) (f c))
     → ((c : Config) (password : List ℕ) → (new : Config) → applied c (part.Password password) ≡ Ok new → f new ≡ by (part.Password password) (f c))
     → Steps f by
-steps_by f by keyed host password c new (part.Pair name value) h = pairs_by f by c new name value (key_of name) refl (λ k. keyed c new k value) h
+steps_by f by keyed host password c new (part.Pair name value) h = pairs_by f by c new name value (setting_key name) refl (λ k. keyed c new k value) h
 steps_by f by keyed host password c new (part.Host name) h = host c name new h
 steps_by f by keyed host password c new (part.Password p) h = password c p new h
 
@@ -292,7 +292,7 @@ application_name_keyed c new (key.List list.Host) value e = ap (λ d. d.applicat
 application_name_keyed c new (key.Number number.ConnectTimeout) value e = ap (λ d. d.application_name) (only (key.Number number.ConnectTimeout) c new value e)
 application_name_keyed c new k value e = ap (λ d. d.application_name) (only k c new value e)
 
-password_keyed : (c new : Config) (k : Key) (value : List ℕ) → value_set c k value ≡ Some new → new.password ≡ replaces_if password_in (part.Pair (word_of k) value) c.password
+password_keyed : (c new : Config) (k : Key) (value : List ℕ) → value_set c k value ≡ Some new → new.password ≡ replaces_if password_in_part (part.Pair (word_of k) value) c.password
 password_keyed c new (key.Text text.Password) value e = let same : with_text c text.Password value ≡ new = cc in ap (λ d. d.password) (sym same)
 password_keyed c new (key.Choice choice.SslMode) value e = ap (λ d. d.password) (only (key.Choice choice.SslMode) c new value e)
 password_keyed c new (key.List list.Host) value e = ap (λ d. d.password) (only (key.List list.Host) c new value e)
@@ -313,8 +313,8 @@ ssl_negotiation_keyed c new (key.List list.Host) value e = ap (λ d. d.ssl_negot
 ssl_negotiation_keyed c new (key.Number number.ConnectTimeout) value e = ap (λ d. d.ssl_negotiation) (only (key.Number number.ConnectTimeout) c new value e)
 ssl_negotiation_keyed c new k value e = ap (λ d. d.ssl_negotiation) (only k c new value e)
 
-target_session_attrs_keyed : (c new : Config) (k : Key) (value : List ℕ) → value_set c k value ≡ Some new → new.target_session_attrs ≡ replaces (λ p. option_and_then target_of (value_for (codes "target_session_attrs") p)) (part.Pair (word_of k) value) c.target_session_attrs
-target_session_attrs_keyed c new (key.Choice choice.TargetSessionAttrs) value e = let s = was_set (target_of value) (λ x. record c { target_session_attrs = x }) new e in ap (λ d. d.target_session_attrs) s.2 ∙ ap (λ o. unwrap_or o c.target_session_attrs) (sym s.1)
+target_session_attrs_keyed : (c new : Config) (k : Key) (value : List ℕ) → value_set c k value ≡ Some new → new.target_session_attrs ≡ replaces (λ p. option_and_then target_of_word (value_for (codes "target_session_attrs") p)) (part.Pair (word_of k) value) c.target_session_attrs
+target_session_attrs_keyed c new (key.Choice choice.TargetSessionAttrs) value e = let s = was_set (target_of_word value) (λ x. record c { target_session_attrs = x }) new e in ap (λ d. d.target_session_attrs) s.2 ∙ ap (λ o. unwrap_or o c.target_session_attrs) (sym s.1)
 target_session_attrs_keyed c new (key.Text text.User) value e = ap (λ d. d.target_session_attrs) (only (key.Text text.User) c new value e)
 target_session_attrs_keyed c new (key.List list.Host) value e = ap (λ d. d.target_session_attrs) (only (key.List list.Host) c new value e)
 target_session_attrs_keyed c new (key.Number number.ConnectTimeout) value e = ap (λ d. d.target_session_attrs) (only (key.Number number.ConnectTimeout) c new value e)
@@ -386,7 +386,7 @@ keepalives_retries_keyed c new (key.Choice choice.SslMode) value e = ap (λ d. d
 keepalives_retries_keyed c new (key.List list.Host) value e = ap (λ d. d.keepalives_retries) (only (key.List list.Host) c new value e)
 keepalives_retries_keyed c new k value e = ap (λ d. d.keepalives_retries) (only k c new value e)
 
-host_keyed : (c new : Config) (k : Key) (value : List ℕ) → value_set c k value ≡ Some new → new.host ≡ appends hosts_in (part.Pair (word_of k) value) c.host
+host_keyed : (c new : Config) (k : Key) (value : List ℕ) → value_set c k value ≡ Some new → new.host ≡ appends hosts_in_part (part.Pair (word_of k) value) c.host
 host_keyed c new (key.List list.Host) value e = let same : record c { host = c.host ++ hosts_of (pieces_at 44 value) } ≡ new = cc in ap (λ d. d.host) (sym same)
 host_keyed c new (key.Text text.User) value e = ap (λ d. d.host) (only (key.Text text.User) c new value e) ∙ sym (append-nil c.host)
 host_keyed c new (key.Choice choice.SslMode) value e = ap (λ d. d.host) (only (key.Choice choice.SslMode) c new value e) ∙ sym (append-nil c.host)
@@ -470,16 +470,16 @@ module _ (parts : List Part) (config : Config) (h : all_applied no_config parts 
   all_in : {A : Type 0} (f : Config → List A) (gives : Part → List A) → f no_config ≡ [] → Steps f (appends gives) → f config ≡ flat_map gives parts
   all_in f gives none steps = folds f (appends gives) steps parts no_config config h ∙ all_append gives parts (f no_config) ∙ ap (λ xs. xs ++ flat_map gives parts) none
 
-  pub gives : Gives parts config
+  pub gives : GivesConfig parts config
   gives = record {
     user = last_text (λ c. c.user) (value_for (codes "user")) refl (steps_by (λ c. c.user) (replaces_if (value_for (codes "user"))) user_keyed (λ c name new h. host_keeps (λ d. d.user) c name new refl h) (λ c p new h. password_keeps (λ d. d.user) c p new refl h));
-    password = last_text (λ c. c.password) password_in refl (steps_by (λ c. c.password) (replaces_if password_in) password_keyed (λ c name new h. host_keeps (λ d. d.password) c name new refl h) (λ c p new h. let same : record c { password = Some p } ≡ new = cc in ap (λ d. d.password) (sym same)));
+    password = last_text (λ c. c.password) password_in_part refl (steps_by (λ c. c.password) (replaces_if password_in_part) password_keyed (λ c name new h. host_keeps (λ d. d.password) c name new refl h) (λ c p new h. let same : record c { password = Some p } ≡ new = cc in ap (λ d. d.password) (sym same)));
     dbname = last_text (λ c. c.dbname) (value_for (codes "dbname")) refl (steps_by (λ c. c.dbname) (replaces_if (value_for (codes "dbname"))) dbname_keyed (λ c name new h. host_keeps (λ d. d.dbname) c name new refl h) (λ c p new h. password_keeps (λ d. d.dbname) c p new refl h));
     options = last_text (λ c. c.options) (value_for (codes "options")) refl (steps_by (λ c. c.options) (replaces_if (value_for (codes "options"))) options_keyed (λ c name new h. host_keeps (λ d. d.options) c name new refl h) (λ c p new h. password_keeps (λ d. d.options) c p new refl h));
     application_name = last_text (λ c. c.application_name) (value_for (codes "application_name")) refl (steps_by (λ c. c.application_name) (replaces_if (value_for (codes "application_name"))) application_name_keyed (λ c name new h. host_keeps (λ d. d.application_name) c name new refl h) (λ c p new h. password_keeps (λ d. d.application_name) c p new refl h));
     ssl_mode = last_value (λ c. c.ssl_mode) ssl_mode_of (value_for (codes "sslmode")) (steps_by (λ c. c.ssl_mode) (replaces (λ p. option_and_then ssl_mode_of (value_for (codes "sslmode") p))) ssl_mode_keyed (λ c name new h. host_keeps (λ d. d.ssl_mode) c name new refl h) (λ c p new h. password_keeps (λ d. d.ssl_mode) c p new refl h));
     ssl_negotiation = last_value (λ c. c.ssl_negotiation) ssl_negotiation_of (value_for (codes "sslnegotiation")) (steps_by (λ c. c.ssl_negotiation) (replaces (λ p. option_and_then ssl_negotiation_of (value_for (codes "sslnegotiation") p))) ssl_negotiation_keyed (λ c name new h. host_keeps (λ d. d.ssl_negotiation) c name new refl h) (λ c p new h. password_keeps (λ d. d.ssl_negotiation) c p new refl h));
-    host = all_in (λ c. c.host) hosts_in refl (steps_by (λ c. c.host) (appends hosts_in) host_keyed (λ c name new h. let same : record c { host = c.host ++ host_named name ∷ [] } ≡ new = cc in ap (λ d. d.host) (sym same)) (λ c p new h. password_keeps (λ d. d.host) c p new refl h ∙ sym (append-nil c.host)));
+    host = all_in (λ c. c.host) hosts_in_part refl (steps_by (λ c. c.host) (appends hosts_in_part) host_keyed (λ c name new h. let same : record c { host = c.host ++ host_named name ∷ [] } ≡ new = cc in ap (λ d. d.host) (sym same)) (λ c p new h. password_keeps (λ d. d.host) c p new refl h ∙ sym (append-nil c.host)));
     hostaddr = all_in (λ c. c.hostaddr) hostaddrs_in refl (steps_by (λ c. c.hostaddr) (appends hostaddrs_in) hostaddr_keyed (λ c name new h. host_keeps (λ d. d.hostaddr) c name new refl h ∙ sym (append-nil c.hostaddr)) (λ c p new h. password_keeps (λ d. d.hostaddr) c p new refl h ∙ sym (append-nil c.hostaddr)));
     port = all_in (λ c. c.port) ports_in refl (steps_by (λ c. c.port) (appends ports_in) port_keyed (λ c name new h. host_keeps (λ d. d.port) c name new refl h ∙ sym (append-nil c.port)) (λ c p new h. password_keeps (λ d. d.port) c p new refl h ∙ sym (append-nil c.port)));
     connect_timeout = last_some (λ c. c.connect_timeout) time_in (value_for (codes "connect_timeout")) refl (steps_by (λ c. c.connect_timeout) (replaces_if (λ p. option_and_then time_in (value_for (codes "connect_timeout") p))) connect_timeout_keyed (λ c name new h. host_keeps (λ d. d.connect_timeout) c name new refl h) (λ c p new h. password_keeps (λ d. d.connect_timeout) c p new refl h));
@@ -488,7 +488,7 @@ module _ (parts : List Part) (config : Config) (h : all_applied no_config parts 
     keepalives_idle = last_value (λ c. c.keepalives_idle) time_in (value_for (codes "keepalives_idle")) (steps_by (λ c. c.keepalives_idle) (replaces (λ p. option_and_then time_in (value_for (codes "keepalives_idle") p))) keepalives_idle_keyed (λ c name new h. host_keeps (λ d. d.keepalives_idle) c name new refl h) (λ c p new h. password_keeps (λ d. d.keepalives_idle) c p new refl h));
     keepalives_interval = last_some (λ c. c.keepalives_interval) time_in (value_for (codes "keepalives_interval")) refl (steps_by (λ c. c.keepalives_interval) (replaces_if (λ p. option_and_then time_in (value_for (codes "keepalives_interval") p))) keepalives_interval_keyed (λ c name new h. host_keeps (λ d. d.keepalives_interval) c name new refl h) (λ c p new h. password_keeps (λ d. d.keepalives_interval) c p new refl h));
     keepalives_retries = last_some (λ c. c.keepalives_retries) (number_in 32) (value_for (codes "keepalives_retries")) refl (steps_by (λ c. c.keepalives_retries) (replaces_if (λ p. option_and_then (number_in 32) (value_for (codes "keepalives_retries") p))) keepalives_retries_keyed (λ c name new h. host_keeps (λ d. d.keepalives_retries) c name new refl h) (λ c p new h. password_keeps (λ d. d.keepalives_retries) c p new refl h));
-    target_session_attrs = last_value (λ c. c.target_session_attrs) target_of (value_for (codes "target_session_attrs")) (steps_by (λ c. c.target_session_attrs) (replaces (λ p. option_and_then target_of (value_for (codes "target_session_attrs") p))) target_session_attrs_keyed (λ c name new h. host_keeps (λ d. d.target_session_attrs) c name new refl h) (λ c p new h. password_keeps (λ d. d.target_session_attrs) c p new refl h));
+    target_session_attrs = last_value (λ c. c.target_session_attrs) target_of_word (value_for (codes "target_session_attrs")) (steps_by (λ c. c.target_session_attrs) (replaces (λ p. option_and_then target_of_word (value_for (codes "target_session_attrs") p))) target_session_attrs_keyed (λ c name new h. host_keeps (λ d. d.target_session_attrs) c name new refl h) (λ c p new h. password_keeps (λ d. d.target_session_attrs) c p new refl h));
     channel_binding = last_value (λ c. c.channel_binding) channel_binding_of (value_for (codes "channel_binding")) (steps_by (λ c. c.channel_binding) (replaces (λ p. option_and_then channel_binding_of (value_for (codes "channel_binding") p))) channel_binding_keyed (λ c name new h. host_keeps (λ d. d.channel_binding) c name new refl h) (λ c p new h. password_keeps (λ d. d.channel_binding) c p new refl h));
     load_balance_hosts = last_value (λ c. c.load_balance_hosts) load_balance_of (value_for (codes "load_balance_hosts")) (steps_by (λ c. c.load_balance_hosts) (replaces (λ p. option_and_then load_balance_of (value_for (codes "load_balance_hosts") p))) load_balance_hosts_keyed (λ c name new h. host_keeps (λ d. d.load_balance_hosts) c name new refl h) (λ c p new h. password_keeps (λ d. d.load_balance_hosts) c p new refl h));
     certificate_hash = folds (λ c. c.certificate_hash) (λ p x. x) (steps_by (λ c. c.certificate_hash) (λ p x. x) certificate_hash_keyed (λ c name new h. host_keeps (λ d. d.certificate_hash) c name new refl h) (λ c p new h. password_keeps (λ d. d.certificate_hash) c p new refl h)) parts no_config config h ∙ stays None parts;

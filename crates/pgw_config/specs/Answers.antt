@@ -4,9 +4,9 @@ use Rattle.pgw_types.specs.declared.config_error.ConfigError.{ConfigError}
 use Rattle.pgw_types.specs.declared.config_error.ConfigError.TheVariants.{InvalidConfig, UnknownConfig, OutOfMemory}
 
 -- the answer is this value, or this refusal, or memory ran out
-abbrev pub Answers : {A : Type 0} → Result A ConfigError → Result A ConfigError → Type 0
-Answers (Ok x) answer = answer ≡ Ok x
-Answers (Err e) answer = e ≢ OutOfMemory → answer ≡ Err e
+abbrev pub IsConfigAnswer : {A : Type 0} → Result A ConfigError → Result A ConfigError → Type 0
+IsConfigAnswer (Ok x) answer = answer ≡ Ok x
+IsConfigAnswer (Err e) answer = e ≢ OutOfMemory → answer ≡ Err e
 
 -- the error says that this key's value does not do, or memory ran out
 abbrev pub IsInvalid : List ℕ → ConfigError → Type 0

@@ -28,8 +28,8 @@ ssl_negotiation_of word =
     else if is word (codes "direct") then Some ssl_negotiation.Direct
     else None
 
-unfoldable pub target_of : List ℕ → Option TargetSessionAttrs
-target_of word =
+unfoldable pub target_of_word : List ℕ → Option TargetSessionAttrs
+target_of_word word =
     if is word (codes "any") then Some target.Any
     else if is word (codes "read-write") then Some target.ReadWrite
     else if is word (codes "read-only") then Some target.ReadOnly
@@ -57,6 +57,6 @@ with_value (Some x) set = Some (set x)
 abbrev pub with_choice : Config → ChoiceKey → List ℕ → Option Config
 with_choice config choice.SslMode word = with_value (ssl_mode_of word) (λ x. record config { ssl_mode = x })
 with_choice config choice.SslNegotiation word = with_value (ssl_negotiation_of word) (λ x. record config { ssl_negotiation = x })
-with_choice config choice.TargetSessionAttrs word = with_value (target_of word) (λ x. record config { target_session_attrs = x })
+with_choice config choice.TargetSessionAttrs word = with_value (target_of_word word) (λ x. record config { target_session_attrs = x })
 with_choice config choice.ChannelBinding word = with_value (channel_binding_of word) (λ x. record config { channel_binding = x })
 with_choice config choice.LoadBalanceHosts word = with_value (load_balance_of word) (λ x. record config { load_balance_hosts = x })

@@ -6,7 +6,7 @@ use Rattle.pgw_types.specs.Numbers.{number_in}
 use Rattle.pgw_types.specs.Marks.{pieces_at}
 use Rattle.pgw_conninfo.specs.declared.part.Part.{Part}
 use Rattle.pgw_conninfo.specs.declared.part.Part.TheVariants as part
-use Rattle.pgw_config.specs.Choices.{ssl_mode_of, ssl_negotiation_of, target_of, channel_binding_of, load_balance_of}
+use Rattle.pgw_config.specs.Choices.{ssl_mode_of, ssl_negotiation_of, target_of_word, channel_binding_of, load_balance_of}
 use Rattle.pgw_config.specs.Config.{host_named}
 use Rattle.pgw_config.specs.HostAddr.{addr_of}
 use Rattle.pgw_config.specs.Keys.{is}
@@ -36,14 +36,14 @@ value_for word (part.Pair name value) = if is name word then Some value else Non
 value_for word (part.Host name) = None
 value_for word (part.Password password) = None
 
-abbrev pub values_of : List ℕ → List Part → List (List ℕ)
-values_of word parts = filter_map (value_for word) parts
+abbrev pub part_values : List ℕ → List Part → List (List ℕ)
+part_values word parts = filter_map (value_for word) parts
 
 -- a password, of a pair or of a URL's credentials
-abbrev pub password_in : Part → Option (List ℕ)
-password_in (part.Pair name value) = value_for (codes "password") (part.Pair name value)
-password_in (part.Host name) = None
-password_in (part.Password password) = Some password
+abbrev pub password_in_part : Part → Option (List ℕ)
+password_in_part (part.Pair name value) = value_for (codes "password") (part.Pair name value)
+password_in_part (part.Host name) = None
+password_in_part (part.Password password) = Some password
 
 -- ---- what a value writes
 
@@ -67,10 +67,10 @@ switch_in value = is_not_zero (number_in 64 value)
 
 -- ---- lists
 
-abbrev pub hosts_in : Part → List Host
-hosts_in (part.Pair name value) = if is name (codes "host") then hosts_of (pieces_at 44 value) else []
-hosts_in (part.Host name) = host_named name ∷ []
-hosts_in (part.Password password) = []
+abbrev pub hosts_in_part : Part → List Host
+hosts_in_part (part.Pair name value) = if is name (codes "host") then hosts_of (pieces_at 44 value) else []
+hosts_in_part (part.Host name) = host_named name ∷ []
+hosts_in_part (part.Password password) = []
 
 abbrev pub hostaddrs_in : Part → List HostAddr
 hostaddrs_in (part.Pair name value) = if is name (codes "hostaddr") then unwrap_or (all_read addr_of (pieces_at 44 value)) [] else []
@@ -86,18 +86,18 @@ ports_in (part.Password password) = []
 
 -- what the values of a key write, the last one
 abbrev pub last_in : {A : Type 0} → (List ℕ → Option A) → List ℕ → List Part → Option A
-last_in read word parts = last_of (filter_map read (values_of word parts))
+last_in read word parts = last_of (filter_map read (part_values word parts))
 
 -- the configuration that these parts give
-pub record Gives (parts : List Part) (config : Config) : Type 0 where
-  pub user : config.user ≡ last_of (values_of (codes "user") parts)
-  pub password : config.password ≡ last_of (filter_map password_in parts)
-  pub dbname : config.dbname ≡ last_of (values_of (codes "dbname") parts)
-  pub options : config.options ≡ last_of (values_of (codes "options") parts)
-  pub application_name : config.application_name ≡ last_of (values_of (codes "application_name") parts)
+pub record GivesConfig (parts : List Part) (config : Config) : Type 0 where
+  pub user : config.user ≡ last_of (part_values (codes "user") parts)
+  pub password : config.password ≡ last_of (filter_map password_in_part parts)
+  pub dbname : config.dbname ≡ last_of (part_values (codes "dbname") parts)
+  pub options : config.options ≡ last_of (part_values (codes "options") parts)
+  pub application_name : config.application_name ≡ last_of (part_values (codes "application_name") parts)
   pub ssl_mode : config.ssl_mode ≡ unwrap_or (last_in ssl_mode_of (codes "sslmode") parts) ssl_mode.Prefer
   pub ssl_negotiation : config.ssl_negotiation ≡ unwrap_or (last_in ssl_negotiation_of (codes "sslnegotiation") parts) ssl_negotiation.Postgres
-  pub host : config.host ≡ flat_map hosts_in parts
+  pub host : config.host ≡ flat_map hosts_in_part parts
   pub hostaddr : config.hostaddr ≡ flat_map hostaddrs_in parts
   pub port : config.port ≡ flat_map ports_in parts
   pub connect_timeout : config.connect_timeout ≡ last_in time_in (codes "connect_timeout") parts
@@ -106,7 +106,7 @@ pub record Gives (parts : List Part) (config : Config) : Type 0 where
   pub keepalives_idle : config.keepalives_idle ≡ unwrap_or (last_in time_in (codes "keepalives_idle") parts) 7200
   pub keepalives_interval : config.keepalives_interval ≡ last_in time_in (codes "keepalives_interval") parts
   pub keepalives_retries : config.keepalives_retries ≡ last_in (number_in 32) (codes "keepalives_retries") parts
-  pub target_session_attrs : config.target_session_attrs ≡ unwrap_or (last_in target_of (codes "target_session_attrs") parts) target.Any
+  pub target_session_attrs : config.target_session_attrs ≡ unwrap_or (last_in target_of_word (codes "target_session_attrs") parts) target.Any
   pub channel_binding : config.channel_binding ≡ unwrap_or (last_in channel_binding_of (codes "channel_binding") parts) channel_binding.Prefer
   pub certificate_hash : config.certificate_hash ≡ None
   pub load_balance_hosts : config.load_balance_hosts ≡ unwrap_or (last_in load_balance_of (codes "load_balance_hosts") parts) load_balance.Disable

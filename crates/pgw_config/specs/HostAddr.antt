@@ -38,29 +38,29 @@ group_of text = if nat_lt (length text) 5 then digits_in 16 16 text else None
 abbrev pub as_groups : List ℕ → List ℕ
 as_groups octets = (256 * slice_index octets 0 + slice_index octets 1) ∷ (256 * slice_index octets 2 + slice_index octets 3) ∷ []
 
-abbrev pub joined : Option (List ℕ) → Option (List ℕ) → Option (List ℕ)
-joined None ys = None
-joined (Some xs) None = None
-joined (Some xs) (Some ys) = Some (xs ++ ys)
+abbrev pub groups_with_last : Option (List ℕ) → Option (List ℕ) → Option (List ℕ)
+groups_with_last None ys = None
+groups_with_last (Some xs) None = None
+groups_with_last (Some xs) (Some ys) = Some (xs ++ ys)
 
 -- the last piece may be an IPv4 text
 abbrev pub last_by : List ℕ → Option (List ℕ) → Option (List ℕ)
 last_by piece None = pushed (Some []) (group_of piece)
 last_by piece (Some octets) = Some (as_groups octets)
 
-abbrev pub last_of : List (List ℕ) → Option (List ℕ)
-last_of [] = Some []
-last_of (piece ∷ pieces) = last_by piece (v4_of piece)
+abbrev pub last_group : List (List ℕ) → Option (List ℕ)
+last_group [] = Some []
+last_group (piece ∷ pieces) = last_by piece (v4_of piece)
 
 -- the groups at the end of an address
 unfoldable pub tail_of : List (List ℕ) → Option (List ℕ)
-tail_of pieces = joined (all_read group_of (take (length pieces - 1) pieces)) (last_of (drop (length pieces - 1) pieces))
+tail_of pieces = groups_with_last (all_read group_of (take (length pieces - 1) pieces)) (last_group (drop (length pieces - 1) pieces))
 
 -- what may stand behind `::`: nothing, or groups
-abbrev pub end_of : List (List ℕ) → Option (List ℕ)
-end_of [] = None
-end_of ([] ∷ []) = Some []
-end_of (piece ∷ pieces) = tail_of (piece ∷ pieces)
+abbrev pub behind_colons : List (List ℕ) → Option (List ℕ)
+behind_colons [] = None
+behind_colons ([] ∷ []) = Some []
+behind_colons (piece ∷ pieces) = tail_of (piece ∷ pieces)
 
 abbrev pub zeros : List ℕ
 zeros = 0 ∷ 0 ∷ 0 ∷ 0 ∷ 0 ∷ 0 ∷ 0 ∷ 0 ∷ []
@@ -76,11 +76,11 @@ filled (Some front) (Some back) =
 abbrev pub cut_by : List (List ℕ) → Option ℕ → Option (List ℕ)
 cut_by pieces None = tail_of pieces
 cut_by pieces (Some zero) = None
-cut_by pieces (Some (suc i)) = filled (all_read group_of (take (suc i) pieces)) (end_of (drop (suc i + 1) pieces))
+cut_by pieces (Some (suc i)) = filled (all_read group_of (take (suc i) pieces)) (behind_colons (drop (suc i + 1) pieces))
 
 -- the pieces between colons; two empty ones are a `::` at the front
 abbrev pub groups_of : List (List ℕ) → Option (List ℕ)
-groups_of ([] ∷ [] ∷ back) = filled (Some []) (end_of back)
+groups_of ([] ∷ [] ∷ back) = filled (Some []) (behind_colons back)
 groups_of pieces = cut_by pieces (position (λ piece. length piece == 0) pieces)
 
 unfoldable pub v6_of : List ℕ → Option (List ℕ)

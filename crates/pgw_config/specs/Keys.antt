@@ -56,8 +56,8 @@ abbrev pub kind_or : {A : Type 0} → (A → Key) → Option A → Option Key �
 kind_or make None rest = rest
 kind_or make (Some key) rest = Some (make key)
 
-unfoldable pub key_of : List ℕ → Option Key
-key_of name =
+unfoldable pub setting_key : List ℕ → Option Key
+setting_key name =
     kind_or key.Text (text_key name)
     (kind_or key.Choice (choice_key name)
     (kind_or key.List (list_key name)

@@ -11,15 +11,15 @@ use Rattle.pgw_config.specs.Settings.{next_applied, all_applied}
 use Rattle.pgw_config.specs.declared.config.Config.{Config}
 
 -- what a text whose parts end so answers, where no part was refused
-abbrev pub ended_by : Option Fault → Config → Result Config ConfigError
-ended_by None config = Ok config
-ended_by (Some fault.Syntax) config = Err (InvalidConfig (codes "syntax"))
-ended_by (Some fault.Host) config = Err (InvalidConfig (codes "host"))
-ended_by (Some (fault.NotUtf8 bytes)) config = Err (InvalidUtf8ConfigValue bytes)
+abbrev pub parse_result : Option Fault → Config → Result Config ConfigError
+parse_result None config = Ok config
+parse_result (Some fault.Syntax) config = Err (InvalidConfig (codes "syntax"))
+parse_result (Some fault.Host) config = Err (InvalidConfig (codes "host"))
+parse_result (Some (fault.NotUtf8 bytes)) config = Err (InvalidUtf8ConfigValue bytes)
 
 -- the first faulty part decides; behind all parts a fault of form
 abbrev pub outcome_of : Cut → Result Config ConfigError
-outcome_of cut = next_applied (ended_by cut.fault) (all_applied no_config cut.parts)
+outcome_of cut = next_applied (parse_result cut.fault) (all_applied no_config cut.parts)
 
 -- the text is cut into parts that have this outcome
 abbrev pub HasOutcome : List ℕ → Result Config ConfigError → Type 0

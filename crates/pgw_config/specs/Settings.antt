@@ -2,7 +2,7 @@
 use Rattle.std.specs.Prelude.{ℕ, List, [], ◌∷◌, ◌++◌, Option, Some, None, Result, Ok, Err}
 use Rattle.pgw_types.specs.declared.config_error.ConfigError.{ConfigError}
 use Rattle.pgw_types.specs.declared.config_error.ConfigError.TheVariants.{InvalidConfig, UnknownConfig}
-use Rattle.pgw_config.specs.Keys.{key_of}
+use Rattle.pgw_config.specs.Keys.{setting_key}
 use Rattle.pgw_config.specs.Choices.{with_choice}
 use Rattle.pgw_config.specs.Numbers.{with_number}
 use Rattle.pgw_config.specs.Lists.{with_list}
@@ -31,16 +31,16 @@ value_set config (key.List k) value = with_list config k value
 value_set config (key.Number k) value = with_number config k value
 
 -- a value that the key does not take is refused by the key's name
-abbrev pub taken : List ℕ → Option Config → Result Config ConfigError
-taken name None = Err (InvalidConfig name)
-taken name (Some config) = Ok config
+abbrev pub config_or_invalid : List ℕ → Option Config → Result Config ConfigError
+config_or_invalid name None = Err (InvalidConfig name)
+config_or_invalid name (Some config) = Ok config
 
 abbrev pub set_by : Config → List ℕ → List ℕ → Option Key → Result Config ConfigError
 set_by config name value None = Err (UnknownConfig name)
-set_by config name value (Some k) = taken name (value_set config k value)
+set_by config name value (Some k) = config_or_invalid name (value_set config k value)
 
 abbrev pub pair_set : Config → List ℕ → List ℕ → Result Config ConfigError
-pair_set config name value = set_by config name value (key_of name)
+pair_set config name value = set_by config name value (setting_key name)
 
 abbrev pub applied : Config → Part → Result Config ConfigError
 applied config (part.Pair name value) = pair_set config name value

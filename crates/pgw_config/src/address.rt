@@ -1,7 +1,7 @@
 //! Where a configuration connects to.
 ghost use Rattle.std.specs.Prelude.{◌≡◌, IfOk};
 ghost use Rattle.pgw_config.specs.Address.{first_port, socket, address_of};
-ghost use Rattle.pgw_config.specs.Answers.{Answers, IsInvalid};
+ghost use Rattle.pgw_config.specs.Answers.{IsConfigAnswer, IsInvalid};
 
 use crate::config::{Config, Host};
 pub use pgw_types::address::Address;
@@ -43,7 +43,7 @@ impl Config {
     /// The first address and the first port, else the first host and the first port, else
     /// `InvalidConfig("host")`.
     pub fn address(&self, alloc: Global) -> ConfigResult<Address>
-        ensures { Answers result (address_of self.now) }
+        ensures { IsConfigAnswer result (address_of self.now) }
     {
         let port = self.first_port();
         if let [addr, ..] = self.hostaddr.as_slice() {

@@ -1,7 +1,7 @@
 //! The words that a choice of a configuration is written by.
 ghost use Rattle.std.specs.Prelude.{◌≡◌, Some, None, if◌then◌else◌};
 ghost use Rattle.pgw_config.specs.declared.config.Config.{Config as TheConfig};
-ghost use Rattle.pgw_config.specs.Choices.{ssl_mode_of, ssl_negotiation_of, target_of, channel_binding_of, load_balance_of, with_value, with_choice};
+ghost use Rattle.pgw_config.specs.Choices.{ssl_mode_of, ssl_negotiation_of, target_of_word, channel_binding_of, load_balance_of, with_value, with_choice};
 
 use crate::config::{
     ChannelBinding, Config, LoadBalanceHosts, SslMode, SslNegotiation, TargetSessionAttrs,
@@ -36,9 +36,9 @@ fn ssl_negotiation_in(word: &str) -> Option<SslNegotiation>
     }
 }
 
-#[tactic(auto, unfolding(crate::specs::Choices::target_of))]
+#[tactic(auto, unfolding(crate::specs::Choices::target_of_word))]
 fn target_in(word: &str) -> Option<TargetSessionAttrs>
-    ensures { result ≡ target_of word.now }
+    ensures { result ≡ target_of_word word.now }
 {
     if word == "any" {
         Some(TargetSessionAttrs::Any)

@@ -2,7 +2,7 @@
 ghost use Rattle.std.specs.Prelude.{◌≡◌, ◌+◌, ◌++◌, ◌==◌, ◌<◌, IfOk, OnOk, IfSome, Some, length, slice_index};
 ghost use Rattle.std.specs.List.{position};
 ghost use Rattle.pgw_config.specs.Pieces.{all_read};
-ghost use Rattle.pgw_config.specs.HostAddr.{digits_in, exactly, octet_of, v4_of, group_of, as_groups, tail_of, last_of, end_of, cut_by, filled, groups_of, v6_of, addr_of};
+ghost use Rattle.pgw_config.specs.HostAddr.{digits_in, exactly, octet_of, v4_of, group_of, as_groups, tail_of, last_group, behind_colons, cut_by, filled, groups_of, v6_of, addr_of};
 
 use crate::config::HostAddr;
 use crate::lists::{pieces, with_next};
@@ -102,7 +102,7 @@ fn as_groups(alloc: Global, octets: [u8; 4]) -> Result<Listed<u16>, OutOfMemory>
 
 // The groups of the last piece, which may be an IPv4 text.
 fn read_last(alloc: Global, texts: &[Text]) -> Result<Option<Listed<u16>>, OutOfMemory>
-    ensures { IfOk result (λ r. r ≡ last_of texts.now) }
+    ensures { IfOk result (λ r. r ≡ last_group texts.now) }
 {
     let Some(text) = texts.first() else {
         return Ok(Some(Listed::new(alloc)));
@@ -139,7 +139,7 @@ fn read_tail(alloc: Global, texts: &[Text]) -> Result<Option<Listed<u16>>, OutOf
 
 // What stands behind a `::`.
 fn read_end(alloc: Global, texts: &[Text]) -> Result<Option<Listed<u16>>, OutOfMemory>
-    ensures { IfOk result (λ r. r ≡ end_of texts.now) }
+    ensures { IfOk result (λ r. r ≡ behind_colons texts.now) }
 {
     match texts {
         [] => Ok(None),
@@ -167,7 +167,7 @@ fn read_around(
     front: &[Text],
     back: &[Text],
 ) -> Result<Option<Listed<u16>>, OutOfMemory>
-    ensures { IfOk result (λ r. r ≡ filled (all_read group_of front.now) (end_of back.now)) }
+    ensures { IfOk result (λ r. r ≡ filled (all_read group_of front.now) (behind_colons back.now)) }
 {
     let Some(groups) = read_groups(alloc, front)? else {
         return Ok(None);

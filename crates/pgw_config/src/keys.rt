@@ -1,6 +1,6 @@
 //! The keys of a connection text.
 ghost use Rattle.std.specs.Prelude.{◌≡◌, Some, None};
-ghost use Rattle.pgw_config.specs.Keys.{text_key, choice_key, list_key, number_key, key_of};
+ghost use Rattle.pgw_config.specs.Keys.{text_key, choice_key, list_key, number_key, setting_key};
 
 /// A key whose value is any text.
 #[derive(Clone, Copy)]
@@ -125,9 +125,9 @@ fn number_key_named(name: &str) -> Option<NumberKey>
 }
 
 /// The key of this name.
-#[tactic(auto, unfolding(crate::specs::Keys::key_of))]
+#[tactic(auto, unfolding(crate::specs::Keys::setting_key))]
 pub(crate) fn key_named(name: &str) -> Option<Key>
-    ensures { result ≡ key_of name.now }
+    ensures { result ≡ setting_key name.now }
 {
     if let Some(key) = text_key_named(name) {
         return Some(Key::Text(key));

@@ -1,11 +1,11 @@
 //! Connection texts.
 ghost use Rattle.std.specs.Prelude.{◌≡◌, Result, Err, Some, IfOk};
 ghost use Rattle.pgw_types.specs.declared.config_error.ConfigError.{ConfigError as TheError};
-ghost use Rattle.pgw_config.specs.Answers.{Answers};
-ghost use Rattle.pgw_config.specs.Parse.{ended_by, outcome_of, HasOutcome, IsParsed};
+ghost use Rattle.pgw_config.specs.Answers.{IsConfigAnswer};
+ghost use Rattle.pgw_config.specs.Parse.{parse_result, outcome_of, HasOutcome, IsParsed};
 ghost use Rattle.pgw_conninfo.specs.Text.{HasCut};
 ghost use Rattle.pgw_conninfo.specs.declared.part.Cut.{Cut as TheCut};
-ghost use Rattle.pgw_config.specs.Given.{Gives};
+ghost use Rattle.pgw_config.specs.Given.{GivesConfig};
 ghost use Rattle.pgw_config.specs.declared.config.Config.{Config as TheConfig};
 
 use crate::address::invalid;
@@ -17,7 +17,7 @@ use pgw_types::config_error::{ConfigError, ConfigResult};
 use std::alloc::Global;
 
 fn refusal(alloc: Global, fault: Fault) -> ConfigError
-    ensures { (config : TheConfig) → Answers (Err result) (ended_by (Some fault) config) }
+    ensures { (config : TheConfig) → IsConfigAnswer (Err result) (parse_result (Some fault) config) }
 {
     match fault {
         Fault::Syntax => invalid(alloc, "syntax"),
@@ -27,7 +27,7 @@ fn refusal(alloc: Global, fault: Fault) -> ConfigError
 }
 
 fn end_at(alloc: Global, fault: Option<Fault>, config: Config) -> ConfigResult<Config>
-    ensures { Answers result (ended_by fault config) }
+    ensures { IsConfigAnswer result (parse_result fault config) }
 {
     match fault {
         None => Ok(config),
@@ -36,7 +36,7 @@ fn end_at(alloc: Global, fault: Option<Fault>, config: Config) -> ConfigResult<C
 }
 
 fn apply(alloc: Global, cut: Cut) -> ConfigResult<Config>
-    ensures { Answers result (outcome_of cut) }
+    ensures { IsConfigAnswer result (outcome_of cut) }
 {
     let config = apply_all(alloc, Config::new(alloc), cut.parts.as_slice())?;
     end_at(alloc, cut.fault, config)
@@ -52,10 +52,10 @@ impl Config {
         ensures parsed { IsParsed text.now result }
         // A text has one outcome.
         ensures only { (outcome : Result TheConfig TheError) → HasOutcome text.now outcome →
-            Answers result outcome }
+            IsConfigAnswer result outcome }
         // Of each key the last value counts, of a time the last one above zero, and lists are joined in order.
         ensures gives { IfOk result (λ config. (parts : TheCut) → HasCut text.now parts →
-            Gives parts.parts config) }
+            GivesConfig parts.parts config) }
     {
         let cut = text::cut(alloc, text)?;
         apply(alloc, cut)

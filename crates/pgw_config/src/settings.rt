@@ -1,6 +1,6 @@
 //! What the parts of a connection text do to a configuration.
 ghost use Rattle.std.specs.Prelude.{◌≡◌, Ok, Err, Some, None, IfOk, OnOk, IfErr, if◌then◌else◌};
-ghost use Rattle.pgw_config.specs.Answers.{Answers, IsUnknown};
+ghost use Rattle.pgw_config.specs.Answers.{IsConfigAnswer, IsUnknown};
 ghost use Rattle.pgw_config.specs.Settings.{with_text, value_set, pair_set, applied, all_applied};
 
 use crate::address::invalid;
@@ -60,7 +60,7 @@ fn set_value(alloc: Global, config: &mut Config, key: Key, value: &str) -> Resul
 
 fn set_pair(alloc: Global, config: &mut Config, name: &str, value: &str) -> ConfigResult<()>
     ensures set { OnOk result (pair_set config.old name.now value.now ≡ Ok config.new) }
-    ensures refused { IfErr result (λ e. Answers (Err e) (pair_set config.old name.now value.now)) }
+    ensures refused { IfErr result (λ e. IsConfigAnswer (Err e) (pair_set config.old name.now value.now)) }
 {
     let Some(key) = key_named(name) else {
         return Err(unknown(alloc, name));
@@ -74,7 +74,7 @@ fn set_pair(alloc: Global, config: &mut Config, name: &str, value: &str) -> Conf
 
 fn apply(alloc: Global, config: &mut Config, part: &Part) -> ConfigResult<()>
     ensures set { OnOk result (applied config.old part.now ≡ Ok config.new) }
-    ensures refused { IfErr result (λ e. Answers (Err e) (applied config.old part.now)) }
+    ensures refused { IfErr result (λ e. IsConfigAnswer (Err e) (applied config.old part.now)) }
 {
     match part {
         Part::Pair(key, value) => set_pair(alloc, config, key.as_str(), value.as_str()),
@@ -91,7 +91,7 @@ fn apply(alloc: Global, config: &mut Config, part: &Part) -> ConfigResult<()>
 
 /// The configuration after these parts, from the first on, or the refusal of the first faulty one.
 pub(crate) fn apply_all(alloc: Global, config: Config, parts: &[Part]) -> ConfigResult<Config>
-    ensures { Answers result (all_applied config parts.now) }
+    ensures { IsConfigAnswer result (all_applied config parts.now) }
 {
     let mut config = config;
     for part in parts {

@@ -10,17 +10,17 @@ use Rattle.pgw_link.specs.Tape.{Tape}
 use Rattle.pgw_link.specs.Sending.{Wrote, WroteSome}
 use Rattle.pgw_session.specs.Segments.{is_ready}
 use Rattle.pgw_handlers.specs.Client.{Client, Sight}
-use Rattle.pgw_handlers.specs.Handling.{Standing, standing, Answer, pending, IsCaused, OfError, EndsAtReady}
-use Rattle.pgw_handlers.specs.Sending.{Sent, NotSent, IsSpelled, bytes_or_none, WroteSome as SentSome}
+use Rattle.pgw_handlers.specs.Handling.{HandlerView, standing, CallAnswer, pending, IsCaused, OfError, EndsAtReady}
+use Rattle.pgw_handlers.specs.Sending.{Sent, NotSent, IsSpelled, bytes_or_none, WritesFront as SentSome}
 use Rattle.pgw_types.specs.declared.error.PgWireError.{PgWireError}
 use Rattle.std.specs.Result.{OnOk, OnErr, IfOk, IfErr}
 use Rattle.pgw_handlers.specs.declared.client_info.ReadyState.{ReadyState}
 use Rattle.pgw_handlers.specs.declared.client_info.ReadyState.TheVariants.{Pending, Ready}
 use Rattle.pgw_connection.specs.Talk as talk
-use Rattle.pgw_connection.specs.Talk.{fresh, Next, Lack, End, end, Hearing, Talk, Passing, IsCut, Asked, passes, is_remote, is_refusal}
-use Rattle.pgw_connection.specs.Line.{Line, Reasons, Pause, IsFlushed, WentWell, EndedWell, Halts, Drew, Moved}
-use Rattle.pgw_connection.specs.Reading.{GoesOn, Came, PassedOver}
-use Rattle.pgw_connection.specs.Calls.{link_sight, PutAll, PutSome, Puts, Opens, starved, wrote, cut, refused, GivesUp, breaks, fails, passes_over, Follows, starves, writes, cuts, gives_up, HeardOne, Talked, HeardNext, HeardOn, IsHalted, Call}
+use Rattle.pgw_connection.specs.Talk.{fresh, Next, Lack, CallEnd, end, Hearing, CallTalk, Passing, IsCutPiece, OpensTalk, passes, is_remote, is_refusal}
+use Rattle.pgw_connection.specs.Line.{Line, Reasons, Pause, IsFlushed, WentWell, EndedWell, Halts, Drew, MovesLine}
+use Rattle.pgw_connection.specs.Reading.{LineGoesOn, MessageCame, PassedOver}
+use Rattle.pgw_connection.specs.Calls.{link_sight, PutAll, PutSome, PutsOnLine, HandlerOpens, starved, wrote, cut, refused, GivesUp, breaks, fails, passes_over, Follows, starves, writes, cuts, gives_up, HeardOne, TalksToCallEnd, HeardNext, HeardOn, IsHalted, LineCall}
 use Rattle.pgw_connection.proofs.ReadingLaws.{next_more, drew_on, not_halted, not_at_end, halts_on, at_end_on, at_end_so, pause_on, passing_as, PassedEnd, still_flushed, end_well, ended_on, failed, io_of, io_answer}
 
 -- ---- writing
@@ -59,27 +59,27 @@ put_some old new bytes some w within rose buffer read limit = record {
 
 -- what writing answered
 pub puts_of : (old new : Line) (bytes : List ℕ) (r : Result (Unit {0}) ClientError) → bytes ≢ [] → OnOk r (Wrote old.tape new.tape bytes) → OnErr r (WroteSome old.tape new.tape bytes) → old.tape.flushed ≤ length old.tape.wrote → OnOk r (new.faults ≡ old.faults)
-    → IfErr r (λ e. e ≡ client.IoError) → OfError r old.faults new.faults false → new.buffer ≡ old.buffer → new.read ≡ old.read → new.limit ≡ old.limit → Puts bytes old new r
+    → IfErr r (λ e. e ≡ client.IoError) → OfError r old.faults new.faults false → new.buffer ≡ old.buffer → new.read ≡ old.read → new.limit ≡ old.limit → PutsOnLine bytes old new r
 puts_of old new bytes (Ok done) some w f within clean io cause buffer read limit = put_all old new bytes w clean buffer read limit
 puts_of old new bytes (Err e) some w f within clean io cause buffer read limit =
     (io, put_some old new bytes some f within (subst (λ (x : ClientError). IsCaused x old.faults new.faults false) io cause) buffer read limit)
 
 -- ---- the opening of a call
 
-pub began_starved : (was : Bool) (out : List ℕ) (old : Line) (opened : Result (Unit {0}) ClientError) → was ≡ true → Opens was out old old opened (Err client.OutOfMemory) was
-began_starved was out old opened is = subst (λ (b : Bool). Opens was out old old opened (Err client.OutOfMemory) b) (sym is) (starved opened is refl)
+pub began_starved : (was : Bool) (out : List ℕ) (old : Line) (opened : Result (Unit {0}) ClientError) → was ≡ true → HandlerOpens was out old old opened (Err client.OutOfMemory) was
+began_starved was out old opened is = subst (λ (b : Bool). HandlerOpens was out old old opened (Err client.OutOfMemory) b) (sym is) (starved opened is refl)
 
-pub began_put : (was broken : Bool) (out : List ℕ) (old new : Line) (opened r : Result (Unit {0}) ClientError) → was ≡ false → opened ≡ Ok tt → Puts out old new r → OnOk r (broken ≡ was) → OnErr r (broken ≡ true) → Opens was out old new opened r broken
+pub began_put : (was broken : Bool) (out : List ℕ) (old new : Line) (opened r : Result (Unit {0}) ClientError) → was ≡ false → opened ≡ Ok tt → PutsOnLine out old new r → OnOk r (broken ≡ was) → OnErr r (broken ≡ true) → HandlerOpens was out old new opened r broken
 began_put was broken out old new opened (Ok done) usable is put stays ends =
-    subst (λ (b : Bool). Opens was out old new opened (Ok tt) b) (sym (stays ∙ usable)) (subst (λ (o : Result (Unit {0}) ClientError). Opens was out old new o (Ok tt) false) (sym is) (wrote usable put))
+    subst (λ (b : Bool). HandlerOpens was out old new opened (Ok tt) b) (sym (stays ∙ usable)) (subst (λ (o : Result (Unit {0}) ClientError). HandlerOpens was out old new o (Ok tt) false) (sym is) (wrote usable put))
 began_put was broken out old new opened (Err e) usable is put stays ends =
-    subst (λ (b : Bool). Opens was out old new opened (Err e) b) (sym ends)
-    (subst (λ (x : ClientError). Opens was out old new opened (Err x) true) (sym put.0)
-    (subst (λ (o : Result (Unit {0}) ClientError). Opens was out old new o (Err client.IoError) true) (sym is) (cut usable put.1)))
+    subst (λ (b : Bool). HandlerOpens was out old new opened (Err e) b) (sym ends)
+    (subst (λ (x : ClientError). HandlerOpens was out old new opened (Err x) true) (sym put.0)
+    (subst (λ (o : Result (Unit {0}) ClientError). HandlerOpens was out old new o (Err client.IoError) true) (sym is) (cut usable put.1)))
 
-pub began_refused : (was refusal : Bool) (out : List ℕ) (old : Line) (opened : Result (Unit {0}) ClientError) (e : ClientError) → was ≡ false → opened ≡ Err e → refusal ≡ is_refusal e → Opens was out old old opened (Err e) (not refusal)
+pub began_refused : (was refusal : Bool) (out : List ℕ) (old : Line) (opened : Result (Unit {0}) ClientError) (e : ClientError) → was ≡ false → opened ≡ Err e → refusal ≡ is_refusal e → HandlerOpens was out old old opened (Err e) (not refusal)
 began_refused was refusal out old opened e usable is tells =
-    subst (λ (b : Bool). Opens was out old old opened (Err e) (not b)) (sym tells) (subst (λ (o : Result (Unit {0}) ClientError). Opens was out old old o (Err e) (not (is_refusal e))) (sym is) (refused e usable refl))
+    subst (λ (b : Bool). HandlerOpens was out old old opened (Err e) (not b)) (sym tells) (subst (λ (o : Result (Unit {0}) ClientError). HandlerOpens was out old old o (Err e) (not (is_refusal e))) (sym is) (refused e usable refl))
 
 -- ---- a message of a caller's own
 
@@ -115,25 +115,25 @@ gave_back goes_on closing may broken c old e is goes ready usable = subst (λ (b
 pub passing : (goes_on : ClientError → Bool) (closing may broken : Bool) (c last : Client) (old new : Line) (e x : ClientError) → may ≡ goes_on e → may ≡ true → closing ≡ false → PassedOver e c old new x last broken → GivesUp goes_on closing c old new e x last broken
 passing goes_on closing may broken c last old new e x is goes quiet p = passes_over e x last broken (sym is ∙ goes) quiet p
 
-module _ {T : Type 0} (goes_on : ClientError → Bool) (closing was : Bool) (out : List ℕ) (c : Client) (old : Line) (answer : Answer T) where
+module _ {T : Type 0} (goes_on : ClientError → Bool) (closing was : Bool) (out : List ℕ) (c : Client) (old : Line) (answer : CallAnswer T) where
   pub followed_starved : was ≡ true → Follows goes_on closing was out c old old answer (Err client.OutOfMemory) c was
   followed_starved wanting = subst (λ (b : Bool). Follows goes_on closing was out c old old answer (Err client.OutOfMemory) c b) (sym wanting) (starves answer wanting refl)
 
   pub followed_put : (new : Line) (s : ReadyState T) (last : Client) (broken : Bool) → was ≡ false → answer ≡ Ok s → PutAll out old new → last ≡ c → broken ≡ was → Follows goes_on closing was out c old new answer (Ok s) last broken
   followed_put new s last broken usable is put same stays =
-      subst (λ (a : Answer T). Follows goes_on closing was out c old new a (Ok s) last broken) (sym is)
+      subst (λ (a : CallAnswer T). Follows goes_on closing was out c old new a (Ok s) last broken) (sym is)
       (subst (λ (x : Client). Follows goes_on closing was out c old new (Ok s) (Ok s) x broken) (sym same)
       (subst (λ (b : Bool). Follows goes_on closing was out c old new (Ok s) (Ok s) c b) (sym (stays ∙ usable)) (writes s usable put)))
 
-  pub followed_cut : (new : Line) (s : ReadyState T) (e : ClientError) (last : Client) (broken : Bool) → was ≡ false → answer ≡ Ok s → Puts out old new (Err e) → last ≡ c → broken ≡ true → Follows goes_on closing was out c old new answer (Err e) last broken
+  pub followed_cut : (new : Line) (s : ReadyState T) (e : ClientError) (last : Client) (broken : Bool) → was ≡ false → answer ≡ Ok s → PutsOnLine out old new (Err e) → last ≡ c → broken ≡ true → Follows goes_on closing was out c old new answer (Err e) last broken
   followed_cut new s e last broken usable is put same ends =
-      subst (λ (a : Answer T). Follows goes_on closing was out c old new a (Err e) last broken) (sym is)
+      subst (λ (a : CallAnswer T). Follows goes_on closing was out c old new a (Err e) last broken) (sym is)
       (subst (λ (x : ClientError). Follows goes_on closing was out c old new (Ok s) (Err x) last broken) (sym put.0)
       (subst (λ (x : Client). Follows goes_on closing was out c old new (Ok s) (Err client.IoError) x broken) (sym same)
       (subst (λ (b : Bool). Follows goes_on closing was out c old new (Ok s) (Err client.IoError) c b) (sym ends) (cuts s usable put.1))))
 
   pub followed_error : (new : Line) (e x : ClientError) (last : Client) (broken : Bool) → was ≡ false → answer ≡ Err e → GivesUp goes_on closing c old new e x last broken → Follows goes_on closing was out c old new answer (Err x) last broken
-  followed_error new e x last broken usable is g = subst (λ (a : Answer T). Follows goes_on closing was out c old new a (Err x) last broken) (sym is) (gives_up e x last broken usable g)
+  followed_error new e x last broken usable is g = subst (λ (a : CallAnswer T). Follows goes_on closing was out c old new a (Err x) last broken) (sym is) (gives_up e x last broken usable g)
 
 -- ---- one message
 
@@ -148,7 +148,7 @@ ends_ready (backend.ReadyForQuery m) x e = refl
 ends_ready m x e = absurd e
 
 -- bytes were read, and others written behind that
-pub moved_by : (old mid new : Line) (taken sent : List ℕ) → Drew old mid taken → Moved mid new [] sent → Moved old new taken sent
+pub moved_by : (old mid new : Line) (taken sent : List ℕ) → Drew old mid taken → MovesLine mid new [] sent → MovesLine old new taken sent
 moved_by old mid new taken sent d m = record {
   took = m.took ∙ append-nil mid.tape.took ∙ d.took;
   wrote = m.wrote ∙ ap (λ (w : List ℕ). w ++ sent) d.wrote;
@@ -157,7 +157,7 @@ moved_by old mid new taken sent d m = record {
 }
 
 -- bytes were read, and nothing written
-pub moved_none : (old new : Line) (taken : List ℕ) → Drew old new taken → Moved old new taken []
+pub moved_none : (old new : Line) (taken : List ℕ) → Drew old new taken → MovesLine old new taken []
 moved_none old new taken d = record { took = d.took; wrote = d.wrote ∙ sym (append-nil old.tape.wrote); read = d.read; limit = d.limit }
 
 -- where all was flushed, the end found all written flushed
@@ -165,7 +165,7 @@ pub flushed_at : (c : Client) (old new : Line) (taken : List ℕ) → Drew old n
 flushed_at c old new taken d f h = halts_on c old.tape.flushed (length new.tape.wrote) old old new refl (f ∙ ap length (sym d.wrote)) h
 
 -- one thing behind another
-pub moved_on : (old mid new : Line) (taken more sent also : List ℕ) → Moved old mid taken sent → Moved mid new more also → Moved old new (taken ++ more) (sent ++ also)
+pub moved_on : (old mid new : Line) (taken more sent also : List ℕ) → MovesLine old mid taken sent → MovesLine mid new more also → MovesLine old new (taken ++ more) (sent ++ also)
 moved_on old mid new taken more sent also a b = record {
   took = b.took ∙ ap (λ (l : List ℕ). l ++ more) a.took ∙ append_assoc old.tape.took taken more;
   wrote = b.wrote ∙ ap (λ (w : List ℕ). w ++ also) a.wrote ∙ append_assoc old.tape.wrote sent also;
@@ -173,16 +173,16 @@ moved_on old mid new taken more sent also a b = record {
   limit = b.limit ∙ a.limit;
 }
 
-pub cut_from : (old mid new : Line) (bytes part : List ℕ) → GoesOn old mid → IsCut (Pause mid new) bytes part → IsCut (Pause old new) bytes part
-cut_from old mid new bytes part so is = subst (λ (p : Reasons). IsCut p bytes part) (pause_on old mid new so) is
+pub cut_from : (old mid new : Line) (bytes part : List ℕ) → LineGoesOn old mid → IsCutPiece (Pause mid new) bytes part → IsCutPiece (Pause old new) bytes part
+cut_from old mid new bytes part so is = subst (λ (p : Reasons). IsCutPiece p bytes part) (pause_on old mid new so) is
 
 module _ {H A : Type 0} (M : Hearing H A) (goes_on : ClientError → Bool) where
-  talk_as : (old mid new : Line) (h other : H) (c also : Client) (bytes sent : List ℕ) (last : End A) → GoesOn old mid → h ≡ other → c ≡ also
-      → Talk M (Pause mid new) goes_on h c bytes sent last → Talk M (Pause old new) goes_on other also bytes sent last
+  talk_as : (old mid new : Line) (h other : H) (c also : Client) (bytes sent : List ℕ) (last : CallEnd A) → LineGoesOn old mid → h ≡ other → c ≡ also
+      → CallTalk M (Pause mid new) goes_on h c bytes sent last → CallTalk M (Pause old new) goes_on other also bytes sent last
   talk_as old mid new h other c also bytes sent last so e f t =
-      subst (λ (p : Reasons). Talk M p goes_on other also bytes sent last) (pause_on old mid new so)
-      (subst (λ (x : H). Talk M (Pause mid new) goes_on x also bytes sent last) e
-      (subst (λ (x : Client). Talk M (Pause mid new) goes_on h x bytes sent last) f t))
+      subst (λ (p : Reasons). CallTalk M p goes_on other also bytes sent last) (pause_on old mid new so)
+      (subst (λ (x : H). CallTalk M (Pause mid new) goes_on x also bytes sent last) e
+      (subst (λ (x : Client). CallTalk M (Pause mid new) goes_on h x bytes sent last) f t))
 
   -- the error behind which messages were passed over
   halted : (x : ClientError) (broken : Bool) → goes_on x ≡ true → broken ≡ true → IsHalted {A = A} goes_on (Err x) broken
@@ -194,7 +194,7 @@ module _ {H A : Type 0} (M : Hearing H A) (goes_on : ClientError → Bool) where
   halted_behind e x broken eof goes ends (inr other) = absurd (let no : false ≡ true = sym eof ∙ ap goes_on (sym other.0) ∙ goes in cc)
 
   -- no message came
-  pub heard_none : (h : H) (c : Client) (old new : Line) (e : ClientError) → IsFlushed old → Came c old new (Err e) → Talked M goes_on h c old new (end (Err e) c true new.buffer)
+  pub heard_none : (h : H) (c : Client) (old new : Line) (e : ClientError) → IsFlushed old → MessageCame c old new (Err e) → TalksToCallEnd M goes_on h c old new (end (Err e) c true new.buffer)
   heard_none h c old new e f came = record {
     taken = came.taken;
     sent = [];
@@ -208,12 +208,12 @@ module _ {H A : Type 0} (M : Hearing H A) (goes_on : ClientError → Bool) where
     well = end_well _ old new f (io_answer A (WentWell old new) e (io_of Backend (WentWell old new) e came.well));
   }
 
-  module _ (h handler : H) (c : Client) (s : Sight) (old mid : Line) (m : Backend) (f : IsFlushed old) (came : Came c old mid (Ok m)) where
+  module _ (h handler : H) (c : Client) (s : Sight) (old mid : Line) (m : Backend) (f : IsFlushed old) (came : MessageCame c old mid (Ok m)) where
     came_well : EndedWell old mid
     came_well = (came.goes_on.1, still_flushed old mid came.taken came.drew f)
 
     -- memory was wanting
-    heard_starved : (last : Client) → Talked M goes_on h c old mid (end (Err client.OutOfMemory) last true mid.buffer)
+    heard_starved : (last : Client) → TalksToCallEnd M goes_on h c old mid (end (Err client.OutOfMemory) last true mid.buffer)
     heard_starved last = record {
       taken = came.taken;
       sent = [];
@@ -243,7 +243,7 @@ module _ {H A : Type 0} (M : Hearing H A) (goes_on : ClientError → Bool) where
       goes_on = (put.goes_on.0 ∙ came.goes_on.0, put.goes_on.1 ∙ came.goes_on.1);
     }
 
-    heard_last : (new : Line) (x : A) → M (standing h (fresh c)) m (standing handler s) (Ok (Ready x)) → s.broken ≡ false → is_ready m ≡ true → PutAll s.wrote mid new → Talked M goes_on h c old new (end (Ok x) s.client false new.buffer)
+    heard_last : (new : Line) (x : A) → M (standing h (fresh c)) m (standing handler s) (Ok (Ready x)) → s.broken ≡ false → is_ready m ≡ true → PutAll s.wrote mid new → TalksToCallEnd M goes_on h c old new (end (Ok x) s.client false new.buffer)
     heard_last new x heard usable ready put = record {
       taken = came.taken;
       sent = s.wrote;
@@ -255,7 +255,7 @@ module _ {H A : Type 0} (M : Hearing H A) (goes_on : ClientError → Bool) where
       well = inl (put.goes_on.1 ∙ came_well.0, put.flushed came_well.1);
     }
 
-    heard_cut : (new : Line) (answer : ReadyState A) → M (standing h (fresh c)) m (standing handler s) (Ok answer) → s.broken ≡ false → PutSome s.wrote mid new → Talked M goes_on h c old new (end (Err client.IoError) s.client true new.buffer)
+    heard_cut : (new : Line) (answer : ReadyState A) → M (standing h (fresh c)) m (standing handler s) (Ok answer) → s.broken ≡ false → PutSome s.wrote mid new → TalksToCallEnd M goes_on h c old new (end (Err client.IoError) s.client true new.buffer)
     heard_cut new answer heard usable put = record {
       taken = came.taken;
       sent = put.part;
@@ -267,7 +267,7 @@ module _ {H A : Type 0} (M : Hearing H A) (goes_on : ClientError → Bool) where
       well = inr refl;
     }
 
-    heard_error : (e : ClientError) → M (standing h (fresh c)) m (standing handler s) (Err e) → IsCaused e 0 0 s.broken → goes_on e ≡ false → s.broken ≡ false → Talked M goes_on h c old mid (end (Err e) s.client true mid.buffer)
+    heard_error : (e : ClientError) → M (standing h (fresh c)) m (standing handler s) (Err e) → IsCaused e 0 0 s.broken → goes_on e ≡ false → s.broken ≡ false → TalksToCallEnd M goes_on h c old mid (end (Err e) s.client true mid.buffer)
     heard_error e heard caused ends usable = record {
       taken = came.taken;
       sent = [];
@@ -279,7 +279,7 @@ module _ {H A : Type 0} (M : Hearing H A) (goes_on : ClientError → Bool) where
       well = inl came_well;
     }
 
-    heard_failure : (e : ClientError) → M (standing h (fresh c)) m (standing handler s) (Err e) → s.broken ≡ false → goes_on e ≡ true → is_ready m ≡ true → Talked M goes_on h c old mid (end (Err e) s.client false mid.buffer)
+    heard_failure : (e : ClientError) → M (standing h (fresh c)) m (standing handler s) (Err e) → s.broken ≡ false → goes_on e ≡ true → is_ready m ≡ true → TalksToCallEnd M goes_on h c old mid (end (Err e) s.client false mid.buffer)
     heard_failure e heard usable goes ready = record {
       taken = came.taken;
       sent = [];
@@ -292,7 +292,7 @@ module _ {H A : Type 0} (M : Hearing H A) (goes_on : ClientError → Bool) where
     }
 
     heard_passing : (eof : goes_on client.UnexpectedEOF ≡ false) (new : Line) (e x : ClientError) (last : Client) (broken : Bool) → M (standing h (fresh c)) m (standing handler s) (Err e) → s.broken ≡ false → goes_on e ≡ true → is_ready m ≡ false
-        → PassedOver e s.client mid new x last broken → Talked M goes_on h c old new (end (Err x) last broken new.buffer)
+        → PassedOver e s.client mid new x last broken → TalksToCallEnd M goes_on h c old new (end (Err x) last broken new.buffer)
     heard_passing eof new e x last broken heard usable goes quiet p =
         let drew = drew_on old mid new came.taken p.taken came.drew p.drew in
         let more = next_more c (old.buffer ++ came.taken) mid.buffer p.taken m came.found in
@@ -310,29 +310,29 @@ module _ {H A : Type 0} (M : Hearing H A) (goes_on : ClientError → Bool) where
         }
 
     given_up : (eof : goes_on client.UnexpectedEOF ≡ false) (new : Line) (e x : ClientError) (last : Client) (broken : Bool) → M (standing h (fresh c)) m (standing handler s) (Err e) → IsCaused e 0 0 s.broken → s.broken ≡ false
-        → GivesUp goes_on (is_ready m) s.client mid new e x last broken → Talked M goes_on h c old new (end (Err x) last broken new.buffer)
+        → GivesUp goes_on (is_ready m) s.client mid new e x last broken → TalksToCallEnd M goes_on h c old new (end (Err x) last broken new.buffer)
     given_up eof new e x last broken heard caused usable (breaks e2 ends same) =
-        subst (λ (l : Line). Talked M goes_on h c old l (end (Err e2) s.client true l.buffer)) (sym same) (heard_error e2 heard caused ends usable)
+        subst (λ (l : Line). TalksToCallEnd M goes_on h c old l (end (Err e2) s.client true l.buffer)) (sym same) (heard_error e2 heard caused ends usable)
     given_up eof new e x last broken heard caused usable (fails e2 goes ready same) =
-        subst (λ (l : Line). Talked M goes_on h c old l (end (Err e2) s.client false l.buffer)) (sym same) (heard_failure e2 heard usable goes ready)
+        subst (λ (l : Line). TalksToCallEnd M goes_on h c old l (end (Err e2) s.client false l.buffer)) (sym same) (heard_failure e2 heard usable goes ready)
     given_up eof new e x last broken heard caused usable (passes_over e2 x2 last2 broken2 goes quiet p) = heard_passing eof new e2 x2 last2 broken2 heard usable goes quiet p
 
     -- a message was heard, and its answer followed
-    pub heard_next : (eof : goes_on client.UnexpectedEOF ≡ false) (new : Line) (answer result : Answer A) (last : Client) (broken : Bool) → M (standing h (fresh c)) m (standing handler s) answer → OfError answer 0 0 s.broken → IfOk answer (EndsAtReady m)
+    pub heard_next : (eof : goes_on client.UnexpectedEOF ≡ false) (new : Line) (answer result : CallAnswer A) (last : Client) (broken : Bool) → M (standing h (fresh c)) m (standing handler s) answer → OfError answer 0 0 s.broken → IfOk answer (EndsAtReady m)
         → Follows goes_on (is_ready m) s.broken s.wrote s.client mid new answer result last broken → HeardNext M goes_on h c old new handler last broken result
     heard_next eof new answer result last broken heard caused closes (starves answer2 wanting same) =
-        subst (λ (l : Line). Talked M goes_on h c old l (end (Err client.OutOfMemory) s.client true l.buffer)) (sym same) (heard_starved s.client)
+        subst (λ (l : Line). TalksToCallEnd M goes_on h c old l (end (Err client.OutOfMemory) s.client true l.buffer)) (sym same) (heard_starved s.client)
     heard_next eof new answer result last broken heard caused closes (writes Pending usable put) = (heard_on new heard usable (goes_quiet A m closes) put, refl)
     heard_next eof new answer result last broken heard caused closes (writes (Ready x) usable put) = heard_last new x heard usable (ends_ready m x closes) put
     heard_next eof new answer result last broken heard caused closes (cuts state usable put) = heard_cut new state heard usable put
     heard_next eof new answer result last broken heard caused closes (gives_up e x last2 broken2 usable g) = given_up eof new e x last2 broken2 heard caused usable g
 
   -- no message came, for a client that is as it was
-  pub heard_nothing : (h : H) (c info : Client) (old new : Line) (e : ClientError) → info ≡ c → IsFlushed old → Came c old new (Err e) → Talked M goes_on h c old new (end (Err e) info true new.buffer)
-  heard_nothing h c info old new e same f came = subst (λ (x : Client). Talked M goes_on h c old new (end (Err e) x true new.buffer)) (sym same) (heard_none h c old new e f came)
+  pub heard_nothing : (h : H) (c info : Client) (old new : Line) (e : ClientError) → info ≡ c → IsFlushed old → MessageCame c old new (Err e) → TalksToCallEnd M goes_on h c old new (end (Err e) info true new.buffer)
+  heard_nothing h c info old new e same f came = subst (λ (x : Client). TalksToCallEnd M goes_on h c old new (end (Err e) x true new.buffer)) (sym same) (heard_none h c old new e f came)
 
   -- a message was heard from a desk that was cleared
-  pub heard_so : (eof : goes_on client.UnexpectedEOF ≡ false) (h handler : H) (c : Client) (s0 s : Sight) (old mid new : Line) (m : Backend) (closing : Bool) (answer result : Answer A) (last : Client) (broken : Bool) → IsFlushed old → Came c old mid (Ok m) → s0 ≡ fresh c → closing ≡ is_ready m
+  pub heard_so : (eof : goes_on client.UnexpectedEOF ≡ false) (h handler : H) (c : Client) (s0 s : Sight) (old mid new : Line) (m : Backend) (closing : Bool) (answer result : CallAnswer A) (last : Client) (broken : Bool) → IsFlushed old → MessageCame c old mid (Ok m) → s0 ≡ fresh c → closing ≡ is_ready m
       → M (standing h s0) m (standing handler s) answer → OfError answer 0 0 s.broken → IfOk answer (EndsAtReady m) → Follows goes_on closing s.broken s.wrote s.client mid new answer result last broken → HeardNext M goes_on h c old new handler last broken result
   heard_so eof h handler c s0 s old mid new m closing answer result last broken f came cleared ready heard caused closes follows =
       heard_next h handler c s old mid m f came eof new answer result last broken
@@ -340,7 +340,7 @@ module _ {H A : Type 0} (M : Hearing H A) (goes_on : ClientError → Bool) where
       (subst (λ (b : Bool). Follows goes_on b s.broken s.wrote s.client mid new answer result last broken) ready follows)
 
   -- one message was heard, and then the others
-  pub talked_on : (h handler : H) (c info : Client) (old mid new : Line) (last : End A) → HeardOne M h c old mid handler info → Talked M goes_on handler info mid new last → Talked M goes_on h c old new last
+  pub talked_on : (h handler : H) (c info : Client) (old mid new : Line) (last : CallEnd A) → HeardOne M h c old mid handler info → TalksToCallEnd M goes_on handler info mid new last → TalksToCallEnd M goes_on h c old new last
   talked_on h handler c info old mid new last one t =
       let after = one.after in
       let more = next_more c (old.buffer ++ one.taken) mid.buffer t.taken one.message one.next in
@@ -358,19 +358,19 @@ module _ {H A : Type 0} (M : Hearing H A) (goes_on : ClientError → Bool) where
       }
 
   -- the call goes on from there as it does from the beginning, or has ended
-  pub heard_further : (h handler : H) (c info : Client) (old new : Line) (broken : Bool) (answer : Answer A) → HeardNext M goes_on h c old new handler info broken answer → HeardOn M goes_on h c old new handler info broken answer
+  pub heard_further : (h handler : H) (c info : Client) (old new : Line) (broken : Bool) (answer : CallAnswer A) → HeardNext M goes_on h c old new handler info broken answer → HeardOn M goes_on h c old new handler info broken answer
   heard_further h handler c info old new broken (Ok Pending) x = (λ final last d. talked_on h handler c info old new final last x.0 d, x.1)
   heard_further h handler c info old new broken (Ok (Ready r)) x = x
   heard_further h handler c info old new broken (Err e) x = x
 
 -- ---- a call
 
-module _ {H A : Type 0} (opens : Standing H → Standing H → Answer A → Type 0) (M : Hearing H A) (goes_on : ClientError → Bool) (h handler : H) (c : Client) (s : Sight) (old : Line) (f : IsFlushed old) where
+module _ {H A : Type 0} (opens : HandlerView H → HandlerView H → CallAnswer A → Type 0) (M : Hearing H A) (goes_on : ClientError → Bool) (h handler : H) (c : Client) (s : Sight) (old : Line) (f : IsFlushed old) where
   -- the opening was written, and messages were handed over
-  pub call_talked : (info : Client) (mid new : Line) (last : End A) → opens (standing h (fresh c)) (standing handler s) (Ok Pending) → s.broken ≡ false → PutAll s.wrote old mid → info ≡ s.client
-      → Talked M goes_on handler info mid new last → Call opens M goes_on h c old new last
+  pub call_talked : (info : Client) (mid new : Line) (last : CallEnd A) → opens (standing h (fresh c)) (standing handler s) (Ok Pending) → s.broken ≡ false → PutAll s.wrote old mid → info ≡ s.client
+      → TalksToCallEnd M goes_on handler info mid new last → LineCall opens M goes_on h c old new last
   call_talked info mid new last opened usable put same t =
-      let bytes = subst (λ (b : List ℕ). Talk M (Pause mid new) goes_on handler info (b ++ t.taken) t.sent last) put.buffer t.talk in
+      let bytes = subst (λ (b : List ℕ). CallTalk M (Pause mid new) goes_on handler info (b ++ t.taken) t.sent last) put.buffer t.talk in
       record {
         taken = t.taken;
         sent = s.wrote ++ t.sent;
@@ -382,10 +382,10 @@ module _ {H A : Type 0} (opens : Standing H → Standing H → Answer A → Type
         well = ended_on (last.answer ≡ Err client.IoError) old mid new put.goes_on.1 t.well;
       }
 
-  moved_still : Moved old old [] []
+  moved_still : MovesLine old old [] []
   moved_still = record { took = sym (append-nil old.tape.took); wrote = sym (append-nil old.tape.wrote); read = omega arith; limit = refl }
 
-  call_starved : (last : Client) → Call opens M goes_on h c old old (end (Err client.OutOfMemory) last true old.buffer)
+  call_starved : (last : Client) → LineCall opens M goes_on h c old old (end (Err client.OutOfMemory) last true old.buffer)
   call_starved last = record {
     taken = [];
     sent = [];
@@ -398,12 +398,12 @@ module _ {H A : Type 0} (opens : Standing H → Standing H → Answer A → Type
   }
 
   bytes_are : (sent : List ℕ) (P : Reasons) (answer : Result A ClientError) (info : Client) (broken : Bool) (rest : List ℕ) → rest ≡ old.buffer
-      → Asked opens M P goes_on h c old.buffer sent (end answer info broken old.buffer) → Asked opens M P goes_on h c (old.buffer ++ []) sent (end answer info broken rest)
+      → OpensTalk opens M P goes_on h c old.buffer sent (end answer info broken old.buffer) → OpensTalk opens M P goes_on h c (old.buffer ++ []) sent (end answer info broken rest)
   bytes_are sent P answer info broken rest same a =
-      subst (λ (b : List ℕ). Asked opens M P goes_on h c b sent (end answer info broken rest)) (sym (append-nil old.buffer))
-      (subst (λ (b : List ℕ). Asked opens M P goes_on h c old.buffer sent (end answer info broken b)) (sym same) a)
+      subst (λ (b : List ℕ). OpensTalk opens M P goes_on h c b sent (end answer info broken rest)) (sym (append-nil old.buffer))
+      (subst (λ (b : List ℕ). OpensTalk opens M P goes_on h c old.buffer sent (end answer info broken b)) (sym same) a)
 
-  call_cut : (new : Line) → opens (standing h (fresh c)) (standing handler s) (Ok Pending) → s.broken ≡ false → PutSome s.wrote old new → Call opens M goes_on h c old new (end (Err client.IoError) s.client true new.buffer)
+  call_cut : (new : Line) → opens (standing h (fresh c)) (standing handler s) (Ok Pending) → s.broken ≡ false → PutSome s.wrote old new → LineCall opens M goes_on h c old new (end (Err client.IoError) s.client true new.buffer)
   call_cut new opened usable put = record {
     taken = [];
     sent = put.part;
@@ -415,7 +415,7 @@ module _ {H A : Type 0} (opens : Standing H → Standing H → Answer A → Type
     well = inr refl;
   }
 
-  call_refused : (e : ClientError) → opens (standing h (fresh c)) (standing handler s) (Err e) → s.broken ≡ false → IsCaused e 0 0 s.broken → (b : Bool) → is_refusal e ≡ b → Call opens M goes_on h c old old (end (Err e) s.client (not b) old.buffer)
+  call_refused : (e : ClientError) → opens (standing h (fresh c)) (standing handler s) (Err e) → s.broken ≡ false → IsCaused e 0 0 s.broken → (b : Bool) → is_refusal e ≡ b → LineCall opens M goes_on h c old old (end (Err e) s.client (not b) old.buffer)
   call_refused e opened usable caused true is = record {
     taken = [];
     sent = [];
@@ -442,43 +442,43 @@ module _ {H A : Type 0} (opens : Standing H → Standing H → Answer A → Type
   OpensBy (Ok done) = opens (standing h (fresh c)) (standing handler s) (Ok Pending)
   OpensBy (Err e) = opens (standing h (fresh c)) (standing handler s) (Err e)
 
-  call_ended : (new : Line) (opened result : Result (Unit {0}) ClientError) (e : ClientError) (broken : Bool) → OpensBy opened → OfError opened 0 0 s.broken → Opens s.broken s.wrote old new opened result broken → result ≡ Err e
-      → Call opens M goes_on h c old new (end (Err e) s.client broken new.buffer)
+  call_ended : (new : Line) (opened result : Result (Unit {0}) ClientError) (e : ClientError) (broken : Bool) → OpensBy opened → OfError opened 0 0 s.broken → HandlerOpens s.broken s.wrote old new opened result broken → result ≡ Err e
+      → LineCall opens M goes_on h c old new (end (Err e) s.client broken new.buffer)
   call_ended new opened result e broken o caused (starved opened2 wanting same) is =
       let x : client.OutOfMemory ≡ e = cc in
-      subst (λ (y : ClientError). Call opens M goes_on h c old new (end (Err y) s.client true new.buffer)) x
-      (subst (λ (l : Line). Call opens M goes_on h c old l (end (Err client.OutOfMemory) s.client true l.buffer)) (sym same) (call_starved s.client))
+      subst (λ (y : ClientError). LineCall opens M goes_on h c old new (end (Err y) s.client true new.buffer)) x
+      (subst (λ (l : Line). LineCall opens M goes_on h c old l (end (Err client.OutOfMemory) s.client true l.buffer)) (sym same) (call_starved s.client))
   call_ended new opened result e broken o caused (wrote usable put) is = absurd cc
   call_ended new opened result e broken o caused (cut usable put) is =
       let x : client.IoError ≡ e = cc in
-      subst (λ (y : ClientError). Call opens M goes_on h c old new (end (Err y) s.client true new.buffer)) x (call_cut new o usable put)
+      subst (λ (y : ClientError). LineCall opens M goes_on h c old new (end (Err y) s.client true new.buffer)) x (call_cut new o usable put)
   call_ended new opened result e broken o caused (refused e2 usable same) is =
       let x : e2 ≡ e = cc in
-      subst (λ (y : ClientError). Call opens M goes_on h c old new (end (Err y) s.client (not (is_refusal e2)) new.buffer)) x
-      (subst (λ (l : Line). Call opens M goes_on h c old l (end (Err e2) s.client (not (is_refusal e2)) l.buffer)) (sym same) (call_refused e2 o usable caused (is_refusal e2) refl))
+      subst (λ (y : ClientError). LineCall opens M goes_on h c old new (end (Err y) s.client (not (is_refusal e2)) new.buffer)) x
+      (subst (λ (l : Line). LineCall opens M goes_on h c old l (end (Err e2) s.client (not (is_refusal e2)) l.buffer)) (sym same) (call_refused e2 o usable caused (is_refusal e2) refl))
 
   -- the opening was refused or not written
-  pub call_unopened : (new : Line) (opened : Result (Unit {0}) ClientError) (e : ClientError) (info : Client) (broken : Bool) → OpensBy opened → OfError opened 0 0 s.broken → Opens s.broken s.wrote old new opened (Err e) broken → info ≡ s.client
-      → Call opens M goes_on h c old new (end (Err e) info broken new.buffer)
+  pub call_unopened : (new : Line) (opened : Result (Unit {0}) ClientError) (e : ClientError) (info : Client) (broken : Bool) → OpensBy opened → OfError opened 0 0 s.broken → HandlerOpens s.broken s.wrote old new opened (Err e) broken → info ≡ s.client
+      → LineCall opens M goes_on h c old new (end (Err e) info broken new.buffer)
   call_unopened new opened e info broken o caused opens2 same =
-      subst (λ (y : Client). Call opens M goes_on h c old new (end (Err e) y broken new.buffer)) (sym same) (call_ended new opened (Err e) e broken o caused opens2 refl)
+      subst (λ (y : Client). LineCall opens M goes_on h c old new (end (Err e) y broken new.buffer)) (sym same) (call_ended new opened (Err e) e broken o caused opens2 refl)
 
-opened_by : (was broken : Bool) (out : List ℕ) (old new : Line) (opened result : Result (Unit {0}) ClientError) → Opens was out old new opened result broken → result ≡ Ok tt → (opened ≡ Ok tt) × (was ≡ false) × PutAll out old new × (broken ≡ false)
+opened_by : (was broken : Bool) (out : List ℕ) (old new : Line) (opened result : Result (Unit {0}) ClientError) → HandlerOpens was out old new opened result broken → result ≡ Ok tt → (opened ≡ Ok tt) × (was ≡ false) × PutAll out old new × (broken ≡ false)
 opened_by was broken out old new opened result (starved opened2 wanting same) is = absurd cc
 opened_by was broken out old new opened result (wrote usable put) is = (refl, usable, put, refl)
 opened_by was broken out old new opened result (cut usable put) is = absurd cc
 opened_by was broken out old new opened result (refused e usable same) is = absurd cc
 
 -- what opened a call well
-pub opened_well : (was broken : Bool) (out : List ℕ) (old new : Line) (opened : Result (Unit {0}) ClientError) → Opens was out old new opened (Ok tt) broken → (opened ≡ Ok tt) × (was ≡ false) × PutAll out old new × (broken ≡ false)
+pub opened_well : (was broken : Bool) (out : List ℕ) (old new : Line) (opened : Result (Unit {0}) ClientError) → HandlerOpens was out old new opened (Ok tt) broken → (opened ≡ Ok tt) × (was ≡ false) × PutAll out old new × (broken ≡ false)
 opened_well was broken out old new opened o = opened_by was broken out old new opened (Ok tt) o refl
 
-module _ {H A : Type 0} (opens : Standing H → Standing H → Answer A → Type 0) (M : Hearing H A) (goes_on : ClientError → Bool) (h handler : H) (c : Client) (s0 s : Sight) (old mid : Line) (f : IsFlushed old) (opened : Result (Unit {0}) ClientError) (cleared : s0 ≡ fresh c) (means : opens (standing h s0) (standing handler s) (pending opened)) where
+module _ {H A : Type 0} (opens : HandlerView H → HandlerView H → CallAnswer A → Type 0) (M : Hearing H A) (goes_on : ClientError → Bool) (h handler : H) (c : Client) (s0 s : Sight) (old mid : Line) (f : IsFlushed old) (opened : Result (Unit {0}) ClientError) (cleared : s0 ≡ fresh c) (means : opens (standing h s0) (standing handler s) (pending opened)) where
   means_so : opens (standing h (fresh c)) (standing handler s) (pending opened)
   means_so = subst (λ (x : Sight). opens (standing h x) (standing handler s) (pending opened)) cleared means
 
   -- a call that was opened from a desk that was cleared
-  pub call_opened : (new : Line) (info : Client) (broken : Bool) (last : End A) → Opens s.broken s.wrote old mid opened (Ok tt) broken → info ≡ s.client → Talked M goes_on handler info mid new last → Call opens M goes_on h c old new last
+  pub call_opened : (new : Line) (info : Client) (broken : Bool) (last : CallEnd A) → HandlerOpens s.broken s.wrote old mid opened (Ok tt) broken → info ≡ s.client → TalksToCallEnd M goes_on handler info mid new last → LineCall opens M goes_on h c old new last
   call_opened new info broken last begun same t =
       let well = opened_well s.broken broken s.wrote old mid opened begun in
       call_talked opens M goes_on h handler c s old f info mid new last
@@ -489,5 +489,5 @@ module _ {H A : Type 0} (opens : Standing H → Standing H → Answer A → Type
   opens_by (Err e) o = o
 
   -- and one that was not
-  pub call_closed : (e : ClientError) (info : Client) (broken : Bool) → OfError opened 0 0 s.broken → Opens s.broken s.wrote old mid opened (Err e) broken → info ≡ s.client → Call opens M goes_on h c old mid (end (Err e) info broken mid.buffer)
+  pub call_closed : (e : ClientError) (info : Client) (broken : Bool) → OfError opened 0 0 s.broken → HandlerOpens s.broken s.wrote old mid opened (Err e) broken → info ≡ s.client → LineCall opens M goes_on h c old mid (end (Err e) info broken mid.buffer)
   call_closed e info broken caused begun same = call_unopened opens M goes_on h handler c s old f mid opened e info broken (opens_by opened means_so) caused begun same

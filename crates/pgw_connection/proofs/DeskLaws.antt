@@ -4,15 +4,15 @@ use Rattle.std.proofs.lemmas.List.{append-nil}
 use Rattle.pgw_types.specs.declared.error.PgWireError.{PgWireError}
 use Rattle.pgw_backend.specs.declared.client_error.PgWireClientError.{PgWireClientError as ClientError}
 use Rattle.pgw_backend.specs.declared.client_error.PgWireClientError.TheVariants as client
-use Rattle.pgw_backend.specs.ClientError.{of_wire}
+use Rattle.pgw_backend.specs.ClientError.{client_of_wire}
 use Rattle.pgw_wire.specs.Framing.{Appends}
 use Rattle.pgw_dialogue.specs.Wire.{PutOut}
 use Rattle.pgw_dialogue.proofs.WireLaws.{told_of}
 use Rattle.pgw_handlers.specs.Client.{Client, Sight}
-use Rattle.pgw_handlers.specs.Sending.{NotSent, IsUsable, IsSpelled, bytes_or_none}
+use Rattle.pgw_handlers.specs.Sending.{NotSent, SendLeavesUsable, IsSpelled, bytes_or_none}
 use Rattle.pgw_connection.specs.Desk.{is_wanting}
 
-pub put_refused : (spelled : Result (List ℕ) PgWireError) (old new : List ℕ) (e : PgWireError) → Appends (Err e) old new spelled → PutOut spelled old new (Err (of_wire e))
+pub put_refused : (spelled : Result (List ℕ) PgWireError) (old new : List ℕ) (e : PgWireError) → Appends (Err e) old new spelled → PutOut spelled old new (Err (client_of_wire e))
 put_refused spelled old new e a = (a.0, told_of spelled e a.1)
 
 abbrev sight : Client → List ℕ → Bool → Sight
@@ -31,11 +31,11 @@ not_sent spelled c old new e p =
     let why = p.1 (λ is. cc) in
     subst (λ (x : ClientError). NotSent spelled (sight c old false) (sight c new (is_wanting x)) x) (sym why.2) (refl, why.1, ap (λ (w : List ℕ). sight c w false) p.0)
 
-pub still_usable : (spelled : Result (List ℕ) PgWireError) (old new : List ℕ) (e : ClientError) → PutOut spelled old new (Err e) → IsUsable (Err e) false (is_wanting e)
+pub still_usable : (spelled : Result (List ℕ) PgWireError) (old new : List ℕ) (e : ClientError) → PutOut spelled old new (Err e) → SendLeavesUsable (Err e) false (is_wanting e)
 still_usable spelled old new client.OutOfMemory p = (refl, refl)
 still_usable spelled old new e p =
     let why = p.1 (λ is. cc) in
-    subst (λ (x : ClientError). IsUsable (Err x) false (is_wanting x)) (sym why.2) (refl, refl)
+    subst (λ (x : ClientError). SendLeavesUsable (Err x) false (is_wanting x)) (sym why.2) (refl, refl)
 
 pub spelled_so : (spelled : Result (List ℕ) PgWireError) (old new : List ℕ) (e : ClientError) → PutOut spelled old new (Err e) → IsSpelled spelled (Err e)
 spelled_so spelled old new client.OutOfMemory p = tt

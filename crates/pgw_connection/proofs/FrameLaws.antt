@@ -5,7 +5,7 @@ use Rattle.pgw_types.specs.declared.error.PgWireError.{PgWireError}
 use Rattle.pgw_types.specs.declared.context.ProtocolVersion.{ProtocolVersion}
 use Rattle.pgw_types.specs.declared.context.DecodeContext.{DecodeContext}
 use Rattle.pgw_wire.specs.declared.framing.Framing.TheVariants.{Typed}
-use Rattle.pgw_wire.specs.Framing.{stated_length, length_frame, frame, framed, front as front_by, as_one_of}
+use Rattle.pgw_wire.specs.Framing.{stated_length, length_frame, frame, framed, wire_front as front_by, as_one_of}
 use Rattle.pgw_wire.proofs.Laws.{bind_ok, chosen}
 use Rattle.pgw_backend.specs.declared.backend.PgWireBackendMessage.{PgWireBackendMessage}
 use Rattle.pgw_backend.specs.declared.backend.PgWireBackendMessage.TheVariants as backend
@@ -13,7 +13,7 @@ use Rattle.pgw_startup.specs.Login.{authentication_of, parameter_status_of, back
 use Rattle.pgw_query.specs.Rows.{ready_for_query_of, command_complete_of, empty_query_response_of, error_response_of, notice_response_of, notification_response_of, parameter_description_of, row_description_of, data_row_of, no_data_of}
 use Rattle.pgw_ext.specs.Rows.{parse_complete_of, bind_complete_of, close_complete_of, portal_suspended_of}
 use Rattle.pgw_copy.specs.Rows.{copy_data_of, copy_done_of, copy_fail_of, copy_in_response_of, copy_out_response_of, copy_both_response_of}
-use Rattle.pgw_backend.specs.Backend.{backend_by, typed_front, backend_front}
+use Rattle.pgw_backend.specs.Backend.{backend_by, backend_typed_front, backend_front}
 use Rattle.pgw_backend.specs.Front.{front, front_of, typed_phase, More}
 use Rattle.pgw_connection.specs.Reading.{awaited}
 
@@ -97,7 +97,7 @@ short_waits a short =
     let five : ltb (length a) 5 ≡ true = lt-ltb _ _ (omega (arith, short)) in
     rw five (omega (arith, short))
 
-typed_waits : (ctx : DecodeContext) → Waits (typed_front ctx)
+typed_waits : (ctx : DecodeContext) → Waits (backend_typed_front ctx)
 typed_waits ctx a e = elim (chosen (ltb (length a) 2) _ _ _ e) [
   | inl h ↦ (let short : length a < 2 = ltb-true _ _ h.0 in short_waits a short)
   | inr h ↦ by_waits (get_or a 0 0) ctx a h.1

@@ -7,36 +7,36 @@ use Rattle.pgw_session.specs.declared.types.Request.{Request}
 use Rattle.pgw_handlers.specs.Handling.{HasCause, IsCaused}
 use Rattle.pgw_connection.specs.declared.gathered.Gathered.{Gathered}
 use Rattle.pgw_connection.specs.Line.{Line, Foretold, IsFlushed}
-use Rattle.pgw_connection.specs.Calls.{IsUsable}
+use Rattle.pgw_connection.specs.Calls.{IsUsableAfter}
 use Rattle.pgw_connection.specs.Extended.{Meaning, finish}
-use Rattle.pgw_connection.specs.ExtendedSteps.{Called, given, may_stay}
+use Rattle.pgw_connection.specs.ExtendedSteps.{MakesCall, gathered_as, may_stay}
 use Rattle.pgw_connection.specs.State.{ClientState, line_of}
-use Rattle.pgw_connection.specs.Lent.{Asks, both}
+use Rattle.pgw_connection.specs.Lent.{AsksByClient, lent_pair}
 use Rattle.pgw_connection.proofs.ForetoldLaws.{foretold_still}
 use Rattle.pgw_connection.proofs.RequestLaws.{called_starved}
 
-given_both : {S A : Type 0} (give : Gathered S → Bool → A) (r : Result (Gathered S × Bool) ClientError) → given give (given both r) ≡ given give r
+given_both : {S A : Type 0} (give : Gathered S → Bool → A) (r : Result (Gathered S × Bool) ClientError) → gathered_as give (gathered_as lent_pair r) ≡ gathered_as give r
 given_both give (Ok x) = refl
 given_both give (Err e) = refl
 
-given_caused : {S A : Type 0} (give : Gathered S → Bool → A) (r : Result (Gathered S × Bool) ClientError) (before now : ℕ) (broken : Bool) → HasCause before now broken r → HasCause before now broken (given give r)
+given_caused : {S A : Type 0} (give : Gathered S → Bool → A) (r : Result (Gathered S × Bool) ClientError) (before now : ℕ) (broken : Bool) → HasCause before now broken r → HasCause before now broken (gathered_as give r)
 given_caused give (Ok x) before now broken c = record { later = c.later; failed = tt }
 given_caused give (Err e) before now broken c = record { later = c.later; failed = c.failed }
 
-given_usable : {S A : Type 0} (give : Gathered S → Bool → A) (r : Result (Gathered S × Bool) ClientError) (broken : Bool) → IsUsable may_stay r broken → IsUsable may_stay (given give r) broken
+given_usable : {S A : Type 0} (give : Gathered S → Bool → A) (r : Result (Gathered S × Bool) ClientError) (broken : Bool) → IsUsableAfter may_stay r broken → IsUsableAfter may_stay (gathered_as give r) broken
 given_usable give (Ok x) broken u = u
 given_usable give (Err e) broken u = u
 
 module _ {X H R S : Type 0} (foretells : Type 0) (left : X → Option (List ℕ)) (tape : X → Tape) (faults : X → ℕ) (M : Meaning H R) (listed : S → List R) (q : Request) (h : H) (before after : ClientState X) where
   -- a call that makes its own answer of what was gathered
-  pub asks_as : {A : Type 0} (give : Gathered S → Bool → A) (handler : H) (r : Result (Gathered S × Bool) ClientError) (result : Result A ClientError) → result ≡ given give r → Asks foretells left tape faults M listed q both h handler before after r → Asks foretells left tape faults M listed q give h handler before after result
+  pub asks_as : {A : Type 0} (give : Gathered S → Bool → A) (handler : H) (r : Result (Gathered S × Bool) ClientError) (result : Result A ClientError) → result ≡ gathered_as give r → AsksByClient foretells left tape faults M listed q lent_pair h handler before after r → AsksByClient foretells left tape faults M listed q give h handler before after result
   asks_as {A} give handler r result is a =
-      subst (λ (x : Result A ClientError). Asks foretells left tape faults M listed q give h handler before after x) (sym is)
+      subst (λ (x : Result A ClientError). AsksByClient foretells left tape faults M listed q give h handler before after x) (sym is)
       record {
-        broken = λ was. let b = a.broken was in (ap (given give) b.0, b.1, b.2);
+        broken = λ was. let b = a.broken was in (ap (gathered_as give) b.0, b.1, b.2);
         asked = λ usable.
             let x = a.asked usable in
-            record { answer = x.answer; gives = ap (given give) x.gives ∙ given_both give x.answer; called = x.called };
+            record { answer = x.answer; gives = ap (gathered_as give) x.gives ∙ given_both give x.answer; called = x.called };
         foretold = a.foretold;
         cause = given_caused give r (faults before.link) (faults after.link) before.broken a.cause;
         usable = λ was. given_usable give r after.broken (a.usable was);
@@ -51,18 +51,18 @@ module _ {X H R S : Type 0} (foretells : Type 0) (left : X → Option (List ℕ)
 
   -- memory was wanting
   pub asks_starved : (e : ClientError) → (before.broken ≡ false → IsFlushed (line_of tape faults before)) → (before.broken ≡ true → (e ≡ client.Broken) × (after ≡ before)) → (before.broken ≡ false → (e ≡ client.OutOfMemory) × (after.broken ≡ true)) → line_of tape faults after ≡ line_of tape faults before
-      → after.link ≡ before.link → after.read ≤ after.limit → after.known.config ≡ before.known.config → Asks foretells left tape faults M listed q both h h before after (Err e)
+      → after.link ≡ before.link → after.read ≤ after.limit → after.known.config ≡ before.known.config → AsksByClient foretells left tape faults M listed q lent_pair h h before after (Err e)
   asks_starved e flushed broken starved same link within config = record {
     broken = λ was. let b = broken was in (ap Err b.0, b.1, refl);
     asked = λ usable.
         let s = starved usable in
         let called = called_starved M q h h before.known after.known (line_of tape faults before) (flushed usable) in
-        let there = subst (λ (l : Line). Called M q h before.known (line_of tape faults before) l (finish (Err client.OutOfMemory) h after.known true l.buffer)) (sym same) called in
-        let so = subst (λ (x : ClientError). Called M q h before.known (line_of tape faults before) (line_of tape faults after) (finish (Err x) h after.known true after.buffer)) (sym s.0) there in
+        let there = subst (λ (l : Line). MakesCall M q h before.known (line_of tape faults before) l (finish (Err client.OutOfMemory) h after.known true l.buffer)) (sym same) called in
+        let so = subst (λ (x : ClientError). MakesCall M q h before.known (line_of tape faults before) (line_of tape faults after) (finish (Err x) h after.known true after.buffer)) (sym s.0) there in
         record {
           answer = Err e;
           gives = refl;
-          called = subst (λ (b : Bool). Called M q h before.known (line_of tape faults before) (line_of tape faults after) (finish (Err e) h after.known b after.buffer)) (sym s.1) so;
+          called = subst (λ (b : Bool). MakesCall M q h before.known (line_of tape faults before) (line_of tape faults after) (finish (Err e) h after.known b after.buffer)) (sym s.1) so;
         };
     foretold = λ t. subst (λ (l : X). Foretold (left before.link) (left l) (tape before.link) (tape l)) (sym link) (foretold_still (left before.link) (tape before.link));
     cause = record {

@@ -10,20 +10,20 @@ use Rattle.pgw_session.specs.Requests.{kind_of, sends_of}
 use Rattle.pgw_handlers.specs.Client.{Client, Sight}
 use Rattle.pgw_handlers.specs.Handling.{standing, IsCaused, OfError}
 use Rattle.pgw_connection.specs.Talk.{fresh, is_refusal}
-use Rattle.pgw_connection.specs.Line.{Line, Reasons, Pause, IsFlushed, Moved}
-use Rattle.pgw_connection.specs.Calls.{PutAll, PutSome, Opens as Begins, starved, wrote, cut, refused}
-use Rattle.pgw_connection.specs.Extended.{Meaning, calls_for, Opens, none_gathered, Finish, finish, Exchange, Requested}
+use Rattle.pgw_connection.specs.Line.{Line, Reasons, Pause, IsFlushed, MovesLine}
+use Rattle.pgw_connection.specs.Calls.{PutAll, PutSome, HandlerOpens as Begins, starved, wrote, cut, refused}
+use Rattle.pgw_connection.specs.Extended.{Meaning, calls_for, CallsInOrder, none_gathered, Finish, finish, Exchange, Requested}
 use Rattle.pgw_connection.specs.Extended as extended
-use Rattle.pgw_connection.specs.ExtendedSteps.{Exchanged, Called}
+use Rattle.pgw_connection.specs.ExtendedSteps.{LineExchange, MakesCall}
 use Rattle.pgw_connection.proofs.ReadingLaws.{not_halted, not_at_end, halts_on, at_end_on, ended_on}
 use Rattle.pgw_connection.proofs.CallLaws.{moved_on, opened_well}
 use Rattle.pgw_connection.proofs.ExchangeLaws.{exchange_as}
 
-moved_still : (old : Line) → Moved old old [] []
+moved_still : (old : Line) → MovesLine old old [] []
 moved_still old = record { took = sym (append-nil old.tape.took); wrote = sym (append-nil old.tape.wrote); read = omega arith; limit = refl }
 
 -- memory was wanting
-pub called_starved : {H R : Type 0} (M : Meaning H R) (q : Request) (h handler : H) (c info : Client) (old : Line) → IsFlushed old → Called M q h c old old (finish (Err client.OutOfMemory) handler info true old.buffer)
+pub called_starved : {H R : Type 0} (M : Meaning H R) (q : Request) (h handler : H) (c info : Client) (old : Line) → IsFlushed old → MakesCall M q h c old old (finish (Err client.OutOfMemory) handler info true old.buffer)
 called_starved M q h handler c info old f = record {
   taken = [];
   sent = [];
@@ -37,8 +37,8 @@ called_starved M q h handler c info old f = record {
 
 module _ {H R : Type 0} (M : Meaning H R) (q : Request) (h handler : H) (c : Client) (s : Sight) (old : Line) (f : IsFlushed old) where
   -- the opening was written, and messages were exchanged
-  called_exchanged : (info : Client) (mid new : Line) (last : Finish H R) → Opens M (calls_for (sends_of q)) (standing h (fresh c)) (standing handler s) (Ok tt) → s.broken ≡ false → PutAll s.wrote old mid → info ≡ s.client
-      → Exchanged M (kind_of q) handler info none_gathered mid new last → Called M q h c old new last
+  called_exchanged : (info : Client) (mid new : Line) (last : Finish H R) → CallsInOrder M (calls_for (sends_of q)) (standing h (fresh c)) (standing handler s) (Ok tt) → s.broken ≡ false → PutAll s.wrote old mid → info ≡ s.client
+      → LineExchange M (kind_of q) handler info none_gathered mid new last → MakesCall M q h c old new last
   called_exchanged info mid new last o usable put same t =
       let bytes = subst (λ (b : List ℕ). Exchange M (Pause mid new) (kind_of q) handler info none_gathered (b ++ t.taken) t.sent last) put.buffer t.exchange in
       record {
@@ -58,7 +58,7 @@ module _ {H R : Type 0} (M : Meaning H R) (q : Request) (h handler : H) (c : Cli
       subst (λ (b : List ℕ). Requested M P q h c b sent (finish (Err e) handler info broken rest)) (sym (append-nil old.buffer))
       (subst (λ (b : List ℕ). Requested M P q h c old.buffer sent (finish (Err e) handler info broken b)) (sym same) a)
 
-  called_cut : (new : Line) → Opens M (calls_for (sends_of q)) (standing h (fresh c)) (standing handler s) (Ok tt) → s.broken ≡ false → PutSome s.wrote old new → Called M q h c old new (finish (Err client.IoError) handler s.client true new.buffer)
+  called_cut : (new : Line) → CallsInOrder M (calls_for (sends_of q)) (standing h (fresh c)) (standing handler s) (Ok tt) → s.broken ≡ false → PutSome s.wrote old new → MakesCall M q h c old new (finish (Err client.IoError) handler s.client true new.buffer)
   called_cut new o usable put = record {
     taken = [];
     sent = put.part;
@@ -70,7 +70,7 @@ module _ {H R : Type 0} (M : Meaning H R) (q : Request) (h handler : H) (c : Cli
     well = inr refl;
   }
 
-  called_refused : (e : ClientError) → Opens M (calls_for (sends_of q)) (standing h (fresh c)) (standing handler s) (Err e) → s.broken ≡ false → IsCaused e 0 0 s.broken → (b : Bool) → is_refusal e ≡ b → Called M q h c old old (finish (Err e) handler s.client (not b) old.buffer)
+  called_refused : (e : ClientError) → CallsInOrder M (calls_for (sends_of q)) (standing h (fresh c)) (standing handler s) (Err e) → s.broken ≡ false → IsCaused e 0 0 s.broken → (b : Bool) → is_refusal e ≡ b → MakesCall M q h c old old (finish (Err e) handler s.client (not b) old.buffer)
   called_refused e o usable caused true is = record {
     taken = [];
     sent = [];
@@ -92,38 +92,38 @@ module _ {H R : Type 0} (M : Meaning H R) (q : Request) (h handler : H) (c : Cli
     well = inl (refl, f);
   }
 
-  called_ended : (new : Line) (opened result : Result (Unit {0}) ClientError) (e : ClientError) (broken : Bool) → Opens M (calls_for (sends_of q)) (standing h (fresh c)) (standing handler s) opened → OfError opened 0 0 s.broken
-      → Begins s.broken s.wrote old new opened result broken → result ≡ Err e → Called M q h c old new (finish (Err e) handler s.client broken new.buffer)
+  called_ended : (new : Line) (opened result : Result (Unit {0}) ClientError) (e : ClientError) (broken : Bool) → CallsInOrder M (calls_for (sends_of q)) (standing h (fresh c)) (standing handler s) opened → OfError opened 0 0 s.broken
+      → Begins s.broken s.wrote old new opened result broken → result ≡ Err e → MakesCall M q h c old new (finish (Err e) handler s.client broken new.buffer)
   called_ended new opened result e broken o caused (starved opened2 wanting same) is =
       let x : client.OutOfMemory ≡ e = cc in
-      subst (λ (y : ClientError). Called M q h c old new (finish (Err y) handler s.client true new.buffer)) x
-      (subst (λ (l : Line). Called M q h c old l (finish (Err client.OutOfMemory) handler s.client true l.buffer)) (sym same) (called_starved M q h handler c s.client old f))
+      subst (λ (y : ClientError). MakesCall M q h c old new (finish (Err y) handler s.client true new.buffer)) x
+      (subst (λ (l : Line). MakesCall M q h c old l (finish (Err client.OutOfMemory) handler s.client true l.buffer)) (sym same) (called_starved M q h handler c s.client old f))
   called_ended new opened result e broken o caused (wrote usable put) is = absurd cc
   called_ended new opened result e broken o caused (cut usable put) is =
       let x : client.IoError ≡ e = cc in
-      subst (λ (y : ClientError). Called M q h c old new (finish (Err y) handler s.client true new.buffer)) x (called_cut new o usable put)
+      subst (λ (y : ClientError). MakesCall M q h c old new (finish (Err y) handler s.client true new.buffer)) x (called_cut new o usable put)
   called_ended new opened result e broken o caused (refused e2 usable same) is =
       let x : e2 ≡ e = cc in
-      subst (λ (y : ClientError). Called M q h c old new (finish (Err y) handler s.client (not (is_refusal e2)) new.buffer)) x
-      (subst (λ (l : Line). Called M q h c old l (finish (Err e2) handler s.client (not (is_refusal e2)) l.buffer)) (sym same) (called_refused e2 o usable caused (is_refusal e2) refl))
+      subst (λ (y : ClientError). MakesCall M q h c old new (finish (Err y) handler s.client (not (is_refusal e2)) new.buffer)) x
+      (subst (λ (l : Line). MakesCall M q h c old l (finish (Err e2) handler s.client (not (is_refusal e2)) l.buffer)) (sym same) (called_refused e2 o usable caused (is_refusal e2) refl))
 
-module _ {H R : Type 0} (M : Meaning H R) (q : Request) (h handler : H) (c : Client) (s0 s : Sight) (old mid : Line) (f : IsFlushed old) (ms : List Frontend) (handed : Result (Unit {0}) ClientError) (all : ms ≡ sends_of q) (cleared : s0 ≡ fresh c) (opens : Opens M (calls_for ms) (standing h s0) (standing handler s) handed) where
-  opens_so : Opens M (calls_for (sends_of q)) (standing h (fresh c)) (standing handler s) handed
-  opens_so = subst (λ (l : List Frontend). Opens M (calls_for l) (standing h (fresh c)) (standing handler s) handed) all (subst (λ (x : Sight). Opens M (calls_for ms) (standing h x) (standing handler s) handed) cleared opens)
+module _ {H R : Type 0} (M : Meaning H R) (q : Request) (h handler : H) (c : Client) (s0 s : Sight) (old mid : Line) (f : IsFlushed old) (ms : List Frontend) (handed : Result (Unit {0}) ClientError) (all : ms ≡ sends_of q) (cleared : s0 ≡ fresh c) (opens : CallsInOrder M (calls_for ms) (standing h s0) (standing handler s) handed) where
+  opens_so : CallsInOrder M (calls_for (sends_of q)) (standing h (fresh c)) (standing handler s) handed
+  opens_so = subst (λ (l : List Frontend). CallsInOrder M (calls_for l) (standing h (fresh c)) (standing handler s) handed) all (subst (λ (x : Sight). CallsInOrder M (calls_for ms) (standing h x) (standing handler s) handed) cleared opens)
 
   -- a request that was opened from a desk that was cleared
-  pub called_opened : (new : Line) (info : Client) (broken : Bool) (k : Kind) (last : Finish H R) → Begins s.broken s.wrote old mid handed (Ok tt) broken → info ≡ s.client → k ≡ kind_of q → Exchanged M k handler info none_gathered mid new last → Called M q h c old new last
+  pub called_opened : (new : Line) (info : Client) (broken : Bool) (k : Kind) (last : Finish H R) → Begins s.broken s.wrote old mid handed (Ok tt) broken → info ≡ s.client → k ≡ kind_of q → LineExchange M k handler info none_gathered mid new last → MakesCall M q h c old new last
   called_opened new info broken k last begun same kind_is t =
       let well = opened_well s.broken broken s.wrote old mid handed begun in
       called_exchanged M q h handler c s old f info mid new last
-      (subst (λ (r : Result (Unit {0}) ClientError). Opens M (calls_for (sends_of q)) (standing h (fresh c)) (standing handler s) r) well.0 opens_so) well.1 well.2 same
-      (subst (λ (x : Kind). Exchanged M x handler info none_gathered mid new last) kind_is t)
+      (subst (λ (r : Result (Unit {0}) ClientError). CallsInOrder M (calls_for (sends_of q)) (standing h (fresh c)) (standing handler s) r) well.0 opens_so) well.1 well.2 same
+      (subst (λ (x : Kind). LineExchange M x handler info none_gathered mid new last) kind_is t)
 
   -- and one that was not
-  pub called_closed : (e : ClientError) (info : Client) (broken : Bool) → OfError handed 0 0 s.broken → Begins s.broken s.wrote old mid handed (Err e) broken → info ≡ s.client → Called M q h c old mid (finish (Err e) handler info broken mid.buffer)
+  pub called_closed : (e : ClientError) (info : Client) (broken : Bool) → OfError handed 0 0 s.broken → Begins s.broken s.wrote old mid handed (Err e) broken → info ≡ s.client → MakesCall M q h c old mid (finish (Err e) handler info broken mid.buffer)
   called_closed e info broken caused begun same =
-      subst (λ (y : Client). Called M q h c old mid (finish (Err e) handler y broken mid.buffer)) (sym same) (called_ended M q h handler c s old f mid handed (Err e) e broken opens_so caused begun refl)
+      subst (λ (y : Client). MakesCall M q h c old mid (finish (Err e) handler y broken mid.buffer)) (sym same) (called_ended M q h handler c s old f mid handed (Err e) e broken opens_so caused begun refl)
 
 -- the same request
-pub called_as : {H R : Type 0} (M : Meaning H R) (q asked : Request) (h : H) (c : Client) (old new : Line) (last : Finish H R) → asked ≡ q → Called M asked h c old new last → Called M q h c old new last
-called_as M q asked h c old new last same called = subst (λ (x : Request). Called M x h c old new last) same called
+pub called_as : {H R : Type 0} (M : Meaning H R) (q asked : Request) (h : H) (c : Client) (old new : Line) (last : Finish H R) → asked ≡ q → MakesCall M asked h c old new last → MakesCall M q h c old new last
+called_as M q asked h c old new last same called = subst (λ (x : Request). MakesCall M x h c old new last) same called

@@ -15,7 +15,7 @@ use Rattle.pgw_session.specs.Requests.{role}
 use Rattle.pgw_link.specs.Tape.{Tape}
 use Rattle.pgw_dialogue.proofs.RowLaws.{row_found}
 use Rattle.pgw_handlers.specs.Client.{Client}
-use Rattle.pgw_handlers.specs.Handling.{Standing, standing, Answer}
+use Rattle.pgw_handlers.specs.Handling.{HandlerView, standing, CallAnswer}
 use Rattle.pgw_handlers.specs.declared.client_info.ReadyState.TheVariants.{Pending, Ready}
 use Rattle.pgw_handlers.specs.Simple as simple
 use Rattle.pgw_handlers.specs.Simple.{SimpleCall, HeardInQuery}
@@ -23,12 +23,12 @@ use Rattle.pgw_handlers.specs.Extended as extended
 use Rattle.pgw_handlers.specs.Extended.{response}
 use Rattle.pgw_connection.specs.declared.gathered.Gathered.{Gathered}
 use Rattle.pgw_connection.specs.Talk as talk
-use Rattle.pgw_connection.specs.Talk.{fresh, End, end, Talk}
+use Rattle.pgw_connection.specs.Talk.{fresh, CallEnd, end, CallTalk}
 use Rattle.pgw_connection.specs.Line.{Line, line, Reasons, Pause, IsFlushed}
-use Rattle.pgw_connection.specs.Calls.{Talked, HeardNext, HeardOn}
+use Rattle.pgw_connection.specs.Calls.{TalksToCallEnd, HeardNext, HeardOn}
 use Rattle.pgw_connection.specs.Extended as exchange
 use Rattle.pgw_connection.specs.Extended.{Meaning, Exchange, Finish, finish}
-use Rattle.pgw_connection.specs.ExtendedSteps.{Exchanged, HeededNext, HeededOn, takes_rows}
+use Rattle.pgw_connection.specs.ExtendedSteps.{LineExchange, HeededNext, HeededOn, takes_rows}
 use Rattle.pgw_connection.proofs.ReadingLaws.{not_halted, not_at_end}
 use Rattle.pgw_connection.proofs.CallLaws.{put_none, talked_on}
 use Rattle.pgw_connection.proofs.ExchangeLaws.{exchanged_on}
@@ -36,9 +36,9 @@ use Rattle.pgw_connection.proofs.ExchangeLaws.{exchanged_on}
 -- ---- in a simple query
 
 -- rows of a front are rows of all
-pub taken_more : {H R : Type 0} (M : Standing H → SimpleCall → Standing H → Answer (List R) → Type 0)
+pub taken_more : {H R : Type 0} (M : HandlerView H → SimpleCall → HandlerView H → CallAnswer (List R) → Type 0)
     (h after : H) (front left behind all : List ℕ) (count : ℕ) → front ++ behind ≡ all
-    → simple.TakesRows M h after front left count → simple.TakesRows M h after all (left ++ behind) count
+    → simple.TakesSimpleRows M h after front left count → simple.TakesSimpleRows M h after all (left ++ behind) count
 taken_more M h after front left behind all count are t = record {
   rows = t.rows;
   taken = t.taken;
@@ -49,11 +49,11 @@ taken_more M h after front left behind all count are t = record {
 }
 
 -- rows were taken of a buffer's front, or its bytes stayed
-pub taken_through : {H R : Type 0} (M : Standing H → SimpleCall → Standing H → Answer (List R) → Type 0)
+pub taken_through : {H R : Type 0} (M : HandlerView H → SimpleCall → HandlerView H → CallAnswer (List R) → Type 0)
     (h after : H) (front left behind all now : List ℕ) (result : Result ℕ OutOfMemory) → front ++ behind ≡ all → now ≡ left ++ behind
-    → IfOk result (simple.TakesRows M h after front left) → IfOk result (simple.TakesRows M h after all now)
+    → IfOk result (simple.TakesSimpleRows M h after front left) → IfOk result (simple.TakesSimpleRows M h after all now)
 taken_through M h after front left behind all now (Ok count) are is t =
-    subst (λ (l : List ℕ). simple.TakesRows M h after all l count) (sym is) (taken_more M h after front left behind all count are t)
+    subst (λ (l : List ℕ). simple.TakesSimpleRows M h after all l count) (sym is) (taken_more M h after front left behind all count are t)
 taken_through M h after front left behind all now (Err e) are is t = tt
 
 pub kept_through : {H : Type 0} (h after : H) (front left behind all now : List ℕ) (result : Result ℕ OutOfMemory) → front ++ behind ≡ all → now ≡ left ++ behind
@@ -61,30 +61,30 @@ pub kept_through : {H : Type 0} (h after : H) (front left behind all now : List 
 kept_through h after front left behind all now (Ok count) are is t = tt
 kept_through h after front left behind all now (Err e) are is t = is ∙ ap (λ (l : List ℕ). l ++ behind) t.1 ∙ are
 
-pub never_longer : {H R : Type 0} (M : Standing H → SimpleCall → Standing H → Answer (List R) → Type 0)
+pub never_longer : {H R : Type 0} (M : HandlerView H → SimpleCall → HandlerView H → CallAnswer (List R) → Type 0)
     (h after : H) (all now : List ℕ) (result : Result ℕ OutOfMemory)
-    → IfOk result (simple.TakesRows M h after all now) → OnErr result (now ≡ all) → length now ≤ length all
+    → IfOk result (simple.TakesSimpleRows M h after all now) → OnErr result (now ≡ all) → length now ≤ length all
 never_longer M h after all now (Ok count) t e = omega (arith, ap length t.cut, length-append t.taken now)
 never_longer M h after all now (Err why) t e = omega (arith, ap length e)
 
-module _ {H R : Type 0} (M : Standing H → SimpleCall → Standing H → Answer (List R) → Type 0) (goes_on : ClientError → Bool) where
+module _ {H R : Type 0} (M : HandlerView H → SimpleCall → HandlerView H → CallAnswer (List R) → Type 0) (goes_on : ClientError → Bool) where
   -- each is heard, and nothing is sent for it
-  talk_rows : (P : Reasons) (c : Client) (rows : List DataRow) (h after : H) (taken bytes sent : List ℕ) (last : End (List R))
+  talk_rows : (P : Reasons) (c : Client) (rows : List DataRow) (h after : H) (taken bytes sent : List ℕ) (last : CallEnd (List R))
       → simple.HearsRows M rows h after → SpellsRows rows taken
-      → Talk (HeardInQuery M) P goes_on after c bytes sent last → Talk (HeardInQuery M) P goes_on h c (taken ++ bytes) sent last
+      → CallTalk (HeardInQuery M) P goes_on after c bytes sent last → CallTalk (HeardInQuery M) P goes_on h c (taken ++ bytes) sent last
   talk_rows P c rows h after taken bytes sent last (simple.none same) s t =
-      subst (λ (g : List ℕ). Talk (HeardInQuery M) P goes_on same c (g ++ bytes) sent last) (sym s) t
+      subst (λ (g : List ℕ). CallTalk (HeardInQuery M) P goes_on same c (g ++ bytes) sent last) (sym s) t
   talk_rows P c rows h after taken bytes sent last (simple.hears row more first next final step heard) s t =
       let whole : taken ++ bytes ≡ s.0 ++ (s.1 ++ bytes) = ap (λ (g : List ℕ). g ++ bytes) s.2 ∙ append_assoc s.0 s.1 bytes in
-      subst (λ (b : List ℕ). Talk (HeardInQuery M) P goes_on first c b sent last) (sym whole)
+      subst (λ (b : List ℕ). CallTalk (HeardInQuery M) P goes_on first c b sent last) (sym whole)
       (talk.hears first c (s.0 ++ (s.1 ++ bytes)) (backend.DataRow row) (s.1 ++ bytes) (standing next (fresh c)) sent last
       (row_found c.protocol_version row s.0 (s.1 ++ bytes) s.3) (step (fresh c)) refl refl
       (talk_rows P c more next final s.1 bytes sent last heard s.4 t))
 
-  talked_rows : (h after : H) (c : Client) (tape : Tape) (faults read limit count : ℕ) (old new : List ℕ) (final : Line) (last : End (List R))
-      → simple.TakesRows M h after old new count
-      → Talked (HeardInQuery M) goes_on after c (line tape faults new read limit) final last
-      → Talked (HeardInQuery M) goes_on h c (line tape faults old read limit) final last
+  talked_rows : (h after : H) (c : Client) (tape : Tape) (faults read limit count : ℕ) (old new : List ℕ) (final : Line) (last : CallEnd (List R))
+      → simple.TakesSimpleRows M h after old new count
+      → TalksToCallEnd (HeardInQuery M) goes_on after c (line tape faults new read limit) final last
+      → TalksToCallEnd (HeardInQuery M) goes_on h c (line tape faults old read limit) final last
   talked_rows h after c tape faults read limit count old new final last t d =
       let all : old ++ d.taken ≡ t.taken ++ (new ++ d.taken) = ap (λ (b : List ℕ). b ++ d.taken) t.cut ∙ append_assoc t.taken new d.taken in
       let P = Pause (line tape faults old read limit) final in
@@ -92,7 +92,7 @@ module _ {H R : Type 0} (M : Standing H → SimpleCall → Standing H → Answer
         taken = d.taken;
         sent = d.sent;
         moved = record { took = d.moved.took; wrote = d.moved.wrote; read = d.moved.read; limit = d.moved.limit };
-        talk = subst (λ (b : List ℕ). Talk (HeardInQuery M) P goes_on h c b d.sent last) (sym all)
+        talk = subst (λ (b : List ℕ). CallTalk (HeardInQuery M) P goes_on h c b d.sent last) (sym all)
             (talk_rows P c t.rows h after t.taken (new ++ d.taken) d.sent last t.heard t.spelled d.talk);
         flushed = d.flushed;
         well = d.well;
@@ -102,9 +102,9 @@ module _ {H R : Type 0} (M : Standing H → SimpleCall → Standing H → Answer
 
   -- a message was heard behind some rows
   pub heard_behind : (h mid handler : H) (c also info : Client) (tape mid_tape : Tape) (faults mid_faults read mid_read limit mid_limit count : ℕ)
-      (old bytes : List ℕ) (new : Line) (broken : Bool) (answer : Answer (List R))
+      (old bytes : List ℕ) (new : Line) (broken : Bool) (answer : CallAnswer (List R))
       → also ≡ c → mid_tape ≡ tape → mid_faults ≡ faults → mid_read ≡ read → mid_limit ≡ limit
-      → simple.TakesRows M h mid old bytes count
+      → simple.TakesSimpleRows M h mid old bytes count
       → HeardNext (HeardInQuery M) goes_on mid also (line mid_tape mid_faults bytes mid_read mid_limit) new handler info broken answer
       → HeardOn (HeardInQuery M) goes_on h c (line tape faults old read limit) new handler info broken answer
   heard_behind h mid handler c also info tape mid_tape faults mid_faults read mid_read limit mid_limit count old bytes new broken answer e1 e2 e3 e4 e5 t n =
@@ -115,19 +115,19 @@ module _ {H R : Type 0} (M : Standing H → SimpleCall → Standing H → Answer
       (subst (λ (x : ℕ). HeardNext (HeardInQuery M) goes_on mid also (line mid_tape mid_faults bytes x limit) new handler info broken answer) e4
       (subst (λ (x : ℕ). HeardNext (HeardInQuery M) goes_on mid also (line mid_tape mid_faults bytes mid_read x) new handler info broken answer) e5 n)))))
     where
-      as_old : (final : Line) (last : End (List R)) → Talked (HeardInQuery M) goes_on mid c (line tape faults bytes read limit) final last → Talked (HeardInQuery M) goes_on h c (line tape faults old read limit) final last
+      as_old : (final : Line) (last : CallEnd (List R)) → TalksToCallEnd (HeardInQuery M) goes_on mid c (line tape faults bytes read limit) final last → TalksToCallEnd (HeardInQuery M) goes_on h c (line tape faults old read limit) final last
       as_old final last d = talked_rows h mid c tape faults read limit count old bytes final last t d
 
-      by_answer : (a : Answer (List R)) → HeardNext (HeardInQuery M) goes_on mid c (line tape faults bytes read limit) new handler info broken a → HeardOn (HeardInQuery M) goes_on h c (line tape faults old read limit) new handler info broken a
+      by_answer : (a : CallAnswer (List R)) → HeardNext (HeardInQuery M) goes_on mid c (line tape faults bytes read limit) new handler info broken a → HeardOn (HeardInQuery M) goes_on h c (line tape faults old read limit) new handler info broken a
       by_answer (Ok Pending) x = (λ final last d. as_old final last (talked_on (HeardInQuery M) goes_on mid handler c info (line tape faults bytes read limit) new final last x.0 d), x.1)
       by_answer (Ok (Ready r)) x = as_old new (end (Ok r) info broken new.buffer) x
       by_answer (Err e) x = as_old new (end (Err e) info broken new.buffer) x
 
   -- memory was wanting
   pub talked_starved : (h : H) (c info : Client) (old new : Line) → IsFlushed old → new ≡ old
-      → Talked (HeardInQuery M) goes_on h c old new (end (Err client.OutOfMemory) info true new.buffer)
+      → TalksToCallEnd (HeardInQuery M) goes_on h c old new (end (Err client.OutOfMemory) info true new.buffer)
   talked_starved h c info old new f same =
-      subst (λ (l : Line). Talked (HeardInQuery M) goes_on h c old l (end (Err client.OutOfMemory) info true l.buffer)) (sym same)
+      subst (λ (l : Line). TalksToCallEnd (HeardInQuery M) goes_on h c old l (end (Err client.OutOfMemory) info true l.buffer)) (sym same)
       record {
         taken = [];
         sent = [];
@@ -142,8 +142,8 @@ module _ {H R : Type 0} (M : Standing H → SimpleCall → Standing H → Answer
 -- ---- in a call of extended queries
 
 pub given_more : {H R : Type 0} (M : Meaning H R) (h after : H) (was is : List R) (front left behind all : List ℕ) (count : ℕ)
-    → front ++ behind ≡ all → extended.TakesRows M h after was is front left count
-    → extended.TakesRows M h after was is all (left ++ behind) count
+    → front ++ behind ≡ all → extended.TakesExtendedRows M h after was is front left count
+    → extended.TakesExtendedRows M h after was is all (left ++ behind) count
 given_more M h after was is front left behind all count are t = record {
   rows = t.rows;
   made = t.made;
@@ -157,9 +157,9 @@ given_more M h after was is front left behind all count are t = record {
 
 pub given_through : {H R : Type 0} (M : Meaning H R) (h after : H) (was is : List R) (front left behind all now : List ℕ) (result : Result ℕ OutOfMemory)
     → front ++ behind ≡ all → now ≡ left ++ behind
-    → IfOk result (extended.TakesRows M h after was is front left) → IfOk result (extended.TakesRows M h after was is all now)
+    → IfOk result (extended.TakesExtendedRows M h after was is front left) → IfOk result (extended.TakesExtendedRows M h after was is all now)
 given_through M h after was is front left behind all now (Ok count) are so t =
-    subst (λ (l : List ℕ). extended.TakesRows M h after was is all l count) (sym so) (given_more M h after was is front left behind all count are t)
+    subst (λ (l : List ℕ). extended.TakesExtendedRows M h after was is all l count) (sym so) (given_more M h after was is front left behind all count are t)
 given_through M h after was is front left behind all now (Err e) are so t = tt
 
 pub stays_through : {H S : Type 0} (h after : H) (was is : S) (front left behind all now : List ℕ) (result : Result ℕ OutOfMemory)
@@ -169,7 +169,7 @@ stays_through h after was is front left behind all now (Ok count) are so t = tt
 stays_through h after was is front left behind all now (Err e) are so t = so ∙ ap (λ (l : List ℕ). l ++ behind) t.2 ∙ are
 
 pub not_longer : {H R : Type 0} (M : Meaning H R) (h after : H) (was is : List R) (all now : List ℕ) (result : Result ℕ OutOfMemory)
-    → IfOk result (extended.TakesRows M h after was is all now) → OnErr result (now ≡ all) → length now ≤ length all
+    → IfOk result (extended.TakesExtendedRows M h after was is all now) → OnErr result (now ≡ all) → length now ≤ length all
 not_longer M h after was is all now (Ok count) t e = omega (arith, ap length t.cut, length-append t.taken now)
 not_longer M h after was is all now (Err why) t e = omega (arith, ap length e)
 
@@ -199,9 +199,9 @@ module _ {H R : Type 0} (M : Meaning H R) (k : Kind) (takes : takes_rows k ≡ t
 
   exchanged_rows : (h after : H) (c : Client) (g more : Gathered (List R)) (tape : Tape) (faults read limit count : ℕ) (old new : List ℕ) (final : Line) (last : Finish H R)
       → more ≡ record g { responses = more.responses }
-      → extended.TakesRows M h after g.responses more.responses old new count
-      → Exchanged M k after c more (line tape faults new read limit) final last
-      → Exchanged M k h c g (line tape faults old read limit) final last
+      → extended.TakesExtendedRows M h after g.responses more.responses old new count
+      → LineExchange M k after c more (line tape faults new read limit) final last
+      → LineExchange M k h c g (line tape faults old read limit) final last
   exchanged_rows h after c g more tape faults read limit count old new final last is t d =
       let all : old ++ d.taken ≡ t.taken ++ (new ++ d.taken) = ap (λ (b : List ℕ). b ++ d.taken) t.cut ∙ append_assoc t.taken new d.taken in
       let P = Pause (line tape faults old read limit) final in
@@ -221,10 +221,10 @@ module _ {H R : Type 0} (M : Meaning H R) (k : Kind) (takes : takes_rows k ≡ t
 
   -- a message was heeded behind some rows
   pub heeded_behind : (h mid handler : H) (c also info : Client) (g between more : Gathered (List R)) (tape mid_tape : Tape) (faults mid_faults read mid_read limit mid_limit count : ℕ)
-      (old bytes : List ℕ) (new : Line) (broken : Bool) (answer : Answer Bool)
+      (old bytes : List ℕ) (new : Line) (broken : Bool) (answer : CallAnswer Bool)
       → also ≡ c → mid_tape ≡ tape → mid_faults ≡ faults → mid_read ≡ read → mid_limit ≡ limit
       → between ≡ record g { responses = between.responses }
-      → extended.TakesRows M h mid g.responses between.responses old bytes count
+      → extended.TakesExtendedRows M h mid g.responses between.responses old bytes count
       → HeededNext M k mid also between (line mid_tape mid_faults bytes mid_read mid_limit) new handler info more broken answer
       → HeededOn M k h c g (line tape faults old read limit) new handler info more broken answer
   heeded_behind h mid handler c also info g between more tape mid_tape faults mid_faults read mid_read limit mid_limit count old bytes new broken answer e1 e2 e3 e4 e5 e6 t n =
@@ -235,17 +235,17 @@ module _ {H R : Type 0} (M : Meaning H R) (k : Kind) (takes : takes_rows k ≡ t
       (subst (λ (x : ℕ). HeededNext M k mid also between (line mid_tape mid_faults bytes x limit) new handler info more broken answer) e4
       (subst (λ (x : ℕ). HeededNext M k mid also between (line mid_tape mid_faults bytes mid_read x) new handler info more broken answer) e5 n)))))
     where
-      as_old : (final : Line) (last : Finish H R) → Exchanged M k mid c between (line tape faults bytes read limit) final last → Exchanged M k h c g (line tape faults old read limit) final last
+      as_old : (final : Line) (last : Finish H R) → LineExchange M k mid c between (line tape faults bytes read limit) final last → LineExchange M k h c g (line tape faults old read limit) final last
       as_old final last d = exchanged_rows h mid c g between tape faults read limit count old bytes final last e6 t d
 
-      by_answer : (a : Answer Bool) → HeededNext M k mid c between (line tape faults bytes read limit) new handler info more broken a → HeededOn M k h c g (line tape faults old read limit) new handler info more broken a
+      by_answer : (a : CallAnswer Bool) → HeededNext M k mid c between (line tape faults bytes read limit) new handler info more broken a → HeededOn M k h c g (line tape faults old read limit) new handler info more broken a
       by_answer (Ok Pending) x = (λ final last d. as_old final last (exchanged_on M k mid handler c info between more (line tape faults bytes read limit) new final last x.0 d), x.1)
       by_answer (Ok (Ready suspended)) x = as_old new (finish (Ok (more, suspended)) handler info broken new.buffer) x
       by_answer (Err e) x = as_old new (finish (Err e) handler info broken new.buffer) x
 
 module _ {H R : Type 0} (M : Meaning H R) (k : Kind) where
   -- no rows were taken
-  pub heeded_as : (h handler : H) (c info : Client) (g more : Gathered (List R)) (old new : Line) (broken : Bool) (answer : Answer Bool)
+  pub heeded_as : (h handler : H) (c info : Client) (g more : Gathered (List R)) (old new : Line) (broken : Bool) (answer : CallAnswer Bool)
       → HeededNext M k h c g old new handler info more broken answer → HeededOn M k h c g old new handler info more broken answer
   heeded_as h handler c info g more old new broken (Ok Pending) x = (λ final last d. exchanged_on M k h handler c info g more old new final last x.0 d, x.1)
   heeded_as h handler c info g more old new broken (Ok (Ready suspended)) x = x
@@ -253,9 +253,9 @@ module _ {H R : Type 0} (M : Meaning H R) (k : Kind) where
 
   -- memory was wanting
   pub exchanged_starved : (h after : H) (c info : Client) (g : Gathered (List R)) (old new : Line) → IsFlushed old → new ≡ old
-      → Exchanged M k h c g old new (finish (Err client.OutOfMemory) after info true new.buffer)
+      → LineExchange M k h c g old new (finish (Err client.OutOfMemory) after info true new.buffer)
   exchanged_starved h after c info g old new f same =
-      subst (λ (l : Line). Exchanged M k h c g old l (finish (Err client.OutOfMemory) after info true l.buffer)) (sym same)
+      subst (λ (l : Line). LineExchange M k h c g old l (finish (Err client.OutOfMemory) after info true l.buffer)) (sym same)
       record {
         taken = [];
         sent = [];

@@ -13,7 +13,7 @@ use Rattle.pgw_link.specs.Tape.{Tape}
 use Rattle.pgw_link.specs.Dials.{DialTape, MakesNext}
 use Rattle.pgw_link.specs.Sending.{Wrote, WroteSome}
 use Rattle.pgw_handlers.specs.Client.{Client}
-use Rattle.pgw_connection.specs.Connecting.{LacksAddress, NoLink, DialledOnce}
+use Rattle.pgw_connection.specs.Connecting.{LacksAddress, NoLink, DialsOnce}
 use Rattle.pgw_connection.specs.declared.canceling.CancelToken.{CancelToken}
 
 -- the request that cancels what the server does for the client of this process number and key
@@ -32,14 +32,14 @@ pub record IsTokenOf (c : Client) (token : CancelToken) : Type 0 where
 -- a link was dialled, these bytes written to it, and the link closed
 abbrev pub SentOnce : Address → List ℕ → DialTape → DialTape → Type 0
 SentOnce address bytes old new =
-    (first : Tape) × (after : Tape) × DialledOnce address old new first after × Wrote first after bytes
+    (first : Tape) × (after : Tape) × DialsOnce address old new first after × Wrote first after bytes
 
 -- a link was dialled, and not all of them were written; or none was dialled
 pub data NotSentOnce (foretells : Type 0) (address : Address) (bytes : List ℕ)
     (was is : Option (List (List ℕ))) (old new : DialTape) (before now : ℕ) : ClientError → Type 0 where
   no_link : (e : ClientError) → NoLink foretells address was is old new before now e →
       NotSentOnce foretells address bytes was is old new before now e
-  cut : Rose before now → (first after : Tape) → DialledOnce address old new first after → WroteSome first after bytes →
+  cut : Rose before now → (first after : Tape) → DialsOnce address old new first after → WroteSome first after bytes →
       (foretells → (offer : Option (List ℕ)) × MakesNext was is offer) →
       NotSentOnce foretells address bytes was is old new before now client.IoError
 

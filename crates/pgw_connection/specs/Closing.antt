@@ -15,13 +15,13 @@ IsTerminate bytes = encoding (frontend.Terminate (record {})) ≡ Ok bytes
 
 -- How a client takes leave over its link, by whether it is broken: it says nothing; or Terminate,
 -- and flushes; or a call of the link failed in that.
-abbrev pub Leaves : Bool → Tape → Tape → ℕ → ℕ → Result (Unit {0}) ClientError → Type 0
-Leaves true old new before now (Ok done) = (new ≡ old) × (now ≡ before)
-Leaves false old new before now (Ok done) =
+abbrev pub TakesLeave : Bool → Tape → Tape → ℕ → ℕ → Result (Unit {0}) ClientError → Type 0
+TakesLeave true old new before now (Ok done) = (new ≡ old) × (now ≡ before)
+TakesLeave false old new before now (Ok done) =
     (bytes : List ℕ) × IsTerminate bytes × Wrote old new bytes × (now ≡ before)
-Leaves false old new before now (Err client.IoError) =
+TakesLeave false old new before now (Err client.IoError) =
     (bytes : List ℕ) × IsTerminate bytes × WroteSome old new bytes × Rose before now
-Leaves broken old new before now result = ⊥
+TakesLeave broken old new before now result = ⊥
 
 -- It took leave, and its dialer closed the link, which had told `last` by then, and of whose calls
 -- so many had failed.
@@ -29,6 +29,6 @@ pub record Closed (broken : Bool) (tape : Tape) (faults : ℕ) (old new : DialTa
     (result : Result (Unit {0}) ClientError) : Type 0 where
   pub last : Tape
   pub failed : ℕ
-  pub leaves : Leaves broken tape last faults failed result
+  pub leaves : TakesLeave broken tape last faults failed result
   pub shut : Shut old new last
   pub counts : CountsClose before now failed

@@ -13,18 +13,18 @@ use Rattle.pgw_link.specs.Dials.{DialTape, Dialled, NotDialled, CountsClose, Mak
 use Rattle.pgw_session.specs.Demands.{refused_config}
 use Rattle.pgw_dialogue.specs.Demands.{IsInvalidConfig}
 use Rattle.pgw_handlers.specs.Client.{Client}
-use Rattle.pgw_handlers.specs.Handling.{Standing, Answer, HasCause}
+use Rattle.pgw_handlers.specs.Handling.{HandlerView, CallAnswer, HasCause}
 use Rattle.pgw_handlers.specs.Startup.{StartupCall, startup, HeardAtStartup}
 use Rattle.pgw_handlers.specs.declared.client_info.ServerInformation.{ServerInformation}
 use Rattle.pgw_connection.specs.Talk.{end, Hearing}
 use Rattle.pgw_connection.specs.Desk.{first_client, with_information}
 use Rattle.pgw_connection.specs.Line.{Line, Foretold, line}
 use Rattle.pgw_connection.specs.State.{ClientState, line_of}
-use Rattle.pgw_connection.specs.Calls.{Call}
+use Rattle.pgw_connection.specs.Calls.{LineCall}
 
 -- behind no error a login goes on
-abbrev pub never : ClientError → Bool
-never e = false
+abbrev pub goes_on_never : ClientError → Bool
+goes_on_never e = false
 
 -- ---- the address
 
@@ -52,7 +52,7 @@ pub record NoLink (foretells : Type 0) (to : Address) (was is : Option (List (Li
   pub offers : foretells → is ≡ was
 
 -- one link was dialled, which told `first` then; and it was closed, when it told `after`
-pub record DialledOnce (to : Address) (old new : DialTape) (first after : Tape) : Type 0 where
+pub record DialsOnce (to : Address) (old new : DialTape) (first after : Tape) : Type 0 where
   pub dialled : new.dialled ≡ old.dialled ++ (to, true) ∷ []
   pub fresh : first ≡ new_tape
   pub shut : new.shut ≡ old.shut ++ after ∷ []
@@ -60,44 +60,44 @@ pub record DialledOnce (to : Address) (old new : DialTape) (first after : Tape) 
 -- ---- a connect
 
 -- a login over a link: it ends with what the server told of itself, which the client takes in, unless memory is wanting
-abbrev pub LogsIn : {S : Type 0} → (Standing S → Standing S → Answer ServerInformation → Type 0) → Hearing S ServerInformation → S → Client → Line → Line → Client → Result (Unit {0}) ClientError → Type 0
+abbrev pub LogsIn : {S : Type 0} → (HandlerView S → HandlerView S → CallAnswer ServerInformation → Type 0) → Hearing S ServerInformation → S → Client → Line → Line → Client → Result (Unit {0}) ClientError → Type 0
 LogsIn opens M handler c old new info (Ok done) =
-    (information : ServerInformation) × (told : Client) × Call opens M never handler c old new (end (Ok information) told false new.buffer) × (info ≡ with_information information told)
+    (information : ServerInformation) × (told : Client) × LineCall opens M goes_on_never handler c old new (end (Ok information) told false new.buffer) × (info ≡ with_information information told)
 LogsIn opens M handler c old new info (Err e) =
-    ((last : Client) × (broken : Bool) × Call opens M never handler c old new (end (Err e) last broken new.buffer)) ⊎
-    ((e ≡ client.OutOfMemory) × (information : ServerInformation) × (told : Client) × Call opens M never handler c old new (end (Ok information) told false new.buffer))
+    ((last : Client) × (broken : Bool) × LineCall opens M goes_on_never handler c old new (end (Err e) last broken new.buffer)) ⊎
+    ((e ≡ client.OutOfMemory) × (information : ServerInformation) × (told : Client) × LineCall opens M goes_on_never handler c old new (end (Ok information) told false new.buffer))
 
 -- before anything is read or written
 abbrev pub new_line : Tape → ℕ → Line
 new_line tape limit = line tape 0 [] 0 limit
 
 -- a link to the address was dialled, and a login over it ended well
-pub record ConnectedAt {S : Type 0} (opens : Standing S → Standing S → Answer ServerInformation → Type 0) (M : Hearing S ServerInformation) (handler : S) (config : Config) (limit : ℕ) (address : Address) (old new : DialTape) (info : Client) (now : Line) : Type 0 where
+pub record ConnectedAt {S : Type 0} (opens : HandlerView S → HandlerView S → CallAnswer ServerInformation → Type 0) (M : Hearing S ServerInformation) (handler : S) (config : Config) (limit : ℕ) (address : Address) (old new : DialTape) (info : Client) (now : Line) : Type 0 where
   pub first : Tape
   pub dialled : Dialled address old new first
   pub logs_in : LogsIn opens M handler (first_client config) (new_line first limit) now info (Ok tt)
 
 -- the same at the address of the configuration
-abbrev pub Connected : {S : Type 0} → (Standing S → Standing S → Answer ServerInformation → Type 0) → Hearing S ServerInformation → S → Config → ℕ → DialTape → DialTape → Client → Line → Type 0
+abbrev pub Connected : {S : Type 0} → (HandlerView S → HandlerView S → CallAnswer ServerInformation → Type 0) → Hearing S ServerInformation → S → Config → ℕ → DialTape → DialTape → Client → Line → Type 0
 Connected opens M handler config limit old new info now = (address : Address) × LeadsTo config address × ConnectedAt opens M handler config limit address old new info now
 
 -- a link was dialled, a login over it failed, and the link was closed
 pub record ClosedAgain {S : Type 0} (foretells : Type 0)
-    (opens : Standing S → Standing S → Answer ServerInformation → Type 0)
+    (opens : HandlerView S → HandlerView S → CallAnswer ServerInformation → Type 0)
     (M : Hearing S ServerInformation) (handler : S) (config : Config) (limit : ℕ) (address : Address)
     (was is : Option (List (List ℕ))) (old new : DialTape) (before now : ℕ) (e : ClientError)
     : Type 0 where
   pub faults : ℕ
   pub counts : CountsClose before now faults
   pub io : e ≡ client.IoError → 0 < faults
-  pub tape : (first : Tape) × (last : Line) × (info : Client) × DialledOnce address old new first last.tape × (last.faults ≡ faults) × (last.read ≤ limit) ×
+  pub tape : (first : Tape) × (last : Line) × (info : Client) × DialsOnce address old new first last.tape × (last.faults ≡ faults) × (last.read ≤ limit) ×
       LogsIn opens M handler (first_client config) (new_line first limit) last info (Err e) ×
       (foretells → (offer left : Option (List ℕ)) × MakesNext was is offer
       × Foretold offer left first last.tape)
 
 -- at an address there was no link, or the login over it failed
 abbrev pub NotConnectedAt : {S : Type 0} → Type 0 →
-    (Standing S → Standing S → Answer ServerInformation → Type 0) → Hearing S ServerInformation → S →
+    (HandlerView S → HandlerView S → CallAnswer ServerInformation → Type 0) → Hearing S ServerInformation → S →
     Config → ℕ → Address → Option (List (List ℕ)) → Option (List (List ℕ)) → DialTape → DialTape →
     ℕ → ℕ → ClientError → Type 0
 NotConnectedAt foretells opens M handler config limit address was is old new before now e =
@@ -107,7 +107,7 @@ NotConnectedAt foretells opens M handler config limit address was is old new bef
 -- Why a connect was refused: by a demand of the configuration, for want of an address or of memory, and then `same` says
 -- that the dialer is as it was; or it failed at the address.
 abbrev pub NotConnected : {S : Type 0} → Type 0 → Type 0 →
-    (Standing S → Standing S → Answer ServerInformation → Type 0) → Hearing S ServerInformation → S →
+    (HandlerView S → HandlerView S → CallAnswer ServerInformation → Type 0) → Hearing S ServerInformation → S →
     Config → ℕ → Option (List (List ℕ)) → Option (List (List ℕ)) → DialTape → DialTape → ℕ → ℕ →
     ClientError → Type 0
 NotConnected same foretells opens M handler config limit was is old new before now e =
@@ -117,7 +117,7 @@ NotConnected same foretells opens M handler config limit was is old new before n
 pub record Connects {Y X S : Type 0} (foretells : Type 0) (offers : Y → Option (List (List ℕ)))
     (dials : Y → DialTape) (failed : Y → ℕ) (left : X → Option (List ℕ)) (tape : X → Tape)
     (faults : X → ℕ) (exchanges : S → Bool)
-    (M : Standing S → StartupCall → Standing S → Answer ServerInformation → Type 0) (handler : S)
+    (M : HandlerView S → StartupCall → HandlerView S → CallAnswer ServerInformation → Type 0) (handler : S)
     (config : Config) (limit : ℕ) (old new : Y) (result : Result (ClientState X) ClientError)
     : Type 0 where
   -- The client stands over the link that was dialled, the handler's meaning over it ended with what the server told of

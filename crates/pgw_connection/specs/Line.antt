@@ -5,7 +5,7 @@ use Rattle.pgw_backend.specs.declared.client_error.PgWireClientError.{PgWireClie
 use Rattle.pgw_backend.specs.declared.client_error.PgWireClientError.TheVariants as client
 use Rattle.pgw_types.specs.Counts.{Rose}
 use Rattle.pgw_link.specs.Tape.{Tape}
-use Rattle.pgw_link.specs.Foresight.{Foreseen, Ends}
+use Rattle.pgw_link.specs.Foresight.{Foreseen, TapeEnds}
 use Rattle.pgw_handlers.specs.Client.{Client}
 
 -- what the link of a client tells, how many of its calls failed, the bytes that were read and not taken yet, how many
@@ -87,7 +87,7 @@ pub record Drew (old new : Line) (taken : List ℕ) : Type 0 where
   pub limit : new.limit ≡ old.limit
 
 -- these bytes were read, and those written
-pub record Moved (old new : Line) (taken sent : List ℕ) : Type 0 where
+pub record MovesLine (old new : Line) (taken sent : List ℕ) : Type 0 where
   pub took : new.tape.took ≡ old.tape.took ++ taken
   pub wrote : new.tape.wrote ≡ old.tape.wrote ++ sent
   pub read : new.read ≡ old.read + length taken
@@ -96,4 +96,4 @@ pub record Moved (old new : Line) (taken sent : List ℕ) : Type 0 where
 -- what was taken is the front of what was to come, and where the end was answered nothing is to come any more
 pub record Foretold (was is : Option (List ℕ)) (old new : Tape) : Type 0 where
   pub foreseen : Foreseen was is old new
-  pub ends : Ends is old new
+  pub ends : TapeEnds is old new

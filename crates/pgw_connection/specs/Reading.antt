@@ -10,20 +10,20 @@ use Rattle.pgw_connection.specs.Talk.{Next, Lack, Passing, is_remote}
 use Rattle.pgw_connection.specs.Line.{Line, IsAtEnd, Reasons, Pause, WentWell, NotEnded, Halts, AtEnd, Drew}
 
 -- the link's calls went well, and its end was not answered
-abbrev pub GoesOn : Line → Line → Type 0
-GoesOn old new = NotEnded old new × (new.faults ≡ old.faults)
+abbrev pub LineGoesOn : Line → Line → Type 0
+LineGoesOn old new = NotEnded old new × (new.faults ≡ old.faults)
 
 -- bytes came behind those in the buffer
-pub record Grew (old new : Line) : Type 0 where
+pub record LineGrows (old new : Line) : Type 0 where
   pub piece : List ℕ
   pub some : old.read < new.read
   pub drew : Drew old new piece
   pub buffer : new.buffer ≡ old.buffer ++ piece
-  pub goes_on : GoesOn old new
+  pub goes_on : LineGoesOn old new
   pub reads : new.tape.reads ≡ old.tape.reads + 1
 
 -- the link's end was answered
-pub record Ended (old new : Line) : Type 0 where
+pub record MeetsLinkEnd (old new : Line) : Type 0 where
   pub drew : Drew old new []
   pub buffer : new.buffer ≡ old.buffer
   pub ended : new.tape.ended ≡ old.tape.ended ++ old.tape.flushed ∷ []
@@ -32,7 +32,7 @@ pub record Ended (old new : Line) : Type 0 where
   pub reads : new.tape.reads ≡ old.tape.reads + 1
 
 -- the link's read failed
-pub record Failed (old new : Line) : Type 0 where
+pub record LinkReadFails (old new : Line) : Type 0 where
   pub drew : Drew old new []
   pub buffer : new.buffer ≡ old.buffer
   pub ended : NotEnded old new
@@ -50,10 +50,10 @@ pub record Lost (old new : Line) : Type 0 where
 
 -- one read, or none where the limit is reached
 abbrev pub ReadOnce : Line → Line → Result Bool ClientError → Type 0
-ReadOnce old new (Ok true) = Grew old new
-ReadOnce old new (Ok false) = Ended old new
+ReadOnce old new (Ok true) = LineGrows old new
+ReadOnce old new (Ok false) = MeetsLinkEnd old new
 ReadOnce old new (Err client.OutOfMemory) = Lost old new
-ReadOnce old new (Err client.IoError) = Failed old new
+ReadOnce old new (Err client.IoError) = LinkReadFails old new
 ReadOnce old new (Err client.ReadLimit) = (new ≡ old) × (old.read ≡ old.limit)
 ReadOnce old new (Err e) = ⊥
 
@@ -62,18 +62,18 @@ abbrev pub awaited : List ℕ → ℕ
 awaited bytes = if nat_lt (length bytes) 5 then 5 else 1 + stated_length 1 bytes
 
 -- a message, or why there is none
-abbrev pub Found : Reasons → Client → List ℕ → Result Backend ClientError → List ℕ → Type 0
-Found P c bytes (Ok m) rest = Next c bytes m rest
-Found P c bytes (Err e) rest = Lack P c bytes rest e
+abbrev pub NextOrLack : Reasons → Client → List ℕ → Result Backend ClientError → List ℕ → Type 0
+NextOrLack P c bytes (Ok m) rest = Next c bytes m rest
+NextOrLack P c bytes (Err e) rest = Lack P c bytes rest e
 
 -- the message at the front of a client's bytes, for which as many were read as it takes
-pub record Came (c : Client) (old new : Line) (result : Result Backend ClientError) : Type 0 where
+pub record MessageCame (c : Client) (old new : Line) (result : Result Backend ClientError) : Type 0 where
   pub taken : List ℕ
   pub drew : Drew old new taken
-  pub found : Found (Pause old new) c (old.buffer ++ taken) result new.buffer
+  pub found : NextOrLack (Pause old new) c (old.buffer ++ taken) result new.buffer
   pub halts : Halts c old.tape.flushed old new
   pub at_end : AtEnd old new (result ≡ Err client.UnexpectedEOF)
-  pub goes_on : OnOk result (GoesOn old new)
+  pub goes_on : OnOk result (LineGoesOn old new)
   pub well : WentWell old new ⊎ (result ≡ Err client.IoError)
 
 -- behind an error the messages were passed over

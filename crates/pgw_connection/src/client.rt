@@ -1,6 +1,6 @@
 //! A client over a link.
 ghost use Rattle.std.specs.Prelude.{◌≡◌, ℕ, false, length};
-ghost use Rattle.pgw_connection.specs.Calls.{Kept, KeptRest, sight_in, faults_in, own_in, rest_in};
+ghost use Rattle.pgw_connection.specs.Calls.{CallFrame, KeptRest, sight_in, faults_in, own_in, rest_in};
 
 use crate::connection::Connection;
 use pgw_config::config::Config;
@@ -70,7 +70,7 @@ impl<L: Link> Seen for PgWireClient<L> {
 
     ghost faults = { faults_in L.faults };
 
-    ghost Own = { Kept };
+    ghost Own = { CallFrame };
 
     ghost own = { own_in };
 
@@ -81,7 +81,7 @@ impl<L: Link> Seen for PgWireClient<L> {
 
 impl<L: Link> ClientInfo for PgWireClient<L> {
     ghost use Rattle.std.specs.Prelude.{OnOk, OnErr};
-    ghost use Rattle.pgw_handlers.specs.Client.{with_parameter, with_version, with_status};
+    ghost use Rattle.pgw_handlers.specs.Client.{with_parameter, with_sight_version, with_sight_status};
 
     fn config(&self) -> &Config {
         &self.connection.desk.config
@@ -116,7 +116,7 @@ impl<L: Link> ClientInfo for PgWireClient<L> {
     }
 
     fn set_protocol_version(&mut self, version: ProtocolVersion)
-        ensures set { sight_in L.tape self.new ≡ with_version version (sight_in L.tape self.old) }
+        ensures set { sight_in L.tape self.new ≡ with_sight_version version (sight_in L.tape self.old) }
         ensures own { own_in self.new ≡ own_in self.old }
         ensures rest { rest_in L.tape self.new ≡ rest_in L.tape self.old }
         ensures calm { L.faults self.new.link ≡ L.faults self.old.link }
@@ -130,7 +130,7 @@ impl<L: Link> ClientInfo for PgWireClient<L> {
     }
 
     fn set_transaction_status(&mut self, status: TransactionStatus)
-        ensures set { sight_in L.tape self.new ≡ with_status status (sight_in L.tape self.old) }
+        ensures set { sight_in L.tape self.new ≡ with_sight_status status (sight_in L.tape self.old) }
         ensures own { own_in self.new ≡ own_in self.old }
         ensures rest { rest_in L.tape self.new ≡ rest_in L.tape self.old }
         ensures calm { L.faults self.new.link ≡ L.faults self.old.link }

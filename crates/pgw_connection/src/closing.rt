@@ -1,7 +1,7 @@
 //! The end of a client.
 ghost use Rattle.std.specs.Prelude.{◌≡◌, false};
 ghost use Rattle.pgw_handlers.specs.Handling.{HasCause};
-ghost use Rattle.pgw_connection.specs.Closing.{Leaves, Closed};
+ghost use Rattle.pgw_connection.specs.Closing.{TakesLeave, Closed};
 ghost use Rattle.pgw_connection.specs.State.{is_broken, link_of};
 
 use crate::client::PgWireClient;
@@ -16,7 +16,7 @@ const TERMINATE: [u8; 5] = [b'X', 0, 0, 0, 4];
 
 // Takes leave of the server, which a client that cannot be used does not.
 fn take_leave<L: Link>(broken: bool, link: &mut L) -> PgWireClientResult<()>
-    ensures { Leaves broken (L.tape link.old) (L.tape link.new)
+    ensures { TakesLeave broken (L.tape link.old) (L.tape link.new)
         (L.faults link.old) (L.faults link.new) result }
 {
     if broken {

@@ -9,8 +9,8 @@ ghost use Rattle.pgw_connection.specs.Talk.{end};
 ghost use Rattle.pgw_connection.specs.Desk.{client_of, first_client};
 ghost use Rattle.pgw_connection.specs.Line.{Foretold};
 ghost use Rattle.pgw_connection.specs.Connection.{line_in};
-ghost use Rattle.pgw_connection.specs.Calls.{IsUsable, HeardNext, Call};
-ghost use Rattle.pgw_connection.specs.Connecting.{never, LeadsTo, LacksAddress, IsRefusedBy, NoLink, LogsIn, ConnectedAt, NotConnectedAt, Connected, NotConnected, Connects};
+ghost use Rattle.pgw_connection.specs.Calls.{IsUsableAfter, HeardNext, LineCall};
+ghost use Rattle.pgw_connection.specs.Connecting.{goes_on_never, LeadsTo, LacksAddress, IsRefusedBy, NoLink, LogsIn, ConnectedAt, NotConnectedAt, Connected, NotConnected, Connects};
 ghost use Rattle.pgw_link.specs.Tape.{new_tape};
 ghost use Rattle.pgw_link.specs.Dials.{Dialled, Shut, CountsClose, MakesNext};
 
@@ -48,8 +48,8 @@ impl<L: Link> Connection<L> {
         ensures cause { HasCause (L.faults self.old.link) (L.faults self.new.link) false result }
         ensures foretold { L.foretells → Foretold (L.left self.old.link) (L.left self.new.link)
             (L.tape self.old.link) (L.tape self.new.link) }
-        ensures usable { IsUsable never result self.new.desk.broken }
-        ensures heard { HeardNext (HeardAtStartup S.exchanges S.means) never handler.old
+        ensures usable { IsUsableAfter goes_on_never result self.new.desk.broken }
+        ensures heard { HeardNext (HeardAtStartup S.exchanges S.means) goes_on_never handler.old
             (client_of self.old.desk)
             (line_in L.tape L.faults self.old) (line_in L.tape L.faults self.new)
             handler.new (client_of self.new.desk) self.new.desk.broken result }
@@ -80,8 +80,8 @@ impl<L: Link> Connection<L> {
         ensures foretold { L.foretells → Foretold (L.left self.old.link) (L.left self.new.link)
             (L.tape self.old.link) (L.tape self.new.link) }
         ensures usable { OnOk result (self.new.desk.broken ≡ false) }
-        ensures asked { Call (λ before after answer. S.means before startup after answer)
-            (HeardAtStartup S.exchanges S.means) never handler (client_of self.old.desk)
+        ensures asked { LineCall (λ before after answer. S.means before startup after answer)
+            (HeardAtStartup S.exchanges S.means) goes_on_never handler (client_of self.old.desk)
             (line_in L.tape L.faults self.old) (line_in L.tape L.faults self.new)
             (end result (client_of self.new.desk) self.new.desk.broken self.new.inbox) }
     {
@@ -139,7 +139,7 @@ impl<S: StartupHandler> Hearer for AtStartup<S> {
 
     ghost hears = { HeardAtStartup S.exchanges S.means };
 
-    ghost goes_on = { never };
+    ghost goes_on = { goes_on_never };
 
     fn hear<L: Link>(
         &mut self,

@@ -3,11 +3,11 @@ ghost use Rattle.std.specs.Prelude.{◌≡◌, [], false, IfErr, IfOk, OnOk, OnE
 ghost use Rattle.std.specs.FinMap as map;
 ghost use Rattle.pgw_session.specs.Segments.{is_ready};
 ghost use Rattle.pgw_config.specs.declared.config.Config.{Config as TheConfig};
-ghost use Rattle.pgw_connection.specs.Talk.{fresh, told};
+ghost use Rattle.pgw_connection.specs.Talk.{fresh, client_after};
 ghost use Rattle.pgw_frontend.specs.Frontend.{encoding};
 ghost use Rattle.pgw_dialogue.specs.Wire.{PutOut};
 ghost use Rattle.pgw_handlers.specs.Handling.{OfError};
-ghost use Rattle.pgw_handlers.specs.Sending.{Sent, NotSent, IsSpelled, IsUsable};
+ghost use Rattle.pgw_handlers.specs.Sending.{Sent, NotSent, IsSpelled, SendLeavesUsable};
 ghost use Rattle.pgw_connection.specs.Desk.{client_of, sight_of, first_client, insert_all, with_information, is_wanting};
 
 use bytes::BytesMut;
@@ -106,7 +106,7 @@ impl Desk {
     pub(crate) fn note(&mut self, message: &PgWireBackendMessage) -> Result<bool, OutOfMemory>
         ensures ready { IfOk result (λ ready. ready ≡ is_ready message.now) }
         ensures told { IfOk result (λ ready. client_of self.new
-            ≡ told message.now (client_of self.old)) }
+            ≡ client_after message.now (client_of self.old)) }
         ensures kept { OnErr result (client_of self.new ≡ client_of self.old) }
         ensures broken { self.new.broken ≡ self.old.broken }
         ensures config { self.new.config ≡ self.old.config }
@@ -205,7 +205,7 @@ impl Desk {
             (sight_of self.new) e) }
         ensures spelled { IsSpelled (encoding message.now) result }
         ensures client { client_of self.new ≡ client_of self.old }
-        ensures usable { IsUsable result self.old.broken self.new.broken }
+        ensures usable { SendLeavesUsable result self.old.broken self.new.broken }
         ensures config { self.new.config ≡ self.old.config }
         ensures cause { OfError result 0 0 self.new.broken }
     {

@@ -3,17 +3,17 @@ ghost use Rattle.std.specs.Prelude.{◌≡◌, ◌≢◌, ◌⊎◌, ◌<◌, �
 ghost use Rattle.pgw_backend.specs.declared.client_error.PgWireClientError.TheVariants as client;
 ghost use Rattle.pgw_session.specs.declared.types.Request.{Request as TheRequest};
 ghost use Rattle.pgw_handlers.specs.Handling.{HasCause, IsCaused};
-ghost use Rattle.pgw_handlers.specs.Extended.{TakesRows};
+ghost use Rattle.pgw_handlers.specs.Extended.{TakesExtendedRows};
 ghost use Rattle.pgw_handlers.specs.declared.client_info.ReadyState.TheVariants.{Pending};
 ghost use Rattle.pgw_connection.specs.Desk.{client_of};
 ghost use Rattle.pgw_connection.specs.Line.{Foretold, IsFlushed};
 ghost use Rattle.pgw_connection.specs.State.{line_of};
 ghost use Rattle.pgw_connection.specs.Connection.{line_in};
-ghost use Rattle.pgw_connection.specs.Lent.{Asks, both};
-ghost use Rattle.pgw_connection.specs.Calls.{IsUsable};
+ghost use Rattle.pgw_connection.specs.Lent.{AsksByClient, lent_pair};
+ghost use Rattle.pgw_connection.specs.Calls.{IsUsableAfter};
 ghost use Rattle.pgw_connection.specs.Talk.{is_remote};
-ghost use Rattle.pgw_connection.specs.Extended.{none_gathered, finish, is_suspended, place, as_lists, in_lists};
-ghost use Rattle.pgw_connection.specs.ExtendedSteps.{is_due, passed_answer, no_error, may_stay, Synced, Settled, HeededOne, HeededNext, Exchanged, Called, HeededOn, takes_rows};
+ghost use Rattle.pgw_connection.specs.Extended.{none_gathered, finish, is_suspended, call_role, as_lists, in_lists};
+ghost use Rattle.pgw_connection.specs.ExtendedSteps.{is_sync_due, passed_answer, no_error, may_stay, Synced, SettlesSync, HeededOne, HeededNext, LineExchange, MakesCall, HeededOn, takes_rows};
 
 use crate::client::PgWireClient;
 use crate::connection::Connection;
@@ -35,7 +35,7 @@ use std::mem::replace;
 
 // Whether Sync is due behind the server's error.
 fn is_due(kind: Kind) -> bool
-    ensures { result ≡ is_due kind }
+    ensures { result ≡ is_sync_due kind }
 {
     let due = behind_error(kind);
     let is_due = due.is_some();
@@ -59,7 +59,7 @@ fn is_suspended(message: &PgWireBackendMessage) -> bool
 
 // What becomes of a message by the table of requests; of a notification the handler is asked.
 fn place(kind: Kind, message: &PgWireBackendMessage) -> Role
-    ensures { result ≡ place kind message.now }
+    ensures { result ≡ call_role kind message.now }
 {
     match message {
         PgWireBackendMessage::NotificationResponse(_) => Role::Taken(false),
@@ -98,7 +98,7 @@ impl<L: Link> Connection<L> {
         ensures cause { HasCause (L.faults self.old.link) (L.faults self.new.link) false result }
         ensures foretold { L.foretells → Foretold (L.left self.old.link) (L.left self.new.link)
             (L.tape self.old.link) (L.tape self.new.link) }
-        ensures usable { IsUsable no_error result self.new.desk.broken }
+        ensures usable { IsUsableAfter no_error result self.new.desk.broken }
         ensures synced { Synced H.means handler.old (client_of self.old.desk)
             (line_in L.tape L.faults self.old) (line_in L.tape L.faults self.new)
             handler.new (client_of self.new.desk) due result self.new.desk.broken }
@@ -135,8 +135,8 @@ impl<L: Link> Connection<L> {
         ensures cause { HasCause (L.faults self.old.link) (L.faults self.new.link) false result }
         ensures foretold { L.foretells → Foretold (L.left self.old.link) (L.left self.new.link)
             (L.tape self.old.link) (L.tape self.new.link) }
-        ensures usable { IsUsable is_remote result self.new.desk.broken }
-        ensures settled { Settled H.means due handler.old (client_of self.old.desk)
+        ensures usable { IsUsableAfter is_remote result self.new.desk.broken }
+        ensures settled { SettlesSync H.means due handler.old (client_of self.old.desk)
             (line_in L.tape L.faults self.old) (line_in L.tape L.faults self.new)
             error handler.new (client_of self.new.desk) result self.new.desk.broken }
     {
@@ -170,7 +170,7 @@ impl<L: Link> Connection<L> {
         ensures cause { HasCause (L.faults self.old.link) (L.faults self.new.link) false result }
         ensures foretold { L.foretells → Foretold (L.left self.old.link) (L.left self.new.link)
             (L.tape self.old.link) (L.tape self.new.link) }
-        ensures usable { IsUsable is_remote result self.new.desk.broken }
+        ensures usable { IsUsableAfter is_remote result self.new.desk.broken }
         ensures heeded { HeededOne H.means kind handler.old (client_of self.old.desk)
             (as_lists H.Responses.listed gathered.old) message
             (line_in L.tape L.faults self.old) (line_in L.tape L.faults self.new)
@@ -220,7 +220,7 @@ impl<L: Link> Connection<L> {
         ensures cause { HasCause (L.faults self.old.link) (L.faults self.new.link) false result }
         ensures foretold { L.foretells → Foretold (L.left self.old.link) (L.left self.new.link)
             (L.tape self.old.link) (L.tape self.new.link) }
-        ensures usable { IsUsable is_remote result self.new.desk.broken }
+        ensures usable { IsUsableAfter is_remote result self.new.desk.broken }
         ensures heeded { HeededNext H.means kind handler.old (client_of self.old.desk)
             (as_lists H.Responses.listed gathered.old)
             (line_in L.tape L.faults self.old) (line_in L.tape L.faults self.new)
@@ -247,7 +247,7 @@ impl<L: Link> Connection<L> {
         ensures link { self.new.link ≡ self.old.link }
         ensures read { self.new.read ≡ self.old.read }
         ensures limit { self.new.limit ≡ self.old.limit }
-        ensures taken { IfOk result (TakesRows H.means handler.old handler.new
+        ensures taken { IfOk result (TakesExtendedRows H.means handler.old handler.new
             (H.Responses.listed responses.old) (H.Responses.listed responses.new)
             self.old.inbox self.new.inbox) }
         ensures shorter { length self.new.inbox ≤ length self.old.inbox }
@@ -276,7 +276,7 @@ impl<L: Link> Connection<L> {
         ensures cause { HasCause (L.faults self.old.link) (L.faults self.new.link) false result }
         ensures foretold { L.foretells → Foretold (L.left self.old.link) (L.left self.new.link)
             (L.tape self.old.link) (L.tape self.new.link) }
-        ensures usable { IsUsable is_remote result self.new.desk.broken }
+        ensures usable { IsUsableAfter is_remote result self.new.desk.broken }
         ensures heeded { HeededOn H.means kind handler.old (client_of self.old.desk)
             (as_lists H.Responses.listed gathered.old)
             (line_in L.tape L.faults self.old) (line_in L.tape L.faults self.new)
@@ -308,8 +308,8 @@ impl<L: Link> Connection<L> {
         ensures cause { HasCause (L.faults self.old.link) (L.faults self.new.link) false result }
         ensures foretold { L.foretells → Foretold (L.left self.old.link) (L.left self.new.link)
             (L.tape self.old.link) (L.tape self.new.link) }
-        ensures usable { IsUsable is_remote result self.new.desk.broken }
-        ensures exchanged { Exchanged H.means kind handler.old (client_of self.old.desk)
+        ensures usable { IsUsableAfter is_remote result self.new.desk.broken }
+        ensures exchanged { LineExchange H.means kind handler.old (client_of self.old.desk)
             none_gathered
             (line_in L.tape L.faults self.old) (line_in L.tape L.faults self.new)
             (finish (in_lists H.Responses.listed result) handler.new (client_of self.new.desk)
@@ -339,8 +339,8 @@ impl<L: Link> Connection<L> {
         ensures cause { HasCause (L.faults self.old.link) (L.faults self.new.link) false result }
         ensures foretold { L.foretells → Foretold (L.left self.old.link) (L.left self.new.link)
             (L.tape self.old.link) (L.tape self.new.link) }
-        ensures usable { IsUsable may_stay result self.new.desk.broken }
-        ensures called { Called H.means request.now handler.old (client_of self.old.desk)
+        ensures usable { IsUsableAfter may_stay result self.new.desk.broken }
+        ensures called { MakesCall H.means request.now handler.old (client_of self.old.desk)
             (line_in L.tape L.faults self.old) (line_in L.tape L.faults self.new)
             (finish (in_lists H.Responses.listed result) handler.new (client_of self.new.desk)
             self.new.desk.broken self.new.inbox) }
@@ -377,10 +377,10 @@ impl<L: Link> Connection<L> {
             (L.tape self.old.link) (L.tape self.new.link) }
         ensures broken { self.old.desk.broken ≡ true → (result ≡ Err client.Broken) ×
             (self.new ≡ self.old) × (handler.new ≡ handler.old) }
-        ensures usable { self.old.desk.broken ≡ false → IsUsable may_stay result
+        ensures usable { self.old.desk.broken ≡ false → IsUsableAfter may_stay result
             self.new.desk.broken }
         ensures called { self.old.desk.broken ≡ false
-            → Called H.means request.now handler.old (client_of self.old.desk)
+            → MakesCall H.means request.now handler.old (client_of self.old.desk)
             (line_in L.tape L.faults self.old) (line_in L.tape L.faults self.new)
             (finish (in_lists H.Responses.listed result) handler.new (client_of self.new.desk)
             self.new.desk.broken self.new.inbox) }
@@ -408,10 +408,10 @@ impl<L: Link> Connection<L> {
             (L.tape self.old.link) (L.tape self.new.link) }
         ensures broken { self.old.desk.broken ≡ true → (result ≡ Err client.Broken) ×
             (self.new ≡ self.old) × (handler.new ≡ handler.old) }
-        ensures usable { self.old.desk.broken ≡ false → IsUsable may_stay result
+        ensures usable { self.old.desk.broken ≡ false → IsUsableAfter may_stay result
             self.new.desk.broken }
         ensures called { (q : TheRequest) → IfOk request (λ r. r ≡ q) → self.old.desk.broken ≡ false
-            → Called H.means q handler.old (client_of self.old.desk)
+            → MakesCall H.means q handler.old (client_of self.old.desk)
             (line_in L.tape L.faults self.old) (line_in L.tape L.faults self.new)
             (finish (in_lists H.Responses.listed result) handler.new (client_of self.new.desk)
             self.new.desk.broken self.new.inbox) }
@@ -442,8 +442,8 @@ impl<L: Link> PgWireClient<L> {
         handler: &mut H,
         request: &Request,
     ) -> PgWireClientResult<(Gathered<H::Responses>, bool)>
-        ensures { Asks L.foretells L.left L.tape L.faults H.means H.Responses.listed
-            request.now both handler.old handler.new self.old self.new result }
+        ensures { AsksByClient L.foretells L.left L.tape L.faults H.means H.Responses.listed
+            request.now lent_pair handler.old handler.new self.old self.new result }
     {
         self.connection.ask_by(alloc, handler, request)
     }
@@ -475,8 +475,8 @@ impl<L: Link> PgWireClient<L> {
         request: Result<Request, OutOfMemory>,
     ) -> PgWireClientResult<(Gathered<H::Responses>, bool)>
         ensures { (q : TheRequest) → IfOk request (λ r. r ≡ q) →
-            Asks L.foretells L.left L.tape L.faults H.means H.Responses.listed
-            q both handler.old handler.new self.old self.new result }
+            AsksByClient L.foretells L.left L.tape L.faults H.means H.Responses.listed
+            q lent_pair handler.old handler.new self.old self.new result }
     {
         self.connection.ask(alloc, handler, request)
     }

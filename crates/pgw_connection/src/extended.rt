@@ -4,7 +4,7 @@ ghost use Rattle.std.specs.Option.{option_copied};
 ghost use Rattle.pgw_session.specs.declared.types.Request.{Request as TheRequest};
 ghost use Rattle.pgw_session.specs.declared.types.Request.TheVariants as kind;
 ghost use Rattle.pgw_connection.specs.Targets.{target_of};
-ghost use Rattle.pgw_connection.specs.Lent.{Asks, both, prepared, no_answer, executed, described, all_responses};
+ghost use Rattle.pgw_connection.specs.Lent.{AsksByClient, lent_pair, lent_prepare, no_answer, lent_result, description_of, all_responses};
 
 use crate::client::PgWireClient;
 use crate::gathered::Gathered;
@@ -46,8 +46,8 @@ impl<'a, L: Link, H: ExtendedQueryHandler> ExtendedQueryClient<'a, L, H> {
         alloc: Global,
         request: Result<Request, OutOfMemory>,
     ) -> PgWireClientResult<(Gathered<H::Responses>, bool)>
-        ensures asks { (q : TheRequest) → IfOk request (λ r. r ≡ q) → Asks L.foretells L.left L.tape
-            L.faults H.means H.Responses.listed q both self.old.handler.now self.new.handler.now
+        ensures asks { (q : TheRequest) → IfOk request (λ r. r ≡ q) → AsksByClient L.foretells L.left L.tape
+            L.faults H.means H.Responses.listed q lent_pair self.old.handler.now self.new.handler.now
             self.old.client.now
             self.new.client.now result }
         ensures same_client { self.new.client.ghost_name ≡ self.old.client.ghost_name }
@@ -64,8 +64,8 @@ impl<'a, L: Link, H: ExtendedQueryHandler> ExtendedQueryClient<'a, L, H> {
         request: &Request,
     ) -> PgWireClientResult<(Gathered<H::Responses>, bool)>
         requires { (sql : List ℕ) → request.now ≡ kind.Simple sql → ⊥ }
-        ensures asks { Asks L.foretells L.left L.tape L.faults H.means
-            H.Responses.listed request.now both
+        ensures asks { AsksByClient L.foretells L.left L.tape L.faults H.means
+            H.Responses.listed request.now lent_pair
             self.old.handler.now self.new.handler.now self.old.client.now self.new.client.now
             result }
         ensures same_client { self.new.client.ghost_name ≡ self.old.client.ghost_name }
@@ -76,8 +76,8 @@ impl<'a, L: Link, H: ExtendedQueryHandler> ExtendedQueryClient<'a, L, H> {
 
     // Memory was wanting for a request.
     fn starve(&mut self) -> PgWireClientError
-        ensures asks { (q : TheRequest) → Asks L.foretells L.left L.tape L.faults H.means
-            H.Responses.listed q both self.old.handler.now self.new.handler.now self.old.client.now
+        ensures asks { (q : TheRequest) → AsksByClient L.foretells L.left L.tape L.faults H.means
+            H.Responses.listed q lent_pair self.old.handler.now self.new.handler.now self.old.client.now
             self.new.client.now
             (Err result) }
         ensures same_client { self.new.client.ghost_name ≡ self.old.client.ghost_name }
@@ -94,9 +94,9 @@ impl<'a, L: Link, H: ExtendedQueryHandler> ExtendedQueryClient<'a, L, H> {
         query: &str,
         param_types: &[u32],
     ) -> PgWireClientResult<PrepareResponse>
-        ensures asks { Asks L.foretells L.left L.tape L.faults H.means
+        ensures asks { AsksByClient L.foretells L.left L.tape L.faults H.means
             H.Responses.listed (kind.Prepare (option_copied name.entry) query.now param_types.now)
-            (prepared (option_copied name.entry)) self.old.handler.now self.new.handler.now
+            (lent_prepare (option_copied name.entry)) self.old.handler.now self.new.handler.now
             self.old.client.now self.new.client.now result }
         ensures same_client { self.new.client.ghost_name ≡ self.old.client.ghost_name }
         ensures same_handler { self.new.handler.ghost_name ≡ self.old.handler.ghost_name }
@@ -123,7 +123,7 @@ impl<'a, L: Link, H: ExtendedQueryHandler> ExtendedQueryClient<'a, L, H> {
         params: Listed<Option<Octets>>,
         result_formats: Listed<i16>,
     ) -> PgWireClientResult<()>
-        ensures asks { Asks L.foretells L.left L.tape L.faults H.means
+        ensures asks { AsksByClient L.foretells L.left L.tape L.faults H.means
             H.Responses.listed (kind.Bind (option_copied portal.entry)
             (option_copied statement.entry) params
             result_formats) no_answer self.old.handler.now self.new.handler.now self.old.client.now
@@ -145,8 +145,8 @@ impl<'a, L: Link, H: ExtendedQueryHandler> ExtendedQueryClient<'a, L, H> {
         portal: Option<&str>,
         max_rows: i32,
     ) -> PgWireClientResult<ExecuteResult<H::Responses>>
-        ensures asks { Asks L.foretells L.left L.tape L.faults H.means
-            H.Responses.listed (kind.Execute (option_copied portal.entry) max_rows) executed
+        ensures asks { AsksByClient L.foretells L.left L.tape L.faults H.means
+            H.Responses.listed (kind.Execute (option_copied portal.entry) max_rows) lent_result
             self.old.handler.now
             self.new.handler.now self.old.client.now self.new.client.now result }
         ensures same_client { self.new.client.ghost_name ≡ self.old.client.ghost_name }
@@ -164,8 +164,8 @@ impl<'a, L: Link, H: ExtendedQueryHandler> ExtendedQueryClient<'a, L, H> {
         alloc: Global,
         target: DescribeTarget<'_>,
     ) -> PgWireClientResult<DescribeResponse>
-        ensures asks { Asks L.foretells L.left L.tape L.faults H.means
-            H.Responses.listed (kind.Describe (target_of target.entry)) described
+        ensures asks { AsksByClient L.foretells L.left L.tape L.faults H.means
+            H.Responses.listed (kind.Describe (target_of target.entry)) description_of
             self.old.handler.now
             self.new.handler.now self.old.client.now self.new.client.now result }
         ensures same_client { self.new.client.ghost_name ≡ self.old.client.ghost_name }
@@ -182,7 +182,7 @@ impl<'a, L: Link, H: ExtendedQueryHandler> ExtendedQueryClient<'a, L, H> {
 
     /// Closes a statement or a portal.
     pub fn close(&mut self, alloc: Global, target: DescribeTarget<'_>) -> PgWireClientResult<()>
-        ensures asks { Asks L.foretells L.left L.tape L.faults H.means
+        ensures asks { AsksByClient L.foretells L.left L.tape L.faults H.means
             H.Responses.listed (kind.Close (target_of target.entry)) no_answer self.old.handler.now
             self.new.handler.now self.old.client.now self.new.client.now result }
         ensures same_client { self.new.client.ghost_name ≡ self.old.client.ghost_name }
@@ -202,7 +202,7 @@ impl<'a, L: Link, H: ExtendedQueryHandler> ExtendedQueryClient<'a, L, H> {
         param_types: &[u32],
         params: Listed<Option<Octets>>,
     ) -> PgWireClientResult<H::Responses>
-        ensures asks { Asks L.foretells L.left L.tape L.faults H.means
+        ensures asks { AsksByClient L.foretells L.left L.tape L.faults H.means
             H.Responses.listed (kind.Query sql.now param_types.now params) all_responses
             self.old.handler.now
             self.new.handler.now self.old.client.now self.new.client.now result }
@@ -218,7 +218,7 @@ impl<'a, L: Link, H: ExtendedQueryHandler> ExtendedQueryClient<'a, L, H> {
 
 // All rows came, or the portal was suspended behind some.
 fn executed<S: Drop>(gathered: Gathered<S>, suspended: bool) -> ExecuteResult<S>
-    ensures { result ≡ executed gathered suspended }
+    ensures { result ≡ lent_result gathered suspended }
 {
     let responses = gathered.responses;
     if suspended {

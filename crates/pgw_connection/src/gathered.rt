@@ -3,9 +3,9 @@ ghost use Rattle.std.specs.Prelude.{◌≡◌, ◌∷◌, [], false};
 ghost use Rattle.pgw_handlers.specs.Handling.{standing, OfError};
 ghost use Rattle.pgw_handlers.specs.Client.{Client};
 ghost use Rattle.pgw_connection.specs.Desk.{client_of, sight_of};
-ghost use Rattle.pgw_connection.specs.Extended.{none_gathered, as_lists, calls_for, Opens};
-ghost use Rattle.pgw_connection.specs.Calls.{IsUsable};
-ghost use Rattle.pgw_connection.specs.ExtendedSteps.{Heeded, Took, no_error};
+ghost use Rattle.pgw_connection.specs.Extended.{none_gathered, as_lists, calls_for, CallsInOrder};
+ghost use Rattle.pgw_connection.specs.Calls.{IsUsableAfter};
+ghost use Rattle.pgw_connection.specs.ExtendedSteps.{Heeded, TookMessage, no_error};
 
 use crate::desk::Desk;
 use pgw_backend::backend::PgWireBackendMessage;
@@ -48,7 +48,7 @@ fn hand<H: ExtendedQueryHandler>(
     desk: &mut Desk,
     message: PgWireFrontendMessage,
 ) -> PgWireClientResult<()>
-    ensures opens { Opens H.means (calls_for (message ∷ []))
+    ensures opens { CallsInOrder H.means (calls_for (message ∷ []))
         (standing handler.old (sight_of desk.old)) (standing handler.new (sight_of desk.new))
         result }
     ensures config { desk.new.config ≡ desk.old.config }
@@ -76,7 +76,7 @@ pub(crate) fn hand_all<H: ExtendedQueryHandler>(
     desk: &mut Desk,
     messages: Vec<PgWireFrontendMessage>,
 ) -> PgWireClientResult<()>
-    ensures opens { Opens H.means (calls_for messages.items)
+    ensures opens { CallsInOrder H.means (calls_for messages.items)
         (standing handler.old (sight_of desk.old)) (standing handler.new (sight_of desk.new))
         result }
     ensures config { desk.new.config ≡ desk.old.config }
@@ -169,8 +169,8 @@ pub(crate) fn take<H: ExtendedQueryHandler>(
     requires usable { desk.old.broken ≡ false }
     ensures config { desk.new.config ≡ desk.old.config }
     ensures cause { OfError result 0 0 false }
-    ensures usable { IsUsable no_error result desk.new.broken }
-    ensures took { Took H.means handler.old (client_of desk.old)
+    ensures usable { IsUsableAfter no_error result desk.new.broken }
+    ensures took { TookMessage H.means handler.old (client_of desk.old)
         (as_lists H.Responses.listed gathered.old) message handler.new (client_of desk.new)
         (as_lists H.Responses.listed gathered.new) result desk.new.broken }
 {

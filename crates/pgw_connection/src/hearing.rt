@@ -6,7 +6,7 @@ ghost use Rattle.pgw_connection.specs.Talk.{Hearing, end};
 ghost use Rattle.pgw_connection.specs.Desk.{client_of};
 ghost use Rattle.pgw_connection.specs.Line.{Foretold};
 ghost use Rattle.pgw_connection.specs.Connection.{line_in};
-ghost use Rattle.pgw_connection.specs.Calls.{IsUsable, HeardOn, Talked};
+ghost use Rattle.pgw_connection.specs.Calls.{IsUsableAfter, HeardOn, TalksToCallEnd};
 
 use crate::connection::Connection;
 use pgw_backend::client_error::PgWireClientResult;
@@ -40,7 +40,7 @@ pub(crate) trait Hearer {
         ensures foretold { L.foretells →
             Foretold (L.left connection.old.link) (L.left connection.new.link)
             (L.tape connection.old.link) (L.tape connection.new.link) }
-        ensures usable { IsUsable goes_on result connection.new.desk.broken }
+        ensures usable { IsUsableAfter goes_on result connection.new.desk.broken }
         ensures heard { HeardOn hears goes_on self.old (client_of connection.old.desk)
             (line_in L.tape L.faults connection.old) (line_in L.tape L.faults connection.new)
             self.new (client_of connection.new.desk) connection.new.desk.broken result };
@@ -59,8 +59,8 @@ impl<L: Link> Connection<L> {
         ensures cause { HasCause (L.faults self.old.link) (L.faults self.new.link) false result }
         ensures foretold { L.foretells → Foretold (L.left self.old.link) (L.left self.new.link)
             (L.tape self.old.link) (L.tape self.new.link) }
-        ensures usable { IsUsable R.goes_on result self.new.desk.broken }
-        ensures talked { Talked R.hears R.goes_on hearer.old (client_of self.old.desk)
+        ensures usable { IsUsableAfter R.goes_on result self.new.desk.broken }
+        ensures talked { TalksToCallEnd R.hears R.goes_on hearer.old (client_of self.old.desk)
             (line_in L.tape L.faults self.old) (line_in L.tape L.faults self.new)
             (end result (client_of self.new.desk) self.new.desk.broken self.new.inbox) }
     {

@@ -1,17 +1,17 @@
 //! How a client comes by its messages.
 ghost use Rattle.std.specs.Prelude.{◌≡◌, ◌⊎◌, ◌≤◌, ◌<◌, ◌+◌, length, take, true, false, Ok, Err, OnOk, OnErr, IfOk, IfErr, IsErrOf};
-ghost use Rattle.pgw_link.specs.Tape.{Took, Failed, HasCause as LinkHasCause};
+ghost use Rattle.pgw_link.specs.Tape.{Took, LinkFails, HasTapeCause as LinkHasCause};
 ghost use Rattle.pgw_backend.specs.declared.client_error.PgWireClientError.TheVariants as client;
 ghost use Rattle.pgw_connection.specs.Desk.{client_of};
 ghost use Rattle.pgw_connection.specs.Line.{Foretold};
 ghost use Rattle.pgw_connection.specs.Connection.{line_in};
-ghost use Rattle.pgw_connection.specs.Reading.{ReadOnce, Came, PassedOver, awaited};
+ghost use Rattle.pgw_connection.specs.Reading.{ReadOnce, MessageCame, PassedOver, awaited};
 ghost use Rattle.pgw_connection.specs.Filling.{Fills, Polls};
 ghost use Rattle.pgw_connection.specs.Calls.{Polled};
 ghost use Rattle.pgw_dialogue.specs.Wire.{IsOwn};
 ghost use Rattle.pgw_handlers.specs.declared.client_info.ReadyState.TheVariants.{Pending};
-ghost use Rattle.pgw_link.specs.Foresight.{Ends, Foreseen};
-ghost use Rattle.pgw_connection.specs.Talk.{passes, is_remote, in_place_of, first_of};
+ghost use Rattle.pgw_link.specs.Foresight.{TapeEnds, Foreseen};
+ghost use Rattle.pgw_connection.specs.Talk.{passes, is_remote, in_place_of, first_error_of};
 ghost use Rattle.pgw_handlers.specs.Handling.{HasCause, IsCaused};
 
 use crate::client::PgWireClient;
@@ -46,13 +46,13 @@ fn read_piece<L: Link>(
     ensures bound { IfOk result (λ n. n ≤ size) }
     ensures moved { IfOk result
         (λ n. Took (L.tape link.old) (L.tape link.new) (take n piece.new)) }
-    ensures failed { OnErr result (Failed (L.tape link.old) (L.tape link.new)
+    ensures failed { OnErr result (LinkFails (L.tape link.old) (L.tape link.new)
         ((L.tape link.old).reads + 1) (L.tape link.old).writes) }
     ensures cause { LinkHasCause (L.faults link.old) (L.faults link.new) result }
     ensures no_fault { OnOk result (L.faults link.new ≡ L.faults link.old) }
     ensures foreseen { L.foretells → Foreseen (L.left link.old) (L.left link.new)
         (L.tape link.old) (L.tape link.new) }
-    ensures ends { L.foretells → Ends (L.left link.new) (L.tape link.old) (L.tape link.new) }
+    ensures ends { L.foretells → TapeEnds (L.left link.new) (L.tape link.old) (L.tape link.new) }
 {
     link.read(&mut piece[..size])
 }
@@ -72,7 +72,7 @@ fn in_place_of(error: PgWireClientError, failure: PgWireClientError) -> PgWireCl
 
 // The error that stands behind a message that is passed over: the server's first, where none stood yet.
 pub(crate) fn first_of(error: PgWireClientError, message: PgWireBackendMessage) -> PgWireClientError
-    ensures { result ≡ first_of error message }
+    ensures { result ≡ first_error_of error message }
 {
     match error {
         PgWireClientError::UnexpectedEOF => match message {
@@ -104,7 +104,7 @@ impl<L: Link> Connection<L> {
         ensures cause { HasCause (L.faults self.old.link) (L.faults self.new.link) false result }
         ensures foreseen { L.foretells → Foreseen (L.left self.old.link) (L.left self.new.link)
             (L.tape self.old.link) (L.tape self.new.link) }
-        ensures ends { L.foretells → Ends (L.left self.new.link) (L.tape self.old.link)
+        ensures ends { L.foretells → TapeEnds (L.left self.new.link) (L.tape self.old.link)
             (L.tape self.new.link) }
         ensures reads { ReadOnce
             (line_in L.tape L.faults self.old) (line_in L.tape L.faults self.new) result }
@@ -204,7 +204,7 @@ impl<L: Link> Connection<L> {
         ensures cause { HasCause (L.faults self.old.link) (L.faults self.new.link) false result }
         ensures foretold { L.foretells → Foretold (L.left self.old.link) (L.left self.new.link)
             (L.tape self.old.link) (L.tape self.new.link) }
-        ensures came { Came (client_of self.old.desk)
+        ensures came { MessageCame (client_of self.old.desk)
             (line_in L.tape L.faults self.old) (line_in L.tape L.faults self.new) result }
     {
         'reads: loop {

@@ -8,8 +8,8 @@ ghost use Rattle.pgw_connection.specs.Desk.{client_of};
 ghost use Rattle.pgw_connection.specs.Line.{Foretold};
 ghost use Rattle.pgw_connection.specs.Connection.{line_in, state_of};
 ghost use Rattle.pgw_frontend.specs.Frontend.{encoding};
-ghost use Rattle.pgw_handlers.specs.Sending.{Sent, NotSent, IsSpelled, IsUsable as StaysUsable};
-ghost use Rattle.pgw_connection.specs.Calls.{IsUsable, goes_on_if, Puts, Opens, GivesUp, Follows, sight_in, faults_in, own_in, rest_in};
+ghost use Rattle.pgw_handlers.specs.Sending.{Sent, NotSent, IsSpelled, SendLeavesUsable as StaysUsable};
+ghost use Rattle.pgw_connection.specs.Calls.{IsUsableAfter, goes_on_if, PutsOnLine, HandlerOpens, GivesUp, Follows, sight_in, faults_in, own_in, rest_in};
 
 use crate::client::PgWireClient;
 use crate::connection::Connection;
@@ -86,7 +86,7 @@ impl<L: Link> Connection<L> {
         ensures cause { HasCause (L.faults self.old.link) (L.faults self.new.link) false result }
         ensures foretold { L.foretells → Foretold (L.left self.old.link) (L.left self.new.link)
             (L.tape self.old.link) (L.tape self.new.link) }
-        ensures puts { Puts self.old.desk.out.items
+        ensures puts { PutsOnLine self.old.desk.out.items
             (line_in L.tape L.faults self.old) (line_in L.tape L.faults self.new) result }
     {
         if self.desk.out.len() == 0 {
@@ -104,8 +104,8 @@ impl<L: Link> Connection<L> {
         ensures cause { HasCause (L.faults self.old.link) (L.faults self.new.link) false result }
         ensures foretold { L.foretells → Foretold (L.left self.old.link) (L.left self.new.link)
             (L.tape self.old.link) (L.tape self.new.link) }
-        ensures usable { IsUsable is_refusal result self.new.desk.broken }
-        ensures opens { Opens self.old.desk.broken self.old.desk.out.items
+        ensures usable { IsUsableAfter is_refusal result self.new.desk.broken }
+        ensures opens { HandlerOpens self.old.desk.broken self.old.desk.out.items
             (line_in L.tape L.faults self.old) (line_in L.tape L.faults self.new)
             opened result self.new.desk.broken }
     {
@@ -172,7 +172,7 @@ impl<L: Link> Connection<L> {
         ensures cause { HasCause (L.faults self.old.link) (L.faults self.new.link) false result }
         ensures foretold { L.foretells → Foretold (L.left self.old.link) (L.left self.new.link)
             (L.tape self.old.link) (L.tape self.new.link) }
-        ensures usable { IsUsable (goes_on_if goes_on) result self.new.desk.broken }
+        ensures usable { IsUsableAfter (goes_on_if goes_on) result self.new.desk.broken }
         ensures follows { Follows (goes_on_if goes_on) closing self.old.desk.broken
             self.old.desk.out.items (client_of self.old.desk)
             (line_in L.tape L.faults self.old) (line_in L.tape L.faults self.new)

@@ -2,13 +2,13 @@
 ghost use Rattle.std.specs.Prelude.{◌≡◌, ◌≤◌, ◌<◌, ◌+◌, length, true, false, Err, IfOk, OnOk, OnErr};
 ghost use Rattle.pgw_backend.specs.declared.client_error.PgWireClientError.TheVariants as client;
 ghost use Rattle.pgw_handlers.specs.Handling.{HasCause};
-ghost use Rattle.pgw_handlers.specs.Simple.{simple_query, HeardInQuery, TakesRows};
+ghost use Rattle.pgw_handlers.specs.Simple.{simple_query, HeardInQuery, TakesSimpleRows};
 ghost use Rattle.pgw_connection.specs.Talk.{end, passes};
 ghost use Rattle.pgw_connection.specs.Desk.{client_of};
 ghost use Rattle.pgw_connection.specs.Line.{Foretold};
 ghost use Rattle.pgw_connection.specs.Connection.{line_in};
 ghost use Rattle.pgw_connection.specs.Querying.{Queries};
-ghost use Rattle.pgw_connection.specs.Calls.{IsUsable, may_go_on, HeardNext, HeardOn, Call};
+ghost use Rattle.pgw_connection.specs.Calls.{IsUsableAfter, may_go_on, HeardNext, HeardOn, LineCall};
 
 use crate::client::PgWireClient;
 use crate::connection::Connection;
@@ -39,7 +39,7 @@ impl<L: Link> Connection<L> {
         ensures cause { HasCause (L.faults self.old.link) (L.faults self.new.link) false result }
         ensures foretold { L.foretells → Foretold (L.left self.old.link) (L.left self.new.link)
             (L.tape self.old.link) (L.tape self.new.link) }
-        ensures usable { IsUsable passes result self.new.desk.broken }
+        ensures usable { IsUsableAfter passes result self.new.desk.broken }
         ensures heard { HeardNext (HeardInQuery H.means) passes handler.old
             (client_of self.old.desk)
             (line_in L.tape L.faults self.old) (line_in L.tape L.faults self.new)
@@ -68,7 +68,7 @@ impl<L: Link> Connection<L> {
         ensures link { self.new.link ≡ self.old.link }
         ensures read { self.new.read ≡ self.old.read }
         ensures limit { self.new.limit ≡ self.old.limit }
-        ensures taken { IfOk result (TakesRows H.means handler.old handler.new
+        ensures taken { IfOk result (TakesSimpleRows H.means handler.old handler.new
             self.old.inbox self.new.inbox) }
         ensures shorter { length self.new.inbox ≤ length self.old.inbox }
         ensures err { OnErr result (self.new.inbox ≡ self.old.inbox) }
@@ -94,7 +94,7 @@ impl<L: Link> Connection<L> {
         ensures cause { HasCause (L.faults self.old.link) (L.faults self.new.link) false result }
         ensures foretold { L.foretells → Foretold (L.left self.old.link) (L.left self.new.link)
             (L.tape self.old.link) (L.tape self.new.link) }
-        ensures usable { IsUsable passes result self.new.desk.broken }
+        ensures usable { IsUsableAfter passes result self.new.desk.broken }
         ensures heard { HeardOn (HeardInQuery H.means) passes handler.old (client_of self.old.desk)
             (line_in L.tape L.faults self.old) (line_in L.tape L.faults self.new)
             handler.new (client_of self.new.desk) self.new.desk.broken result }
@@ -118,7 +118,7 @@ impl<L: Link> Connection<L> {
     ) -> PgWireClientResult<Listed<H::QueryResponse>>
         ensures broken { self.old.desk.broken ≡ true → (result ≡ Err client.Broken) ×
             (self.new ≡ self.old) }
-        ensures asked { self.old.desk.broken ≡ false → Call
+        ensures asked { self.old.desk.broken ≡ false → LineCall
             (λ before after answer. H.means before (simple_query query.now) after answer)
             (HeardInQuery H.means) passes
             handler (client_of self.old.desk)
@@ -128,7 +128,7 @@ impl<L: Link> Connection<L> {
             self.old.desk.broken result }
         ensures foretold { L.foretells → Foretold (L.left self.old.link) (L.left self.new.link)
             (L.tape self.old.link) (L.tape self.new.link) }
-        ensures usable { self.old.desk.broken ≡ false → IsUsable may_go_on result
+        ensures usable { self.old.desk.broken ≡ false → IsUsableAfter may_go_on result
             self.new.desk.broken }
         ensures within { self.new.read ≤ self.new.limit }
         ensures limit { self.new.limit ≡ self.old.limit }

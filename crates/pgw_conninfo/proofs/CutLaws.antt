@@ -7,20 +7,20 @@ use Rattle.pgw_conninfo.specs.declared.part.Part.{Part}
 use Rattle.pgw_conninfo.specs.declared.part.Part.TheVariants as part
 use Rattle.pgw_conninfo.specs.declared.part.Fault.{Fault}
 use Rattle.pgw_conninfo.specs.declared.part.Fault.TheVariants as fault
-use Rattle.pgw_conninfo.specs.KeyValue.{IsValue, quoted, bare, last, stopped, IsCut, ended, no_pair, paired}
-use Rattle.pgw_conninfo.specs.Reader.{front_of, Faulty, Pair}
-use Rattle.pgw_conninfo.specs.Shown.{shown}
+use Rattle.pgw_conninfo.specs.KeyValue.{IsConninfoValue, quoted, bare, last, stopped, IsCut, ended, no_pair, paired}
+use Rattle.pgw_conninfo.specs.Reader.{conninfo_front, Faulty, Pair}
+use Rattle.pgw_conninfo.specs.Shown.{pair_front}
 use Rattle.pgw_conninfo.proofs.KeyValueLaws.{blank_sound, blank_complete, pair_sound, pair_complete}
 
 -- ---- what is behind a pair is shorter
 
-value_is_no_less : (text value rest : List ℕ) → IsValue text value rest → length rest ≤ length text
+value_is_no_less : (text value rest : List ℕ) → IsConninfoValue text value rest → length rest ≤ length text
 value_is_no_less text value rest (quoted {body = body} is w) = let e = ap length is in omega (arith, e, length-append (39 ∷ body) (39 ∷ rest))
 value_is_no_less text value rest (bare {c = c} {body = body} {rest = more} is hit w b) = let e = ap length is in omega (arith, e, length-append body (c ∷ more))
 value_is_no_less text value rest (last w b) = omega arith
 value_is_no_less text value rest (stopped is w b) = omega arith
 
-pub pair_is_less : (text key value rest : List ℕ) → front_of text ≡ Pair key value rest → length rest < length text
+pub pair_is_less : (text key value rest : List ℕ) → conninfo_front text ≡ Pair key value rest → length rest < length text
 pair_is_less text key value rest e =
     let p = pair_sound text key value rest e in
     let no_less = value_is_no_less p.written value rest p.says_value in
@@ -33,21 +33,21 @@ pair_is_less text key value rest e =
 
 -- ---- a text is cut from its front
 
-pub ends_here : (text rest : List ℕ) (parts : List Part) (f : declared.Front) → shown f ≡ front_of rest → f ≡ front.Nothing
+pub ends_here : (text rest : List ℕ) (parts : List Part) (f : declared.Front) → pair_front f ≡ conninfo_front rest → f ≡ front.Nothing
     → ((more : List Part) (e : Option Fault) → IsCut rest more e → IsCut text (parts ++ more) e) → IsCut text parts None
 ends_here text rest parts f e is so_far =
-    subst (λ (ps : List Part). IsCut text ps None) (append-nil parts) (so_far [] None (ended (blank_sound rest (sym e ∙ ap shown is))))
+    subst (λ (ps : List Part). IsCut text ps None) (append-nil parts) (so_far [] None (ended (blank_sound rest (sym e ∙ ap pair_front is))))
 
-neither : (rest : List ℕ) → front_of rest ≡ Faulty → IsCut rest [] (Some fault.Syntax)
+neither : (rest : List ℕ) → conninfo_front rest ≡ Faulty → IsCut rest [] (Some fault.Syntax)
 neither rest e =
     no_pair (λ blank. let b = blank_complete rest blank in cc) (λ key value more p. let q = pair_complete rest key value more p in cc)
 
-pub stops_here : (text rest : List ℕ) (parts : List Part) (f : declared.Front) → shown f ≡ front_of rest → f ≡ front.Faulty
+pub stops_here : (text rest : List ℕ) (parts : List Part) (f : declared.Front) → pair_front f ≡ conninfo_front rest → f ≡ front.Faulty
     → ((more : List Part) (e : Option Fault) → IsCut rest more e → IsCut text (parts ++ more) e) → IsCut text parts (Some fault.Syntax)
 stops_here text rest parts f e is so_far =
-    subst (λ (ps : List Part). IsCut text ps (Some fault.Syntax)) (append-nil parts) (so_far [] (Some fault.Syntax) (neither rest (sym e ∙ ap shown is)))
+    subst (λ (ps : List Part). IsCut text ps (Some fault.Syntax)) (append-nil parts) (so_far [] (Some fault.Syntax) (neither rest (sym e ∙ ap pair_front is)))
 
-pub goes_on : (text rest behind key value : List ℕ) (parts new more : List Part) (e : Option Fault) → front_of rest ≡ Pair key value behind → new ≡ parts ++ part.Pair key value ∷ []
+pub goes_on : (text rest behind key value : List ℕ) (parts new more : List Part) (e : Option Fault) → conninfo_front rest ≡ Pair key value behind → new ≡ parts ++ part.Pair key value ∷ []
     → ((more : List Part) (e : Option Fault) → IsCut rest more e → IsCut text (parts ++ more) e) → IsCut behind more e → IsCut text (new ++ more) e
 goes_on text rest behind key value parts new more e found n so_far cut =
     let all : new ++ more ≡ parts ++ (part.Pair key value ∷ more) = rw n (append_assoc parts (part.Pair key value ∷ []) more) in

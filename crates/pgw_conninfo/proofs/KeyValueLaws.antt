@@ -6,8 +6,8 @@ use Rattle.std.proofs.lemmas.Bool.{lt-ltb, and_parts}
 use Rattle.std.proofs.lemmas.Bool.Decides.{nat_tests}
 use Rattle.std.proofs.lemmas.List.{append_assoc, append-nil, length-append}
 use Rattle.std.proofs.Math.Seq.{take-append_seam, drop-append_seam, drop-append-add}
-use Rattle.pgw_conninfo.specs.Reader.{from, behind_blank, key_at, behind_key, behind_text, value_at, Nothing, Faulty, Pair, quoted_by, bare_by, with_value_at, with_key_at, from_key, front_of}
-use Rattle.pgw_conninfo.specs.KeyValue.{IsBlank, ends_key, IsKey, ends_value, Writes, nothing, itself, escaped, IsValue, quoted, bare, last, stopped, IsPair}
+use Rattle.pgw_conninfo.specs.Reader.{from, behind_blank, key_at, behind_key, behind_text, conninfo_value, Nothing, Faulty, Pair, quoted_by, bare_by, with_value_at, with_key_at, from_key, conninfo_front}
+use Rattle.pgw_conninfo.specs.KeyValue.{IsBlank, ends_key, IsConninfoKey, ends_value, WritesKeyValue, nothing, itself, escaped, IsConninfoValue, quoted, bare, last, stopped, IsKeyValuePair}
 
 -- ---- the first place where a test passes
 
@@ -116,9 +116,9 @@ longer a b r = ap (λ (l : List ℕ). (l, r.1)) (sym (append_assoc a b r.0))
 
 -- what is read of a value: it goes on to the end, where a backslash may stand for nothing, or up to what ends it
 pub data Reading : (ℕ → Bool) → ℕ → List ℕ → List ℕ × Option ℕ → Type 0 where
-  goes_on : {ends : ℕ → Bool} {n : ℕ} {text value : List ℕ} → Writes ends text value → Reading ends n text (value, None)
-  cut_off : {ends : ℕ → Bool} {n : ℕ} {text value : List ℕ} (body : List ℕ) → text ≡ body ++ 92 ∷ [] → Writes ends body value → Reading ends n text (value, None)
-  closed : {ends : ℕ → Bool} {n m : ℕ} {text value : List ℕ} (body : List ℕ) (c : ℕ) (rest : List ℕ) → text ≡ body ++ c ∷ rest → (c == 92) ≡ false → ends c ≡ true → Writes ends body value → m ≡ n + length body → Reading ends n text (value, Some m)
+  goes_on : {ends : ℕ → Bool} {n : ℕ} {text value : List ℕ} → WritesKeyValue ends text value → Reading ends n text (value, None)
+  cut_off : {ends : ℕ → Bool} {n : ℕ} {text value : List ℕ} (body : List ℕ) → text ≡ body ++ 92 ∷ [] → WritesKeyValue ends body value → Reading ends n text (value, None)
+  closed : {ends : ℕ → Bool} {n m : ℕ} {text value : List ℕ} (body : List ℕ) (c : ℕ) (rest : List ℕ) → text ≡ body ++ c ∷ rest → (c == 92) ≡ false → ends c ≡ true → WritesKeyValue ends body value → m ≡ n + length body → Reading ends n text (value, Some m)
 
 one_more : (ends : ℕ → Bool) (n : ℕ) (c : ℕ) (text : List ℕ) (r : List ℕ × Option ℕ) → (c == 92) ≡ false → ends c ≡ false → Reading ends (n + 1) text r → Reading ends n (c ∷ text) (behind_text (encode_utf8 c) r)
 one_more ends n c text r plain inside (goes_on w) = goes_on (itself plain inside w)
@@ -138,29 +138,29 @@ closed_here ends n c rest e f =
     let at : n ≡ n + length {A = ℕ} [] = omega arith in
     closed [] c rest refl e f nothing at
 
-reading_last : (ends : ℕ → Bool) (n : ℕ) (c : ℕ) (slash over : Bool) → (c == 92) ≡ slash → ends c ≡ over → Reading ends n (c ∷ []) (value_at ends false n (c ∷ []))
-unfolding value_at
+reading_last : (ends : ℕ → Bool) (n : ℕ) (c : ℕ) (slash over : Bool) → (c == 92) ≡ slash → ends c ≡ over → Reading ends n (c ∷ []) (conninfo_value ends false n (c ∷ []))
+unfolding conninfo_value
 reading_last ends n c true over e f = rw e (cut_off [] (ap (λ (x : ℕ). x ∷ []) (eq_of c 92 e)) nothing)
 reading_last ends n c false true e f = rw (e, f) (closed_here ends n c [] e f)
-reading_last ends n c false false e f = rw (e, f) (one_more ends n c [] (value_at ends false (n + 1) []) e f (goes_on nothing))
+reading_last ends n c false false e f = rw (e, f) (one_more ends n c [] (conninfo_value ends false (n + 1) []) e f (goes_on nothing))
 
 reading_by : (ends : ℕ → Bool) (n : ℕ) (c d : ℕ) (text : List ℕ) (slash over : Bool) → (c == 92) ≡ slash → ends c ≡ over
-    → Reading ends (n + 1) (d ∷ text) (value_at ends false (n + 1) (d ∷ text)) → Reading ends (n + 1 + 1) text (value_at ends false (n + 1 + 1) text) → Reading ends n (c ∷ d ∷ text) (value_at ends false n (c ∷ d ∷ text))
-unfolding value_at
+    → Reading ends (n + 1) (d ∷ text) (conninfo_value ends false (n + 1) (d ∷ text)) → Reading ends (n + 1 + 1) text (conninfo_value ends false (n + 1 + 1) text) → Reading ends n (c ∷ d ∷ text) (conninfo_value ends false n (c ∷ d ∷ text))
+unfolding conninfo_value
 reading_by ends n c d text true over e f one two =
-    rw e (subst (λ (x : ℕ). Reading ends n (x ∷ d ∷ text) (behind_text (encode_utf8 d) (value_at ends false (n + 1 + 1) text))) (sym (eq_of c 92 e)) (two_more ends n d text (value_at ends false (n + 1 + 1) text) two))
+    rw e (subst (λ (x : ℕ). Reading ends n (x ∷ d ∷ text) (behind_text (encode_utf8 d) (conninfo_value ends false (n + 1 + 1) text))) (sym (eq_of c 92 e)) (two_more ends n d text (conninfo_value ends false (n + 1 + 1) text) two))
 reading_by ends n c d text false true e f one two = rw (e, f) (closed_here ends n c (d ∷ text) e f)
-reading_by ends n c d text false false e f one two = rw (e, f) (one_more ends n c (d ∷ text) (value_at ends false (n + 1) (d ∷ text)) e f one)
+reading_by ends n c d text false false e f one two = rw (e, f) (one_more ends n c (d ∷ text) (conninfo_value ends false (n + 1) (d ∷ text)) e f one)
 
-pub reading : (ends : ℕ → Bool) (n : ℕ) (text : List ℕ) → Reading ends n text (value_at ends false n text)
-unfolding value_at
+pub reading : (ends : ℕ → Bool) (n : ℕ) (text : List ℕ) → Reading ends n text (conninfo_value ends false n text)
+unfolding conninfo_value
 reading ends n [] = goes_on nothing
 reading ends n (c ∷ []) = reading_last ends n c (c == 92) (ends c) refl refl
 reading ends n (c ∷ d ∷ text) = reading_by ends n c d text (c == 92) (ends c) refl refl (reading ends (n + 1) (d ∷ text)) (reading ends (n + 1 + 1) text)
 
 -- characters that write a value are read as it
-read_back : (ends : ℕ → Bool) (body value more : List ℕ) → Writes ends body value → (n : ℕ) → value_at ends false n (body ++ more) ≡ behind_text value (value_at ends false (n + length body) more)
-unfolding value_at
+read_back : (ends : ℕ → Bool) (body value more : List ℕ) → WritesKeyValue ends body value → (n : ℕ) → conninfo_value ends false n (body ++ more) ≡ behind_text value (conninfo_value ends false (n + length body) more)
+unfolding conninfo_value
 read_back ends [] value more nothing n = rw (plus_none n) refl
   where
     plus_none : (n : ℕ) → n + length {A = ℕ} [] ≡ n
@@ -168,11 +168,11 @@ read_back ends [] value more nothing n = rw (plus_none n) refl
 read_back ends (c ∷ cs) whole more (itself {value = value} e f w) n =
     let at : n + 1 + length cs ≡ n + length (c ∷ cs) = omega arith in
     let again = read_back ends cs value more w (n + 1) in
-    rw (e, f, again, at) (longer (encode_utf8 c) value (value_at ends false (n + length (c ∷ cs)) more))
+    rw (e, f, again, at) (longer (encode_utf8 c) value (conninfo_value ends false (n + length (c ∷ cs)) more))
 read_back ends (b ∷ c ∷ cs) whole more (escaped {value = value} w) n =
     let at : n + 1 + 1 + length cs ≡ n + length (92 ∷ c ∷ cs) = omega arith in
     let again = read_back ends cs value more w (n + 1 + 1) in
-    rw (again, at) (longer (encode_utf8 c) value (value_at ends false (n + length (92 ∷ c ∷ cs)) more))
+    rw (again, at) (longer (encode_utf8 c) value (conninfo_value ends false (n + length (92 ∷ c ∷ cs)) more))
 
 -- ---- a value at the front
 
@@ -180,7 +180,7 @@ first_is : (n : ℕ) (text : List ℕ) → (0 == n) ≡ false → (slice_index t
 first_is n [] e h = cc
 first_is n (x ∷ text) e h = ap (λ (y : ℕ). y ∷ text) (eq_of x n h)
 
-quoted_sound : (k key text inner value rest : List ℕ) (r : List ℕ × Option ℕ) → text ≡ 39 ∷ inner → Reading (ends_value true) 0 inner r → quoted_by k inner r ≡ Pair key value rest → (key ≡ k) × IsValue text value rest
+quoted_sound : (k key text inner value rest : List ℕ) (r : List ℕ × Option ℕ) → text ≡ 39 ∷ inner → Reading (ends_value true) 0 inner r → quoted_by k inner r ≡ Pair key value rest → (key ≡ k) × IsConninfoValue text value rest
 quoted_sound k key text inner value rest r is (goes_on w) e = cc
 quoted_sound k key text inner value rest r is (cut_off body cut w) e = cc
 quoted_sound k key text inner value rest r is (closed {m = m} {value = v} body c behind cut f hit w at) e =
@@ -190,57 +190,57 @@ quoted_sound k key text inner value rest r is (closed {m = m} {value = v} body c
     let three : drop (m + 1) inner ≡ rest = cc in
     let place : m + 1 ≡ length body + 1 = omega (arith, at) in
     let four : behind ≡ rest = sym (drop-append-add body (c ∷ behind) 1) ∙ ap (drop (length body + 1)) (sym cut) ∙ ap (λ (n : ℕ). drop n inner) (sym place) ∙ three in
-    (one, quoted (is ∙ ap (λ (l : List ℕ). 39 ∷ l) (cut ∙ rw (quote, four) refl)) (subst (λ (v : List ℕ). Writes (ends_value true) body v) two w))
+    (one, quoted (is ∙ ap (λ (l : List ℕ). 39 ∷ l) (cut ∙ rw (quote, four) refl)) (subst (λ (v : List ℕ). WritesKeyValue (ends_value true) body v) two w))
 
 bare_sound_by : (k key text value rest : List ℕ) (r : List ℕ × Option ℕ) (b : Bool) → (length r.0 == 0) ≡ b → (slice_index text 0 == 39) ≡ false → Reading (ends_value false) 0 text r
-    → (if b then Faulty else Pair k r.0 (from r.1 text)) ≡ Pair key value rest → (key ≡ k) × IsValue text value rest
+    → (if b then Faulty else Pair k r.0 (from r.1 text)) ≡ Pair key value rest → (key ≡ k) × IsConninfoValue text value rest
 bare_sound_by k key text value rest r true some first read e = cc
 bare_sound_by k key text value rest r false some first (goes_on {value = v} w) e =
     let one : key ≡ k = cc in
     let two : v ≡ value = cc in
     let three : [] ≡ rest = cc in
-    (one, subst (λ (l : List ℕ). IsValue text value l) three (subst (λ (v : List ℕ). IsValue text v []) two (last w (first, some))))
+    (one, subst (λ (l : List ℕ). IsConninfoValue text value l) three (subst (λ (v : List ℕ). IsConninfoValue text v []) two (last w (first, some))))
 bare_sound_by k key text value rest r false some first (cut_off {value = v} body cut w) e =
     let one : key ≡ k = cc in
     let two : v ≡ value = cc in
     let three : [] ≡ rest = cc in
-    (one, subst (λ (l : List ℕ). IsValue text value l) three (subst (λ (v : List ℕ). IsValue text v []) two (stopped cut w (first, some))))
+    (one, subst (λ (l : List ℕ). IsConninfoValue text value l) three (subst (λ (v : List ℕ). IsConninfoValue text v []) two (stopped cut w (first, some))))
 bare_sound_by k key text value rest r false some first (closed {m = m} {value = v} body c behind cut f hit w at) e =
     let one : key ≡ k = cc in
     let two : v ≡ value = cc in
     let three : drop m text ≡ rest = cc in
     let place : m ≡ length body = omega (arith, at) in
     let four : c ∷ behind ≡ rest = sym (drop-append_seam body (c ∷ behind)) ∙ ap (drop (length body)) (sym cut) ∙ ap (λ (n : ℕ). drop n text) (sym place) ∙ three in
-    (one, subst (λ (l : List ℕ). IsValue text value l) four (subst (λ (v : List ℕ). IsValue text v (c ∷ behind)) two (bare cut hit w (first, some))))
+    (one, subst (λ (l : List ℕ). IsConninfoValue text value l) four (subst (λ (v : List ℕ). IsConninfoValue text v (c ∷ behind)) two (bare cut hit w (first, some))))
 
 value_sound_by : (k key text value rest : List ℕ) (b : Bool) → (slice_index text 0 == 39) ≡ b
-    → (if b then quoted_by k (drop 1 text) (value_at (ends_value true) false 0 (drop 1 text)) else bare_by k text (value_at (ends_value false) false 0 text)) ≡ Pair key value rest → (key ≡ k) × IsValue text value rest
+    → (if b then quoted_by k (drop 1 text) (conninfo_value (ends_value true) false 0 (drop 1 text)) else bare_by k text (conninfo_value (ends_value false) false 0 text)) ≡ Pair key value rest → (key ≡ k) × IsConninfoValue text value rest
 value_sound_by k key text value rest true first e =
-    quoted_sound k key text (drop 1 text) value rest (value_at (ends_value true) false 0 (drop 1 text)) (first_is 39 text refl first) (reading (ends_value true) 0 (drop 1 text)) e
+    quoted_sound k key text (drop 1 text) value rest (conninfo_value (ends_value true) false 0 (drop 1 text)) (first_is 39 text refl first) (reading (ends_value true) 0 (drop 1 text)) e
 value_sound_by k key text value rest false first e =
-    let r = value_at (ends_value false) false 0 text in
+    let r = conninfo_value (ends_value false) false 0 text in
     bare_sound_by k key text value rest r (length r.0 == 0) refl first (reading (ends_value false) 0 text) e
 
-value_sound : (k key text value rest : List ℕ) → with_value_at k text ≡ Pair key value rest → (key ≡ k) × IsValue text value rest
+value_sound : (k key text value rest : List ℕ) → with_value_at k text ≡ Pair key value rest → (key ≡ k) × IsConninfoValue text value rest
 value_sound k key text value rest e = value_sound_by k key text value rest (slice_index text 0 == 39) refl e
 
 -- a value is not empty, and begins with no white space
 is_one : (c : ℕ) (text : List ℕ) → is_whitespace c ≡ false → (d : ℕ) × (rest : List ℕ) × (c ∷ text ≡ d ∷ rest) × (is_whitespace d ≡ false)
 is_one c text e = (c, text, refl, e)
 
-writes_head : (body value more : List ℕ) → Writes (ends_value false) body value → (length value == 0) ≡ false → (d : ℕ) × (rest : List ℕ) × (body ++ more ≡ d ∷ rest) × (is_whitespace d ≡ false)
+writes_head : (body value more : List ℕ) → WritesKeyValue (ends_value false) body value → (length value == 0) ≡ false → (d : ℕ) × (rest : List ℕ) × (body ++ more ≡ d ∷ rest) × (is_whitespace d ≡ false)
 writes_head [] value more nothing some = absurd (grind (arith, nat_tests, some))
 writes_head (c ∷ cs) value more (itself e f w) some = is_one c (cs ++ more) f
 writes_head (b ∷ c ∷ cs) value more (escaped w) some = is_one 92 (c ∷ cs ++ more) refl
 
-value_head : (text value rest : List ℕ) → IsValue text value rest → (d : ℕ) × (more : List ℕ) × (text ≡ d ∷ more) × (is_whitespace d ≡ false)
+value_head : (text value rest : List ℕ) → IsConninfoValue text value rest → (d : ℕ) × (more : List ℕ) × (text ≡ d ∷ more) × (is_whitespace d ≡ false)
 value_head text value rest (quoted {body = body} is w) = (39, body ++ 39 ∷ rest, is, refl)
 value_head text value rest (bare {c = c} {body = body} {rest = more} is hit w (first, some)) = let h = writes_head body value (c ∷ more) w some in (h.0, h.1, is ∙ h.2, h.3)
 value_head text value rest (last w (first, some)) = let h = writes_head text value [] w some in (h.0, h.1, sym (append-nil text) ∙ h.2, h.3)
 value_head text value rest (stopped {body = body} is w (first, some)) = let h = writes_head body value (92 ∷ []) w some in (h.0, h.1, is ∙ h.2, h.3)
 
-quoted_complete : (k body value rest : List ℕ) → Writes (ends_value true) body value → quoted_by k (body ++ 39 ∷ rest) (value_at (ends_value true) false 0 (body ++ 39 ∷ rest)) ≡ Pair k value rest
-unfolding value_at
+quoted_complete : (k body value rest : List ℕ) → WritesKeyValue (ends_value true) body value → quoted_by k (body ++ 39 ∷ rest) (conninfo_value (ends_value true) false 0 (body ++ 39 ∷ rest)) ≡ Pair k value rest
+unfolding conninfo_value
 quoted_complete k body value rest w =
     let place : 0 + length body + 1 ≡ length body + 1 = omega arith in
     rw (read_back (ends_value true) body value (39 ∷ rest) w 0, place, drop-append-add body (39 ∷ rest) 1, append-nil value) refl
@@ -252,23 +252,23 @@ slash_is_not c blank true e = absurd (no (subst (λ (x : ℕ). is_whitespace x �
     no h = cc
 slash_is_not c blank false e = e
 
-bare_complete : (k text body value rest : List ℕ) (c : ℕ) → text ≡ body ++ c ∷ rest → is_whitespace c ≡ true → Writes (ends_value false) body value → (length value == 0) ≡ false → bare_by k text (value_at (ends_value false) false 0 text) ≡ Pair k value (c ∷ rest)
-unfolding value_at
+bare_complete : (k text body value rest : List ℕ) (c : ℕ) → text ≡ body ++ c ∷ rest → is_whitespace c ≡ true → WritesKeyValue (ends_value false) body value → (length value == 0) ≡ false → bare_by k text (conninfo_value (ends_value false) false 0 text) ≡ Pair k value (c ∷ rest)
+unfolding conninfo_value
 bare_complete k text body value rest c is blank w some =
     let place : 0 + length body ≡ length body = omega arith in
     rw (is, read_back (ends_value false) body value (c ∷ rest) w 0, slash_is_not c blank (c == 92) refl, blank, place, append-nil value, some, drop-append_seam body (c ∷ rest)) refl
 
-last_complete : (k text value : List ℕ) → Writes (ends_value false) text value → (length value == 0) ≡ false → bare_by k text (value_at (ends_value false) false 0 text) ≡ Pair k value []
-unfolding value_at
+last_complete : (k text value : List ℕ) → WritesKeyValue (ends_value false) text value → (length value == 0) ≡ false → bare_by k text (conninfo_value (ends_value false) false 0 text) ≡ Pair k value []
+unfolding conninfo_value
 last_complete k text value w some =
-    let all : value_at (ends_value false) false 0 text ≡ (value ++ [], None) = ap (value_at (ends_value false) false 0) (sym (append-nil text)) ∙ read_back (ends_value false) text value [] w 0 in
+    let all : conninfo_value (ends_value false) false 0 text ≡ (value ++ [], None) = ap (conninfo_value (ends_value false) false 0) (sym (append-nil text)) ∙ read_back (ends_value false) text value [] w 0 in
     rw (all, append-nil value, some) refl
 
-stopped_complete : (k text body value : List ℕ) → text ≡ body ++ 92 ∷ [] → Writes (ends_value false) body value → (length value == 0) ≡ false → bare_by k text (value_at (ends_value false) false 0 text) ≡ Pair k value []
-unfolding value_at
+stopped_complete : (k text body value : List ℕ) → text ≡ body ++ 92 ∷ [] → WritesKeyValue (ends_value false) body value → (length value == 0) ≡ false → bare_by k text (conninfo_value (ends_value false) false 0 text) ≡ Pair k value []
+unfolding conninfo_value
 stopped_complete k text body value is w some = rw (is, read_back (ends_value false) body value (92 ∷ []) w 0, append-nil value, some) refl
 
-value_complete : (k text value rest : List ℕ) → IsValue text value rest → with_value_at k text ≡ Pair k value rest
+value_complete : (k text value rest : List ℕ) → IsConninfoValue text value rest → with_value_at k text ≡ Pair k value rest
 value_complete k text value rest (quoted {body = body} is w) = rw is (quoted_complete k body value rest w)
 value_complete k text value rest (bare {c = c} {body = body} {rest = more} is hit w (first, some)) = rw first (bare_complete k text body value more c is hit w some)
 value_complete k text value rest (last w (first, some)) = rw first (last_complete k text value w some)
@@ -284,7 +284,7 @@ pub record KeyCut (name text key value rest : List ℕ) : Type 0 where
   pub cut : text ≡ 61 ∷ (third ++ written)
   pub some : 0 < length name
   pub says_key : key ≡ flat_map encode_utf8 name
-  pub says_value : IsValue written value rest
+  pub says_value : IsConninfoValue written value rest
 
 key_sound_by : (name text key value rest : List ℕ) (a b : Bool) → (length name == 0) ≡ a → (slice_index text 0 == 61) ≡ b
     → (if a || not b then Faulty else with_value_at (flat_map encode_utf8 name) (behind_blank (drop 1 text))) ≡ Pair key value rest → KeyCut name text key value rest
@@ -304,7 +304,7 @@ key_sound_by name text key value rest false true empty sign e =
     }
 
 pair_sound_by : (text behind key value rest : List ℕ) (b : Bool) → (first : List ℕ) × IsBlank first × (text ≡ first ++ behind) → (length behind == 0) ≡ b
-    → (if b then Nothing else with_key_at (key_at behind) (behind_blank (behind_key behind))) ≡ Pair key value rest → IsPair text key value rest
+    → (if b then Nothing else with_key_at (key_at behind) (behind_blank (behind_key behind))) ≡ Pair key value rest → IsKeyValuePair text key value rest
 pair_sound_by text behind key value rest true front none e = cc
 pair_sound_by text behind key value rest false front none e =
     let name = key_at behind in
@@ -326,8 +326,8 @@ pair_sound_by text behind key value rest false front none e =
       says_value = c.says_value;
     }
 
-pub pair_sound : (text key value rest : List ℕ) → front_of text ≡ Pair key value rest → IsPair text key value rest
-unfolding front_of
+pub pair_sound : (text key value rest : List ℕ) → conninfo_front text ≡ Pair key value rest → IsKeyValuePair text key value rest
+unfolding conninfo_front
 pair_sound text key value rest e = pair_sound_by text (behind_blank text) key value rest (length (behind_blank text) == 0) (blank_cut text) refl e
 
 -- where nothing is found, nothing but white space is there
@@ -339,9 +339,9 @@ no_nothing_quoted : (k text : List ℕ) (r : List ℕ × Option ℕ) → quoted_
 no_nothing_quoted k text (v, None) e = cc
 no_nothing_quoted k text (v, Some n) e = cc
 
-no_nothing_value : (k text : List ℕ) (b : Bool) → (if b then quoted_by k (drop 1 text) (value_at (ends_value true) false 0 (drop 1 text)) else bare_by k text (value_at (ends_value false) false 0 text)) ≡ Nothing → ⊥
-no_nothing_value k text true e = no_nothing_quoted k (drop 1 text) (value_at (ends_value true) false 0 (drop 1 text)) e
-no_nothing_value k text false e = let r = value_at (ends_value false) false 0 text in no_nothing_bare k text r (length r.0 == 0) e
+no_nothing_value : (k text : List ℕ) (b : Bool) → (if b then quoted_by k (drop 1 text) (conninfo_value (ends_value true) false 0 (drop 1 text)) else bare_by k text (conninfo_value (ends_value false) false 0 text)) ≡ Nothing → ⊥
+no_nothing_value k text true e = no_nothing_quoted k (drop 1 text) (conninfo_value (ends_value true) false 0 (drop 1 text)) e
+no_nothing_value k text false e = let r = conninfo_value (ends_value false) false 0 text in no_nothing_bare k text r (length r.0 == 0) e
 
 no_nothing_key : (name text : List ℕ) (b : Bool) → (if b then Faulty else with_value_at (flat_map encode_utf8 name) (behind_blank (drop 1 text))) ≡ Nothing → ⊥
 no_nothing_key name text true e = cc
@@ -358,13 +358,13 @@ blank_sound_by text behind false front none e =
     let t = behind_blank (behind_key behind) in
     absurd (no_nothing_key (key_at behind) t (length (key_at behind) == 0 || not (slice_index t 0 == 61)) e)
 
-pub blank_sound : (text : List ℕ) → front_of text ≡ Nothing → IsBlank text
-unfolding front_of
+pub blank_sound : (text : List ℕ) → conninfo_front text ≡ Nothing → IsBlank text
+unfolding conninfo_front
 blank_sound text e = blank_sound_by text (behind_blank text) (length (behind_blank text) == 0) (blank_cut text) refl e
 
 -- and the other way round
-pub blank_complete : (text : List ℕ) → IsBlank text → front_of text ≡ Nothing
-unfolding front_of
+pub blank_complete : (text : List ℕ) → IsBlank text → conninfo_front text ≡ Nothing
+unfolding conninfo_front
 blank_complete text all = rw (behind_all_blank text all) refl
 
 key_ends : (second rest : List ℕ) → IsBlank second → (c : ℕ) × (more : List ℕ) × (second ++ 61 ∷ rest ≡ c ∷ more) × (ends_key c ≡ true)
@@ -375,7 +375,7 @@ no_blank : (c : ℕ) (a b : Bool) → is_whitespace c ≡ a → (c == 61) ≡ b 
 no_blank c true b e f h = cc
 no_blank c false b e f h = e
 
-key_head : (name rest : List ℕ) → IsKey name → (c : ℕ) × (more : List ℕ) × (name ++ rest ≡ c ∷ more) × (is_whitespace c ≡ false)
+key_head : (name rest : List ℕ) → IsConninfoKey name → (c : ℕ) × (more : List ℕ) × (name ++ rest ≡ c ∷ more) × (is_whitespace c ≡ false)
 key_head [] rest (some, none) = absurd (omega (arith, some))
 key_head (c ∷ name) rest (some, none) =
     let q = and_parts (not (ends_key c)) (list_all (λ c. not (ends_key c)) name) none in
@@ -385,14 +385,14 @@ key_head (c ∷ name) rest (some, none) =
 behind_blank_at : (blank text : List ℕ) → IsBlank blank → (c : ℕ) × (more : List ℕ) × (text ≡ c ∷ more) × (is_whitespace c ≡ false) → behind_blank (blank ++ text) ≡ text
 behind_blank_at blank text all head = ap (λ (l : List ℕ). behind_blank (blank ++ l)) head.2 ∙ behind_blank_of blank head.0 head.1 all head.3 ∙ sym head.2
 
-key_at_of : (name second rest : List ℕ) → IsKey name → IsBlank second → (key_at (name ++ (second ++ 61 ∷ rest)) ≡ name) × (behind_key (name ++ (second ++ 61 ∷ rest)) ≡ second ++ 61 ∷ rest)
+key_at_of : (name second rest : List ℕ) → IsConninfoKey name → IsBlank second → (key_at (name ++ (second ++ 61 ∷ rest)) ≡ name) × (behind_key (name ++ (second ++ 61 ∷ rest)) ≡ second ++ 61 ∷ rest)
 key_at_of name second rest is_key blank =
     let h = key_ends second rest blank in
     let k = key_of name h.0 h.1 is_key.1 h.3 in
     let same : name ++ (second ++ 61 ∷ rest) ≡ name ++ h.0 ∷ h.1 = ap (λ (l : List ℕ). name ++ l) h.2 in
     (ap key_at same ∙ k.0, ap behind_key same ∙ k.1 ∙ sym h.2)
 
-key_complete : (name third written key value rest : List ℕ) → IsKey name → IsBlank third → IsValue written value rest → key ≡ flat_map encode_utf8 name → with_key_at name (61 ∷ (third ++ written)) ≡ Pair key value rest
+key_complete : (name third written key value rest : List ℕ) → IsConninfoKey name → IsBlank third → IsConninfoValue written value rest → key ≡ flat_map encode_utf8 name → with_key_at name (61 ∷ (third ++ written)) ≡ Pair key value rest
 key_complete name third written key value rest is_key blank v says =
     let some : (length name == 0) ≡ false = grind (arith, nat_tests, is_key.0) in
     rw (some, behind_blank_at third written blank (value_head written value rest v), says) (value_complete (flat_map encode_utf8 name) written value rest v)
@@ -402,8 +402,8 @@ from_key_at text head =
     let some : (length text == 0) ≡ false = grind (arith, nat_tests, ap length head.2) in
     rw some refl
 
-pub pair_complete : (text key value rest : List ℕ) → IsPair text key value rest → front_of text ≡ Pair key value rest
-unfolding front_of
+pub pair_complete : (text key value rest : List ℕ) → IsKeyValuePair text key value rest → conninfo_front text ≡ Pair key value rest
+unfolding conninfo_front
 pair_complete text key value rest p =
     let behind = 61 ∷ (p.third ++ p.written) in
     let all = p.name ++ (p.second ++ behind) in

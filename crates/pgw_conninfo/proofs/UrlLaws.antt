@@ -14,17 +14,17 @@ use Rattle.pgw_conninfo.specs.declared.part.Cut.{Cut}
 use Rattle.pgw_conninfo.specs.declared.part.Part.{Part}
 use Rattle.pgw_conninfo.specs.declared.part.Fault.{Fault}
 use Rattle.pgw_conninfo.specs.declared.part.Fault.TheVariants as fault
-use Rattle.pgw_types.specs.Marks.{before_mark, behind, behind_mark, or_empty, pieces_at}
-use Rattle.pgw_conninfo.specs.Part.{Item, up_to_fault, next_by, next, adds}
+use Rattle.pgw_types.specs.Marks.{before_mark, text_behind_mark, behind_mark, or_empty, pieces_at}
+use Rattle.pgw_conninfo.specs.Part.{Item, up_to_fault, next_by, next_cut, adds}
 use Rattle.pgw_conninfo.specs.UrlReader.{with_pair, AddsPairs, ended, no_pair, paired}
-use Rattle.pgw_conninfo.specs.Url.{text_of, host_in, hosts_in, pair_of, ArePairs, credentials_in, behind_credentials, address_in, IsUrl}
+use Rattle.pgw_conninfo.specs.Url.{url_text, host_in, hosts_in, pair_of, ArePairs, credentials_in, behind_credentials, address_in, IsUrl}
 use Rattle.pgw_conninfo.specs.Url as url
 use Rattle.pgw_conninfo.proofs.KeyValueLaws.{is_empty}
 
 -- ---- text
 
-pub text_is : (written bytes text : List ℕ) → bytes ≡ percent_decode written → text ≡ bytes → IsUtf8 bytes → Ok text ≡ text_of written
-unfolding text_of
+pub text_is : (written bytes text : List ℕ) → bytes ≡ percent_decode written → text ≡ bytes → IsUtf8 bytes → Ok text ≡ url_text written
+unfolding url_text
 text_is written bytes text are is utf8 =
     let yes : is_utf8 (percent_decode written) ≡ true = subst (λ (bs : List ℕ). is_utf8 bs ≡ true) are (is_utf8-from_IsUtf8 bytes utf8) in
     rw (yes, is, are) refl
@@ -33,15 +33,15 @@ no_utf8 : (bytes : List ℕ) (b : Bool) → is_utf8 bytes ≡ b → (IsUtf8 byte
 no_utf8 bytes true e not_so = absurd (not_so (IsUtf8-from_is_utf8 bytes e))
 no_utf8 bytes false e not_so = e
 
-pub bytes_are : (written bytes kept : List ℕ) → bytes ≡ percent_decode written → kept ≡ bytes → (IsUtf8 bytes → ⊥) → Err (fault.NotUtf8 kept) ≡ text_of written
-unfolding text_of
+pub bytes_are : (written bytes kept : List ℕ) → bytes ≡ percent_decode written → kept ≡ bytes → (IsUtf8 bytes → ⊥) → Err (fault.NotUtf8 kept) ≡ url_text written
+unfolding url_text
 bytes_are written bytes kept are is not_so =
     let no : is_utf8 (percent_decode written) ≡ false = subst (λ (bs : List ℕ). is_utf8 bs ≡ false) are (no_utf8 bytes (is_utf8 bytes) refl not_so) in
     rw (no, is, are) refl
 
 -- ---- marks
 
-behind_place : (p : ℕ → Bool) (text t : List ℕ) (o : Option ℕ) → position p text ≡ o → behind o text ≡ Some t → length t < length text
+behind_place : (p : ℕ → Bool) (text t : List ℕ) (o : Option ℕ) → position p text ≡ o → text_behind_mark o text ≡ Some t → length t < length text
 behind_place p text t None e is = cc
 behind_place p text t (Some i) e is =
     let inside = (position-Some p text i 0 e).0 in
@@ -62,9 +62,9 @@ behind_is_no_more mark text = or_empty_by text (behind_mark mark text) (behind_i
 
 -- ---- pairs
 
-pub no_more_pairs : (start cut : Cut) (text rest : List ℕ) (r : Result Cut OutOfMemory) → (length rest == 0) ≡ false → behind_mark 61 rest ≡ None → IfOk r (λ x. x ≡ next cut (Err fault.Syntax))
+pub no_more_pairs : (start cut : Cut) (text rest : List ℕ) (r : Result Cut OutOfMemory) → (length rest == 0) ≡ false → behind_mark 61 rest ≡ None → IfOk r (λ x. x ≡ next_cut cut (Err fault.Syntax))
     → ((whole : Cut) → AddsPairs cut rest whole → AddsPairs start text whole) → IfOk r (AddsPairs start text)
-no_more_pairs start cut text rest (Ok x) some none is so_far = subst (λ (w : Cut). AddsPairs start text w) (sym is) (so_far (next cut (Err fault.Syntax)) (no_pair (grind (arith, nat_tests, some)) none))
+no_more_pairs start cut text rest (Ok x) some none is so_far = subst (λ (w : Cut). AddsPairs start text w) (sym is) (so_far (next_cut cut (Err fault.Syntax)) (no_pair (grind (arith, nat_tests, some)) none))
 no_more_pairs start cut text rest (Err e) some none is so_far = tt
 
 pub pairs_end : (start cut : Cut) (text rest : List ℕ) → (length rest == 0) ≡ true → ((whole : Cut) → AddsPairs cut rest whole → AddsPairs start text whole) → AddsPairs start text cut
@@ -104,7 +104,7 @@ same_cut text one two u v =
 
 pub adds_append : (cut : Cut) (first others : List Item) → adds cut (first ++ others) ≡ adds (adds cut first) others
 adds_append cut [] others = refl
-adds_append cut (item ∷ first) others = adds_append (next cut item) first others
+adds_append cut (item ∷ first) others = adds_append (next_cut cut item) first others
 
 -- hosts that are added one after the other
 hosts_added : (cut : Cut) (texts : List (List ℕ)) → adds cut (flat_map host_in texts) ≡ fold (λ c text. adds c (host_in text)) cut texts
@@ -139,7 +139,7 @@ pairs_added cut whole text ended = ([], url.ended, refl)
 pairs_added cut whole text (no_pair some none) = (Err fault.Syntax ∷ [], url.no_pair some none, refl)
 pairs_added cut whole text (paired {written = w} is more) =
     let rest = pairs_added (with_pair cut (before_mark 61 text) (before_mark 38 w)) whole (or_empty (behind_mark 38 w)) more in
-    (pair_of (text_of (before_mark 61 text)) (text_of (before_mark 38 w)) ∷ rest.0, url.paired is rest.1, rest.2)
+    (pair_of (url_text (before_mark 61 text)) (url_text (before_mark 38 w)) ∷ rest.0, url.paired is rest.1, rest.2)
 
 -- what is read is the URL's cut
 is_url : (text : List ℕ) (first second whole : Cut) → first ≡ adds (up_to_fault []) (credentials_in text) → second ≡ adds first (address_in (before_mark 63 (behind_credentials text)))

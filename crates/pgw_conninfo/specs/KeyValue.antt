@@ -16,36 +16,36 @@ abbrev pub ends_key : ℕ → Bool
 ends_key c = is_whitespace c || c == 61
 
 -- a key has one or more characters, and none of them ends it
-abbrev pub IsKey : List ℕ → Type 0
-IsKey key = (0 < length key) × (list_all (λ c. not (ends_key c)) key ≡ true)
+abbrev pub IsConninfoKey : List ℕ → Type 0
+IsConninfoKey key = (0 < length key) × (list_all (λ c. not (ends_key c)) key ≡ true)
 
 -- what ends a value: a quote where it stands in quotes, and else white space
 abbrev pub ends_value : Bool → ℕ → Bool
 ends_value quoted c = if quoted then c == 39 else is_whitespace c
 
 -- characters that write a value: each stands for itself, and one that a backslash escapes for itself whatever it is
-pub data Writes : (ℕ → Bool) → List ℕ → List ℕ → Type 0 where
-  nothing : {ends : ℕ → Bool} → Writes ends [] []
-  itself : {ends : ℕ → Bool} {c : ℕ} {cs value : List ℕ} → (c == 92) ≡ false → ends c ≡ false → Writes ends cs value → Writes ends (c ∷ cs) (encode_utf8 c ++ value)
-  escaped : {ends : ℕ → Bool} {c : ℕ} {cs value : List ℕ} → Writes ends cs value → Writes ends (92 ∷ c ∷ cs) (encode_utf8 c ++ value)
+pub data WritesKeyValue : (ℕ → Bool) → List ℕ → List ℕ → Type 0 where
+  nothing : {ends : ℕ → Bool} → WritesKeyValue ends [] []
+  itself : {ends : ℕ → Bool} {c : ℕ} {cs value : List ℕ} → (c == 92) ≡ false → ends c ≡ false → WritesKeyValue ends cs value → WritesKeyValue ends (c ∷ cs) (encode_utf8 c ++ value)
+  escaped : {ends : ℕ → Bool} {c : ℕ} {cs value : List ℕ} → WritesKeyValue ends cs value → WritesKeyValue ends (92 ∷ c ∷ cs) (encode_utf8 c ++ value)
 
 -- a value without quotes is not empty, and no quote begins it
-abbrev pub IsBare : List ℕ → List ℕ → Type 0
-IsBare text value = ((slice_index text 0 == 39) ≡ false) × ((length value == 0) ≡ false)
+abbrev pub IsBareValue : List ℕ → List ℕ → Type 0
+IsBareValue text value = ((slice_index text 0 == 39) ≡ false) × ((length value == 0) ≡ false)
 
 -- a text is what writes this value, and what stands behind it
-pub data IsValue : List ℕ → List ℕ → List ℕ → Type 0 where
+pub data IsConninfoValue : List ℕ → List ℕ → List ℕ → Type 0 where
   -- in quotes
-  quoted : {text body value rest : List ℕ} → text ≡ 39 ∷ body ++ 39 ∷ rest → Writes (ends_value true) body value → IsValue text value rest
+  quoted : {text body value rest : List ℕ} → text ≡ 39 ∷ body ++ 39 ∷ rest → WritesKeyValue (ends_value true) body value → IsConninfoValue text value rest
   -- up to white space
-  bare : {c : ℕ} {text body value rest : List ℕ} → text ≡ body ++ c ∷ rest → is_whitespace c ≡ true → Writes (ends_value false) body value → IsBare text value → IsValue text value (c ∷ rest)
+  bare : {c : ℕ} {text body value rest : List ℕ} → text ≡ body ++ c ∷ rest → is_whitespace c ≡ true → WritesKeyValue (ends_value false) body value → IsBareValue text value → IsConninfoValue text value (c ∷ rest)
   -- up to the end,
-  last : {text value : List ℕ} → Writes (ends_value false) text value → IsBare text value → IsValue text value []
+  last : {text value : List ℕ} → WritesKeyValue (ends_value false) text value → IsBareValue text value → IsConninfoValue text value []
   -- where a backslash stands for nothing
-  stopped : {text body value : List ℕ} → text ≡ body ++ 92 ∷ [] → Writes (ends_value false) body value → IsBare text value → IsValue text value []
+  stopped : {text body value : List ℕ} → text ≡ body ++ 92 ∷ [] → WritesKeyValue (ends_value false) body value → IsBareValue text value → IsConninfoValue text value []
 
 -- a text is white space, a key, white space, an equals sign, white space, a value, and what stands behind it
-pub record IsPair (text key value rest : List ℕ) : Type 0 where
+pub record IsKeyValuePair (text key value rest : List ℕ) : Type 0 where
   pub first : List ℕ
   pub name : List ℕ
   pub second : List ℕ
@@ -55,12 +55,12 @@ pub record IsPair (text key value rest : List ℕ) : Type 0 where
   pub first_blank : IsBlank first
   pub second_blank : IsBlank second
   pub third_blank : IsBlank third
-  pub is_key : IsKey name
+  pub is_key : IsConninfoKey name
   pub says_key : key ≡ flat_map encode_utf8 name
-  pub says_value : IsValue written value rest
+  pub says_value : IsConninfoValue written value rest
 
 -- a text is cut into these pairs, up to white space at its end, or up to where no pair begins
 pub data IsCut : List ℕ → List Part → Option Fault → Type 0 where
   ended : {text : List ℕ} → IsBlank text → IsCut text [] None
-  no_pair : {text : List ℕ} → (IsBlank text → ⊥) → ((key value rest : List ℕ) → IsPair text key value rest → ⊥) → IsCut text [] (Some fault.Syntax)
-  paired : {text key value rest : List ℕ} {parts : List Part} {e : Option Fault} → IsPair text key value rest → IsCut rest parts e → IsCut text (part.Pair key value ∷ parts) e
+  no_pair : {text : List ℕ} → (IsBlank text → ⊥) → ((key value rest : List ℕ) → IsKeyValuePair text key value rest → ⊥) → IsCut text [] (Some fault.Syntax)
+  paired : {text key value rest : List ℕ} {parts : List Part} {e : Option Fault} → IsKeyValuePair text key value rest → IsCut rest parts e → IsCut text (part.Pair key value ∷ parts) e

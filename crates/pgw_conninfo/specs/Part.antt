@@ -22,10 +22,10 @@ next_by None cut (Err fault) = record cut { fault = Some fault }
 next_by (Some fault) cut item = cut
 
 -- the parts with one more behind them, or up to a fault; the first fault ends them
-abbrev pub next : Cut → Item → Cut
-next cut item = next_by cut.fault cut item
+abbrev pub next_cut : Cut → Item → Cut
+next_cut cut item = next_by cut.fault cut item
 
 -- with these behind them, one after the other
 abbrev pub adds : Cut → List Item → Cut
 adds cut [] = cut
-adds cut (item ∷ items) = adds (next cut item) items
+adds cut (item ∷ items) = adds (next_cut cut item) items

@@ -1,9 +1,9 @@
 -- What the reader tells of the front of a text.
 use Rattle.pgw_conninfo.specs.declared.key_value.Front as declared
 use Rattle.pgw_conninfo.specs.declared.key_value.Front.TheVariants as front
-use Rattle.pgw_conninfo.specs.Reader.{Front, Nothing, Faulty, Pair}
+use Rattle.pgw_conninfo.specs.Reader.{PairFront, Nothing, Faulty, Pair}
 
-abbrev pub shown : declared.Front → Front
-shown front.Nothing = Nothing
-shown front.Faulty = Faulty
-shown (front.Pair key value rest) = Pair key value rest.now
+abbrev pub pair_front : declared.Front → PairFront
+pair_front front.Nothing = Nothing
+pair_front front.Faulty = Faulty
+pair_front (front.Pair key value rest) = Pair key value rest.now

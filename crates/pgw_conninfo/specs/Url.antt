@@ -19,13 +19,13 @@ abbrev pub text_or_bytes : List ℕ → Result (List ℕ) Fault
 text_or_bytes bytes = if is_utf8 bytes then Ok bytes else Err (fault.NotUtf8 bytes)
 
 -- the text that one with escapes stands for
-unfoldable pub text_of : List ℕ → Result (List ℕ) Fault
-text_of written = text_or_bytes (percent_decode written)
+unfoldable pub url_text : List ℕ → Result (List ℕ) Fault
+url_text written = text_or_bytes (percent_decode written)
 
 -- the part that a text makes
-abbrev pub made : (List ℕ → Part) → Result (List ℕ) Fault → Item
-made make (Ok text) = Ok (make text)
-made make (Err e) = Err e
+abbrev pub url_part : (List ℕ → Part) → Result (List ℕ) Fault → Item
+url_part make (Ok text) = Ok (make text)
+url_part make (Err e) = Err e
 
 -- ---- credentials: the user and, behind the first colon, a password in any bytes
 
@@ -34,7 +34,7 @@ password_in None = []
 password_in (Some written) = Ok (part.Password (percent_decode written)) ∷ []
 
 abbrev pub login_in : List ℕ → List Item
-login_in text = made (part.Pair (codes "user")) (text_of (before_mark 58 text)) ∷ password_in (behind_mark 58 text)
+login_in text = url_part (part.Pair (codes "user")) (url_text (before_mark 58 text)) ∷ password_in (behind_mark 58 text)
 
 -- they stand before the first at sign
 abbrev pub credentials_by : Option (List ℕ) → List ℕ → List Item
@@ -55,7 +55,7 @@ behind_credentials text = all_or (behind_mark 64 text) text
 
 -- a host and its port; an empty port is the usual one
 abbrev pub host_and_port : List ℕ → List ℕ → List Item
-host_and_port host port = made part.Host (text_of host) ∷ made (part.Pair (codes "port")) (text_of port) ∷ []
+host_and_port host port = url_part part.Host (url_text host) ∷ url_part (part.Pair (codes "port")) (url_text port) ∷ []
 
 -- behind a bracket that closes a host: nothing, or a colon and a port
 abbrev pub closed_host : List ℕ → Option (List ℕ) → List Item
@@ -63,7 +63,7 @@ closed_host host None = Err fault.Host ∷ []
 closed_host host (Some after) =
     if length after == 0 then host_and_port host []
     else if slice_index after 0 == 58 then host_and_port host (drop 1 after)
-    else made part.Host (text_of host) ∷ Err fault.Host ∷ []
+    else url_part part.Host (url_text host) ∷ Err fault.Host ∷ []
 
 -- a host in brackets, or one up to the first colon, and its port
 abbrev pub host_in : List ℕ → List Item
@@ -78,7 +78,7 @@ hosts_in text = if length text == 0 then [] else flat_map host_in (pieces_at 44 
 -- ---- the database, behind the hosts and a slash
 
 abbrev pub database_in : List ℕ → List Item
-database_in text = if length text == 0 then [] else made (part.Pair (codes "dbname")) (text_of text) ∷ []
+database_in text = if length text == 0 then [] else url_part (part.Pair (codes "dbname")) (url_text text) ∷ []
 
 abbrev pub address_in : List ℕ → List Item
 address_in text = hosts_in (before_mark 47 text) ++ database_in (or_empty (behind_mark 47 text))
@@ -96,7 +96,7 @@ pub data ArePairs : List ℕ → List Item → Type 0 where
   ended : ArePairs [] []
   no_pair : {text : List ℕ} → 0 < length text → behind_mark 61 text ≡ None → ArePairs text (Err fault.Syntax ∷ [])
   paired : {text written : List ℕ} {pairs : List Item} → behind_mark 61 text ≡ Some written → ArePairs (or_empty (behind_mark 38 written)) pairs
-      → ArePairs text (pair_of (text_of (before_mark 61 text)) (text_of (before_mark 38 written)) ∷ pairs)
+      → ArePairs text (pair_of (url_text (before_mark 61 text)) (url_text (before_mark 38 written)) ∷ pairs)
 
 -- ---- the whole
 

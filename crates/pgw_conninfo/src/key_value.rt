@@ -4,8 +4,8 @@ ghost use Rattle.std.specs.List.{position, flat_map};
 ghost use Rattle.std.specs.Char.{is_whitespace, encode_utf8};
 ghost use Rattle.std.specs.Str.{chars};
 ghost use Rattle.pgw_conninfo.specs.KeyValue.{ends_key, ends_value, IsCut};
-ghost use Rattle.pgw_conninfo.specs.Reader.{behind_blank, key_at, behind_key, value_at, quoted_by, bare_by, with_value_at, with_key_at, front_of};
-ghost use Rattle.pgw_conninfo.specs.Shown.{shown};
+ghost use Rattle.pgw_conninfo.specs.Reader.{behind_blank, key_at, behind_key, conninfo_value, quoted_by, bare_by, with_value_at, with_key_at, conninfo_front};
+ghost use Rattle.pgw_conninfo.specs.Shown.{pair_front};
 
 use crate::part::{Cut, Fault, Part};
 use pgw_types::listed::Listed;
@@ -96,10 +96,10 @@ fn value_up_to(text: String, end: Option<usize>) -> Value
 }
 
 /// What a value stands for, and how many characters of it there are before the one that ends it.
-#[tactic(auto, unfolding(crate::specs::Reader::value_at))]
+#[tactic(auto, unfolding(crate::specs::Reader::conninfo_value))]
 fn read_value(alloc: Global, text: &[char], quoted: bool) -> Result<Value, OutOfMemory>
     ensures value { IfOk result (λ v. (v.text, v.end)
-        ≡ value_at (ends_value quoted) false 0 text.now) }
+        ≡ conninfo_value (ends_value quoted) false 0 text.now) }
     ensures bound { IfOk result (λ v. IfSome v.end (λ at. at < length text.now)) }
 {
     let mut value = String::new(alloc);
@@ -139,8 +139,8 @@ enum Front<'a> {
 
 // The value behind the quote that opens it.
 fn read_quoted<'a>(alloc: Global, key: Text, text: &'a [char]) -> Result<Front<'a>, OutOfMemory>
-    ensures { IfOk result (λ f. shown f ≡ quoted_by key text.now
-        (value_at (ends_value true) false 0 text.now)) }
+    ensures { IfOk result (λ f. pair_front f ≡ quoted_by key text.now
+        (conninfo_value (ends_value true) false 0 text.now)) }
 {
     let value = read_value(alloc, text, true)?;
     match value.end {
@@ -150,8 +150,8 @@ fn read_quoted<'a>(alloc: Global, key: Text, text: &'a [char]) -> Result<Front<'
 }
 
 fn read_bare<'a>(alloc: Global, key: Text, text: &'a [char]) -> Result<Front<'a>, OutOfMemory>
-    ensures { IfOk result (λ f. shown f ≡ bare_by key text.now
-        (value_at (ends_value false) false 0 text.now)) }
+    ensures { IfOk result (λ f. pair_front f ≡ bare_by key text.now
+        (conninfo_value (ends_value false) false 0 text.now)) }
 {
     let value = read_value(alloc, text, false)?;
     if value.text.is_empty() {
@@ -165,7 +165,7 @@ fn read_bare<'a>(alloc: Global, key: Text, text: &'a [char]) -> Result<Front<'a>
 
 // What stands behind the equals sign and white space.
 fn read_behind_key<'a>(alloc: Global, key: Text, text: &'a [char]) -> Result<Front<'a>, OutOfMemory>
-    ensures { IfOk result (λ f. shown f ≡ with_value_at key text.now) }
+    ensures { IfOk result (λ f. pair_front f ≡ with_value_at key text.now) }
 {
     match text {
         ['\'', inner @ ..] => read_quoted(alloc, key, inner),
@@ -174,7 +174,7 @@ fn read_behind_key<'a>(alloc: Global, key: Text, text: &'a [char]) -> Result<Fro
 }
 
 fn read_from_key(alloc: Global, text: &[char]) -> Result<Front<'_>, OutOfMemory>
-    ensures { IfOk result (λ f. shown f ≡ with_key_at (key_at text.now)
+    ensures { IfOk result (λ f. pair_front f ≡ with_key_at (key_at text.now)
         (behind_blank (behind_key text.now))) }
 {
     let (key, behind) = cut_key(text);
@@ -186,9 +186,9 @@ fn read_from_key(alloc: Global, text: &[char]) -> Result<Front<'_>, OutOfMemory>
     }
 }
 
-#[tactic(auto, unfolding(crate::specs::Reader::front_of))]
+#[tactic(auto, unfolding(crate::specs::Reader::conninfo_front))]
 fn read_front(alloc: Global, text: &[char]) -> Result<Front<'_>, OutOfMemory>
-    ensures { IfOk result (λ f. shown f ≡ front_of text.now) }
+    ensures { IfOk result (λ f. pair_front f ≡ conninfo_front text.now) }
 {
     let text = skip_blank(text);
     if text.is_empty() {

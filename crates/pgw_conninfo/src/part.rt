@@ -1,6 +1,6 @@
 //! The parts of a connection text.
 ghost use Rattle.std.specs.Prelude.{◌≡◌, [], IfOk};
-ghost use Rattle.pgw_conninfo.specs.Part.{up_to_fault, next};
+ghost use Rattle.pgw_conninfo.specs.Part.{up_to_fault, next_cut};
 
 use pgw_types::listed::Listed;
 use pgw_types::memory::OutOfMemory;
@@ -49,7 +49,7 @@ impl Cut {
 
     /// Goes on with a part, or ends at a fault. Behind a fault nothing is added.
     pub(crate) fn next(mut self, part: Result<Part, Fault>) -> Result<Cut, OutOfMemory>
-        ensures { IfOk result (λ cut. cut ≡ next self part) }
+        ensures { IfOk result (λ cut. cut ≡ next_cut self part) }
     {
         if self.fault.is_some() {
             return Ok(self);

@@ -3,9 +3,9 @@ ghost use Rattle.std.specs.Prelude.{◌≡◌, [], codes, IfOk};
 ghost use Rattle.std.specs.Option.{option_copied};
 ghost use Rattle.pgw_conninfo.specs.declared.part.Part.TheVariants as kind;
 ghost use Rattle.pgw_types.specs.Marks.{or_empty as empty_or};
-ghost use Rattle.pgw_conninfo.specs.Part.{up_to_fault, next, adds};
+ghost use Rattle.pgw_conninfo.specs.Part.{up_to_fault, next_cut, adds};
 ghost use Rattle.pgw_conninfo.specs.UrlReader.{AddsPairs};
-ghost use Rattle.pgw_conninfo.specs.Url.{text_of, made, password_in, login_in, credentials_in, behind_credentials, host_and_port, closed_host, host_in, hosts_in, database_in, address_in, pair_of, IsUrl};
+ghost use Rattle.pgw_conninfo.specs.Url.{url_text, url_part, password_in, login_in, credentials_in, behind_credentials, host_and_port, closed_host, host_in, hosts_in, database_in, address_in, pair_of, IsUrl};
 
 use crate::part::{Cut, Fault, Part};
 use percent_encoding::percent_decode;
@@ -23,9 +23,9 @@ fn or_empty(text: Option<&[u8]>) -> &[u8]
 }
 
 /// The text that one with escapes stands for, or the fault.
-#[tactic(auto, unfolding(crate::specs::Url::text_of))]
+#[tactic(auto, unfolding(crate::specs::Url::url_text))]
 fn read_text(alloc: Global, written: &[u8]) -> Result<Result<Text, Fault>, OutOfMemory>
-    ensures { IfOk result (λ r. r ≡ text_of written.now) }
+    ensures { IfOk result (λ r. r ≡ url_text written.now) }
 {
     let mut bytes = Vec::new(alloc);
     percent_decode(written).append_to(&mut bytes)?;
@@ -37,7 +37,7 @@ fn read_text(alloc: Global, written: &[u8]) -> Result<Result<Text, Fault>, OutOf
 
 /// Adds a pair of this key and what the text stands for.
 fn add_value(alloc: Global, cut: Cut, key: &str, written: &[u8]) -> Result<Cut, OutOfMemory>
-    ensures { IfOk result (λ r. r ≡ next cut (made (kind.Pair key.now) (text_of written.now))) }
+    ensures { IfOk result (λ r. r ≡ next_cut cut (url_part (kind.Pair key.now) (url_text written.now))) }
 {
     let key = Text::from_str(alloc, key)?;
     match read_text(alloc, written)? {
@@ -78,7 +78,7 @@ fn read_login(alloc: Global, text: &[u8]) -> Result<(Cut, &[u8]), OutOfMemory>
 }
 
 fn add_name(alloc: Global, cut: Cut, host: &[u8]) -> Result<Cut, OutOfMemory>
-    ensures { IfOk result (λ r. r ≡ next cut (made kind.Host (text_of host.now))) }
+    ensures { IfOk result (λ r. r ≡ next_cut cut (url_part kind.Host (url_text host.now))) }
 {
     match read_text(alloc, host)? {
         Ok(host) => cut.next(Ok(Part::Host(host))),
@@ -173,7 +173,7 @@ fn pair(key: Result<Text, Fault>, value: Result<Text, Fault>) -> Result<Part, Fa
 }
 
 fn add_pair(alloc: Global, cut: Cut, key: &[u8], value: &[u8]) -> Result<Cut, OutOfMemory>
-    ensures { IfOk result (λ r. r ≡ next cut (pair_of (text_of key.now) (text_of value.now))) }
+    ensures { IfOk result (λ r. r ≡ next_cut cut (pair_of (url_text key.now) (url_text value.now))) }
 {
     let key = read_text(alloc, key)?;
     let value = read_text(alloc, value)?;

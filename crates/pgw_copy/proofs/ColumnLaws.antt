@@ -3,13 +3,13 @@ use Rattle.std.proofs.Common.{◌≡◌, ℕ, ℤ, pos, ◌<◌, ◌^◌, List, 
 use Rattle.std.specs.Int.{w8, w16}
 use Rattle.pgw_types.specs.declared.error.PgWireError.{PgWireError}
 use Rattle.pgw_wire.specs.Reading.{◌>>=◌, int_at, list_at, extended_count}
-use Rattle.pgw_wire.specs.Formats.{counted_at, SpellsInt, SpellsCounted, Reads}
+use Rattle.pgw_wire.specs.Formats.{counted_at, SpellsInt, SpellsCounted, ReadsFormat}
 use Rattle.pgw_wire.proofs.Laws.{bind_ok, ok_is, shorter_after}
 use Rattle.pgw_wire.proofs.FieldLaws.{int_reads}
 use Rattle.pgw_wire.proofs.FrameLaws.{counted_reads, count16}
 use Rattle.pgw_copy.specs.Rows.{columns_at, SpellsColumns}
 
-codes_reads : Reads (counted_at w16 2 (int_at w16)) (SpellsCounted w16 (SpellsInt w16))
+codes_reads : ReadsFormat (counted_at w16 2 (int_at w16)) (SpellsCounted w16 (SpellsInt w16))
 codes_reads = counted_reads w16 count16 (int_at w16) (SpellsInt w16) 2 (lit< tt) (λ x f h. omega (arith, h.0)) (int_reads w16)
 
 -- what follows the format
@@ -52,5 +52,5 @@ columns_again p front rest h =
     ∙ ap (λ (x : Result (List ℤ × List ℕ) PgWireError). x >>= λ codes. Ok ((p.0, pos (length p.2), codes.0), codes.1)) three
     ∙ last
 
-pub columns_reads : Reads columns_at SpellsColumns
+pub columns_reads : ReadsFormat columns_at SpellsColumns
 columns_reads = record { found = columns_found; only = columns_again }

@@ -2,7 +2,7 @@
 use Rattle.std.proofs.Common.{◌≡◌, ℕ, List, [], ◌∷◌, ◌++◌, length, take, drop, refl, sym, ◌∙◌, ap, arith, append_assoc, length-append}
 use Rattle.std.proofs.lemmas.List.{take-append-drop, length-take-le, append-nil, nil_from_length}
 use Rattle.std.proofs.lemmas.List.Sums.{fold-append}
-use Rattle.pgw_course.specs.Course.{Front, More, Bad, Whole, IsReading, Move, On, Ends, Course, Waits, Over, Rules, IsSteady, onto, eat, feed, run, sent_of, WantsMore, seen, moved, IsView}
+use Rattle.pgw_course.specs.Course.{Front, More, Bad, Whole, IsReading, Move, On, Ends, Course, Waits, Over, Rules, IsSteady, onto, eat, feed, run, sent_of, WantsMore, map_course, map_move, IsView}
 
 pub run_append : {S R M E : Type 0} (rules : Rules S R M E) (c : Course S R) (xs ys : List ℕ) → run rules c (xs ++ ys) ≡ run rules (run rules c xs) ys
 unfolding run
@@ -171,23 +171,23 @@ sent_grows rules c (b ∷ bytes) =
 
 -- ---- one machine seen as another
 
-pub onto_seen : {S T Q R : Type 0} (f : S → T) (g : Q → R) (sent : List ℕ) (move : Move S Q) → onto sent (moved f g move) ≡ seen f g (onto sent move)
+pub onto_seen : {S T Q R : Type 0} (f : S → T) (g : Q → R) (sent : List ℕ) (move : Move S Q) → onto sent (map_move f g move) ≡ map_course f g (onto sent move)
 onto_seen f g sent (On state out) = refl
 onto_seen f g sent (Ends ending out) = refl
 
-eat_seen : {S T Q R M E : Type 0} (f : S → T) (g : Q → R) (first : Rules S Q M E) (second : Rules T R M E) (v : IsView f g first second) (state : S) (sent pending : List ℕ) (x : Front M E) → eat second (f state) sent pending x ≡ seen f g (eat first state sent pending x)
+eat_seen : {S T Q R M E : Type 0} (f : S → T) (g : Q → R) (first : Rules S Q M E) (second : Rules T R M E) (v : IsView f g first second) (state : S) (sent pending : List ℕ) (x : Front M E) → eat second (f state) sent pending x ≡ map_course f g (eat first state sent pending x)
 eat_seen f g first second v state sent pending More = refl
 eat_seen f g first second v state sent pending (Bad why) = ap (λ r. Over r sent) (v.bad state why)
 eat_seen f g first second v state sent pending (Whole m len) = ap (onto sent) (v.step state m) ∙ onto_seen f g sent (first.step state m)
 
-feed_seen : {S T Q R M E : Type 0} (f : S → T) (g : Q → R) (first : Rules S Q M E) (second : Rules T R M E) (v : IsView f g first second) (c : Course S Q) (byte : ℕ) → feed second (seen f g c) byte ≡ seen f g (feed first c byte)
+feed_seen : {S T Q R M E : Type 0} (f : S → T) (g : Q → R) (first : Rules S Q M E) (second : Rules T R M E) (v : IsView f g first second) (c : Course S Q) (byte : ℕ) → feed second (map_course f g c) byte ≡ map_course f g (feed first c byte)
 feed_seen f g first second v (Waits state sent pending) byte =
     ap (eat second (f state) sent (pending ++ byte ∷ [])) (v.read state (pending ++ byte ∷ []))
     ∙ eat_seen f g first second v state sent (pending ++ byte ∷ []) (first.read state (pending ++ byte ∷ []))
 feed_seen f g first second v (Over ending sent) byte = refl
 
 -- a machine that is a view of another runs alike
-pub run_seen : {S T Q R M E : Type 0} (f : S → T) (g : Q → R) (first : Rules S Q M E) (second : Rules T R M E) (v : IsView f g first second) (c : Course S Q) (bytes : List ℕ) → run second (seen f g c) bytes ≡ seen f g (run first c bytes)
+pub run_seen : {S T Q R M E : Type 0} (f : S → T) (g : Q → R) (first : Rules S Q M E) (second : Rules T R M E) (v : IsView f g first second) (c : Course S Q) (bytes : List ℕ) → run second (map_course f g c) bytes ≡ map_course f g (run first c bytes)
 unfolding run
 run_seen f g first second v c [] = refl
 run_seen f g first second v c (byte ∷ bytes) = ap (λ d. run second d bytes) (feed_seen f g first second v c byte) ∙ run_seen f g first second v (feed first c byte) bytes

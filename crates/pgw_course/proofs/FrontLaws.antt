@@ -4,7 +4,7 @@ use Rattle.std.proofs.lemmas.List.{append-nil, take-append-le, take-append-drop,
 use Rattle.std.proofs.Math.Seq.{take-append-add}
 use Rattle.std.proofs.lemmas.Bool.{cases_lt}
 use Rattle.pgw_course.specs.Course.{Front, More, Bad, Whole, IsReading, Move, On, Ends, Course, Waits, Over, Rules, IsSteady, onto, eat, feed, run}
-use Rattle.pgw_course.specs.Play.{Play, ReadsSteadily, Leads, waits, stops, breaks, ends, goes, behind, play_of}
+use Rattle.pgw_course.specs.Play.{Play, ReadsSteadily, Leads, waits, stops, breaks, ends, goes, course_behind, play_of}
 use Rattle.pgw_course.proofs.CourseLaws.{known, is_more, is_bad, is_whole, read_more}
 use Rattle.pgw_course.proofs.PlayLaws.{leads_run}
 use Rattle.pgw_course.specs.Fronts.{IsReadAs, Deed, deed, deeds_in, TakesFront, awaits, breaks_off, ends_by, goes_by}
@@ -117,8 +117,8 @@ module _ {S R M E : Type 0} (play : Play S R M E) where
             let step' : play.Steps s m (On next out) = subst (λ x. play.Steps s x (On next out)) same.0 step in
             let on' : Leads play next (take (count - length g) rest) c = subst (λ (l : List ℕ). Leads play next l c) left on in
             let deeds = deeds_same next c (drop len bs) (take (count - length g) rest) left on in
-            subst (λ (d : Deed play). TakesFront play s g m count rest (behind out c) (d ∷ deeds_in play next (drop len bs) c on)) (sym (deed_same s (On next out) n m same.0 step))
-            (subst (λ (l : List (Deed play)). TakesFront play s g m count rest (behind out c) (deed play s m (On next out) step' ∷ l)) (sym deeds) (goes_by next out c h.0 step' on'))
+            subst (λ (d : Deed play). TakesFront play s g m count rest (course_behind out c) (d ∷ deeds_in play next (drop len bs) c on)) (sym (deed_same s (On next out) n m same.0 step))
+            (subst (λ (l : List (Deed play)). TakesFront play s g m count rest (course_behind out c) (deed play s m (On next out) step' ∷ l)) (sym deeds) (goes_by next out c h.0 step' on'))
       ]
 
   pub front_taken : (steady : ReadsSteadily play) (s : S) (g : List ℕ) (m : M) (count : ℕ) (rest : List ℕ) (course : Course S R) → IsReadAs (play.read s) g m → (leads : Leads play s (take count (g ++ rest)) course) → TakesFront play s g m count rest course (deeds_in play s (take count (g ++ rest)) course leads)
@@ -130,7 +130,7 @@ has_byte : {M E : Type 0} (read : List ℕ → Front M E) (bytes : List ℕ) (m 
 has_byte read bytes m zero is e = absurd (no_whole (read []) m zero is.none (is.whole bytes [] m zero e))
 has_byte read bytes m (suc len) is e = omega arith
 
-onto_behind : {S R : Type 0} (out : List ℕ) (move : Move S R) → onto (out ++ []) move ≡ behind out (onto [] move)
+onto_behind : {S R : Type 0} (out : List ℕ) (move : Move S R) → onto (out ++ []) move ≡ course_behind out (onto [] move)
 onto_behind out (On state o) = ap (λ (l : List ℕ). Waits state (l ++ o) []) (append-nil out)
 onto_behind out (Ends ending o) = ap (λ (l : List ℕ). Over ending (l ++ o)) (append-nil out)
 
@@ -143,7 +143,7 @@ module _ {S R M E : Type 0} (rules : Rules S R M E) (steady : IsSteady rules) wh
   by_move fuel on s bytes short m len k (On next out) is =
       let byte = has_byte (rules.read s) bytes m len (steady s) k in
       let rest = on next (drop len bytes) (omega (arith, byte, short, length-drop len bytes)) in
-      (behind out rest.0, goes s next bytes m len out rest.0 k is rest.1)
+      (course_behind out rest.0, goes s next bytes m len out rest.0 k is rest.1)
 
   led : (fuel : ℕ) (s : S) (bytes : List ℕ) → length bytes ≤ fuel → Led s bytes
   led zero s bytes short =
@@ -163,20 +163,20 @@ module _ {S R M E : Type 0} (rules : Rules S R M E) (steady : IsSteady rules) wh
 
 -- ---- bytes put out before
 
-onto_after : {S R : Type 0} (out sent : List ℕ) (move : Move S R) → onto (out ++ sent) move ≡ behind out (onto sent move)
+onto_after : {S R : Type 0} (out sent : List ℕ) (move : Move S R) → onto (out ++ sent) move ≡ course_behind out (onto sent move)
 onto_after out sent (On state o) = ap (λ (l : List ℕ). Waits state l []) (append_assoc out sent o)
 onto_after out sent (Ends ending o) = ap (λ (l : List ℕ). Over ending l) (append_assoc out sent o)
 
-eat_behind : {S R M E : Type 0} (rules : Rules S R M E) (out : List ℕ) (state : S) (sent pending : List ℕ) (f : Front M E) → eat rules state (out ++ sent) pending f ≡ behind out (eat rules state sent pending f)
+eat_behind : {S R M E : Type 0} (rules : Rules S R M E) (out : List ℕ) (state : S) (sent pending : List ℕ) (f : Front M E) → eat rules state (out ++ sent) pending f ≡ course_behind out (eat rules state sent pending f)
 eat_behind rules out state sent pending More = refl
 eat_behind rules out state sent pending (Bad why) = refl
 eat_behind rules out state sent pending (Whole m n) = onto_after out sent (rules.step state m)
 
-feed_behind : {S R M E : Type 0} (rules : Rules S R M E) (out : List ℕ) (c : Course S R) (byte : ℕ) → feed rules (behind out c) byte ≡ behind out (feed rules c byte)
+feed_behind : {S R M E : Type 0} (rules : Rules S R M E) (out : List ℕ) (c : Course S R) (byte : ℕ) → feed rules (course_behind out c) byte ≡ course_behind out (feed rules c byte)
 feed_behind rules out (Waits state sent pending) byte = eat_behind rules out state sent (pending ++ byte ∷ []) (rules.read state (pending ++ byte ∷ []))
 feed_behind rules out (Over ending sent) byte = refl
 
-pub run_behind : {S R M E : Type 0} (rules : Rules S R M E) (out : List ℕ) (c : Course S R) (bytes : List ℕ) → run rules (behind out c) bytes ≡ behind out (run rules c bytes)
+pub run_behind : {S R M E : Type 0} (rules : Rules S R M E) (out : List ℕ) (c : Course S R) (bytes : List ℕ) → run rules (course_behind out c) bytes ≡ course_behind out (run rules c bytes)
 unfolding run
 run_behind rules out c [] = refl
 run_behind rules out c (b ∷ bytes) = ap (λ d. run rules d bytes) (feed_behind rules out c b) ∙ run_behind rules out (feed rules c b) bytes

@@ -2,22 +2,22 @@
 use Rattle.std.proofs.Common.{◌≡◌, ℕ, List, [], ◌∷◌, ◌++◌, drop, refl, sym, ◌∙◌, ap, subst, append_assoc}
 use Rattle.std.proofs.lemmas.List.{append-nil, drop-append-le}
 use Rattle.pgw_course.specs.Course.{Front, More, Bad, Whole, Move, On, Ends, Course, Waits, Over, Rules, IsSteady, onto, eat, feed, run}
-use Rattle.pgw_course.specs.Play.{Play, ReadsSteadily, behind, Leads, waits, stops, breaks, ends, goes, play_of, Continues, WaitsForMore}
+use Rattle.pgw_course.specs.Play.{Play, ReadsSteadily, course_behind, Leads, waits, stops, breaks, ends, goes, play_of, Continues, WaitsForMore}
 use Rattle.pgw_course.proofs.CourseLaws.{run_more, run_bad, run_whole, run_over, read_more}
 
-behind_behind : {S R : Type 0} (a b : List ℕ) (c : Course S R) → behind a (behind b c) ≡ behind (a ++ b) c
+behind_behind : {S R : Type 0} (a b : List ℕ) (c : Course S R) → course_behind a (course_behind b c) ≡ course_behind (a ++ b) c
 behind_behind a b (Waits state sent pending) = ap (λ (l : List ℕ). Waits state l pending) (sym (append_assoc a b sent))
 behind_behind a b (Over ending sent) = ap (Over ending) (sym (append_assoc a b sent))
 
-behind_none : {S R : Type 0} (c : Course S R) → behind [] c ≡ c
+behind_none : {S R : Type 0} (c : Course S R) → course_behind [] c ≡ c
 behind_none (Waits state sent pending) = refl
 behind_none (Over ending sent) = refl
 
 -- ---- a piece more
 
 split : {S R M E : Type 0} (play : Play S R M E) (out : List ℕ) (course : Course S R) (piece : List ℕ) (there : Course S R) →
-    Continues play (behind out course) piece there → (f : Course S R) × Continues play course piece f × (there ≡ behind out f)
-split play out (Waits state sent pending) piece there (c, leads, is) = (behind sent c, (c, leads, refl), is ∙ sym (behind_behind out sent c))
+    Continues play (course_behind out course) piece there → (f : Course S R) × Continues play course piece f × (there ≡ course_behind out f)
+split play out (Waits state sent pending) piece there (c, leads, is) = (course_behind sent c, (c, leads, refl), is ∙ sym (behind_behind out sent c))
 split play out (Over ending sent) piece there is = (Over ending sent, refl, is)
 
 pub leads_on : {S R M E : Type 0} (play : Play S R M E) (steady : ReadsSteadily play) (state : S) (bytes : List ℕ) (course : Course S R) (piece : List ℕ) (there : Course S R) →
@@ -38,7 +38,7 @@ leads_on {S = S} {R = R} play steady state bytes course piece there (goes s next
 
 -- ---- what it waits for
 
-behind_waits : {S R M E : Type 0} (play : Play S R M E) (out : List ℕ) (course : Course S R) → WaitsForMore play course → WaitsForMore play (behind out course)
+behind_waits : {S R M E : Type 0} (play : Play S R M E) (out : List ℕ) (course : Course S R) → WaitsForMore play course → WaitsForMore play (course_behind out course)
 behind_waits play out (Waits state sent pending) h = h
 behind_waits play out (Over ending sent) h = tt
 
@@ -51,20 +51,20 @@ leads_waits play state bytes course (goes s next bs m len out c read step rest) 
 
 -- ---- where the steps are a function
 
-onto_behind : {S R : Type 0} (out sent : List ℕ) (move : Move S R) → onto (out ++ sent) move ≡ behind out (onto sent move)
+onto_behind : {S R : Type 0} (out sent : List ℕ) (move : Move S R) → onto (out ++ sent) move ≡ course_behind out (onto sent move)
 onto_behind out sent (On state o) = ap (λ (l : List ℕ). Waits state l []) (append_assoc out sent o)
 onto_behind out sent (Ends ending o) = ap (Over ending) (append_assoc out sent o)
 
-eat_behind : {S R M E : Type 0} (rules : Rules S R M E) (state : S) (out sent pending : List ℕ) (f : Front M E) → eat rules state (out ++ sent) pending f ≡ behind out (eat rules state sent pending f)
+eat_behind : {S R M E : Type 0} (rules : Rules S R M E) (state : S) (out sent pending : List ℕ) (f : Front M E) → eat rules state (out ++ sent) pending f ≡ course_behind out (eat rules state sent pending f)
 eat_behind rules state out sent pending More = refl
 eat_behind rules state out sent pending (Bad why) = refl
 eat_behind rules state out sent pending (Whole m len) = onto_behind out sent (rules.step state m)
 
-feed_behind : {S R M E : Type 0} (rules : Rules S R M E) (out : List ℕ) (c : Course S R) (b : ℕ) → feed rules (behind out c) b ≡ behind out (feed rules c b)
+feed_behind : {S R M E : Type 0} (rules : Rules S R M E) (out : List ℕ) (c : Course S R) (b : ℕ) → feed rules (course_behind out c) b ≡ course_behind out (feed rules c b)
 feed_behind rules out (Waits state sent pending) b = eat_behind rules state out sent (pending ++ b ∷ []) (rules.read state (pending ++ b ∷ []))
 feed_behind rules out (Over ending sent) b = refl
 
-run_behind : {S R M E : Type 0} (rules : Rules S R M E) (out : List ℕ) (c : Course S R) (bytes : List ℕ) → run rules (behind out c) bytes ≡ behind out (run rules c bytes)
+run_behind : {S R M E : Type 0} (rules : Rules S R M E) (out : List ℕ) (c : Course S R) (bytes : List ℕ) → run rules (course_behind out c) bytes ≡ course_behind out (run rules c bytes)
 unfolding run
 run_behind rules out c [] = refl
 run_behind rules out c (b ∷ bytes) = ap (λ d. run rules d bytes) (feed_behind rules out c b) ∙ run_behind rules out (feed rules c b) bytes
@@ -81,4 +81,4 @@ leads_run {S = S} {R = R} rules steady state bytes course (goes s next bs m len 
     run_whole rules steady s [] bs m len read ∙ ap (λ move. run rules (onto [] move) (drop len bs)) (sym step)
     ∙ ap (λ (l : List ℕ). run rules (Waits next l []) (drop len bs)) (sym (append-nil out))
     ∙ run_behind rules out start (drop len bs)
-    ∙ ap (behind out) (leads_run rules steady next (drop len bs) c rest)
+    ∙ ap (course_behind out) (leads_run rules steady next (drop len bs) c rest)

@@ -70,22 +70,22 @@ abbrev pub Begins : {S R : Type 0} → Course S R → List ℕ → Type 0
 Begins course wrote = (more : List ℕ) × (sent_of course ≡ wrote ++ more)
 
 -- the course waits for more bytes
-abbrev pub Waiting : {S R : Type 0} → Course S R → List ℕ → Type 0
-Waiting {S} course sent = (state : S) × (pending : List ℕ) × (course ≡ Waits state sent pending)
+abbrev pub CourseWaits : {S R : Type 0} → Course S R → List ℕ → Type 0
+CourseWaits {S} course sent = (state : S) × (pending : List ℕ) × (course ≡ Waits state sent pending)
 
 -- ---- one machine seen as another
 
 -- where it is, with other states and endings
-abbrev pub seen : {S T Q R : Type 0} → (S → T) → (Q → R) → Course S Q → Course T R
-seen f g (Waits state sent pending) = Waits (f state) sent pending
-seen f g (Over ending sent) = Over (g ending) sent
+abbrev pub map_course : {S T Q R : Type 0} → (S → T) → (Q → R) → Course S Q → Course T R
+map_course f g (Waits state sent pending) = Waits (f state) sent pending
+map_course f g (Over ending sent) = Over (g ending) sent
 
-abbrev pub moved : {S T Q R : Type 0} → (S → T) → (Q → R) → Move S Q → Move T R
-moved f g (On state out) = On (f state) out
-moved f g (Ends ending out) = Ends (g ending) out
+abbrev pub map_move : {S T Q R : Type 0} → (S → T) → (Q → R) → Move S Q → Move T R
+map_move f g (On state out) = On (f state) out
+map_move f g (Ends ending out) = Ends (g ending) out
 
 -- the second machine reads and does in each state seen what the first does
 pub record IsView {S T Q R M E : Type 0} (f : S → T) (g : Q → R) (first : Rules S Q M E) (second : Rules T R M E) : Type 0 where
   pub read : (state : S) (bytes : List ℕ) → second.read (f state) bytes ≡ first.read state bytes
-  pub step : (state : S) (m : M) → second.step (f state) m ≡ moved f g (first.step state m)
+  pub step : (state : S) (m : M) → second.step (f state) m ≡ map_move f g (first.step state m)
   pub bad : (state : S) (why : E) → second.bad (f state) why ≡ g (first.bad state why)

@@ -1,7 +1,7 @@
 -- A message at the front of what another machine put out, of which some bytes have come.
 use Rattle.std.specs.Prelude.{◌≡◌, ◌<◌, ◌≤◌, ◌-◌, ℕ, List, [], ◌∷◌, ◌++◌, length, take, drop}
 use Rattle.pgw_course.specs.Course.{Front, Whole, Move, On, Ends, Course, Waits, Over}
-use Rattle.pgw_course.specs.Play.{Play, Leads, waits, stops, breaks, ends, goes, behind}
+use Rattle.pgw_course.specs.Play.{Play, Leads, waits, stops, breaks, ends, goes, course_behind}
 
 -- whatever follows it, this message is read of these bytes
 abbrev pub IsReadAs : {M E : Type 0} → (List ℕ → Front M E) → List ℕ → M → Type 0
@@ -32,4 +32,4 @@ pub data TakesFront {S R M E : Type 0} (play : Play S R M E) (s : S) (g : List �
   breaks_off : (ending : R) → play.Breaks s ending → TakesFront play s g m count rest (Over ending []) []
   ends_by : (ending : R) → (out : List ℕ) → length g ≤ count → (step : play.Steps s m (Ends ending out)) → TakesFront play s g m count rest (Over ending out) (deed play s m (Ends ending out) step ∷ [])
   goes_by : (next : S) → (out : List ℕ) → (course : Course S R) → length g ≤ count → (step : play.Steps s m (On next out)) → (on : Leads play next (take (count - length g) rest) course)
-      → TakesFront play s g m count rest (behind out course) (deed play s m (On next out) step ∷ deeds_in play next (take (count - length g) rest) course on)
+      → TakesFront play s g m count rest (course_behind out course) (deed play s m (On next out) step ∷ deeds_in play next (take (count - length g) rest) course on)

@@ -1,6 +1,6 @@
 //! What holds of every machine over bytes.
 ghost use Rattle.std.specs.Prelude.{◌≡◌, ◌<◌, ℕ, List, [], ◌++◌, length, drop};
-ghost use Rattle.pgw_course.specs.Course.{Front as TheFront, More, Bad, Whole, Course, Waits, Over, Rules, IsReading, IsSteady, onto, run, sent_of, WantsMore, seen, IsView};
+ghost use Rattle.pgw_course.specs.Course.{Front as TheFront, More, Bad, Whole, Course, Waits, Over, Rules, IsReading, IsSteady, onto, run, sent_of, WantsMore, map_course, IsView};
 ghost use Rattle.pgw_course.specs.Fronts.{IsReadAs};
 ghost use Rattle.pgw_course.specs.Play.{Leads, play_of};
 
@@ -49,7 +49,7 @@ pub fn nothing_whole_is_left<S, R, M, E>()
 pub fn views_run_alike<S, T, Q, R, M, E>()
     ensures { (f : S → T) (g : Q → R) (first : Rules S Q M E) (second : Rules T R M E) →
         IsView f g first second → (course : Course S Q) (bytes : List ℕ) →
-        run second (seen f g course) bytes ≡ seen f g (run first course bytes) }
+        run second (map_course f g course) bytes ≡ map_course f g (run first course bytes) }
 {}
 
 /// Where the steps are a function, such a machine is led where the function's machine runs.

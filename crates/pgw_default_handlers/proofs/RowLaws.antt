@@ -43,7 +43,7 @@ rows_noted : (t new : Tally) (opened : Opened) (put : List DataRow) (old_bytes n
     → t.opened ≡ Some opened → t.remote ≡ None
     → new ≡ record t { opened = Some (record opened { rows = put }) }
     → MovesRows opened.rows put old_bytes new_bytes count
-    → simple.TakesRows QueryMeans (record { tally = t }) (record { tally = new }) old_bytes new_bytes count
+    → simple.TakesSimpleRows QueryMeans (record { tally = t }) (record { tally = new }) old_bytes new_bytes count
 rows_noted t new opened put old_bytes new_bytes count is fine so m =
     let was : t ≡ record t { opened = Some opened; remote = None } =
     ap (λ o. record t { opened = o }) is ∙ ap (λ e. record t { opened = Some opened; remote = e }) fine in
@@ -69,7 +69,7 @@ none_of (Some x) b e f = absurd cc
 pub rows_noted_on : (t : Tally) (opened : Opened) (put : List DataRow) (old_bytes new_bytes : List ℕ) (failed : Bool) (result : Result ℕ OutOfMemory)
     → t.opened ≡ Some opened → failed ≡ false → failed ≡ is_some t.remote
     → IfOk result (MovesRows opened.rows put old_bytes new_bytes)
-    → IfOk result (simple.TakesRows QueryMeans (record { tally = t }) (record { tally = record t { opened = Some (record opened { rows = put }) } }) old_bytes new_bytes)
+    → IfOk result (simple.TakesSimpleRows QueryMeans (record { tally = t }) (record { tally = record t { opened = Some (record opened { rows = put }) } }) old_bytes new_bytes)
 rows_noted_on t opened put old_bytes new_bytes failed (Ok count) is e f m =
     rows_noted t (record t { opened = Some (record opened { rows = put }) }) opened put old_bytes new_bytes count is (none_of t.remote failed e f) refl m
 rows_noted_on t opened put old_bytes new_bytes failed (Err why) is e f m = tt
@@ -83,7 +83,7 @@ rows_given h (row ∷ rows) = extended.hears row row rows rows h h h (λ seen. (
 
 rows_kept : (h : DefaultExtendedQueryHandler) (old new : List DataRow) (old_bytes new_bytes : List ℕ) (count : ℕ)
     → MovesRows old new old_bytes new_bytes count
-    → extended.TakesRows ExtendedMeans h h old new old_bytes new_bytes count
+    → extended.TakesExtendedRows ExtendedMeans h h old new old_bytes new_bytes count
 rows_kept h old new old_bytes new_bytes count m = record {
   rows = m.rows;
   made = m.rows;
@@ -97,6 +97,6 @@ rows_kept h old new old_bytes new_bytes count m = record {
 
 pub rows_kept_on : (h : DefaultExtendedQueryHandler) (old new : List DataRow) (old_bytes new_bytes : List ℕ) (result : Result ℕ OutOfMemory)
     → IfOk result (MovesRows old new old_bytes new_bytes)
-    → IfOk result (extended.TakesRows ExtendedMeans h h old new old_bytes new_bytes)
+    → IfOk result (extended.TakesExtendedRows ExtendedMeans h h old new old_bytes new_bytes)
 rows_kept_on h old new old_bytes new_bytes (Ok count) m = rows_kept h old new old_bytes new_bytes count m
 rows_kept_on h old new old_bytes new_bytes (Err e) m = tt

@@ -11,7 +11,7 @@ use Rattle.pgw_backend.specs.ClientError.{of_scram}
 use Rattle.pgw_types.specs.declared.scram_error.ScramClientError.{ScramClientError}
 use Rattle.pgw_types.specs.declared.scram_error.ScramClientError.TheVariants as scram
 use Rattle.pgw_types.specs.declared.scram_error.ScramFault.TheVariants as scram_fault
-use Rattle.pgw_hash.specs.Saslprep.{prepared}
+use Rattle.pgw_hash.specs.Saslprep.{saslprep}
 use Rattle.pgw_scram.specs.Answers.{unless_so, first_of}
 use Rattle.pgw_scram.specs.Refusals as scram_refusal
 use Rattle.pgw_scram.specs.Refusals.{user_refusal}
@@ -22,7 +22,7 @@ use Rattle.pgw_session.specs.declared.stage.Next.TheVariants.{Goes, Wrong}
 use Rattle.pgw_session.specs.Input.{Input}
 use Rattle.pgw_session.specs.Requests.{passes_over}
 use Rattle.pgw_session.specs.Logins.{must_bind, cleartext_message, md5_message, user_of, password_of, scram_login, takes_method, first_message, final_message, expected_of, methods_refusal, first_refusal, final_refusal}
-use Rattle.pgw_session.specs.Table.{news_or, unless, unless_bound, misplaced, after as table}
+use Rattle.pgw_session.specs.Table.{news_or, next_unless, unless_bound, misplaced, next_after as table}
 use Rattle.pgw_default_handlers.specs.Causes.{IsAlwaysCaused, RefusesCaused}
 
 -- ---- what is refused
@@ -54,9 +54,9 @@ methods_caused : (input : Input) (methods : List (List ℕ)) → AreCaused (meth
 methods_caused input methods =
     both_caused (unless_so (takes_method input methods) (client.UnsupportedSASLAuthMethods methods)) _ (so_caused (takes_method input methods) (client.UnsupportedSASLAuthMethods methods) (λ before now broken. tt))
     (both_caused (unless_so (is_utf8 (password_of input)) (client.ScramError scram_fault.PasswordNotUtf8)) _ (so_caused (is_utf8 (password_of input)) (client.ScramError scram_fault.PasswordNotUtf8) (λ before now broken. tt))
-    (scram_caused (user_refusal (prepared (user_of input)))))
+    (scram_caused (user_refusal (saslprep (user_of input)))))
 
-unless_caused : (o : Option ClientError) (stage : Stage) (reply : _) → AreCaused o → RefusesCaused (unless o (Goes stage reply))
+unless_caused : (o : Option ClientError) (stage : Stage) (reply : _) → AreCaused o → RefusesCaused (next_unless o (Goes stage reply))
 unless_caused None stage reply caused = tt
 unless_caused (Some e) stage reply caused = caused
 
@@ -80,9 +80,9 @@ table_caused input Starting authentication.CleartextPassword = unbound_caused (m
 table_caused input Starting (authentication.MD5Password salt) = unbound_caused (must_bind input) (Goes Admitted (Some (md5_message input salt))) tt
 table_caused input Starting request = tt
 table_caused input (Challenged login) (authentication.SASLContinue first) =
-    unless_caused (first_refusal login first) (Proving (expected_of login first)) (Some (final_message login first)) (scram_caused (scram_refusal.first_refusal login.nonce first))
+    unless_caused (first_refusal login first) (Proving (expected_of login first)) (Some (final_message login first)) (scram_caused (scram_refusal.scram_first_refusal login.nonce first))
 table_caused input (Challenged login) request = tt
-table_caused input (Proving expected) (authentication.SASLFinal final) = unless_caused (final_refusal expected final) Admitted None (scram_caused (scram_refusal.final_refusal expected final))
+table_caused input (Proving expected) (authentication.SASLFinal final) = unless_caused (final_refusal expected final) Admitted None (scram_caused (scram_refusal.scram_refusal expected final))
 table_caused input (Proving expected) request = tt
 table_caused input Admitted authentication.Ok = tt
 table_caused input Admitted request = tt

@@ -20,13 +20,13 @@ use Rattle.pgw_session.specs.declared.stage.Stage.TheVariants.{Starting, Challen
 use Rattle.pgw_session.specs.declared.stage.Next.{Next}
 use Rattle.pgw_session.specs.declared.stage.Next.TheVariants as next
 use Rattle.pgw_session.specs.Segments.{startup_message}
-use Rattle.pgw_session.specs.Table.{after as table}
+use Rattle.pgw_session.specs.Table.{next_after as table}
 use Rattle.pgw_handlers.specs.declared.client_info.ReadyState.TheVariants.{Pending, Ready}
 use Rattle.pgw_handlers.specs.declared.client_info.ServerInformation.{ServerInformation}
 use Rattle.pgw_handlers.specs.Client.{Client, Sight}
 use Rattle.pgw_handlers.specs.Sending.{Sent, NotSent}
-use Rattle.pgw_handlers.specs.Handling.{Standing, standing, Answer, Passes, Keeps, Misplaces, Refuses}
-use Rattle.pgw_handlers.specs.Startup.{StartupCall, startup, on_authentication, on_negotiate_protocol_version, on_parameter_status, on_notice, on_notification, on_backend_key, on_ready_for_query, Settles}
+use Rattle.pgw_handlers.specs.Handling.{HandlerView, standing, CallAnswer, HandlerStays, KeepsParameter, HandlerMisplaces, HandlerRefuses}
+use Rattle.pgw_handlers.specs.Startup.{StartupCall, startup, on_authentication, on_negotiate_protocol_version, on_parameter_status, on_notice, on_notification, on_backend_key, on_ready_for_query, SettlesVersion}
 use Rattle.pgw_default_handlers.specs.declared.startup.DefaultStartupHandler.{DefaultStartupHandler}
 
 -- what it logs in with: the client's configuration and the handler's nonce
@@ -47,12 +47,12 @@ exchanges h = is_exchange h.stage
 abbrev pub with_stage : Stage → DefaultStartupHandler → DefaultStartupHandler
 with_stage stage h = record h { stage = stage }
 
-abbrev pub with_key : BackendKeyData → DefaultStartupHandler → DefaultStartupHandler
-with_key m h = record h { process_id = m.pid; secret_key = m.secret_key }
+abbrev pub with_handler_key : BackendKeyData → DefaultStartupHandler → DefaultStartupHandler
+with_handler_key m h = record h { process_id = m.pid; secret_key = m.secret_key }
 
 -- a login that has not begun
-abbrev pub begun : DefaultStartupHandler → DefaultStartupHandler
-begun h = record h { stage = Starting; process_id = negsuc 0; secret_key = I32 (pos 0) }
+abbrev pub fresh_startup : DefaultStartupHandler → DefaultStartupHandler
+fresh_startup h = record h { stage = Starting; process_id = negsuc 0; secret_key = I32 (pos 0) }
 
 -- ---- an authentication request
 
@@ -65,39 +65,39 @@ SendsReply (Some m) old new (Err e) = NotSent (encoding m) old new e
 
 -- A reply is sent and the stage is the next one; where it is not sent the handler stays as it is. What does not go on is
 -- refused.
-abbrev pub Follows : Next → Backend → Standing DefaultStartupHandler → Standing DefaultStartupHandler → Answer ServerInformation → Type 0
-Follows (next.Goes stage reply) m before after (Ok answer) = (after.handler ≡ with_stage stage before.handler) × SendsReply reply before.sight after.sight (Ok tt) × (answer ≡ Pending)
-Follows (next.Goes stage reply) m before after (Err e) = (after.handler ≡ before.handler) × SendsReply reply before.sight after.sight (Err e)
-Follows (next.Refuses x) m before after answer = Refuses (λ e. e ≡ x) before after answer
-Follows other m before after answer = Refuses (IsUnexpected m) before after answer
+abbrev pub FollowsNext : Next → Backend → HandlerView DefaultStartupHandler → HandlerView DefaultStartupHandler → CallAnswer ServerInformation → Type 0
+FollowsNext (next.Goes stage reply) m before after (Ok answer) = (after.handler ≡ with_stage stage before.handler) × SendsReply reply before.sight after.sight (Ok tt) × (answer ≡ Pending)
+FollowsNext (next.Goes stage reply) m before after (Err e) = (after.handler ≡ before.handler) × SendsReply reply before.sight after.sight (Err e)
+FollowsNext (next.Refuses x) m before after answer = HandlerRefuses (λ e. e ≡ x) before after answer
+FollowsNext other m before after answer = HandlerRefuses (IsUnexpected m) before after answer
 
 -- memory was wanting, and nothing is done
-abbrev pub Starves : Standing DefaultStartupHandler → Standing DefaultStartupHandler → Answer ServerInformation → Type 0
-Starves before after answer = Refuses (λ e. e ≡ client.OutOfMemory) before after answer
+abbrev pub Starves : HandlerView DefaultStartupHandler → HandlerView DefaultStartupHandler → CallAnswer ServerInformation → Type 0
+Starves before after answer = HandlerRefuses (λ e. e ≡ client.OutOfMemory) before after answer
 
-abbrev pub LogsIn : Backend → Standing DefaultStartupHandler → Standing DefaultStartupHandler → Answer ServerInformation → Type 0
-LogsIn m before after answer =
-    Follows (table (login_input before.handler before.sight.client.config) before.handler.stage m) m before after answer ⊎ Starves before after answer
+abbrev pub StartupLogsIn : Backend → HandlerView DefaultStartupHandler → HandlerView DefaultStartupHandler → CallAnswer ServerInformation → Type 0
+StartupLogsIn m before after answer =
+    FollowsNext (table (login_input before.handler before.sight.client.config) before.handler.stage m) m before after answer ⊎ Starves before after answer
 
 -- ---- the others
 
 -- the startup message is sent, and a login begins anew
-abbrev pub Begins : Standing DefaultStartupHandler → Standing DefaultStartupHandler → Answer ServerInformation → Type 0
-Begins before after (Ok answer) =
-    (after.handler ≡ begun before.handler) × Sent (encoding (startup_message (login_input before.handler before.sight.client.config))) before.sight after.sight × (answer ≡ Pending)
-Begins before after (Err e) =
-    (after.handler ≡ begun before.handler)
+abbrev pub BeginsStartup : HandlerView DefaultStartupHandler → HandlerView DefaultStartupHandler → CallAnswer ServerInformation → Type 0
+BeginsStartup before after (Ok answer) =
+    (after.handler ≡ fresh_startup before.handler) × Sent (encoding (startup_message (login_input before.handler before.sight.client.config))) before.sight after.sight × (answer ≡ Pending)
+BeginsStartup before after (Err e) =
+    (after.handler ≡ fresh_startup before.handler)
     × (NotSent (encoding (startup_message (login_input before.handler before.sight.client.config))) before.sight after.sight e ⊎ ((after.sight ≡ before.sight) × (e ≡ client.OutOfMemory)))
 
 -- the handler keeps the process number and the key
-abbrev pub KeepsKey : BackendKeyData → Standing DefaultStartupHandler → Standing DefaultStartupHandler → Answer ServerInformation → Type 0
-KeepsKey m before after answer = (after ≡ standing (with_key m before.handler) before.sight) × (answer ≡ Ok Pending)
+abbrev pub KeepsKey : BackendKeyData → HandlerView DefaultStartupHandler → HandlerView DefaultStartupHandler → CallAnswer ServerInformation → Type 0
+KeepsKey m before after answer = (after ≡ standing (with_handler_key m before.handler) before.sight) × (answer ≡ Ok Pending)
 
 -- the client's parameters, and the process number and key that came last
 abbrev pub information : DefaultStartupHandler → Client → ServerInformation
 information h c = record { parameters = c.parameters; process_id = h.process_id; secret_key = h.secret_key }
 
-abbrev pub GivesInformation : Standing DefaultStartupHandler → Standing DefaultStartupHandler → Answer ServerInformation → Type 0
+abbrev pub GivesInformation : HandlerView DefaultStartupHandler → HandlerView DefaultStartupHandler → CallAnswer ServerInformation → Type 0
 GivesInformation before after (Ok answer) = (after ≡ before) × (answer ≡ Ready (information before.handler before.sight.client))
 GivesInformation before after (Err e) = (after ≡ before) × (e ≡ client.OutOfMemory)
 
@@ -107,37 +107,37 @@ closes next.Closes = true
 closes other = false
 
 -- where the table closes the segment the information is given, and else the message has no place
-abbrev pub Concludes : Bool → Backend → Standing DefaultStartupHandler → Standing DefaultStartupHandler → Answer ServerInformation → Type 0
+abbrev pub Concludes : Bool → Backend → HandlerView DefaultStartupHandler → HandlerView DefaultStartupHandler → CallAnswer ServerInformation → Type 0
 Concludes true m before after answer = GivesInformation before after answer
-Concludes false m before after answer = Refuses (IsUnexpected m) before after answer
+Concludes false m before after answer = HandlerRefuses (IsUnexpected m) before after answer
 
-abbrev pub LetsIn : Backend → Standing DefaultStartupHandler → Standing DefaultStartupHandler → Answer ServerInformation → Type 0
-LetsIn m before after answer = Concludes (closes (table (login_input before.handler before.sight.client.config) before.handler.stage m)) m before after answer
+abbrev pub HandlerLetsIn : Backend → HandlerView DefaultStartupHandler → HandlerView DefaultStartupHandler → CallAnswer ServerInformation → Type 0
+HandlerLetsIn m before after answer = Concludes (closes (table (login_input before.handler before.sight.client.config) before.handler.stage m)) m before after answer
 
-abbrev pub StartupMeans : Standing DefaultStartupHandler → StartupCall → Standing DefaultStartupHandler → Answer ServerInformation → Type 0
-StartupMeans before startup after answer = Begins before after answer
-StartupMeans before (on_authentication m) after answer = LogsIn (backend.Authentication m) before after answer
-StartupMeans before (on_negotiate_protocol_version m) after answer = Settles m before after answer
-StartupMeans before (on_parameter_status m) after answer = Keeps m before after answer
-StartupMeans before (on_notice m) after answer = Passes before after answer
-StartupMeans before (on_notification m) after answer = Misplaces m before after answer
+abbrev pub StartupMeans : HandlerView DefaultStartupHandler → StartupCall → HandlerView DefaultStartupHandler → CallAnswer ServerInformation → Type 0
+StartupMeans before startup after answer = BeginsStartup before after answer
+StartupMeans before (on_authentication m) after answer = StartupLogsIn (backend.Authentication m) before after answer
+StartupMeans before (on_negotiate_protocol_version m) after answer = SettlesVersion m before after answer
+StartupMeans before (on_parameter_status m) after answer = KeepsParameter m before after answer
+StartupMeans before (on_notice m) after answer = HandlerStays before after answer
+StartupMeans before (on_notification m) after answer = HandlerMisplaces m before after answer
 StartupMeans before (on_backend_key m) after answer = KeepsKey m before after answer
-StartupMeans before (on_ready_for_query m) after answer = LetsIn (backend.ReadyForQuery m) before after answer
+StartupMeans before (on_ready_for_query m) after answer = HandlerLetsIn (backend.ReadyForQuery m) before after answer
 
 -- ---- the trait's own bodies
 
-abbrev pub settles_version : (before after : Standing DefaultStartupHandler) → (m : NegotiateProtocolVersion) → (answer : Answer ServerInformation) → Settles m before after answer → StartupMeans before (on_negotiate_protocol_version m) after answer
+abbrev pub settles_version : (before after : HandlerView DefaultStartupHandler) → (m : NegotiateProtocolVersion) → (answer : CallAnswer ServerInformation) → SettlesVersion m before after answer → StartupMeans before (on_negotiate_protocol_version m) after answer
 settles_version before after m answer settled = settled
 
-abbrev pub keeps_parameters : (before after : Standing DefaultStartupHandler) → (m : ParameterStatus) → (answer : Answer ServerInformation) → Keeps m before after answer → StartupMeans before (on_parameter_status m) after answer
-keeps_parameters before after m answer kept = kept
+abbrev pub keeps_in_startup : (before after : HandlerView DefaultStartupHandler) → (m : ParameterStatus) → (answer : CallAnswer ServerInformation) → KeepsParameter m before after answer → StartupMeans before (on_parameter_status m) after answer
+keeps_in_startup before after m answer kept = kept
 
-abbrev pub passes_notices : (before after : Standing DefaultStartupHandler) → (m : NoticeResponse) →
-    (answer : Answer ServerInformation) → Passes before after answer →
+abbrev pub passes_notices : (before after : HandlerView DefaultStartupHandler) → (m : NoticeResponse) →
+    (answer : CallAnswer ServerInformation) → HandlerStays before after answer →
     StartupMeans before (on_notice m) after answer
 passes_notices before after m answer passed = passed
 
-abbrev pub misplaces_notifications : (before after : Standing DefaultStartupHandler) →
-    (m : NotificationResponse) → (answer : Answer ServerInformation) → Misplaces m before after answer →
+abbrev pub misplaces_notifications : (before after : HandlerView DefaultStartupHandler) →
+    (m : NotificationResponse) → (answer : CallAnswer ServerInformation) → HandlerMisplaces m before after answer →
     StartupMeans before (on_notification m) after answer
 misplaces_notifications before after m answer refused = refused

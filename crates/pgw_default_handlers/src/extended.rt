@@ -45,7 +45,7 @@ impl DefaultExtendedQueryHandler {
 
 impl ExtendedQueryHandler for DefaultExtendedQueryHandler {
     ghost use Rattle.std.specs.Prelude.{Ok, Err};
-    ghost use Rattle.pgw_default_handlers.specs.Extended.{ExtendedMeans, misplaces_notifications, passes_notices};
+    ghost use Rattle.pgw_default_handlers.specs.Extended.{ExtendedMeans, misplaces_notifications, passes_extended_notices};
 
     type QueryResponse = DataRow;
 
@@ -53,7 +53,7 @@ impl ExtendedQueryHandler for DefaultExtendedQueryHandler {
 
     ghost means = { ExtendedMeans };
 
-    ghost passes = { passes_notices };
+    ghost passes = { passes_extended_notices };
 
     ghost misplaces = { misplaces_notifications };
 

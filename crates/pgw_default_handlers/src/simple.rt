@@ -74,15 +74,15 @@ impl DefaultSimpleQueryHandler {
 
 impl SimpleQueryHandler for DefaultSimpleQueryHandler {
     ghost use Rattle.std.specs.Prelude.{Ok, Err};
-    ghost use Rattle.pgw_default_handlers.specs.Simple.{QueryMeans, keeps_parameters, misplaces_notifications, passes_notices};
+    ghost use Rattle.pgw_default_handlers.specs.Simple.{QueryMeans, keeps_in_simple, misplaces_notifications, passes_simple_notices};
 
     type QueryResponse = Response;
 
     ghost means = { QueryMeans };
 
-    ghost keeps = { keeps_parameters };
+    ghost keeps = { keeps_in_simple };
 
-    ghost passes = { passes_notices };
+    ghost passes = { passes_simple_notices };
 
     ghost misplaces = { misplaces_notifications };
 

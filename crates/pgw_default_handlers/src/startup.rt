@@ -3,11 +3,11 @@ ghost use Rattle.std.specs.Prelude.{◌≡◌, pos, negsuc, IfOk};
 ghost use Rattle.pgw_wire.specs.declared.secret_key.SecretKey.TheVariants.{I32};
 ghost use Rattle.pgw_session.specs.declared.stage.Stage.TheVariants.{Starting};
 ghost use Rattle.pgw_session.specs.Segments.{startup_message};
-ghost use Rattle.pgw_session.specs.Table.{after as table};
+ghost use Rattle.pgw_session.specs.Table.{next_after as table};
 ghost use Rattle.pgw_dialogue.specs.Input.{input_of};
-ghost use Rattle.pgw_handlers.specs.Handling.{standing, pending, ready, Leaves};
+ghost use Rattle.pgw_handlers.specs.Handling.{standing, pending, ready_answer, Leaves};
 ghost use Rattle.pgw_default_handlers.specs.Causes.{RefusesCaused};
-ghost use Rattle.pgw_default_handlers.specs.Startup.{Follows, GivesInformation, SendsReply, closes, login_input};
+ghost use Rattle.pgw_default_handlers.specs.Startup.{FollowsNext, GivesInformation, SendsReply, closes, login_input};
 
 use pgw_backend::backend::PgWireBackendMessage;
 use pgw_backend::client_error::PgWireClientResult;
@@ -108,7 +108,7 @@ impl DefaultStartupHandler {
     // What the server told of itself.
     fn information<C: ClientInfo>(&self, client: &C) -> PgWireClientResult<ServerInformation>
         ensures { GivesInformation (standing self.now (C.sight client.now))
-            (standing self.now (C.sight client.now)) (ready result) }
+            (standing self.now (C.sight client.now)) (ready_answer result) }
     {
         let parameters = client.server_parameters().duplicate()?;
         let secret_key = self.secret_key.duplicate()?;
@@ -140,7 +140,7 @@ impl DefaultStartupHandler {
         next: Next,
     ) -> PgWireClientResult<()>
         requires { RefusesCaused next }
-        ensures follows { Follows next message (standing self.old (C.sight client.old))
+        ensures follows { FollowsNext next message (standing self.old (C.sight client.old))
             (standing self.new (C.sight client.new)) (pending result) }
         ensures leaves { Leaves C.own C.rest C.faults C.sight client.old client.new result }
     {
@@ -162,7 +162,7 @@ impl DefaultStartupHandler {
 
 impl StartupHandler for DefaultStartupHandler {
     ghost use Rattle.std.specs.Prelude.{Ok, Err};
-    ghost use Rattle.pgw_default_handlers.specs.Startup.{StartupMeans, exchanges, keeps_parameters, misplaces_notifications, passes_notices, settles_version};
+    ghost use Rattle.pgw_default_handlers.specs.Startup.{StartupMeans, exchanges, keeps_in_startup, misplaces_notifications, passes_notices, settles_version};
 
     ghost means = { StartupMeans };
 
@@ -170,7 +170,7 @@ impl StartupHandler for DefaultStartupHandler {
 
     ghost settles = { settles_version };
 
-    ghost keeps = { keeps_parameters };
+    ghost keeps = { keeps_in_startup };
 
     ghost passes = { passes_notices };
 

@@ -13,8 +13,8 @@ use Rattle.pgw_session.specs.Machine.{End, Unencoded, error_of, sending}
 use Rattle.pgw_session.specs.Segments.{startup_message}
 use Rattle.pgw_session.specs.Talk.{conversation}
 use Rattle.pgw_session.proofs.FailureLaws.{ends_as}
-use Rattle.pgw_dialogue.specs.Demands.{Checked, IsInvalidConfig}
-use Rattle.pgw_dialogue.specs.Machine.{notes_end, Started}
+use Rattle.pgw_dialogue.specs.Demands.{ChecksDemand, IsInvalidConfig}
+use Rattle.pgw_dialogue.specs.Machine.{notes_end, StartsRun}
 use Rattle.pgw_dialogue.specs.Wire.{Unless}
 use Rattle.pgw_dialogue.proofs.DemandLaws.{refused_key}
 use Rattle.pgw_dialogue.proofs.WireLaws.{memory_or}
@@ -38,7 +38,7 @@ unencoded first second end (Err w) e is why =
     let told : Some (client.PgWireError w) ≡ Some e = ap error_of outcome ∙ why in
     (w, refl, cc)
 
-pub starts : (input : Input) (limit : ℕ) (d : Dialogue) (opening old_out new_out : List ℕ) → Started input opening (Ok d.notes) → new_out ≡ old_out ++ opening → input_at d ≡ input → d.inbox ≡ [] → d.room ≡ limit → d.state ≡ state.Going
+pub starts : (input : Input) (limit : ℕ) (d : Dialogue) (opening old_out new_out : List ℕ) → StartsRun input opening (Ok d.notes) → new_out ≡ old_out ++ opening → input_at d ≡ input → d.inbox ≡ [] → d.room ≡ limit → d.state ≡ state.Going
     → Starts input limit old_out new_out (Ok d)
 starts input limit d opening old_out new_out started put made empty room going =
     let w = waits_in input (conversation input []) d.notes opening [] (sym (start_is input) ∙ started) in (
@@ -50,7 +50,7 @@ starts input limit d opening old_out new_out started put made empty room going =
       room,
     )
 
-pub not_started : (input : Input) (opening old_out : List ℕ) (e : ClientError) → refused_config input.config ≡ None → Started input opening (Err e) → Starts input 0 old_out old_out (Err e)
+pub not_started : (input : Input) (opening old_out : List ℕ) (e : ClientError) → refused_config input.config ≡ None → StartsRun input opening (Err e) → Starts input 0 old_out old_out (Err e)
 not_started input opening old_out e none started = (
   refl,
   elim (memory_or e) [
@@ -66,7 +66,7 @@ by_key : (input : Input) (e : ClientError) (key : List ℕ) → refused_config i
 by_key input e key is (inl named) = subst (StartCause input) (sym named) is
 by_key input e key is (inr lack) = subst (StartCause input) (sym lack) tt
 
-pub demanded : (input : Input) (e : ClientError) → Checked (refused_config input.config) (Err e) → StartCause input e
+pub demanded : (input : Input) (e : ClientError) → ChecksDemand (refused_config input.config) (Err e) → StartCause input e
 demanded input e c = let named = refused_key (refused_config input.config) e c in by_key input e named.0 named.1 named.2
 
 -- ---- the end

@@ -3,15 +3,15 @@ use Rattle.std.proofs.Common.{◌≡◌, ℕ, List, Option, Some, None, Result, 
 use Rattle.std.specs.Prelude.{IfErr, codes}
 use Rattle.pgw_backend.specs.declared.client_error.PgWireClientError.{PgWireClientError as ClientError}
 use Rattle.pgw_backend.specs.declared.client_error.PgWireClientError.TheVariants as client
-use Rattle.pgw_dialogue.specs.Demands.{Checked, IsInvalidConfig}
+use Rattle.pgw_dialogue.specs.Demands.{ChecksDemand, IsInvalidConfig}
 use Rattle.pgw_dialogue.specs.Wire.{IsNoDemand}
 
 -- which key a refusal names
-pub refused_key : (o : Option (List ℕ)) (e : ClientError) → Checked o (Err e) → (key : List ℕ) × (o ≡ Some key) × IsInvalidConfig key e
+pub refused_key : (o : Option (List ℕ)) (e : ClientError) → ChecksDemand o (Err e) → (key : List ℕ) × (o ≡ Some key) × IsInvalidConfig key e
 refused_key None e c = absurd c
 refused_key (Some key) e c = (key, refl, c)
 
-pub none_refused : (o : Option (List ℕ)) (done : Unit {0}) → Checked o (Ok done) → o ≡ None
+pub none_refused : (o : Option (List ℕ)) (done : Unit {0}) → ChecksDemand o (Ok done) → o ≡ None
 none_refused None done c = refl
 none_refused (Some key) done c = absurd c
 

@@ -19,8 +19,8 @@ use Rattle.pgw_dialogue.specs.declared.phase.DialoguePhase.TheVariants as phase
 use Rattle.pgw_dialogue.specs.declared.phase.State.{State}
 use Rattle.pgw_dialogue.specs.declared.phase.State.TheVariants as state
 use Rattle.pgw_dialogue.specs.Answers.{TakeCause, answer_at, answer_behind, ending_answer, state_behind, taken_of, waiting_answer}
-use Rattle.pgw_dialogue.specs.Dialogue.{Answers, input_at, IsBehind, IsBroken, Settles, Stands, StandsIn, Takes}
-use Rattle.pgw_dialogue.specs.Steps.{Came, Stopped, Took}
+use Rattle.pgw_dialogue.specs.Dialogue.{AnswersDialogue, input_at, IsBehind, IsBroken, DialogueSettles, Stands, StandsIn, Takes}
+use Rattle.pgw_dialogue.specs.Steps.{DialogueCameTo, Stopped, TookInbox}
 use Rattle.pgw_dialogue.proofs.AnswerLaws.{done_tells, ended_as, waiting_tells}
 use Rattle.pgw_dialogue.proofs.TalkLaws.{begins_in, begins_on, carried, noted, over_in, over_on, waits_in, whole_in}
 
@@ -61,7 +61,7 @@ waiting_stands input limit given put d t (suc room) (suc closed) made is notes h
     stands_as input limit d given put state.Going made to (t, ap (conversation input) (sym (taken_below limit given (omega (arith, left)))) ∙ is, notes, omega (arith, here, left))
 
 waiting_answers : (input : Input) (limit : ℕ) (given put pending : List ℕ) (t : Talk) (room closed : ℕ) → conversation input (taken_of limit given) ≡ Waits t put pending → limit - length given ≡ room → length t.closed ≡ closed
-    → Answers input limit given put (waiting_answer room closed)
+    → AnswersDialogue input limit given put (waiting_answer room closed)
 waiting_answers input limit given put pending t room closed is left count = record {
   answer = inl (ap (λ n. waiting_answer n closed) (sym left) ∙ ap (waiting_answer (limit - length given)) (sym count) ∙ sym (ap (answer_at (limit - length given)) is));
   tells = waiting_tells input limit given put pending t room closed is count (λ none. omega (arith, left, none));
@@ -76,7 +76,7 @@ starved_state : (e : ClientError) → e ≡ client.OutOfMemory → state_behind 
 starved_state e is = ap (λ x. state_behind (Err x)) is
 
 refused_pair : (input : Input) (limit : ℕ) (given put : List ℕ) (d : Dialogue) (e : ClientError) → input_at d ≡ input → Stopped (noted input (conversation input (taken_of limit given))) put e
-    → d.state ≡ state_behind (Err e) → Stands input limit d given put × Answers input limit given put (Err e)
+    → d.state ≡ state_behind (Err e) → Stands input limit d given put × AnswersDialogue input limit given put (Err e)
 refused_pair input limit given put d e made stopped to =
     let conv = conversation input (taken_of limit given) in
     elim (memory_or e) [
@@ -98,8 +98,8 @@ refused_pair input limit given put d e made stopped to =
 
 -- behind some bytes
 pair_on : (input : Input) (limit : ℕ) (given put : List ℕ) (d : Dialogue) (fed : Result Bool ClientError) → input_at d ≡ input
-    → Came (noted input (conversation input (taken_of limit given))) d.notes d.inbox put fed → d.room ≡ limit - length given → d.state ≡ state_behind (answer_behind fed d.room (d.notes).closed)
-    → Stands input limit d given put × Answers input limit given put (answer_behind fed d.room (d.notes).closed)
+    → DialogueCameTo (noted input (conversation input (taken_of limit given))) d.notes d.inbox put fed → d.room ≡ limit - length given → d.state ≡ state_behind (answer_behind fed d.room (d.notes).closed)
+    → Stands input limit d given put × AnswersDialogue input limit given put (answer_behind fed d.room (d.notes).closed)
 pair_on input limit given put d (Ok true) made came left to =
     let w = whole_in input (taken_of limit given) came.0 put (report_at d.notes) came.1 came.2 in (
       stands_as input limit d given put state.Done made to w,
@@ -116,10 +116,10 @@ pair_on input limit given put d (Err e) made came left to = refused_pair input l
 
 -- for each pair that it stood for
 pair_behind : (old new : Dialogue) (piece out : List ℕ) (fed : Result Bool ClientError) → old.state ≡ state.Going → input_at new ≡ input_at old
-    → ((sent : List ℕ) → Came (runs (input_at old) old.notes sent (old.inbox ++ take old.room piece)) new.notes new.inbox (sent ++ out) fed)
+    → ((sent : List ℕ) → DialogueCameTo (runs (input_at old) old.notes sent (old.inbox ++ take old.room piece)) new.notes new.inbox (sent ++ out) fed)
     → new.room ≡ old.room - length (take old.room piece) → new.state ≡ state_behind (answer_behind fed new.room (new.notes).closed)
     → (input : Input) (limit : ℕ) (given put : List ℕ) → Stands input limit old given put
-    → Stands input limit new (given ++ piece) (put ++ out) × Answers input limit (given ++ piece) (put ++ out) (answer_behind fed new.room (new.notes).closed)
+    → Stands input limit new (given ++ piece) (put ++ out) × AnswersDialogue input limit (given ++ piece) (put ++ out) (answer_behind fed new.room (new.notes).closed)
 pair_behind old new piece out fed going made came left to input limit given put s =
     let g = stands_in input limit old given put state.Going going s in
     let bytes = take old.room piece in
@@ -129,10 +129,10 @@ pair_behind old new piece out fed going made came left to input limit given put 
     ∙ carried input given put old.inbox bytes g.0 g.1
     ∙ ap (λ (b : List ℕ). noted input (conversation input b)) (sym (taken_behind limit old.room given piece g.3)) in
     let room : new.room ≡ limit - length (given ++ piece) = omega (arith, left, length-take old.room piece, length-append given piece, g.3) in
-    pair_on input limit (given ++ piece) (put ++ out) new fed (made ∙ s.made_for) (subst (λ (c : NotesCourse). Came c new.notes new.inbox (put ++ out) fed) course (came put)) room to
+    pair_on input limit (given ++ piece) (put ++ out) new fed (made ∙ s.made_for) (subst (λ (c : NotesCourse). DialogueCameTo c new.notes new.inbox (put ++ out) fed) course (came put)) room to
 
 pub takes : (old new : Dialogue) (piece old_out new_out : List ℕ) (fed : Result Bool ClientError) (result : Result DialoguePhase ClientError) → old.state ≡ state.Going → input_at new ≡ input_at old
-    → Took (input_at old) old.notes new.notes (old.inbox ++ take old.room piece) new.inbox old_out new_out fed
+    → TookInbox (input_at old) old.notes new.notes (old.inbox ++ take old.room piece) new.inbox old_out new_out fed
     → new.room ≡ old.room - length (take old.room piece) → result ≡ answer_behind fed new.room (new.notes).closed → new.state ≡ state_behind result → Takes old new piece old_out new_out result
 takes old new piece old_out new_out fed result going made took left answer to =
     let state_is = to ∙ ap state_behind answer in
@@ -141,7 +141,7 @@ takes old new piece old_out new_out fed result going made took left answer to =
       puts = took.1;
       stands = λ input limit given put s. (pair_behind old new piece took.0 fed going made took.2 left state_is input limit given put s).0;
       answers = λ input limit given put s not.
-          subst (Answers input limit (given ++ piece) (put ++ took.0)) (sym answer) ((pair_behind old new piece took.0 fed going made took.2 left state_is input limit given put s).1);
+          subst (AnswersDialogue input limit (given ++ piece) (put ++ took.0)) (sym answer) ((pair_behind old new piece took.0 fed going made took.2 left state_is input limit given put s).1);
     }
 
 -- ---- one that passes them over
@@ -149,7 +149,7 @@ takes old new piece old_out new_out fed result going made took left answer to =
 over_stays : (input : Input) (limit : ℕ) (given piece put : List ℕ) (e : Ending) → conversation input (taken_of limit given) ≡ Over e put → conversation input (taken_of limit (given ++ piece)) ≡ Over e put
 over_stays input limit given piece put e is = let s = split limit given piece in ap (conversation input) s.1 ∙ over_on input (taken_of limit given) s.0 e put is
 
-settles_on : (input : Input) (limit : ℕ) (given piece put : List ℕ) → Settles (conversation input (taken_of limit given)) limit given put → Settles (conversation input (taken_of limit (given ++ piece))) limit (given ++ piece) put
+settles_on : (input : Input) (limit : ℕ) (given piece put : List ℕ) → DialogueSettles (conversation input (taken_of limit given)) limit given put → DialogueSettles (conversation input (taken_of limit (given ++ piece))) limit (given ++ piece) put
 settles_on input limit given piece put (inl o) = inl (o.0, o.1, over_stays input limit given piece put o.0 o.2, o.3)
 settles_on input limit given piece put (inr w) =
     let same = take-append-le limit given piece w.1 in
@@ -169,7 +169,7 @@ stands_still d state.Starved is not input limit given piece put h =
     stands_as input limit d (given ++ piece) put state.Starved h.made_for is (subst (λ (l : List ℕ). Begins (conversation input l) put) (sym s.1) b)
 
 -- the transcript is whole
-done_answers : (d : Dialogue) → d.state ≡ state.Done → (input : Input) (limit : ℕ) (given piece put : List ℕ) → Stands input limit d given put → Answers input limit (given ++ piece) put (Ok phase.Done)
+done_answers : (d : Dialogue) → d.state ≡ state.Done → (input : Input) (limit : ℕ) (given piece put : List ℕ) → Stands input limit d given put → AnswersDialogue input limit (given ++ piece) put (Ok phase.Done)
 done_answers d is input limit given piece put h =
     let x = stands_in input limit d given put state.Done is h in
     let on = over_stays input limit given piece put _ x.1 in
@@ -180,7 +180,7 @@ takes_done d piece out is = record {
   out = [];
   puts = sym (append-nil out);
   stands = λ input limit given put h. subst (Stands input limit d (given ++ piece)) (sym (append-nil put)) (stands_still d state.Done is (λ e. cc) input limit given piece put h);
-  answers = λ input limit given put h not. subst (λ (p : List ℕ). Answers input limit (given ++ piece) p (Ok phase.Done)) (sym (append-nil put)) (done_answers d is input limit given piece put h);
+  answers = λ input limit given put h not. subst (λ (p : List ℕ). AnswersDialogue input limit (given ++ piece) p (Ok phase.Done)) (sym (append-nil put)) (done_answers d is input limit given piece put h);
 }
 
 takes_refused : (d : Dialogue) (s : State) (piece out : List ℕ) → d.state ≡ s → (s ≡ state.Going → ⊥) → IsBroken d → Takes d d piece out out (Err client.Broken)

@@ -3,11 +3,11 @@ use Rattle.std.specs.Int.{w32, from_be_bytes}
 use Rattle.std.proofs.Common.{◌≡◌, ◌≤◌, ◌+◌, ◌-◌, [], ◌∷◌, ◌++◌, ℕ, List, length, take, drop, true, Option, Some, None, Result, Ok, Err, arith, ap, refl, sym, subst, ◌∙◌, take_at, length-drop, length-take-le, take-append-drop}
 use Rattle.std.proofs.lemmas.List.{append-nil, drop-append-le, drop_all, take-append-le, take-take}
 use Rattle.std.specs.Option.{is_some}
-use Rattle.pgw_wire.specs.Header.{EndsAt, IsWhole, typed_end}
+use Rattle.pgw_wire.specs.Header.{MessageEndsAt, IsWhole, typed_end}
 use Rattle.pgw_query.specs.declared.run.Span.{Span}
 use Rattle.pgw_query.specs.Runs.{HasNoRow, IsSpan, SpellsRows, rows_in}
 use Rattle.pgw_query.proofs.RunLaws.{first_is, none_short, rest_of}
-use Rattle.pgw_dialogue.specs.Inbox.{HasSpan, Passes, Row, nothing, one_more}
+use Rattle.pgw_dialogue.specs.Inbox.{HasSpan, InboxPasses, InboxRow, nothing, one_more}
 use Rattle.pgw_types.specs.declared.context.ProtocolVersion.{ProtocolVersion}
 use Rattle.pgw_backend.specs.declared.backend.PgWireBackendMessage.{PgWireBackendMessage as Backend}
 use Rattle.pgw_backend.specs.declared.client_error.PgWireClientError.{PgWireClientError as ClientError}
@@ -91,7 +91,7 @@ stands_as front tail seen others span s same other none =
     let all = subst (λ (l : List ℕ). HasNoRow (drop span.end seen ++ l)) other rest in
     subst (λ (l : List ℕ). HasSpan l tail span) same (s, all)
 
-pub whole_if : (bytes : List ℕ) (end : Option ℕ) → is_some end ≡ true → EndsAt bytes end
+pub whole_if : (bytes : List ℕ) (end : Option ℕ) → is_some end ≡ true → MessageEndsAt bytes end
     → IsWhole bytes
 whole_if bytes None is e = cc
 whole_if bytes (Some n) is e = e.0
@@ -99,14 +99,14 @@ whole_if bytes (Some n) is e = e.0
 -- ---- messages in a row
 
 -- one message more
-pub row_on : (bytes : List ℕ) (n len : ℕ) → (n ≤ length bytes) × Row bytes n
+pub row_on : (bytes : List ℕ) (n len : ℕ) → (n ≤ length bytes) × InboxRow bytes n
     → IsWhole (drop n bytes) × (len ≡ typed_end (drop n bytes))
-    → (n + len ≤ length bytes) × Row bytes (n + len)
+    → (n + len ≤ length bytes) × InboxRow bytes (n + len)
 row_on bytes n len r w = (
   omega (arith, r.0, w.0.1, w.1, length-drop n bytes),
-  subst (λ (k : ℕ). Row bytes (n + k)) (sym w.1) (one_more n r.1 w.0),
+  subst (λ (k : ℕ). InboxRow bytes (n + k)) (sym w.1) (one_more n r.1 w.0),
 )
 
 -- none passes before the first is whole
-pub none_pass : (bytes : List ℕ) → ¬ IsWhole bytes → Passes bytes 0
+pub none_pass : (bytes : List ℕ) → ¬ IsWhole bytes → InboxPasses bytes 0
 none_pass bytes none = record { large = λ l. absurd (none l.0); others = λ _. (nothing, none) }

@@ -21,7 +21,7 @@ use Rattle.pgw_session.specs.declared.stage.Kind.TheVariants as kind
 use Rattle.pgw_session.specs.declared.stage.Stage.{Stage}
 use Rattle.pgw_session.specs.declared.stage.Stage.TheVariants.{Starting, Challenged, Proving, Admitted, Answering, PassingOver}
 use Rattle.pgw_session.specs.declared.stage.Next.TheVariants.{Goes}
-use Rattle.pgw_session.specs.Table.{after}
+use Rattle.pgw_session.specs.Table.{next_after}
 use Rattle.pgw_session.specs.Answers.{noted_unless, with_row}
 use Rattle.pgw_session.specs.Machine.{moves_by, rules_by, turn_by}
 use Rattle.pgw_session.specs.Notes.{notes_book}
@@ -141,7 +141,7 @@ any_row = record { payload = []; field_count = pos 0 }
 
 -- a row leaves the stage
 abbrev Stays : Input → DataRow → Stage → Type 0
-Stays input row s = after input s (backend.DataRow row) ≡ Goes s None
+Stays input row s = next_after input s (backend.DataRow row) ≡ Goes s None
 
 simple_stays : (input : Input) (row : DataRow) (rows : Bool) → rows ≡ true → Stays input row (Answering kind.Simple rows)
 simple_stays input row true e = refl

@@ -12,7 +12,7 @@ use Rattle.pgw_types.specs.declared.scram_error.ScramClientError.{ScramClientErr
 use Rattle.pgw_types.specs.declared.scram_error.ScramClientError.TheVariants as scram
 use Rattle.pgw_types.specs.declared.scram_error.ScramFault.TheVariants as scram_fault
 use Rattle.pgw_types.specs.declared.error.ScramMessageFault.{ScramMessageFault}
-use Rattle.pgw_hash.specs.Saslprep.{prepared}
+use Rattle.pgw_hash.specs.Saslprep.{saslprep}
 use Rattle.pgw_scram.specs.declared.exchange.ClientLogin.{ClientLogin}
 use Rattle.pgw_scram.specs.declared.messages.ServerFirst.{ServerFirst}
 use Rattle.pgw_scram.specs.declared.messages.ServerFinal.{ServerFinal}
@@ -32,7 +32,7 @@ use Rattle.pgw_session.specs.Input.{Input}
 use Rattle.pgw_session.specs.Requests.{passes_over, role}
 use Rattle.pgw_session.specs.Segments.{is_news, is_early, is_ready}
 use Rattle.pgw_session.specs.Logins.{must_bind, cleartext_message, md5_message, user_of, password_of, scram_login, takes_method, methods_refusal, first_refusal, final_refusal, expected_of, first_message, final_message}
-use Rattle.pgw_session.specs.Table.{news_or, by_welcome, unless, unless_bound, by_login, by_first, by_final, misplaced, by_role, by_ready, after}
+use Rattle.pgw_session.specs.Table.{news_or, by_welcome, next_unless, unless_bound, by_login, by_first, by_final, misplaced, by_role, by_ready, next_after}
 use Rattle.pgw_dialogue.specs.Wire.{IsOwn}
 use Rattle.pgw_dialogue.specs.Machine.{IsGood}
 
@@ -67,16 +67,16 @@ final_own expected (Err why) = tt
 final_own expected (Ok (Failed text)) = tt
 final_own expected (Ok (Signature text)) = unless_own (bytes_eq text expected) (scram.ScramError scram_fault.SignatureMismatch) tt
 
-unless_good : (o : Option ClientError) (n : Next) → AreOwn o → IsGood n → IsGood (unless o n)
+unless_good : (o : Option ClientError) (n : Next) → AreOwn o → IsGood n → IsGood (next_unless o n)
 unless_good None n own good = good
 unless_good (Some e) n own good = own
 
 methods_own : (input : Input) (methods : List (List ℕ)) → AreOwn (methods_refusal input methods)
 methods_own input methods =
-    let form = option_map of_scram (user_refusal (prepared (user_of input))) in
+    let form = option_map of_scram (user_refusal (saslprep (user_of input))) in
     let password = first_of (unless_so (is_utf8 (password_of input)) (client.ScramError scram_fault.PasswordNotUtf8)) form in
     first_own (takes_method input methods) (client.UnsupportedSASLAuthMethods methods) password tt
-    (first_own (is_utf8 (password_of input)) (client.ScramError scram_fault.PasswordNotUtf8) form tt (unless_own (is_some (prepared (user_of input))) (scram.InvalidConfig (codes "user")) refl))
+    (first_own (is_utf8 (password_of input)) (client.ScramError scram_fault.PasswordNotUtf8) form tt (unless_own (is_some (saslprep (user_of input))) (scram.InvalidConfig (codes "user")) refl))
 
 news_good : (b : Bool) (s : Stage) (n : Next) → IsGood n → IsGood (news_or b s n)
 news_good true s n good = tt
@@ -129,7 +129,7 @@ ready_good : (b : Bool) → IsGood (by_ready b)
 ready_good true = tt
 ready_good false = tt
 
-pub after_good : (input : Input) (s : Stage) (m : Backend) → IsGood (after input s m)
+pub after_good : (input : Input) (s : Stage) (m : Backend) → IsGood (next_after input s m)
 after_good input Starting m = news_good (is_early (must_bind input) m) Starting (by_login input m) (login_good input m)
 after_good input (Challenged login) m = first_good login m
 after_good input (Proving expected) m = final_good expected m
@@ -138,5 +138,5 @@ after_good input (Answering k rows) m = role_good k (role k rows m)
 after_good input PassingOver m = ready_good (is_ready m)
 
 -- what the table answers is good
-pub next_good : (input : Input) (s : Stage) (m : Backend) (n : Next) → n ≡ after input s m → IsGood n
+pub next_good : (input : Input) (s : Stage) (m : Backend) (n : Next) → n ≡ next_after input s m → IsGood n
 next_good input s m n is = subst IsGood (sym is) (after_good input s m)

@@ -1,27 +1,27 @@
 -- From what a dialogue notes to the conversation.
 use Rattle.std.proofs.Common.{◌≡◌, ℕ, List, [], ◌++◌, refl, ◌∙◌, ap, sym, subst, append_assoc}
 use Rattle.std.proofs.lemmas.List.{append-nil}
-use Rattle.pgw_course.specs.Course.{Course, Waits, Over, run, sent_of, seen}
+use Rattle.pgw_course.specs.Course.{Course, Waits, Over, run, sent_of, map_course}
 use Rattle.pgw_course.proofs.CourseLaws.{run_append, run_more, run_over, sent_grows}
 use Rattle.pgw_session.specs.declared.notes.Notes.{Notes}
 use Rattle.pgw_session.specs.declared.types.SessionReport.{SessionReport}
 use Rattle.pgw_session.specs.Input.{Input}
-use Rattle.pgw_session.specs.Events.{Event, joined}
+use Rattle.pgw_session.specs.Events.{Event, all_events}
 use Rattle.pgw_session.specs.Standings.{standing_of}
 use Rattle.pgw_session.specs.Transcript.{report_of}
-use Rattle.pgw_session.specs.Machine.{End, Complete, ended, rules_by, beginning_by}
+use Rattle.pgw_session.specs.Machine.{End, Complete, map_end, rules_by, beginning_by}
 use Rattle.pgw_session.specs.Talk.{Talk, Ending, beginning, conversation, heard_of, talk_rules}
 use Rattle.pgw_session.specs.Notes.{notes_book, first_notes, noted_of, view}
 use Rattle.pgw_session.proofs.Events.{clean_heard}
 use Rattle.pgw_session.proofs.NotesLaws.{notes_tell}
 use Rattle.pgw_session.proofs.ReadingLaws.{reads_more, steady_by}
 use Rattle.pgw_session.proofs.Sound.{SoundAt, Cause, conversation_sound}
-use Rattle.pgw_dialogue.specs.Machine.{NotesCourse, IsWhole, report_at, runs}
+use Rattle.pgw_dialogue.specs.Machine.{NotesCourse, IsWholeEnd, report_at, runs}
 use Rattle.pgw_course.specs.Course.{Begins}
 
 -- the conversation as it is noted
 abbrev pub noted : Input → Course Talk Ending → NotesCourse
-noted input c = seen (view input) (ended (view input)) c
+noted input c = map_course (view input) (map_end (view input)) c
 
 -- ---- there
 
@@ -50,7 +50,7 @@ pub waits_in : (input : Input) (c : Course Talk Ending) (notes : Notes) (put inb
 waits_in input (Waits t s p) notes put inbox is = (t, cc, cc)
 waits_in input (Over e s) notes put inbox is = cc
 
-pub over_in : (input : Input) (c : Course Talk Ending) (end : End Notes) (put : List ℕ) → noted input c ≡ Over end put → (e : Ending) × (c ≡ Over e put) × (ended (view input) e ≡ end)
+pub over_in : (input : Input) (c : Course Talk Ending) (end : End Notes) (put : List ℕ) → noted input c ≡ Over end put → (e : Ending) × (c ≡ Over e put) × (map_end (view input) e ≡ end)
 over_in input (Waits t s p) end put is = cc
 over_in input (Over e s) end put is = (e, ap (Over e) (cc), cc)
 
@@ -66,12 +66,12 @@ begins_in input c put b = (b.0, sym (sent_in input c) ∙ b.1)
 whole_report : (input : Input) (t : Talk) → t.open_events ≡ [] → t.passed ≡ [] → report_at (view input t) ≡ report_of input t.closed
 unfolding report_of
 whole_report input t none clean =
-    let same : heard_of t ≡ joined t.closed = sym (clean_heard t clean) ∙ ap (λ (l : List Event). joined t.closed ++ l) none ∙ append-nil (joined t.closed) in
+    let same : heard_of t ≡ all_events t.closed = sym (clean_heard t clean) ∙ ap (λ (l : List Event). all_events t.closed ++ l) none ∙ append-nil (all_events t.closed) in
     let r = ap (standing_of input.config) same in
     cc
 
 -- where the transcript is whole, what is noted is its report
-pub whole_in : (input : Input) (taken : List ℕ) (end : End Notes) (put : List ℕ) (report : SessionReport) → noted input (conversation input taken) ≡ Over end put → IsWhole end report
+pub whole_in : (input : Input) (taken : List ℕ) (end : End Notes) (put : List ℕ) (report : SessionReport) → noted input (conversation input taken) ≡ Over end put → IsWholeEnd end report
     → (t : Talk) × (conversation input taken ≡ Over (record { notes = t; outcome = Complete }) put) × (report ≡ report_of input t.closed)
 whole_in input taken end put report is whole =
     let o = over_in input (conversation input taken) end put is in

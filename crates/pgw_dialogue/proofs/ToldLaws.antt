@@ -4,7 +4,7 @@ use Rattle.std.proofs.lemmas.List.{append-nil}
 use Rattle.pgw_backend.specs.declared.client_error.PgWireClientError.{PgWireClientError as ClientError}
 use Rattle.pgw_course.specs.Course.{Course, Waits, Over, sent_of}
 use Rattle.pgw_session.specs.Input.{Input}
-use Rattle.pgw_session.specs.Failures.{Told, WaitsStill}
+use Rattle.pgw_session.specs.Failures.{BytesTell, WaitsStill}
 use Rattle.pgw_session.specs.Machine.{Complete, error_of}
 use Rattle.pgw_session.specs.Talk.{Talk, Ending, conversation}
 use Rattle.pgw_session.specs.Transcript.{Completed, report_of}
@@ -37,10 +37,10 @@ begins_by state.Going d input limit given put h = ([], sent_by state.Going d inp
 begins_by state.Done d input limit given put h = ([], sent_by state.Done d input limit given put h (λ e. cc) ∙ sym (append-nil put), inr refl)
 begins_by state.Refused d input limit given put h = ([], sent_by state.Refused d input limit given put h (λ e. cc) ∙ sym (append-nil put), inr refl)
 
-pub told : (input : Input) (limit : ℕ) (d : Dialogue) (given put : List ℕ) → Stands input limit d given put → (unsent : List ℕ) × Told input (taken_of limit given) (put ++ unsent) × (IsStarved d ⊎ (unsent ≡ []))
+pub told : (input : Input) (limit : ℕ) (d : Dialogue) (given put : List ℕ) → Stands input limit d given put → (unsent : List ℕ) × BytesTell input (taken_of limit given) (put ++ unsent) × (IsStarved d ⊎ (unsent ≡ []))
 told input limit d given put h =
     let b = begins_by d.state d input limit given put h.stands in
-    (b.0, subst (Told input (taken_of limit given)) b.1 (failures.told input (taken_of limit given)), b.2)
+    (b.0, subst (BytesTell input (taken_of limit given)) b.1 (failures.told input (taken_of limit given)), b.2)
 
 -- ---- where it is
 

@@ -4,10 +4,10 @@ use Rattle.std.proofs.Math.Seq.{take-append_seam}
 use Rattle.pgw_types.specs.declared.error.PgWireError.{PgWireError}
 use Rattle.pgw_types.specs.declared.error.PgWireError.TheVariants as wire
 use Rattle.pgw_types.specs.declared.context.ProtocolVersion.{ProtocolVersion}
-use Rattle.pgw_wire.specs.Reading.{◌>>=◌, Refuses}
+use Rattle.pgw_wire.specs.Reading.{◌>>=◌, IsReadRefusal}
 use Rattle.pgw_wire.specs.Framing.{Decodes}
 use Rattle.pgw_backend.specs.Backend.{backend_front}
-use Rattle.pgw_backend.specs.ClientError.{of_wire}
+use Rattle.pgw_backend.specs.ClientError.{client_of_wire}
 use Rattle.pgw_backend.specs.Front.{typed_phase}
 use Rattle.pgw_frontend.specs.Frontend.{encoding, encodings, both}
 use Rattle.pgw_backend.specs.declared.backend.PgWireBackendMessage.{PgWireBackendMessage as Backend}
@@ -24,14 +24,14 @@ memory_or e = inr (λ is. cc)
 pub own_not_io : (e : ClientError) → IsOwn e → e ≡ client.IoError → ⊥
 own_not_io e own is = subst IsOwn is own
 
-pub own_of : (e : PgWireError) → IsOwn (of_wire e)
-unfolding of_wire
+pub own_of : (e : PgWireError) → IsOwn (client_of_wire e)
+unfolding client_of_wire
 own_of wire.OutOfMemory = tt
 own_of e = tt
 
 -- a refusal of the codec is told as it is
-pub told_of : {A : Type 0} (read : Result A PgWireError) (e : PgWireError) → Refuses e read → Unless (of_wire e) ((why : PgWireError) × (read ≡ Err why) × (of_wire e ≡ client.PgWireError why))
-unfolding of_wire
+pub told_of : {A : Type 0} (read : Result A PgWireError) (e : PgWireError) → IsReadRefusal e read → Unless (client_of_wire e) ((why : PgWireError) × (read ≡ Err why) × (client_of_wire e ≡ client.PgWireError why))
+unfolding client_of_wire
 told_of read wire.OutOfMemory r = λ ne. absurd (ne refl)
 told_of read e r = λ ne. (e, r (λ is. cc), refl)
 
@@ -39,7 +39,7 @@ pub found : (v : ProtocolVersion) (old new : List ℕ) (o : Option Backend) → 
 found v old new None d = (d.0, front_none v old d.1)
 found v old new (Some m) d = front_taken v old new m d
 
-pub refused : (v : ProtocolVersion) (old new : List ℕ) (e : PgWireError) → Decodes (Err e) old new (backend_front (typed_phase v) old) → Decoded v old new (Err (of_wire e))
+pub refused : (v : ProtocolVersion) (old new : List ℕ) (e : PgWireError) → Decodes (Err e) old new (backend_front (typed_phase v) old) → Decoded v old new (Err (client_of_wire e))
 refused v old new e d = (d.0, λ ne. let t = told_of (backend_front (typed_phase v) old) e d.1 ne in (t.0, front_refused v old t.0 t.1, t.2))
 
 -- what one message appends
@@ -68,15 +68,15 @@ pub one_refused : (ms : List Frontend) (at : ℕ) (m : Frontend) (d : List ℕ) 
 one_refused ms at m d e within is put one =
     put ∙ ap (λ (l : List Frontend). both (Ok d) (encodings l)) (cut_at ms at m within is) ∙ ap (λ (r : Result (List ℕ) PgWireError). both (Ok d) (both r (encodings (drop (at + 1) ms)))) one
 
-pub put_refused : (ms : List Frontend) (at : ℕ) (m : Frontend) (old d now : List ℕ) (e : PgWireError) → at < length ms → m ≡ get_or ms at m → encodings ms ≡ both (Ok d) (encodings (drop at ms)) → now ≡ old ++ d → Refuses e (encoding m)
-    → PutOut (encodings ms) old (take (length old) now) (Err (of_wire e))
+pub put_refused : (ms : List Frontend) (at : ℕ) (m : Frontend) (old d now : List ℕ) (e : PgWireError) → at < length ms → m ≡ get_or ms at m → encodings ms ≡ both (Ok d) (encodings (drop at ms)) → now ≡ old ++ d → IsReadRefusal e (encoding m)
+    → PutOut (encodings ms) old (take (length old) now) (Err (client_of_wire e))
 put_refused ms at m old d now e within is put are r = (
   ap (take (length old)) are ∙ take-append_seam old d,
   λ ne. let t = told_of (encoding m) e r ne in (t.0, one_refused ms at m d t.0 within is put t.1, t.2),
 )
 
 -- one message alone is refused, and nothing was put out
-pub alone_refused : (m : Frontend) (old now : List ℕ) (e : PgWireError) → now ≡ old → Refuses e (encoding m) → PutOut (encodings (m ∷ [])) old now (Err (of_wire e))
+pub alone_refused : (m : Frontend) (old now : List ℕ) (e : PgWireError) → now ≡ old → IsReadRefusal e (encoding m) → PutOut (encodings (m ∷ [])) old now (Err (client_of_wire e))
 alone_refused m old now e same r = (
   same,
   λ ne. let t = told_of (encoding m) e r ne in (t.0, ap (λ (one : Result (List ℕ) PgWireError). both one (Ok [])) t.1, t.2),

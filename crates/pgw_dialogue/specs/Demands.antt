@@ -7,12 +7,12 @@ use Rattle.pgw_backend.specs.declared.client_error.PgWireClientError.TheVariants
 abbrev pub IsInvalidConfig : List ℕ → ClientError → Type 0
 IsInvalidConfig key e = (e ≡ client.InvalidConfig key) ⊎ (e ≡ client.OutOfMemory)
 
-abbrev pub Refuses : {T : Type 0} → List ℕ → Result T ClientError → Type 0
-Refuses key (Ok value) = ⊥
-Refuses key (Err e) = IsInvalidConfig key e
+abbrev pub RefusesKey : {T : Type 0} → List ℕ → Result T ClientError → Type 0
+RefusesKey key (Ok value) = ⊥
+RefusesKey key (Err e) = IsInvalidConfig key e
 
 -- a configuration is refused by the key of its demand, if it has one; no clause of a session cites it
-abbrev pub Checked : Option (List ℕ) → Result Unit ClientError → Type 0
-Checked None (Ok done) = Unit {0}
-Checked None (Err e) = ⊥
-Checked (Some key) result = Refuses key result
+abbrev pub ChecksDemand : Option (List ℕ) → Result Unit ClientError → Type 0
+ChecksDemand None (Ok done) = Unit {0}
+ChecksDemand None (Err e) = ⊥
+ChecksDemand (Some key) result = RefusesKey key result

@@ -4,7 +4,7 @@ use Rattle.pgw_backend.specs.declared.client_error.PgWireClientError.{PgWireClie
 use Rattle.pgw_backend.specs.declared.client_error.PgWireClientError.TheVariants as client
 use Rattle.pgw_session.specs.Input.{input_with, Input}
 use Rattle.pgw_dialogue.specs.Machine.{notes_end, report_at}
-use Rattle.pgw_course.specs.Course.{Begins, Waiting}
+use Rattle.pgw_course.specs.Course.{Begins, CourseWaits}
 use Rattle.pgw_course.specs.Course.{Course, Waits, Over}
 use Rattle.pgw_frontend.specs.Frontend.{encodings}
 use Rattle.pgw_session.specs.declared.types.SessionReport.{SessionReport}
@@ -45,15 +45,15 @@ IsBroken d = (d.state ≡ state.Refused) ⊎ IsStarved d
 -- ---- what it stands for
 
 -- the conversation has ended with an error, or waits where the limit is reached
-abbrev pub Settles : Course Talk Ending → ℕ → List ℕ → List ℕ → Type 0
-Settles course limit given put = ((ending : Ending) × (e : ClientError) × (course ≡ Over ending put) × (error_of ending.outcome ≡ Some e)) ⊎ (Waiting course put × (limit ≤ length given))
+abbrev pub DialogueSettles : Course Talk Ending → ℕ → List ℕ → List ℕ → Type 0
+DialogueSettles course limit given put = ((ending : Ending) × (e : ClientError) × (course ≡ Over ending put) × (error_of ending.outcome ≡ Some e)) ⊎ (CourseWaits course put × (limit ≤ length given))
 
 -- The conversation of the bytes given has come to where the dialogue is, and what was put out is what is sent in it; of
 -- this no more than a front where memory was wanting.
 abbrev pub StandsIn : State → Dialogue → Input → ℕ → List ℕ → List ℕ → Type 0
 StandsIn state.Going d input limit given put = (t : Talk) × (conversation input given ≡ Waits t put d.inbox) × (d.notes ≡ view input t) × (length given + d.room ≡ limit)
 StandsIn state.Done d input limit given put = (t : Talk) × (conversation input (taken_of limit given) ≡ Over (record { notes = t; outcome = Complete }) put) × (report_at d.notes ≡ report_of input t.closed)
-StandsIn state.Refused d input limit given put = Settles (conversation input (taken_of limit given)) limit given put
+StandsIn state.Refused d input limit given put = DialogueSettles (conversation input (taken_of limit given)) limit given put
 StandsIn state.Starved d input limit given put = Begins (conversation input (taken_of limit given)) put
 
 pub record Stands (input : Input) (limit : ℕ) (d : Dialogue) (given put : List ℕ) : Type 0 where
@@ -82,7 +82,7 @@ IsBehind d (Ok phase.Done) = IsDone d
 IsBehind d (Err e) = IsBroken d
 
 -- what a call answers that was given a piece, of a dialogue that stands for these bytes then
-pub record Answers (input : Input) (limit : ℕ) (given put : List ℕ) (result : Result DialoguePhase ClientError) : Type 0 where
+pub record AnswersDialogue (input : Input) (limit : ℕ) (given put : List ℕ) (result : Result DialoguePhase ClientError) : Type 0 where
   pub answer : IsOrLacks (answer_to input limit given) result
   pub tells : Tells input limit given put result
 
@@ -90,7 +90,7 @@ pub record Takes (old new : Dialogue) (piece old_out new_out : List ℕ) (result
   pub out : List ℕ
   pub puts : new_out ≡ old_out ++ out
   pub stands : (input : Input) (limit : ℕ) (given put : List ℕ) → Stands input limit old given put → Stands input limit new (given ++ piece) (put ++ out)
-  pub answers : (input : Input) (limit : ℕ) (given put : List ℕ) → Stands input limit old given put → (IsBroken old → ⊥) → Answers input limit (given ++ piece) (put ++ out) result
+  pub answers : (input : Input) (limit : ℕ) (given put : List ℕ) → Stands input limit old given put → (IsBroken old → ⊥) → AnswersDialogue input limit (given ++ piece) (put ++ out) result
 
 -- ---- a session over a link that has all the bytes given
 

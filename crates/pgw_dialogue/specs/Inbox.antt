@@ -6,14 +6,14 @@ use Rattle.pgw_query.specs.declared.run.Span.{Span}
 use Rattle.pgw_query.specs.Runs.{HasNoRow, IsSpan}
 
 -- messages stand whole in a row from the front to there: none, or one more behind others
-pub data Row (bytes : List ℕ) : ℕ → Type 0 where
-  nothing : Row bytes 0
-  one_more : (n : ℕ) → Row bytes n → IsWhole (drop n bytes)
-      → Row bytes (n + typed_end (drop n bytes))
+pub data InboxRow (bytes : List ℕ) : ℕ → Type 0 where
+  nothing : InboxRow bytes 0
+  one_more : (n : ℕ) → InboxRow bytes n → IsWhole (drop n bytes)
+      → InboxRow bytes (n + typed_end (drop n bytes))
 
 -- and no message stands whole behind them
 abbrev pub EndsRow : List ℕ → ℕ → Type 0
-EndsRow bytes n = Row bytes n × (¬ IsWhole (drop n bytes))
+EndsRow bytes n = InboxRow bytes n × (¬ IsWhole (drop n bytes))
 
 -- the message at the front is whole, and large
 abbrev pub IsLarge : List ℕ → Type 0
@@ -21,7 +21,7 @@ IsLarge bytes = IsWhole bytes × (16384 < typed_end bytes)
 
 -- So many bytes pass: those of all messages that stand whole in a row at the front, or of a large
 -- first one alone.
-pub record Passes (bytes : List ℕ) (n : ℕ) : Type 0 where
+pub record InboxPasses (bytes : List ℕ) (n : ℕ) : Type 0 where
   pub large : IsLarge bytes → n ≡ typed_end bytes
   pub others : ¬ IsLarge bytes → EndsRow bytes n
 

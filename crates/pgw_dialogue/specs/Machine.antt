@@ -48,7 +48,7 @@ runs input notes wrote bytes = run (rules_by notes_book input) (Waits notes wrot
 abbrev pub StopsBy : NotesMove → ClientError → Type 0
 StopsBy move e = (end : End Notes) × (move ≡ Ends end []) × (error_of end.outcome ≡ Some e)
 
-pub record IsWhole (end : End Notes) (report : SessionReport) : Type 0 where
+pub record IsWholeEnd (end : End Notes) (report : SessionReport) : Type 0 where
   pub outcome : end.outcome ≡ Complete
   pub reported : report_at end.notes ≡ report
 
@@ -63,30 +63,30 @@ abbrev pub whole_end : Notes → End Notes
 whole_end notes = record { notes = record notes { closed = suc notes.closed }; outcome = Complete }
 
 -- what taking a message answers
-abbrev pub Moved : NotesMove → Notes → List ℕ → List ℕ → Result Bool ClientError → Type 0
-Moved move new old_out new_out (Ok true) = (move ≡ Ends (whole_end new) []) × (new_out ≡ old_out)
-Moved move new old_out new_out (Ok false) = (bytes : List ℕ) × (move ≡ On new bytes) × (new_out ≡ old_out ++ bytes)
-Moved move new old_out new_out (Err e) = (new_out ≡ old_out) × Unless e (StopsBy move e)
+abbrev pub AnswersMove : NotesMove → Notes → List ℕ → List ℕ → Result Bool ClientError → Type 0
+AnswersMove move new old_out new_out (Ok true) = (move ≡ Ends (whole_end new) []) × (new_out ≡ old_out)
+AnswersMove move new old_out new_out (Ok false) = (bytes : List ℕ) × (move ≡ On new bytes) × (new_out ≡ old_out ++ bytes)
+AnswersMove move new old_out new_out (Err e) = (new_out ≡ old_out) × Unless e (StopsBy move e)
 
 -- what passing a message over answers
-abbrev pub Passed : Notes → Notes → Backend → Backend → Result Bool ClientError → Type 0
-Passed old new first m (Ok over) = (over ≡ false) × (is_ready m ≡ false) × (new ≡ record old { standing = standing_by old.standing m; first_passed = Some first })
-Passed old new first m (Err e) = Unless e ((is_ready m ≡ true) × (e ≡ client.UnexpectedMessage first))
+abbrev pub DialoguePasses : Notes → Notes → Backend → Backend → Result Bool ClientError → Type 0
+DialoguePasses old new first m (Ok over) = (over ≡ false) × (is_ready m ≡ false) × (new ≡ record old { standing = standing_by old.standing m; first_passed = Some first })
+DialoguePasses old new first m (Err e) = Unless e ((is_ready m ≡ true) × (e ≡ client.UnexpectedMessage first))
 
 -- what putting the startup message out answers, behind what was written before
-abbrev pub Started : Input → List ℕ → Result Notes ClientError → Type 0
-Started input out (Ok notes) = beginning_by notes_book input (first_notes input) ≡ Waits notes out []
-Started input out (Err e) = (out ≡ []) × Unless e ((end : End Notes) × (beginning_by notes_book input (first_notes input) ≡ Over end []) × (error_of end.outcome ≡ Some e))
+abbrev pub StartsRun : Input → List ℕ → Result Notes ClientError → Type 0
+StartsRun input out (Ok notes) = beginning_by notes_book input (first_notes input) ≡ Waits notes out []
+StartsRun input out (Err e) = (out ≡ []) × Unless e ((end : End Notes) × (beginning_by notes_book input (first_notes input) ≡ Over end []) × (error_of end.outcome ≡ Some e))
 
 -- what taking the message at the front of the buffer does to the whole run
-abbrev pub Advanced : Input → Notes → Notes → List ℕ → List ℕ → List ℕ → List ℕ → Result Progress ClientError → Type 0
-Advanced input old new old_buffer new_buffer old_out new_out (Ok progress.More) =
+abbrev pub AdvancesRun : Input → Notes → Notes → List ℕ → List ℕ → List ℕ → List ℕ → Result Progress ClientError → Type 0
+AdvancesRun input old new old_buffer new_buffer old_out new_out (Ok progress.More) =
     (new ≡ old) × (new_out ≡ old_out) × (new_buffer ≡ old_buffer) × (front old.standing.version old_buffer ≡ More)
-Advanced input old new old_buffer new_buffer old_out new_out (Ok progress.Went) =
+AdvancesRun input old new old_buffer new_buffer old_out new_out (Ok progress.Went) =
     (out : List ℕ) × (new_out ≡ old_out ++ out) × ((sent : List ℕ) → runs input old sent old_buffer ≡ runs input new (sent ++ out) new_buffer)
-Advanced input old new old_buffer new_buffer old_out new_out (Ok progress.Done) =
-    (end : End Notes) × IsWhole end (report_at new) × (new_out ≡ old_out) × ((sent : List ℕ) → runs input old sent old_buffer ≡ Over end sent)
-Advanced input old new old_buffer new_buffer old_out new_out (Err e) =
+AdvancesRun input old new old_buffer new_buffer old_out new_out (Ok progress.Done) =
+    (end : End Notes) × IsWholeEnd end (report_at new) × (new_out ≡ old_out) × ((sent : List ℕ) → runs input old sent old_buffer ≡ Over end sent)
+AdvancesRun input old new old_buffer new_buffer old_out new_out (Err e) =
     (new_out ≡ old_out) × Unless e ((end : End Notes) × (error_of end.outcome ≡ Some e) × ((sent : List ℕ) → runs input old sent old_buffer ≡ Over end sent))
 
 -- What was taken is the front of the buffer. Where the session goes on, it alone leads there; where the session is whole,

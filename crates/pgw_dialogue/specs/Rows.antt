@@ -9,12 +9,12 @@ use Rattle.pgw_session.specs.declared.tally.Tally.{Tally}
 use Rattle.pgw_session.specs.declared.tally.Opened.{Opened}
 use Rattle.pgw_session.specs.declared.stage.Next.TheVariants.{Goes}
 use Rattle.pgw_session.specs.Input.{Input}
-use Rattle.pgw_session.specs.Table.{after}
+use Rattle.pgw_session.specs.Table.{next_after}
 use Rattle.pgw_dialogue.specs.Machine.{runs}
 
 -- a row leaves the stage, and neither an error nor a message without a place was got in this segment
 pub record TakesRows (notes : Notes) : Type 0 where
-  pub stays : (input : Input) (row : DataRow) → after input notes.stage (backend.DataRow row) ≡ Goes notes.stage None
+  pub stays : (input : Input) (row : DataRow) → next_after input notes.stage (backend.DataRow row) ≡ Goes notes.stage None
   pub clean : notes.first_passed ≡ None
   pub fine : notes.tally.remote ≡ None
 

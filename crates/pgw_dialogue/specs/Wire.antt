@@ -28,12 +28,12 @@ IsOwn client.ReadLimit = ⊥
 IsOwn e = Unit {0}
 
 -- what the link's end can mean
-abbrev pub IsEnd : ClientError → Type 0
-IsEnd client.OutOfMemory = Unit {0}
-IsEnd client.UnexpectedEOF = Unit {0}
-IsEnd (client.RemoteError m) = Unit {0}
-IsEnd (client.UnexpectedMessage m) = Unit {0}
-IsEnd e = ⊥
+abbrev pub IsEndError : ClientError → Type 0
+IsEndError client.OutOfMemory = Unit {0}
+IsEndError client.UnexpectedEOF = Unit {0}
+IsEndError (client.RemoteError m) = Unit {0}
+IsEndError (client.UnexpectedMessage m) = Unit {0}
+IsEndError e = ⊥
 
 -- ---- messages
 

@@ -1,7 +1,7 @@
 //! The answer of a request, by what its segment gave.
 ghost use Rattle.std.specs.Prelude.{◌≡◌, [], ◌++◌, map, Some, IfOk, OnOk};
 ghost use Rattle.pgw_query.specs.Fields.{field_info_of, type_of};
-ghost use Rattle.pgw_session.specs.Answers.{answer_by, columns_of, executed_of, no_tally, noted, result_of, rows_until, tally_after, with_end, with_row, response_of};
+ghost use Rattle.pgw_session.specs.Answers.{answer_by, last_columns, executed_of, no_tally, tally_with, result_of, rows_until, tally_after, with_end, with_row, response_of};
 
 use pgw_backend::backend::PgWireBackendMessage;
 use pgw_query::data::{DataRow, FieldDescription};
@@ -137,7 +137,7 @@ fn note_command(
     tally: &mut Tally,
     command: CommandComplete,
 ) -> Result<(), OutOfMemory>
-    ensures { OnOk result (tally.new ≡ noted tally.old
+    ensures { OnOk result (tally.new ≡ tally_with tally.old
         (PgWireBackendMessage.CommandComplete command)) }
 {
     let response = response_of(alloc, tally.opened.take(), command)?;
@@ -148,7 +148,7 @@ fn note_command(
 
 // An empty query ends the portal too.
 fn note_empty(alloc: Global, tally: &mut Tally) -> Result<(), OutOfMemory>
-    ensures { OnOk result (tally.new ≡ noted tally.old
+    ensures { OnOk result (tally.new ≡ tally_with tally.old
         (PgWireBackendMessage.EmptyQueryResponse (record {}))) }
 {
     tally.responses.push(Response::EmptyQuery)?;
@@ -220,7 +220,7 @@ fn with_rows(mut rows: DataRows, behind: DataRows) -> Result<DataRows, OutOfMemo
 }
 
 fn columns_of(alloc: Global, opened: Option<Opened>) -> Listed<FieldInfo>
-    ensures { result ≡ columns_of opened }
+    ensures { result ≡ last_columns opened }
 {
     match opened {
         Some(

@@ -1,7 +1,7 @@
 //! What a configuration demands that this client can't do.
 ghost use Rattle.std.specs.Prelude.{◌≡◌, IfErr};
 ghost use Rattle.pgw_session.specs.Demands.{refused_config};
-ghost use Rattle.pgw_dialogue.specs.Demands.{IsInvalidConfig, Checked};
+ghost use Rattle.pgw_dialogue.specs.Demands.{IsInvalidConfig, ChecksDemand};
 
 use pgw_backend::client_error::{PgWireClientError, PgWireClientResult};
 use pgw_config::config::{ChannelBinding, Config, SslMode};
@@ -21,7 +21,7 @@ fn invalid_config(alloc: Global, key: &str) -> PgWireClientError
 /// Refuses a configuration that demands an encrypted connection, or a login that is bound where no hash of a
 /// certificate is given.
 pub fn check_config(alloc: Global, config: &Config) -> PgWireClientResult<()>
-    ensures { Checked (refused_config config.now) result }
+    ensures { ChecksDemand (refused_config config.now) result }
 {
     match config.ssl_mode {
         SslMode::Require => return Err(invalid_config(alloc, "sslmode")),

@@ -1,10 +1,10 @@
 //! A session whose bytes the caller moves.
 ghost use Rattle.std.specs.Prelude.{◌≡◌, ◌<◌, ℕ, List, ◌++◌, ◌⊎◌, true, Some, Ok, Err, IfSome, OnOk};
 ghost use Rattle.pgw_backend.specs.declared.client_error.PgWireClientError.TheVariants as client;
-ghost use Rattle.pgw_dialogue.specs.Demands.{Refuses};
+ghost use Rattle.pgw_dialogue.specs.Demands.{RefusesKey};
 ghost use Rattle.pgw_session.specs.Input.{input_with, Input as TheInput};
 ghost use Rattle.pgw_dialogue.specs.Machine.{notes_end, report_at};
-ghost use Rattle.pgw_dialogue.specs.Wire.{IsEnd, Unless};
+ghost use Rattle.pgw_dialogue.specs.Wire.{IsEndError, Unless};
 ghost use Rattle.pgw_session.specs.Demands.{refused_config};
 ghost use Rattle.pgw_session.specs.Failures.{EndsAs};
 ghost use Rattle.pgw_session.specs.Transcript.{Completed};
@@ -113,7 +113,7 @@ impl<'a> Dialogue<'a> {
         out: &mut BytesMut,
     ) -> PgWireClientResult<Dialogue<'a>>
         // A configuration that demands what this client can't do is refused by that key, or memory is wanting.
-        ensures refused { IfSome (refused_config config.now) (λ key. Refuses key result) }
+        ensures refused { IfSome (refused_config config.now) (λ key. RefusesKey key result) }
         // It stands for no bytes given, and for the startup message put out. Else nothing is put out, and the error has its
         // cause.
         ensures starts { Starts (input_with config.now requests.now nonce.now) limit out.old.items
@@ -199,7 +199,7 @@ impl<'a> Dialogue<'a> {
     /// What it means that no more bytes come. Asked behind `start` with a limit above 0, or behind Waiting or Ready.
     pub fn at_end(&self) -> PgWireClientError
         requires { Awaits self.now }
-        ensures end { IsEnd result }
+        ensures end { IsEndError result }
         // It is the one of what was noted, or memory is wanting.
         ensures is { Unless result (result ≡ notes_end self.now.notes) }
         // For every pair that it stands for, the error has its cause, or memory is wanting.

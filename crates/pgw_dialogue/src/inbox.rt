@@ -2,7 +2,7 @@
 ghost use Rattle.std.specs.Prelude.{◌≡◌, ◌≤◌, [], ◌++◌, length, take, IfErr, IfOk, OnOk, OnErr};
 ghost use Rattle.std.specs.Bool.{OnTrue};
 ghost use Rattle.pgw_query.specs.Runs.{HasNoRow, MovesRows};
-ghost use Rattle.pgw_dialogue.specs.Inbox.{EndsRow, HasSpan, Passes};
+ghost use Rattle.pgw_dialogue.specs.Inbox.{EndsRow, HasSpan, InboxPasses};
 ghost use Rattle.pgw_dialogue.specs.Wire.{IsOwn, Decoded};
 
 use crate::wire::decode;
@@ -182,7 +182,7 @@ fn take_behind(
 // follows it begins another block.
 fn freeze(alloc: Global, front: &mut Octets, tail: &mut BytesMut) -> Result<(), OutOfMemory>
     ensures same { front.new ++ tail.new.items ≡ front.old ++ tail.old.items }
-    ensures passed { OnOk result (Passes (front.old ++ tail.old.items) (length front.new)) }
+    ensures passed { OnOk result (InboxPasses (front.old ++ tail.old.items) (length front.new)) }
 {
     gather(front, tail)?;
     let len = frozen_len(tail.as_slice());
@@ -198,7 +198,7 @@ fn freeze(alloc: Global, front: &mut Octets, tail: &mut BytesMut) -> Result<(), 
 // How many bytes pass to the front: all messages that stand whole in a row, or a large first one.
 fn frozen_len(bytes: &[u8]) -> usize
     ensures within { result ≤ length bytes.now }
-    ensures passed { Passes bytes.now result }
+    ensures passed { InboxPasses bytes.now result }
 {
     match whole_end(bytes) {
         None => 0,

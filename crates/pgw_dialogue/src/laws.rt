@@ -1,7 +1,7 @@
 //! What holds of dialogues.
 ghost use Rattle.std.specs.Prelude.{◌≡◌, ◌⊎◌, ◌<◌, ℕ, List, [], ◌++◌, length};
 ghost use Rattle.pgw_dialogue.specs.Machine.{report_at};
-ghost use Rattle.pgw_session.specs.Failures.{Told, WaitsStill};
+ghost use Rattle.pgw_session.specs.Failures.{BytesTell, WaitsStill};
 ghost use Rattle.pgw_session.specs.Input.{Input as TheInput};
 ghost use Rattle.pgw_session.specs.Transcript.{Completed};
 ghost use Rattle.pgw_dialogue.specs.declared.dialogue.Dialogue.{Dialogue as TheDialogue};
@@ -14,7 +14,7 @@ pub fn dialogues_tell()
     // them, or a front of them where memory was wanting.
     ensures told { (input : TheInput) (limit : ℕ) (d : TheDialogue) (given put : List ℕ) →
         Stands input limit d given put →
-        (unsent : List ℕ) × Told input (taken_of limit given) (put ++ unsent)
+        (unsent : List ℕ) × BytesTell input (taken_of limit given) (put ++ unsent)
         × (IsStarved d ⊎ (unsent ≡ [])) }
     // One that awaits more bytes is within a message, with nothing due, and below its limit.
     ensures awaits { (input : TheInput) (limit : ℕ) (d : TheDialogue) (given put : List ℕ) →

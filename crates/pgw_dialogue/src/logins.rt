@@ -2,7 +2,7 @@
 ghost use Rattle.std.specs.Prelude.{◌≡◌, codes, Some, None, true, false, is_some, option_map, unwrap_or, IfOk, IfSome, IfNone};
 ghost use Rattle.std.specs.List.{list_any};
 ghost use Rattle.std.specs.Str.{bytes_eq, is_utf8};
-ghost use Rattle.pgw_hash.specs.Saslprep.{prepared};
+ghost use Rattle.pgw_hash.specs.Saslprep.{saslprep};
 ghost use Rattle.pgw_wire.specs.Reading.{lossy};
 ghost use Rattle.pgw_session.specs.Logins.{binding_of, cleartext_message, final_refusal, first_message, md5_message, method_of, offers, must_bind, password_message, password_of, scram_login, takes_method, user_of};
 ghost use Rattle.pgw_dialogue.specs.Input.{input_of};
@@ -181,7 +181,7 @@ pub fn scram_login(
     user: Text,
     password: &str,
 ) -> Result<ClientLogin, OutOfMemory>
-    requires user { prepared (user_of (input_of input.now)) ≡ Some user }
+    requires user { saslprep (user_of (input_of input.now)) ≡ Some user }
     requires password { password.now ≡ password_of (input_of input.now) }
     ensures { IfOk result (λ login. login ≡ scram_login (input_of input.now) methods.now) }
 {

@@ -4,12 +4,12 @@ ghost use Rattle.pgw_frontend.specs.Frontend.{encodings};
 ghost use Rattle.pgw_session.specs.Standings.{standing_by};
 ghost use Rattle.pgw_session.specs.Segments.{is_ready, sends, startup_message, startup_parameters, with_set};
 ghost use Rattle.pgw_session.specs.Requests.{role};
-ghost use Rattle.pgw_session.specs.Table.{after, by_role};
-ghost use Rattle.pgw_session.specs.Machine.{answered, moves_by, opens_next, sending, turn_by};
+ghost use Rattle.pgw_session.specs.Table.{next_after, by_role};
+ghost use Rattle.pgw_session.specs.Machine.{open_request, moves_by, opens_next, sending, turn_by};
 ghost use Rattle.pgw_session.specs.Notes.{answer_for, notes_book};
-ghost use Rattle.pgw_dialogue.specs.Wire.{IsEnd, IsOwn, Unless, PutOut};
+ghost use Rattle.pgw_dialogue.specs.Wire.{IsEndError, IsOwn, Unless, PutOut};
 ghost use Rattle.pgw_dialogue.specs.Input.{input_of};
-ghost use Rattle.pgw_dialogue.specs.Machine.{Advanced, IsGood, Moved, Passed, Shortens, Started, CutsFront, notes_end, report_at};
+ghost use Rattle.pgw_dialogue.specs.Machine.{AdvancesRun, IsGood, AnswersMove, DialoguePasses, Shortens, StartsRun, CutsFront, notes_end, report_at};
 
 use crate::inbox::Inbox;
 use crate::input::Input;
@@ -101,7 +101,7 @@ pub fn start(
 ) -> Result<Notes, PgWireClientError>
     requires { out.old.items ≡ [] }
     ensures own { IfErr result IsOwn }
-    ensures start { Started (input_of input.now) out.new.items result }
+    ensures start { StartsRun (input_of input.now) out.new.items result }
 {
     let startup = match startup_message(alloc, input) {
         Ok(message) => [message],
@@ -165,7 +165,7 @@ fn go_on(
     out: &mut BytesMut,
 ) -> Result<bool, PgWireClientError>
     ensures own { IfErr result IsOwn }
-    ensures moved { Moved (sending (notes_book.takes notes.old message [] stage)
+    ensures moved { AnswersMove (sending (notes_book.takes notes.old message [] stage)
         (notes_book.takes notes.old message (sends reply) stage) (encodings (sends reply)))
         notes.new out.old.items out.new.items result }
 {
@@ -191,7 +191,7 @@ fn keep_answer(
     answers: &mut Listed<Answer>,
 ) -> Result<(), OutOfMemory>
     ensures { OnOk result (answers.new ≡ answers.old
-        ++ answer_for (answered (input_of input.now) closed) tally.old) }
+        ++ answer_for (open_request (input_of input.now) closed) tally.old) }
 {
     if closed > 0 {
         if let Some(request) = input.requests.get(closed - 1) {
@@ -209,7 +209,7 @@ fn close(
     message: PgWireBackendMessage,
 ) -> Result<(), OutOfMemory>
     ensures { OnOk result (notes.new ≡ record
-        (notes_book.closes notes.old message (answered (input_of input.now) notes.old.closed))
+        (notes_book.closes notes.old message (open_request (input_of input.now) notes.old.closed))
         { closed = notes.old.closed }) }
 {
     note(alloc, notes, message, Stage::Starting)?;
@@ -232,7 +232,7 @@ fn open_next(
     out: &mut BytesMut,
 ) -> Result<bool, PgWireClientError>
     ensures own { IfErr result IsOwn }
-    ensures moved { Moved (opens_next notes_book
+    ensures moved { AnswersMove (opens_next notes_book
         (record notes.old { closed = suc notes.old.closed })
         (slice_get requests.now notes.old.closed)) notes.new out.old.items out.new.items result }
 {
@@ -259,7 +259,7 @@ fn close_and_open(
     out: &mut BytesMut,
 ) -> Result<bool, PgWireClientError>
     ensures own { IfErr result IsOwn }
-    ensures moved { Moved (moves_by notes_book (input_of input.now) notes.old message Next.Closes)
+    ensures moved { AnswersMove (moves_by notes_book (input_of input.now) notes.old message Next.Closes)
         notes.new out.old.items out.new.items result }
 {
     match close(alloc, input, notes, message) {
@@ -278,7 +278,7 @@ fn keep_first(
 ) -> Result<bool, PgWireClientError>
     requires { is_ready message.now ≡ false }
     ensures own { IfErr result IsOwn }
-    ensures passed { Passed notes.old notes.new first message.now result }
+    ensures passed { DialoguePasses notes.old notes.new first message.now result }
 {
     drop(replace(&mut notes.first_passed, Some(first)));
     match standings::note(alloc, &mut notes.standing, message) {
@@ -295,7 +295,7 @@ fn pass_over(
     message: PgWireBackendMessage,
 ) -> Result<bool, PgWireClientError>
     ensures own { IfErr result IsOwn }
-    ensures passed { Passed notes.old notes.new first message result }
+    ensures passed { DialoguePasses notes.old notes.new first message result }
 {
     if is_ready(&message) {
         drop(message);
@@ -340,7 +340,7 @@ fn follow(
     requires good { IsGood next }
     requires clean { notes.old.first_passed ≡ None }
     ensures own { IfErr result IsOwn }
-    ensures moved { Moved (moves_by notes_book (input_of input.now) notes.old message next)
+    ensures moved { AnswersMove (moves_by notes_book (input_of input.now) notes.old message next)
         notes.new out.old.items out.new.items result }
 {
     match next {
@@ -367,7 +367,7 @@ fn answer(
 ) -> Result<bool, PgWireClientError>
     requires clean { notes.old.first_passed ≡ None }
     ensures own { IfErr result IsOwn }
-    ensures moved { Moved (moves_by notes_book (input_of input.now) notes.old message
+    ensures moved { AnswersMove (moves_by notes_book (input_of input.now) notes.old message
         (by_role kind (role kind rows message))) notes.new out.old.items out.new.items result }
 {
     match role(kind, rows, &message) {
@@ -393,8 +393,8 @@ fn step(
 ) -> Result<bool, PgWireClientError>
     requires clean { notes.old.first_passed ≡ None }
     ensures own { IfErr result IsOwn }
-    ensures moved { Moved (moves_by notes_book (input_of input.now) notes.old message
-        (after (input_of input.now) notes.old.stage message)) notes.new out.old.items out.new.items
+    ensures moved { AnswersMove (moves_by notes_book (input_of input.now) notes.old message
+        (next_after (input_of input.now) notes.old.stage message)) notes.new out.old.items out.new.items
         result }
 {
     if let Stage::Answering(kind, rows) = &notes.stage {
@@ -419,7 +419,7 @@ fn take(
     out: &mut BytesMut,
 ) -> Result<bool, PgWireClientError>
     ensures own { IfErr result IsOwn }
-    ensures moved { Moved (turn_by notes_book (input_of input.now) notes.old message
+    ensures moved { AnswersMove (turn_by notes_book (input_of input.now) notes.old message
         notes.old.first_passed) notes.new out.old.items out.new.items result }
 {
     if notes.first_passed.is_none() {
@@ -441,7 +441,7 @@ fn take_next(
     ensures own { IfErr result IsOwn }
     ensures shorter { IfOk result (λ taken. Shortens taken (length buffer.old)
         (length buffer.new)) }
-    ensures step { Advanced (input_of input.now) notes.old notes.new buffer.old buffer.new
+    ensures step { AdvancesRun (input_of input.now) notes.old notes.new buffer.old buffer.new
         out.old.items out.new.items result }
     ensures front { CutsFront (input_of input.now) notes.old notes.new buffer.old buffer.new
         out.old.items out.new.items result }
@@ -470,7 +470,7 @@ pub fn advance(
     ensures own { IfErr result IsOwn }
     ensures shorter { IfOk result (λ taken. Shortens taken (length buffer.old)
         (length buffer.new)) }
-    ensures step { Advanced (input_of input.now) notes.old notes.new buffer.old buffer.new
+    ensures step { AdvancesRun (input_of input.now) notes.old notes.new buffer.old buffer.new
         out.old.items out.new.items result }
     ensures front { CutsFront (input_of input.now) notes.old notes.new buffer.old buffer.new
         out.old.items out.new.items result }
@@ -514,7 +514,7 @@ pub fn into_report(notes: Notes) -> SessionReport
 
 /// What the link's end means now.
 pub fn end_error(alloc: Global, notes: &Notes) -> PgWireClientError
-    ensures end { IsEnd result }
+    ensures end { IsEndError result }
     ensures is { Unless result (result ≡ notes_end notes.now) }
 {
     if let Some(first) = &notes.first_passed {

@@ -2,7 +2,7 @@
 ghost use Rattle.std.specs.Prelude.{◌≡◌, ◌≤◌, ◌+◌, ◌++◌, false, length, min, take, IfOk, IfErr, OnOk};
 ghost use Rattle.pgw_dialogue.specs.Input.{input_of};
 ghost use Rattle.pgw_dialogue.specs.Wire.{IsOwn};
-ghost use Rattle.pgw_dialogue.specs.Steps.{Took};
+ghost use Rattle.pgw_dialogue.specs.Steps.{TookInbox};
 
 use crate::inbox::Inbox;
 use crate::input::Input;
@@ -24,7 +24,7 @@ fn take_all(
     out: &mut BytesMut,
 ) -> PgWireClientResult<bool>
     ensures own { IfErr result IsOwn }
-    ensures took { Took (input_of input.now) notes.old notes.new inbox.old inbox.new out.old.items
+    ensures took { TookInbox (input_of input.now) notes.old notes.new inbox.old inbox.new out.old.items
         out.new.items result }
 {
     'messages: loop {
@@ -47,7 +47,7 @@ fn feed_part(
     out: &mut BytesMut,
 ) -> PgWireClientResult<bool>
     ensures own { IfErr result IsOwn }
-    ensures took { Took (input_of input.now) notes.old notes.new (inbox.old ++ part.now) inbox.new
+    ensures took { TookInbox (input_of input.now) notes.old notes.new (inbox.old ++ part.now) inbox.new
         out.old.items out.new.items result }
 {
     match inbox.append(part) {
@@ -75,7 +75,7 @@ pub fn feed(
     out: &mut BytesMut,
 ) -> PgWireClientResult<bool>
     ensures own { IfErr result IsOwn }
-    ensures took { Took (input_of input.now) notes.old notes.new (inbox.old ++ bytes.now) inbox.new
+    ensures took { TookInbox (input_of input.now) notes.old notes.new (inbox.old ++ bytes.now) inbox.new
         out.old.items out.new.items result }
 {
     let mut at = 0;

@@ -1,12 +1,12 @@
 //! What a message does at a stage of the open segment.
 ghost use Rattle.std.specs.Prelude.{◌≡◌, Some, IfOk};
-ghost use Rattle.pgw_hash.specs.Saslprep.{prepared};
+ghost use Rattle.pgw_hash.specs.Saslprep.{saslprep};
 ghost use Rattle.pgw_scram.specs.Answers.{AnswersClient};
-ghost use Rattle.pgw_scram.specs.Client.{replied};
+ghost use Rattle.pgw_scram.specs.Client.{scram_reply};
 ghost use Rattle.pgw_session.specs.Logins.{first_message, password_of, scram_login, user_of};
 ghost use Rattle.pgw_session.specs.Requests.{behind_error, role};
 ghost use Rattle.pgw_session.specs.Segments.{is_early, is_news, is_ready};
-ghost use Rattle.pgw_session.specs.Table.{after, by_final, by_first, by_login, by_role, by_welcome};
+ghost use Rattle.pgw_session.specs.Table.{next_after, by_final, by_first, by_login, by_role, by_welcome};
 ghost use Rattle.pgw_dialogue.specs.Input.{input_of};
 
 use crate::input::Input;
@@ -221,7 +221,7 @@ fn begin_scram(
     user: Text,
     password: &str,
 ) -> Result<Next, OutOfMemory>
-    requires user { prepared (user_of (input_of input.now)) ≡ Some user }
+    requires user { saslprep (user_of (input_of input.now)) ≡ Some user }
     requires password { password.now ≡ password_of (input_of input.now) }
     ensures { IfOk result (λ n. n ≡ Next.Goes
         (Stage.Challenged (scram_login (input_of input.now) methods.now))
@@ -351,7 +351,7 @@ pub fn after(
     stage: &Stage,
     message: &PgWireBackendMessage,
 ) -> Result<Next, OutOfMemory>
-    ensures { IfOk result (λ n. n ≡ after (input_of input.now) stage.now message.now) }
+    ensures { IfOk result (λ n. n ≡ next_after (input_of input.now) stage.now message.now) }
 {
     match stage {
         Stage::Starting => {

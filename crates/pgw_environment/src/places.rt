@@ -1,6 +1,6 @@
 //! The places of a configuration, to be tried in turn.
 ghost use Rattle.std.specs.Prelude.{◌≡◌, IfOk};
-ghost use Rattle.pgw_environment.specs.Places.{count_of as count_for, first_places, one_at as at_most_one, place_at as place_for, places_of as places_for, port_at as port_for};
+ghost use Rattle.pgw_environment.specs.Places.{place_count as count_for, first_places, one_at as at_most_one, config_at_place as place_for, places_of as places_for, port_at as port_for};
 
 use pgw_config::config::Config;
 use pgw_types::listed::{Duplicate, Listed};
@@ -43,7 +43,7 @@ fn port_at(alloc: Global, ports: &[u16], at: usize) -> Result<Listed<u16>, OutOf
 }
 
 // The configuration of the place with this number.
-#[tactic(auto, unfolding(crate::specs::Places::place_at))]
+#[tactic(auto, unfolding(crate::specs::Places::config_at_place))]
 fn place_at(alloc: Global, config: &Config, at: usize) -> Result<Config, OutOfMemory>
     ensures { IfOk result (λ place. place ≡ place_for config.now at) }
 {

@@ -1,7 +1,7 @@
 //! Variables that libpq reads.
 ghost use Rattle.std.specs.Prelude.{◌≡◌, ◌++◌, chars, string_bytes, IfOk, OnOk};
 ghost use Rattle.std.specs.List.{flat_map};
-ghost use Rattle.pgw_environment.specs.Variables.{demands_text, pair_text, place_text, quoted_character, text_of as text_for, user_text};
+ghost use Rattle.pgw_environment.specs.Variables.{demands_text, variable_text, place_text, quoted_character, variables_text as text_for, user_text};
 
 use pgw_types::memory::OutOfMemory;
 use pgw_types::text::Text;
@@ -46,10 +46,10 @@ fn put_quoted(out: &mut String, text: &str) -> Result<(), OutOfMemory>
 }
 
 // A key and its value, where a variable has one that is not empty.
-#[tactic(auto, unfolding(crate::specs::Variables::pair_text))]
+#[tactic(auto, unfolding(crate::specs::Variables::variable_text))]
 fn put_pair(out: &mut String, key: &str, value: &Option<Text>) -> Result<(), OutOfMemory>
     ensures { OnOk result (string_bytes out.new
-        ≡ string_bytes out.old ++ pair_text key.now value.now) }
+        ≡ string_bytes out.old ++ variable_text key.now value.now) }
 {
     match value {
         Some(text) if !text.is_empty() => {

@@ -7,7 +7,7 @@ use Rattle.std.specs.List.{concat}
 use Rattle.pgw_backend.specs.declared.client_error.PgWireClientError.{PgWireClientError as ClientError}
 use Rattle.pgw_backend.specs.declared.client_error.PgWireClientError.TheVariants as client
 use Rattle.pgw_dialogue.proofs.WireLaws.{memory_or}
-use Rattle.pgw_dialogue.specs.Demands.{Refuses}
+use Rattle.pgw_dialogue.specs.Demands.{RefusesKey}
 use Rattle.pgw_dialogue.specs.Machine.{notes_end, report_at}
 use Rattle.pgw_dialogue.specs.Wire.{Unless}
 use Rattle.pgw_course.specs.Course.{Course, Waits, Over}
@@ -21,7 +21,7 @@ use Rattle.pgw_dialogue.specs.declared.phase.DialoguePhase.TheVariants as phase
 use Rattle.pgw_session.specs.declared.types.SessionReport.{SessionReport}
 use Rattle.pgw_session.specs.Input.{Input}
 use Rattle.pgw_session.specs.Talk.{Talk, Ending, conversation}
-use Rattle.pgw_example.specs.Push.{Held, begun, unbegun}
+use Rattle.pgw_example.specs.Push.{HoldsExample, begun, unbegun}
 
 -- ---- the bytes of the pieces
 
@@ -119,7 +119,7 @@ done_or_starved d is starved = let e = sym is ∙ starved in cc
 
 -- ---- what is answered
 
-pub not_begun : (input : Input) (limit : ℕ) (all old_out out : List ℕ) (e : ClientError) → Starts input limit old_out out (Err e) → Held input limit all old_out out (Err e)
+pub not_begun : (input : Input) (limit : ℕ) (all old_out out : List ℕ) (e : ClientError) → Starts input limit old_out out (Err e) → HoldsExample input limit all old_out out (Err e)
 not_begun input limit all old_out out e s = unbegun e refl s.1 s.0
 
 -- one that is done stands for all the bytes
@@ -133,13 +133,13 @@ done input limit old new all given piece more old_out before out answer are s t 
 
 -- and its report is the answer
 pub done_held : (input : Input) (limit : ℕ) (old new : Dialogue) (all given piece more old_out before out : List ℕ) (answer : Result DialoguePhase ClientError) (report : SessionReport) → all ≡ (given ++ piece) ++ more
-    → SoFar input limit old given old_out before → Takes old new piece before out answer → IsDone new → report ≡ report_at new.notes → Held input limit all old_out out (Ok report)
+    → SoFar input limit old given old_out before → Takes old new piece before out answer → IsDone new → report ≡ report_at new.notes → HoldsExample input limit all old_out out (Ok report)
 done_held input limit old new all given piece more old_out before out answer report are s t is reported =
     let x = done input limit old new all given piece more old_out before out answer are s t is in
     begun new x.0 x.1 x.2 (λ starved. absurd (done_or_starved new is starved)) (inl (is, sym reported))
 
 pub refused : (input : Input) (limit : ℕ) (old new : Dialogue) (all given piece more old_out before out : List ℕ) (e : ClientError) → all ≡ (given ++ piece) ++ more
-    → SoFar input limit old given old_out before → Takes old new piece before out (Err e) → IsBroken new → (IsStarved new → IsStarved old ⊎ ◌≡◌ {A = Result DialoguePhase ClientError} (Err e) (Err client.OutOfMemory)) → Held input limit all old_out out (Err e)
+    → SoFar input limit old given old_out before → Takes old new piece before out (Err e) → IsBroken new → (IsStarved new → IsStarved old ⊎ ◌≡◌ {A = Result DialoguePhase ClientError} (Err e) (Err client.OutOfMemory)) → HoldsExample input limit all old_out out (Err e)
 refused input limit old new all given piece more old_out before out e are s t broken lacks =
     let answers = t.answers input limit given s.put s.stands (awaits_or_broken old s.awaits) in
     begun new (s.put ++ t.out)
@@ -154,7 +154,7 @@ refused input limit old new all given piece more old_out before out e are s t br
       | inr lack ↦ let same : e ≡ client.OutOfMemory = cc in inr (ap Err same)
     ])
 
-pub ended : (input : Input) (limit : ℕ) (d : Dialogue) (all given old_out out : List ℕ) (e : ClientError) → given ≡ all → SoFar input limit d given old_out out → Unless e (e ≡ notes_end d.notes) → Held input limit all old_out out (Err e)
+pub ended : (input : Input) (limit : ℕ) (d : Dialogue) (all given old_out out : List ℕ) (e : ClientError) → given ≡ all → SoFar input limit d given old_out out → Unless e (e ≡ notes_end d.notes) → HoldsExample input limit all old_out out (Err e)
 ended input limit d all given old_out out e are s is =
     begun d s.put s.puts (subst (λ (b : List ℕ). Stands input limit d b s.put) are s.stands) (λ starved. absurd (awaits_or_broken d s.awaits (inr starved)))
     (elim (memory_or e) [
@@ -163,6 +163,6 @@ ended input limit d all given old_out out e are s is =
     ])
 
 -- a configuration that was taken demands nothing that is refused
-pub not_demanded : {T : Type 0} (o : Option (List ℕ)) (r : Result T ClientError) → IfSome o (λ key. ⊥) → IfSome o (λ key. Refuses key r)
+pub not_demanded : {T : Type 0} (o : Option (List ℕ)) (r : Result T ClientError) → IfSome o (λ key. ⊥) → IfSome o (λ key. RefusesKey key r)
 not_demanded None r h = h
 not_demanded (Some key) r h = absurd h

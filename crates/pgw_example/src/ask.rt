@@ -2,7 +2,7 @@
 ghost use Rattle.std.specs.Prelude.{IfOk};
 ghost use Rattle.pgw_link.specs.Tape.{MovedBy};
 ghost use Rattle.pgw_client.specs.Session.{IoHasCause};
-ghost use Rattle.pgw_example.specs.Ask.{Asked};
+ghost use Rattle.pgw_example.specs.Ask.{CompletesExample};
 
 use pgw_client::{Config, Link, PgWireClientResult, Request, SessionReport, run_session};
 use std::alloc::Global;
@@ -21,7 +21,7 @@ pub fn ask<L: Link>(
     ensures cause { IoHasCause (L.faults link.old) (L.faults link.new) result }
     // The report is that of a completed session with this query, under the configuration that the text gives.
     ensures asked { IfOk result (λ report. MovedBy (L.tape link.old) (L.tape link.new)
-        (λ taken sent. Asked text.now sql.now nonce.now taken sent report)) }
+        (λ taken sent. CompletesExample text.now sql.now nonce.now taken sent report)) }
 {
     let config = Config::parse(alloc, text)?;
     let requests = [Request::simple(alloc, sql)?];

@@ -1,10 +1,10 @@
 //! A session over bytes that another runtime moves.
 ghost use Rattle.std.specs.Prelude.{◌≡◌, ◌<◌, ◌++◌, ℕ, List, IfOk, IfSome};
 ghost use Rattle.std.specs.List.{concat};
-ghost use Rattle.pgw_dialogue.specs.Demands.{Refuses};
+ghost use Rattle.pgw_dialogue.specs.Demands.{RefusesKey};
 ghost use Rattle.pgw_session.specs.Input.{input_with};
 ghost use Rattle.pgw_dialogue.specs.Answers.{taken_of};
-ghost use Rattle.pgw_example.specs.Push.{Held};
+ghost use Rattle.pgw_example.specs.Push.{HoldsExample};
 ghost use Rattle.pgw_session.specs.Demands.{refused_config};
 ghost use Rattle.pgw_session.specs.Transcript.{Completed};
 
@@ -28,10 +28,10 @@ pub fn over_pieces(
 ) -> PgWireClientResult<SessionReport>
     requires { 0 < limit }
     // A configuration that demands what this client can't do is refused by that key, or memory is wanting.
-    ensures refused { IfSome (refused_config config.now) (λ key. Refuses key result) }
+    ensures refused { IfSome (refused_config config.now) (λ key. RefusesKey key result) }
     // What is put out, and the answer, are those of a dialogue that was given all these bytes; so they are those of a
     // session over a link that has them.
-    ensures held { Held (input_with config.now requests.now nonce.now) limit (concat pieces.now)
+    ensures held { HoldsExample (input_with config.now requests.now nonce.now) limit (concat pieces.now)
         out.old.items out.new.items result }
     // The report is that of a completed session, whose bytes were given and put out.
     ensures completed { IfOk result (λ report. (put : List ℕ)

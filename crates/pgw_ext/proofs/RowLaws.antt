@@ -3,7 +3,7 @@ use Rattle.std.proofs.Common.{refl, arith, lit<}
 use Rattle.std.specs.Int.{w8, w16, w32}
 use Rattle.pgw_types.specs.declared.context.DecodeContext.{DecodeContext}
 use Rattle.pgw_wire.specs.Reading.{nat_at, int_at, text_at, name_at}
-use Rattle.pgw_wire.specs.Formats.{IsRow, NoBody, Reads, ReadsLast, SpellsText, SpellsNat, SpellsInt, SpellsName}
+use Rattle.pgw_wire.specs.Formats.{IsRow, NoBody, ReadsFormat, ReadsLast, SpellsText, SpellsNat, SpellsInt, SpellsName}
 use Rattle.pgw_wire.proofs.Laws.{pair_reads}
 use Rattle.pgw_wire.proofs.FieldLaws.{text_reads, nat_reads, int_reads}
 use Rattle.pgw_wire.proofs.FrameLaws.{reads_last, made_last}
@@ -11,13 +11,13 @@ use Rattle.pgw_wire.proofs.MarkLaws.{name_reads}
 use Rattle.pgw_wire.proofs.MessageLaws.{is_row, no_body_row}
 use Rattle.pgw_wire.specs.Values.{nullable_at, SpellsNullable}
 use Rattle.pgw_wire.specs.Counted.{counted16_at, SpellsCounted16}
-use Rattle.pgw_ext.specs.Rows.{parse_from, parse_of, SpellsParse, parse_complete_of, bind_from, parts_of, bind_of, SpellsBind, bind_complete_of, target_at, SpellsTarget, close_of, SpellsClose, close_complete_of, describe_of, SpellsDescribe, execute_of, SpellsExecute, portal_suspended_of, flush_of, sync_of}
+use Rattle.pgw_ext.specs.Rows.{parse_from, parse_of, SpellsParse, parse_complete_of, bind_from, bind_parts, bind_of, SpellsBind, bind_complete_of, target_at, SpellsTarget, close_of, SpellsClose, close_complete_of, describe_of, SpellsDescribe, execute_of, SpellsExecute, portal_suspended_of, flush_of, sync_of}
 use Rattle.pgw_wire.proofs.ValueLaws.{nullable_reads, nullable_least}
 use Rattle.pgw_wire.proofs.CountedLaws.{counted16_reads}
 
 -- ---- Parse, ParseComplete
 
-oids_reads : Reads (counted16_at 4 (nat_at w32)) (SpellsCounted16 (SpellsNat w32))
+oids_reads : ReadsFormat (counted16_at 4 (nat_at w32)) (SpellsCounted16 (SpellsNat w32))
 oids_reads = counted16_reads (nat_at w32) (SpellsNat w32) 4 (λ x f h. omega (arith, h.0)) (nat_reads w32)
 
 pub parse : (ctx : DecodeContext) → IsRow 80 1073741822 (parse_of ctx) SpellsParse
@@ -32,16 +32,16 @@ parse_complete ctx = no_body_row 49 30000 (lit< tt) (record {}) (λ n. refl)
 
 -- ---- Bind, BindComplete
 
-codes_reads : Reads (counted16_at 2 (int_at w16)) (SpellsCounted16 (SpellsInt w16))
+codes_reads : ReadsFormat (counted16_at 2 (int_at w16)) (SpellsCounted16 (SpellsInt w16))
 codes_reads = counted16_reads (int_at w16) (SpellsInt w16) 2 (λ x f h. omega (arith, h.0)) (int_reads w16)
 
-parameters_reads : Reads (counted16_at 4 nullable_at) (SpellsCounted16 SpellsNullable)
+parameters_reads : ReadsFormat (counted16_at 4 nullable_at) (SpellsCounted16 SpellsNullable)
 parameters_reads = counted16_reads nullable_at SpellsNullable 4 nullable_least nullable_reads
 
 pub bind : (ctx : DecodeContext) → IsRow 66 1073741822 (bind_of ctx) SpellsBind
 unfolding bind_of
 bind ctx = is_row 66 1073741822 (lit< tt) _ SpellsBind
-    (made_last bind_from parts_of _ _ (λ x. refl) (λ y. refl)
+    (made_last bind_from bind_parts _ _ (λ x. refl) (λ y. refl)
     (reads_last _ _ (pair_reads name_at SpellsName _ _ name_reads
     (pair_reads name_at SpellsName _ _ name_reads
     (pair_reads (counted16_at 2 (int_at w16)) (SpellsCounted16 (SpellsInt w16)) _ _ codes_reads

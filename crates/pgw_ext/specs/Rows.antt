@@ -44,20 +44,20 @@ parse_complete_of ctx bytes = all_of (Ok (record {}, bytes))
 -- ---- Bind, BindComplete
 
 -- a bind's parts, in order
-abbrev pub Parts : Type 0
-Parts = Option (List ℕ) × (Option (List ℕ) × (List ℤ × (List (Option (List ℕ)) × List ℤ)))
+abbrev pub BindParts : Type 0
+BindParts = Option (List ℕ) × (Option (List ℕ) × (List ℤ × (List (Option (List ℕ)) × List ℤ)))
 
-abbrev pub bind_from : Parts → Bind
+abbrev pub bind_from : BindParts → Bind
 bind_from p = record { portal_name = p.0; statement_name = p.1.0; parameter_format_codes = p.1.1.0; parameters = p.1.1.1.0; result_column_format_codes = p.1.1.1.1 }
 
-abbrev pub parts_of : Bind → Parts
-parts_of m = (m.portal_name, (m.statement_name, (m.parameter_format_codes, (m.parameters, m.result_column_format_codes))))
+abbrev pub bind_parts : Bind → BindParts
+bind_parts m = (m.portal_name, (m.statement_name, (m.parameter_format_codes, (m.parameters, m.result_column_format_codes))))
 
 unfoldable pub bind_of : DecodeContext → List ℕ → Result Bind PgWireError
 bind_of ctx bytes = all_of (made_at bind_from (pair_at name_at (pair_at name_at (pair_at (counted16_at 2 (int_at w16)) (pair_at (counted16_at 4 nullable_at) (counted16_at 2 (int_at w16)))))) bytes)
 
 abbrev pub SpellsBind : Bind → List ℕ → Type 0
-SpellsBind m = Pair SpellsName (Pair SpellsName (Pair (SpellsCounted16 (SpellsInt w16)) (Pair (SpellsCounted16 SpellsNullable) (SpellsCounted16 (SpellsInt w16))))) (parts_of m)
+SpellsBind m = Pair SpellsName (Pair SpellsName (Pair (SpellsCounted16 (SpellsInt w16)) (Pair (SpellsCounted16 SpellsNullable) (SpellsCounted16 (SpellsInt w16))))) (bind_parts m)
 
 abbrev pub bind : Bind → List ℕ
 bind m = name m.portal_name ++ name m.statement_name ++ counted16 i16 m.parameter_format_codes ++ counted16 parameter m.parameters ++ counted16 i16 m.result_column_format_codes

@@ -21,7 +21,7 @@ use Rattle.pgw_frontend.specs.declared.frontend.PgWireFrontendMessage.{PgWireFro
 use Rattle.pgw_frontend.specs.declared.frontend.PgWireFrontendMessage.TheVariants as frontend
 use Rattle.pgw_startup.specs.declared.startup.Startup.{Startup}
 use Rattle.pgw_opening.specs.declared.cancel.CancelRequest.{CancelRequest}
-use Rattle.pgw_wire.specs.Framing.{front, Decodes, as_one_of}
+use Rattle.pgw_wire.specs.Framing.{wire_front, Decodes, as_one_of}
 use Rattle.pgw_wire.proofs.Laws.{bind_ok, chosen}
 use Rattle.pgw_wire.proofs.MessageLaws.{some_is, made_of}
 use Rattle.pgw_startup.proofs.FirstLaws.{startup_found, startup_again}
@@ -31,7 +31,7 @@ use Rattle.pgw_query.proofs.RowLaws.{query}
 use Rattle.pgw_ext.proofs.RowLaws.{parse, bind, close, describe, execute, flush, sync}
 use Rattle.pgw_copy.proofs.RowLaws.{copy_data, copy_done, copy_fail}
 use Rattle.pgw_frontend.specs.Frontend.{negotiation_front, first_front, frontend_by, typed_front, frontend_front}
-use Rattle.pgw_frontend.specs.FrontendSpells.{SpellsFrontend, AwaitsFirst, AwaitsTyped, Awaits, HasTypeByte}
+use Rattle.pgw_frontend.specs.FrontendSpells.{SpellsFrontend, AwaitsFirst, AwaitsTyped, AwaitsFrontend, HasTypeByte}
 
 -- ---- what is read is spelled so
 
@@ -49,8 +49,8 @@ module _ (ctx : DecodeContext) (m : PgWireFrontendMessage) (bytes rest : List �
       subst (λ (n : PgWireFrontendMessage). (g : List ℕ) × (bytes ≡ g ++ rest) × SpellsFrontend ctx.protocol_version n g) x.2 c
 
   one_found : {A : Type 0} (make : A → PgWireFrontendMessage) (byte limit : ℕ) (read : List ℕ → Result A PgWireError) (P : A → List ℕ → Type 0) → IsRow byte limit read P → ((x : A) (g : List ℕ) → SpellsTyped byte limit P x g → SpellsFrontend ctx.protocol_version (make x) g)
-      → (b : ℕ) → get_or bytes 0 0 ≡ b → eqb b byte ≡ true → as_one_of make (front (Typed byte) limit read bytes) ≡ Ok (Some (m, rest)) → Found
-  one_found make byte limit read P row as_all b first is e = kind_found make (front (Typed byte) limit read bytes)
+      → (b : ℕ) → get_or bytes 0 0 ≡ b → eqb b byte ≡ true → as_one_of make (wire_front (Typed byte) limit read bytes) ≡ Ok (Some (m, rest)) → Found
+  one_found make byte limit read P row as_all b first is e = kind_found make (wire_front (Typed byte) limit read bytes)
       (λ x at. let c = row.found bytes x rest (first ∙ eqb-true _ _ is) at in (c.0, c.1, as_all x c.0 c.2)) e
 
   by_found : (b : ℕ) → get_or bytes 0 0 ≡ b → frontend_by b ctx bytes ≡ Ok (Some (m, rest)) → Found
@@ -121,9 +121,9 @@ module _ (ctx : DecodeContext) (m : PgWireFrontendMessage) (bytes rest : List �
   negotiation_found e = elim (chosen (ltb (length bytes) 8) _ _ _ e) [
     | inl h ↦ absurd cc
     | inr h ↦ elim (chosen (has_code 80877103 bytes) _ _ _ h.1) [
-      | inl k ↦ kind_found (λ x. frontend.SslNegotiation (negotiation.PostgresSsl x)) (front Code 10000 (ssl_request_of ctx) bytes) (λ x at. ssl_found ctx bytes x rest at) k.1
+      | inl k ↦ kind_found (λ x. frontend.SslNegotiation (negotiation.PostgresSsl x)) (wire_front Code 10000 (ssl_request_of ctx) bytes) (λ x at. ssl_found ctx bytes x rest at) k.1
       | inr k ↦ elim (chosen (has_code 80877104 bytes) _ _ _ k.1) [
-        | inl n ↦ kind_found (λ x. frontend.SslNegotiation (negotiation.PostgresGss x)) (front Code 10000 (gss_enc_request_of ctx) bytes) (λ x at. gss_found ctx bytes x rest at) n.1
+        | inl n ↦ kind_found (λ x. frontend.SslNegotiation (negotiation.PostgresGss x)) (wire_front Code 10000 (gss_enc_request_of ctx) bytes) (λ x at. gss_found ctx bytes x rest at) n.1
         | inr n ↦
             let made : PgWireFrontendMessage × List ℕ = (frontend.SslNegotiation negotiation.None, bytes) in
             subst (λ (y : PgWireFrontendMessage × List ℕ). (g : List ℕ) × (bytes ≡ g ++ y.1) × SpellsFrontend ctx.protocol_version y.0 g) (some_is made (m, rest) n.1) ([], refl, refl)
@@ -136,8 +136,8 @@ module _ (ctx : DecodeContext) (m : PgWireFrontendMessage) (bytes rest : List �
   first_found e = elim (chosen (ltb (length bytes) 8) _ _ _ e) [
     | inl h ↦ absurd cc
     | inr h ↦ elim (chosen (has_code 80877102 bytes) _ _ _ h.1) [
-      | inl k ↦ kind_found frontend.CancelRequest (front (Opening 80877102) 10000 (cancel_request_of ctx) bytes) (λ x at. cancel_found ctx bytes x rest at) k.1
-      | inr k ↦ kind_found frontend.Startup (front Untyped 10000 (startup_of ctx) bytes) (λ x at. startup_found ctx bytes x rest at) k.1
+      | inl k ↦ kind_found frontend.CancelRequest (wire_front (Opening 80877102) 10000 (cancel_request_of ctx) bytes) (λ x at. cancel_found ctx bytes x rest at) k.1
+      | inr k ↦ kind_found frontend.Startup (wire_front Untyped 10000 (startup_of ctx) bytes) (λ x at. startup_found ctx bytes x rest at) k.1
     ]
   ]
 
@@ -206,12 +206,12 @@ unfolding frontend_front
 in_negotiation ctx bytes first = rw first refl
 
 one_again : {A : Type 0} (ctx : DecodeContext) (make : A → PgWireFrontendMessage) (byte limit : ℕ) (read : List ℕ → Result A PgWireError) (P : A → List ℕ → Type 0) → IsRow byte limit read P
-    → ((bytes : List ℕ) → frontend_by byte ctx bytes ≡ as_one_of make (front (Typed byte) limit read bytes)) → AwaitsTyped ctx
+    → ((bytes : List ℕ) → frontend_by byte ctx bytes ≡ as_one_of make (wire_front (Typed byte) limit read bytes)) → AwaitsTyped ctx
     → (x : A) (g rest : List ℕ) → SpellsTyped byte limit P x g → frontend_front ctx (g ++ rest) ≡ Ok (Some (make x, rest))
 one_again ctx make byte limit read P row arm typed x g rest h =
     let long : 2 ≤ length (g ++ rest) = omega (arith, length-append g rest, ap length h.2, length-append h.0 h.1, h.3.0) in
     let first : get_or (g ++ rest) 0 0 ≡ byte = ap (λ (f : List ℕ). get_or (f ++ rest) 0 0) h.2 in
-    let one : front (Typed byte) limit read (g ++ rest) ≡ Ok (Some (x, rest)) = row.only x g rest h in
+    let one : wire_front (Typed byte) limit read (g ++ rest) ≡ Ok (Some (x, rest)) = row.only x g rest h in
     in_typed ctx (g ++ rest) byte (Ok (Some (make x, rest))) typed long first (arm (g ++ rest) ∙ rw one refl)
 
 -- eight bytes or more
@@ -223,7 +223,7 @@ unfolding negotiation_front
 ssl_read ctx g rest h =
     other (ltb (length (g ++ rest)) 8) _ _ (coded_long 80877103 g rest h)
     ∙ this (has_code 80877103 (g ++ rest)) _ _ (coded_has 80877103 80877103 g rest h)
-    ∙ made_again (λ x. frontend.SslNegotiation (negotiation.PostgresSsl x)) (front Code 10000 (ssl_request_of ctx) (g ++ rest)) (record {}) rest (ssl_again ctx (record {}) g rest h)
+    ∙ made_again (λ x. frontend.SslNegotiation (negotiation.PostgresSsl x)) (wire_front Code 10000 (ssl_request_of ctx) (g ++ rest)) (record {}) rest (ssl_again ctx (record {}) g rest h)
 
 gss_read : (ctx : DecodeContext) (g rest : List ℕ) → SpellsCoded 80877104 g → negotiation_front ctx (g ++ rest) ≡ Ok (Some (frontend.SslNegotiation (negotiation.PostgresGss (record {})), rest))
 unfolding negotiation_front
@@ -231,7 +231,7 @@ gss_read ctx g rest h =
     other (ltb (length (g ++ rest)) 8) _ _ (coded_long 80877104 g rest h)
     ∙ other (has_code 80877103 (g ++ rest)) _ _ (coded_has 80877104 80877103 g rest h)
     ∙ this (has_code 80877104 (g ++ rest)) _ _ (coded_has 80877104 80877104 g rest h)
-    ∙ made_again (λ x. frontend.SslNegotiation (negotiation.PostgresGss x)) (front Code 10000 (gss_enc_request_of ctx) (g ++ rest)) (record {}) rest (gss_again ctx (record {}) g rest h)
+    ∙ made_again (λ x. frontend.SslNegotiation (negotiation.PostgresGss x)) (wire_front Code 10000 (gss_enc_request_of ctx) (g ++ rest)) (record {}) rest (gss_again ctx (record {}) g rest h)
 
 startup_long : (m : Startup) (g rest : List ℕ) → SpellsUntyped 10000 SpellsStartup m g → 8 ≤ length (g ++ rest)
 startup_long m g rest h =
@@ -243,16 +243,16 @@ startup_read : (ctx : DecodeContext) (m : Startup) (g rest : List ℕ) → m.pro
 unfolding first_front
 startup_read ctx m g rest small h =
     let long : ltb (length (g ++ rest)) 8 ≡ false = le-ltb _ _ (startup_long m g rest h) in
-    other (ltb (length (g ++ rest)) 8) _ _ long ∙ other (has_code 80877102 (g ++ rest)) _ _ (startup_has m g rest small h) ∙ made_again frontend.Startup (front Untyped 10000 (startup_of ctx) (g ++ rest)) m rest (startup_again ctx m g rest h)
+    other (ltb (length (g ++ rest)) 8) _ _ long ∙ other (has_code 80877102 (g ++ rest)) _ _ (startup_has m g rest small h) ∙ made_again frontend.Startup (wire_front Untyped 10000 (startup_of ctx) (g ++ rest)) m rest (startup_again ctx m g rest h)
 
 cancel_read : (ctx : DecodeContext) (m : CancelRequest) (g rest : List ℕ) → SpellsUntyped 10000 (SpellsCancelRequest ctx.protocol_version) m g → first_front ctx (g ++ rest) ≡ Ok (Some (frontend.CancelRequest m, rest))
 unfolding first_front
 cancel_read ctx m g rest h =
     let body = h.5 in
     let long : ltb (length (g ++ rest)) 8 ≡ false = le-ltb _ _ (omega (arith, length-append g rest, ap length h.2, length-append h.0 h.1, h.3.0, ap length body.2, length-append body.0 body.1, body.3.0)) in
-    other (ltb (length (g ++ rest)) 8) _ _ long ∙ this (has_code 80877102 (g ++ rest)) _ _ (cancel_has ctx.protocol_version m g rest h) ∙ made_again frontend.CancelRequest (front (Opening 80877102) 10000 (cancel_request_of ctx) (g ++ rest)) m rest (cancel_again ctx m g rest h)
+    other (ltb (length (g ++ rest)) 8) _ _ long ∙ this (has_code 80877102 (g ++ rest)) _ _ (cancel_has ctx.protocol_version m g rest h) ∙ made_again frontend.CancelRequest (wire_front (Opening 80877102) 10000 (cancel_request_of ctx) (g ++ rest)) m rest (cancel_again ctx m g rest h)
 
-pub frontend_again : (ctx : DecodeContext) (m : PgWireFrontendMessage) (g rest : List ℕ) → Awaits ctx m → SpellsFrontend ctx.protocol_version m g → frontend_front ctx (g ++ rest) ≡ Ok (Some (m, rest))
+pub frontend_again : (ctx : DecodeContext) (m : PgWireFrontendMessage) (g rest : List ℕ) → AwaitsFrontend ctx m → SpellsFrontend ctx.protocol_version m g → frontend_front ctx (g ++ rest) ≡ Ok (Some (m, rest))
 unfolding SpellsFrontend
 frontend_again ctx (frontend.SslNegotiation (negotiation.PostgresSsl m)) g rest phase h = in_negotiation ctx (g ++ rest) phase ∙ ssl_read ctx g rest h
 frontend_again ctx (frontend.SslNegotiation (negotiation.PostgresGss m)) g rest phase h = in_negotiation ctx (g ++ rest) phase ∙ gss_read ctx g rest h
@@ -313,7 +313,7 @@ same_end g more x y =
 pub ends : (v : ProtocolVersion) (m n : PgWireFrontendMessage) (g more : List ℕ) → HasTypeByte m → HasTypeByte n → SpellsFrontend v m g → SpellsFrontend v n (g ++ more) → more ≡ []
 ends v m n g more one two h k = same_end g more (framed v m g one h) (framed v n (g ++ more) two k)
 
-pub same : (ctx : DecodeContext) (m n : PgWireFrontendMessage) (g : List ℕ) → Awaits ctx m → Awaits ctx n → SpellsFrontend ctx.protocol_version m g → SpellsFrontend ctx.protocol_version n g → n ≡ m
+pub same : (ctx : DecodeContext) (m n : PgWireFrontendMessage) (g : List ℕ) → AwaitsFrontend ctx m → AwaitsFrontend ctx n → SpellsFrontend ctx.protocol_version m g → SpellsFrontend ctx.protocol_version n g → n ≡ m
 same ctx m n g one two h k =
     let alike : ◌≡◌ {A = PgWireFrontendMessage × List ℕ} (n, []) (m, []) = some_is (n, []) (m, []) (sym (frontend_again ctx n g [] two k) ∙ frontend_again ctx m g [] one h) in
     ap (λ (p : PgWireFrontendMessage × List ℕ). p.0) alike
@@ -325,5 +325,5 @@ is_found ctx old new (Ok None) h = tt
 is_found ctx old new (Ok (Some m)) h = frontend_found ctx old m new h
 is_found ctx old new (Err e) h = tt
 
-pub is_only : (ctx : DecodeContext) (old new : List ℕ) (r : Result (Option PgWireFrontendMessage) PgWireError) → Decodes r old new (frontend_front ctx old) → (m : PgWireFrontendMessage) (g rest : List ℕ) → Awaits ctx m → SpellsFrontend ctx.protocol_version m g → old ≡ g ++ rest → Decodes r old new (Ok (Some (m, rest)))
+pub is_only : (ctx : DecodeContext) (old new : List ℕ) (r : Result (Option PgWireFrontendMessage) PgWireError) → Decodes r old new (frontend_front ctx old) → (m : PgWireFrontendMessage) (g rest : List ℕ) → AwaitsFrontend ctx m → SpellsFrontend ctx.protocol_version m g → old ≡ g ++ rest → Decodes r old new (Ok (Some (m, rest)))
 is_only ctx old new r h m g rest phase s is = subst (λ (f : Result (Option (PgWireFrontendMessage × List ℕ)) PgWireError). Decodes r old new f) (ap (frontend_front ctx) is ∙ frontend_again ctx m g rest phase s) h

@@ -7,7 +7,7 @@ use Rattle.pgw_types.specs.declared.error.PgWireError.{PgWireError}
 use Rattle.pgw_types.specs.declared.error.PgWireError.TheVariants.{InvalidMessageType}
 use Rattle.pgw_types.specs.declared.context.DecodeContext.{DecodeContext}
 use Rattle.pgw_wire.specs.declared.framing.Framing.TheVariants.{Typed, Untyped, Opening, Code}
-use Rattle.pgw_wire.specs.Framing.{code_in, stated_length, length_frame, frame, framed, front, as_one_of}
+use Rattle.pgw_wire.specs.Framing.{code_in, stated_length, length_frame, frame, framed, wire_front, as_one_of}
 use Rattle.pgw_wire.proofs.Laws.{bind_ok, chosen}
 use Rattle.pgw_wire.proofs.MessageLaws.{some_is, made_of, framed_found}
 use Rattle.pgw_wire.proofs.Stable.{Stable, bind_err, front_stable, stable_choice, stable_refusal}
@@ -112,8 +112,8 @@ at_most n a = omega (arith, length-take n a)
 
 -- so many bytes where its body has so many
 untyped_long : {M : Type 0} (k limit : ℕ) (read : List ℕ → Result M PgWireError) → ((body : List ℕ) (m : M) → read body ≡ Ok m → k ≤ length body)
-    → (a : List ℕ) (m : M) (rest : List ℕ) → front Untyped limit read a ≡ Ok (Some (m, rest)) → length rest + (k + 4) ≤ length a
-unfolding front frame
+    → (a : List ℕ) (m : M) (rest : List ℕ) → wire_front Untyped limit read a ≡ Ok (Some (m, rest)) → length rest + (k + 4) ≤ length a
+unfolding wire_front frame
 untyped_long k limit read law a m rest e =
     let h = bind_ok (length_frame 0 limit a) (framed read a) (Some (m, rest)) e in
     let f = framed_found read a m rest h.0 h.2 in
@@ -136,12 +136,12 @@ cancel_body_long ctx body m e = elim (chosen (ltb (length body) 12) _ _ _ e) [
   | inr h ↦ omega (arith, ltb-false _ _ h.0)
 ]
 
-untyped_stable : {M : Type 0} (read : List ℕ → Result M PgWireError) → ((body : List ℕ) (m : M) → read body ≡ Ok m → 4 ≤ length body) → Stable 8 (front Untyped 10000 read)
-untyped_stable read law = stable_longer 4 8 (front Untyped 10000 read) (front_stable Untyped 10000 read tt) (untyped_long 4 10000 read law)
+untyped_stable : {M : Type 0} (read : List ℕ → Result M PgWireError) → ((body : List ℕ) (m : M) → read body ≡ Ok m → 4 ≤ length body) → Stable 8 (wire_front Untyped 10000 read)
+untyped_stable read law = stable_longer 4 8 (wire_front Untyped 10000 read) (front_stable Untyped 10000 read tt) (untyped_long 4 10000 read law)
 
 -- with its code, a CancelRequest stands as a message without a type byte does
-opening_is : {M : Type 0} (code limit : ℕ) (read : List ℕ → Result M PgWireError) (b : List ℕ) → ltb (length b) 8 ≡ false → eqb (code_in b) code ≡ true → front (Opening code) limit read b ≡ front Untyped limit read b
-unfolding front frame
+opening_is : {M : Type 0} (code limit : ℕ) (read : List ℕ → Result M PgWireError) (b : List ℕ) → ltb (length b) 8 ≡ false → eqb (code_in b) code ≡ true → wire_front (Opening code) limit read b ≡ wire_front Untyped limit read b
+unfolding wire_front frame
 opening_is code limit read b long is = rw (long, is) refl
 
 -- ---- a message that its code tells
@@ -179,23 +179,23 @@ by_code_stable at of law stable = record {
 }
 
 abbrev pub first_of : DecodeContext → ℕ → List ℕ → Result (Option (Message × List ℕ)) PgWireError
-first_of ctx code b = cond (eqb code 80877102) (as_one_of frontend.CancelRequest (front Untyped 10000 (cancel_request_of ctx) b)) (as_one_of frontend.Startup (front Untyped 10000 (startup_of ctx) b))
+first_of ctx code b = cond (eqb code 80877102) (as_one_of frontend.CancelRequest (wire_front Untyped 10000 (cancel_request_of ctx) b)) (as_one_of frontend.Startup (wire_front Untyped 10000 (startup_of ctx) b))
 
 abbrev pub asked_of : DecodeContext → ℕ → List ℕ → Result (Option (Message × List ℕ)) PgWireError → Result (Option (Message × List ℕ)) PgWireError
 asked_of ctx code b other =
-    cond (eqb code 80877103) (as_one_of (λ m. frontend.SslNegotiation (negotiation.PostgresSsl m)) (front Code 10000 (ssl_request_of ctx) b))
-    (cond (eqb code 80877104) (as_one_of (λ m. frontend.SslNegotiation (negotiation.PostgresGss m)) (front Code 10000 (gss_enc_request_of ctx) b)) other)
+    cond (eqb code 80877103) (as_one_of (λ m. frontend.SslNegotiation (negotiation.PostgresSsl m)) (wire_front Code 10000 (ssl_request_of ctx) b))
+    (cond (eqb code 80877104) (as_one_of (λ m. frontend.SslNegotiation (negotiation.PostgresGss m)) (wire_front Code 10000 (gss_enc_request_of ctx) b)) other)
 
 pub first_of_stable : (ctx : DecodeContext) (code : ℕ) → Stable 8 (first_of ctx code)
 first_of_stable ctx code =
-    stable_choice 8 (eqb code 80877102) _ _ (stable_as frontend.CancelRequest 8 (front Untyped 10000 (cancel_request_of ctx)) (untyped_stable (cancel_request_of ctx) (cancel_body_long ctx)))
-    (stable_as frontend.Startup 8 (front Untyped 10000 (startup_of ctx)) (untyped_stable (startup_of ctx) (startup_body_long ctx)))
+    stable_choice 8 (eqb code 80877102) _ _ (stable_as frontend.CancelRequest 8 (wire_front Untyped 10000 (cancel_request_of ctx)) (untyped_stable (cancel_request_of ctx) (cancel_body_long ctx)))
+    (stable_as frontend.Startup 8 (wire_front Untyped 10000 (startup_of ctx)) (untyped_stable (startup_of ctx) (startup_body_long ctx)))
 
 -- what asks for encryption, or else a first message
 pub asked_or_first_stable : (asking first : DecodeContext) (code : ℕ) → Stable 8 (λ b. asked_of asking code b (first_of first code b))
 asked_or_first_stable asking first code =
-    stable_choice 8 (eqb code 80877103) _ _ (stable_as (λ m. frontend.SslNegotiation (negotiation.PostgresSsl m)) 8 (front Code 10000 (ssl_request_of asking)) (front_stable Code 10000 (ssl_request_of asking) tt))
-    (stable_choice 8 (eqb code 80877104) _ _ (stable_as (λ m. frontend.SslNegotiation (negotiation.PostgresGss m)) 8 (front Code 10000 (gss_enc_request_of asking)) (front_stable Code 10000 (gss_enc_request_of asking) tt))
+    stable_choice 8 (eqb code 80877103) _ _ (stable_as (λ m. frontend.SslNegotiation (negotiation.PostgresSsl m)) 8 (wire_front Code 10000 (ssl_request_of asking)) (front_stable Code 10000 (ssl_request_of asking) tt))
+    (stable_choice 8 (eqb code 80877104) _ _ (stable_as (λ m. frontend.SslNegotiation (negotiation.PostgresGss m)) 8 (wire_front Code 10000 (gss_enc_request_of asking)) (front_stable Code 10000 (gss_enc_request_of asking) tt))
     (first_of_stable first code))
 
 first_is : (ctx : DecodeContext) → ByCode (first_front ctx) (first_of ctx)
@@ -216,8 +216,8 @@ first_by ctx b long = (first_is ctx).some b long
 
 -- ---- messages with a type byte
 
-one : {A : Type 0} (make : A → Message) (byte limit : ℕ) (read : List ℕ → Result A PgWireError) → Stable 5 (λ bytes. as_one_of make (front (Typed byte) limit read bytes))
-one make byte limit read = stable_as make 5 (front (Typed byte) limit read) (front_stable (Typed byte) limit read tt)
+one : {A : Type 0} (make : A → Message) (byte limit : ℕ) (read : List ℕ → Result A PgWireError) → Stable 5 (λ bytes. as_one_of make (wire_front (Typed byte) limit read bytes))
+one make byte limit read = stable_as make 5 (wire_front (Typed byte) limit read) (front_stable (Typed byte) limit read tt)
 
 by_stable : (byte : ℕ) (ctx : DecodeContext) → Stable 5 (frontend_by byte ctx)
 by_stable byte ctx =

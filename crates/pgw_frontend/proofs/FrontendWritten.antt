@@ -34,7 +34,7 @@ use Rattle.pgw_ext.specs.declared.target.Describe.{Describe}
 use Rattle.pgw_ext.proofs.RowsWritten.{typed_written, parse_written, bind_written, target_written, execute_written}
 use Rattle.pgw_frontend.specs.Frontend.{encoding, frontend_front}
 use Rattle.pgw_frontend.specs.FrontendTexts.{IsText, IsSoundFrontend}
-use Rattle.pgw_frontend.specs.FrontendSpells.{SpellsFrontend, Awaits, name_again, as_read, SuitsFrontend}
+use Rattle.pgw_frontend.specs.FrontendSpells.{SpellsFrontend, AwaitsFrontend, name_again, as_read, SuitsFrontend}
 use Rattle.pgw_frontend.proofs.FrontendLaws.{frontend_again}
 
 -- ---- an empty name is written as none
@@ -128,7 +128,7 @@ is_spelled m old new (Ok x) sound h = λ v suits.
 is_spelled m old new (Err e) sound h = tt
 
 pub is_read_again : (m : PgWireFrontendMessage) (old new : List ℕ) (r : Result (Unit {0}) PgWireError) → IsSoundFrontend m → Appends r old new (encoding m)
-    → OnOk r ((ctx : DecodeContext) (rest : List ℕ) → SuitsFrontend ctx.protocol_version m → Awaits ctx (as_read m) → (g : List ℕ) × (new ≡ old ++ g) × (frontend_front ctx (g ++ rest) ≡ Ok (Some (as_read m, rest))))
+    → OnOk r ((ctx : DecodeContext) (rest : List ℕ) → SuitsFrontend ctx.protocol_version m → AwaitsFrontend ctx (as_read m) → (g : List ℕ) × (new ≡ old ++ g) × (frontend_front ctx (g ++ rest) ≡ Ok (Some (as_read m, rest))))
 is_read_again m old new (Ok x) sound h = λ ctx rest suits phase.
     let s = is_spelled m old new (Ok x) sound h ctx.protocol_version suits in
     (s.0, s.1, frontend_again ctx (as_read m) s.0 rest phase s.2)

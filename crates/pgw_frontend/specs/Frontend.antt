@@ -4,7 +4,7 @@ use Rattle.pgw_types.specs.declared.error.PgWireError.{PgWireError}
 use Rattle.pgw_types.specs.declared.error.PgWireError.TheVariants.{InvalidMessageType}
 use Rattle.pgw_types.specs.declared.context.DecodeContext.{DecodeContext}
 use Rattle.pgw_wire.specs.declared.framing.Framing.TheVariants.{Typed, Untyped, Opening, Code}
-use Rattle.pgw_wire.specs.Framing.{front, encoded, as_one_of}
+use Rattle.pgw_wire.specs.Framing.{wire_front, encoded, as_one_of}
 use Rattle.pgw_wire.specs.Keys.{key_fault}
 use Rattle.pgw_wire.specs.Writing.{text, i32, u32, has_zero, refused_if}
 use Rattle.pgw_startup.specs.Startup.{startup_of, startup, is_startup_refused}
@@ -64,33 +64,33 @@ encodings (m ∷ ms) = both (encoding m) (encodings ms)
 unfoldable pub negotiation_front : DecodeContext → List ℕ → Result (Option (PgWireFrontendMessage × List ℕ)) PgWireError
 negotiation_front ctx bytes =
     if nat_lt (length bytes) 8 then Ok None
-    else (if has_code 80877103 bytes then as_one_of (λ m. frontend.SslNegotiation (negotiation.PostgresSsl m)) (front Code 10000 (ssl_request_of ctx) bytes)
-    else (if has_code 80877104 bytes then as_one_of (λ m. frontend.SslNegotiation (negotiation.PostgresGss m)) (front Code 10000 (gss_enc_request_of ctx) bytes)
+    else (if has_code 80877103 bytes then as_one_of (λ m. frontend.SslNegotiation (negotiation.PostgresSsl m)) (wire_front Code 10000 (ssl_request_of ctx) bytes)
+    else (if has_code 80877104 bytes then as_one_of (λ m. frontend.SslNegotiation (negotiation.PostgresGss m)) (wire_front Code 10000 (gss_enc_request_of ctx) bytes)
     else Ok (Some (frontend.SslNegotiation negotiation.None, bytes))))
 
 -- while the first message may come
 unfoldable pub first_front : DecodeContext → List ℕ → Result (Option (PgWireFrontendMessage × List ℕ)) PgWireError
 first_front ctx bytes =
     if nat_lt (length bytes) 8 then Ok None
-    else (if has_code 80877102 bytes then as_one_of frontend.CancelRequest (front (Opening 80877102) 10000 (cancel_request_of ctx) bytes)
-    else as_one_of frontend.Startup (front Untyped 10000 (startup_of ctx) bytes))
+    else (if has_code 80877102 bytes then as_one_of frontend.CancelRequest (wire_front (Opening 80877102) 10000 (cancel_request_of ctx) bytes)
+    else as_one_of frontend.Startup (wire_front Untyped 10000 (startup_of ctx) bytes))
 
 -- by the type byte
 abbrev pub frontend_by : ℕ → DecodeContext → List ℕ → Result (Option (PgWireFrontendMessage × List ℕ)) PgWireError
 frontend_by byte ctx bytes =
-    if byte == 112 then as_one_of frontend.PasswordMessageFamily (front (Typed 112) 10000 (family_of ctx) bytes)
-    else (if byte == 81 then as_one_of frontend.Query (front (Typed 81) 1073741822 (query_of ctx) bytes)
-    else (if byte == 80 then as_one_of frontend.Parse (front (Typed 80) 1073741822 (parse_of ctx) bytes)
-    else (if byte == 66 then as_one_of frontend.Bind (front (Typed 66) 1073741822 (bind_of ctx) bytes)
-    else (if byte == 67 then as_one_of frontend.Close (front (Typed 67) 10000 (close_of ctx) bytes)
-    else (if byte == 68 then as_one_of frontend.Describe (front (Typed 68) 10000 (describe_of ctx) bytes)
-    else (if byte == 69 then as_one_of frontend.Execute (front (Typed 69) 10000 (execute_of ctx) bytes)
-    else (if byte == 72 then as_one_of frontend.Flush (front (Typed 72) 10000 (flush_of ctx) bytes)
-    else (if byte == 83 then as_one_of frontend.Sync (front (Typed 83) 10000 (sync_of ctx) bytes)
-    else (if byte == 88 then as_one_of frontend.Terminate (front (Typed 88) 10000 (terminate_of ctx) bytes)
-    else (if byte == 100 then as_one_of frontend.CopyData (front (Typed 100) 1073741822 (copy_data_of ctx) bytes)
-    else (if byte == 99 then as_one_of frontend.CopyDone (front (Typed 99) 10000 (copy_done_of ctx) bytes)
-    else (if byte == 102 then as_one_of frontend.CopyFail (front (Typed 102) 10000 (copy_fail_of ctx) bytes)
+    if byte == 112 then as_one_of frontend.PasswordMessageFamily (wire_front (Typed 112) 10000 (family_of ctx) bytes)
+    else (if byte == 81 then as_one_of frontend.Query (wire_front (Typed 81) 1073741822 (query_of ctx) bytes)
+    else (if byte == 80 then as_one_of frontend.Parse (wire_front (Typed 80) 1073741822 (parse_of ctx) bytes)
+    else (if byte == 66 then as_one_of frontend.Bind (wire_front (Typed 66) 1073741822 (bind_of ctx) bytes)
+    else (if byte == 67 then as_one_of frontend.Close (wire_front (Typed 67) 10000 (close_of ctx) bytes)
+    else (if byte == 68 then as_one_of frontend.Describe (wire_front (Typed 68) 10000 (describe_of ctx) bytes)
+    else (if byte == 69 then as_one_of frontend.Execute (wire_front (Typed 69) 10000 (execute_of ctx) bytes)
+    else (if byte == 72 then as_one_of frontend.Flush (wire_front (Typed 72) 10000 (flush_of ctx) bytes)
+    else (if byte == 83 then as_one_of frontend.Sync (wire_front (Typed 83) 10000 (sync_of ctx) bytes)
+    else (if byte == 88 then as_one_of frontend.Terminate (wire_front (Typed 88) 10000 (terminate_of ctx) bytes)
+    else (if byte == 100 then as_one_of frontend.CopyData (wire_front (Typed 100) 1073741822 (copy_data_of ctx) bytes)
+    else (if byte == 99 then as_one_of frontend.CopyDone (wire_front (Typed 99) 10000 (copy_done_of ctx) bytes)
+    else (if byte == 102 then as_one_of frontend.CopyFail (wire_front (Typed 102) 10000 (copy_fail_of ctx) bytes)
     else Err (InvalidMessageType byte)))))))))))))
 
 -- two bytes are looked for before the type byte is

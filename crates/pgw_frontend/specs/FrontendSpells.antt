@@ -47,14 +47,14 @@ AwaitsTyped ctx = (ctx.awaiting_frontend_ssl ≡ false) × (ctx.awaiting_fronten
 
 -- the phase in which the message is read; a minor version has 16 bits, as every value of the program's has.
 -- A PortalSuspended is never read of a client, and that no encryption is asked for has no bytes
-abbrev pub Awaits : DecodeContext → PgWireFrontendMessage → Type 0
-Awaits ctx (frontend.SslNegotiation (negotiation.PostgresSsl m)) = ctx.awaiting_frontend_ssl ≡ true
-Awaits ctx (frontend.SslNegotiation (negotiation.PostgresGss m)) = ctx.awaiting_frontend_ssl ≡ true
-Awaits ctx (frontend.SslNegotiation negotiation.None) = ⊥
-Awaits ctx (frontend.Startup m) = AwaitsFirst ctx × (m.protocol_number_minor < 2 ^ 16)
-Awaits ctx (frontend.CancelRequest m) = AwaitsFirst ctx
-Awaits ctx (frontend.PortalSuspended m) = ⊥
-Awaits ctx m = AwaitsTyped ctx
+abbrev pub AwaitsFrontend : DecodeContext → PgWireFrontendMessage → Type 0
+AwaitsFrontend ctx (frontend.SslNegotiation (negotiation.PostgresSsl m)) = ctx.awaiting_frontend_ssl ≡ true
+AwaitsFrontend ctx (frontend.SslNegotiation (negotiation.PostgresGss m)) = ctx.awaiting_frontend_ssl ≡ true
+AwaitsFrontend ctx (frontend.SslNegotiation negotiation.None) = ⊥
+AwaitsFrontend ctx (frontend.Startup m) = AwaitsFirst ctx × (m.protocol_number_minor < 2 ^ 16)
+AwaitsFrontend ctx (frontend.CancelRequest m) = AwaitsFirst ctx
+AwaitsFrontend ctx (frontend.PortalSuspended m) = ⊥
+AwaitsFrontend ctx m = AwaitsTyped ctx
 
 -- ---- what comes back of a message
 

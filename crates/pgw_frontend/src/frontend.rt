@@ -4,7 +4,7 @@ ghost use Rattle.pgw_types.specs.declared.context.ProtocolVersion.{ProtocolVersi
 ghost use Rattle.pgw_types.specs.declared.context.DecodeContext.{DecodeContext as TheContext};
 ghost use Rattle.pgw_wire.specs.Framing.{Appends, Decodes};
 ghost use Rattle.pgw_frontend.specs.Frontend.{encoding, negotiation_front, first_front, frontend_by, typed_front, frontend_front, is_extended};
-ghost use Rattle.pgw_frontend.specs.FrontendSpells.{SpellsFrontend, Awaits, as_read, SuitsFrontend};
+ghost use Rattle.pgw_frontend.specs.FrontendSpells.{SpellsFrontend, AwaitsFrontend, as_read, SuitsFrontend};
 ghost use Rattle.pgw_frontend.specs.declared.frontend.PgWireFrontendMessage.{PgWireFrontendMessage as TheMessage};
 
 use crate::sound::is_sound;
@@ -85,7 +85,7 @@ impl PgWireFrontendMessage {
             (λ m. (g : List ℕ) × (buf.old.items ≡ g ++ buf.new.items)
             × SpellsFrontend ctx.now.protocol_version m g)) }
         // What is spelled at the front is read, in its phase, unless memory runs out.
-        ensures only { (m : TheMessage) (g rest : List ℕ) → Awaits ctx.now m →
+        ensures only { (m : TheMessage) (g rest : List ℕ) → AwaitsFrontend ctx.now m →
             SpellsFrontend ctx.now.protocol_version m g → buf.old.items ≡ g ++ rest →
             Decodes result buf.old.items buf.new.items (Ok (Some (m, rest))) }
         // Which message it is or which refusal, and when nothing is whole yet.
@@ -107,7 +107,7 @@ impl PgWireFrontendMessage {
             × (B.held buf.old ≡ g ++ B.held buf.new)
             × SpellsFrontend ctx.now.protocol_version m g)) }
         // What is spelled at the front is read, in its phase, unless memory runs out.
-        ensures only { (m : TheMessage) (g rest : List ℕ) → Awaits ctx.now m →
+        ensures only { (m : TheMessage) (g rest : List ℕ) → AwaitsFrontend ctx.now m →
             SpellsFrontend ctx.now.protocol_version m g → B.held buf.old ≡ g ++ rest →
             Decodes result (B.held buf.old) (B.held buf.new) (Ok (Some (m, rest))) }
         // Which message it is or which refusal, and when nothing is whole yet.
@@ -124,7 +124,7 @@ impl PgWireFrontendMessage {
             × (buf.new.items ≡ buf.old.items ++ g) × SpellsFrontend v (as_read self.now) g) }
         // In a context that awaits the message it comes back, whatever follows it, and what follows is left.
         ensures read_again { OnOk result ((ctx : TheContext) (rest : List ℕ) →
-            SuitsFrontend ctx.protocol_version self.now → Awaits ctx (as_read self.now) →
+            SuitsFrontend ctx.protocol_version self.now → AwaitsFrontend ctx (as_read self.now) →
             (g : List ℕ) × (buf.new.items ≡ buf.old.items ++ g)
             × (frontend_front ctx (g ++ rest) ≡ Ok (Some (as_read self.now, rest)))) }
         // Which bytes are written, or which refusal it is.

@@ -14,7 +14,7 @@ use Rattle.pgw_query.specs.Fields.{field_info_of}
 use Rattle.pgw_wire.specs.Writing.{has_zero, text}
 use Rattle.pgw_session.specs.Answers.{answer_by, answers_of, no_tally, tally_at, tally_of}
 use Rattle.pgw_session.specs.declared.types.Request.{Request}
-use Rattle.pgw_session.specs.Events.{Event, Got, sents, joined}
+use Rattle.pgw_session.specs.Events.{Event, Got, sents, all_events}
 use Rattle.pgw_session.specs.Logins.{Unasked}
 use Rattle.pgw_session.specs.Segments.{AreTaken, IsRequestSegment, IsStartupSegment}
 use Rattle.pgw_session.specs.Standings.{first_standing}
@@ -23,7 +23,7 @@ use Rattle.pgw_session.specs.Valid.{CanLogIn, HasNoZero, IsValidInput, IsValidRe
 use Rattle.pgw_session.proofs.LoginTexts.{nonzero_at}
 use Rattle.pgw_session.proofs.ValidLaws.{spelled_completes}
 use Rattle.pgw_gen.specs.Summary.{answer_rows, gen_input, gen_query, report_rows}
-use Rattle.pgw_gen.specs.Stream.{IsStream, answer, column, complete, description, end_of, gen_segments, greeting, messages, next_number, numbers, numbers_behind, query_events, ready, row_of, rows_of, startup_events}
+use Rattle.pgw_gen.specs.Stream.{IsStream, answer, column, complete, description, stream_end, gen_segments, greeting, messages, next_number, numbers, numbers_behind, query_events, stream_ready, row_of, gen_rows, startup_events}
 use Rattle.pgw_gen.proofs.StreamLaws.{all_spelled, stream_plain}
 
 -- ---- the transcript
@@ -35,7 +35,7 @@ startup_stands nonce = (
   record {
     news = backend.Authentication authentication.Ok ∷ [];
     login = Unasked;
-    rest = Got ready ∷ [];
+    rest = Got stream_ready ∷ [];
     are = refl;
     all = (refl, tt);
     accepted = refl;
@@ -47,10 +47,10 @@ rows_taken : (count : ℕ) (rows : List DataRow) → AreTaken kind.Simple true (
 rows_taken count [] = (false, refl, refl)
 rows_taken count (row ∷ rows) = (true, refl, rows_taken count rows)
 
-answer_events : (count : ℕ) (rows : List DataRow) → map Got (answer count rows) ≡ map Got (description ∷ (map backend.DataRow rows ++ complete count ∷ [])) ++ Got ready ∷ []
+answer_events : (count : ℕ) (rows : List DataRow) → map Got (answer count rows) ≡ map Got (description ∷ (map backend.DataRow rows ++ complete count ∷ [])) ++ Got stream_ready ∷ []
 answer_events count rows =
     ap (λ (l : List Event). Got description ∷ l)
-    (map-append Got (map backend.DataRow rows) (end_of count) ∙ sym (append_assoc (map Got (map backend.DataRow rows)) (Got (complete count) ∷ []) (Got ready ∷ [])) ∙ ap (λ (l : List Event). l ++ Got ready ∷ []) (sym (map-append Got (map backend.DataRow rows) (complete count ∷ []))))
+    (map-append Got (map backend.DataRow rows) (stream_end count) ∙ sym (append_assoc (map Got (map backend.DataRow rows)) (Got (complete count) ∷ []) (Got stream_ready ∷ [])) ∙ ap (λ (l : List Event). l ++ Got stream_ready ∷ []) (sym (map-append Got (map backend.DataRow rows) (complete count ∷ []))))
 
 query_stands : (count : ℕ) (rows : List DataRow) → IsRequestSegment gen_query (query_events count rows)
 query_stands count rows = (
@@ -59,7 +59,7 @@ query_stands count rows = (
   record {
     ms = description ∷ (map backend.DataRow rows ++ complete count ∷ []);
     behind = false;
-    last = ready;
+    last = stream_ready;
     rest = [];
     are = answer_events count rows;
     taken = (true, refl, rows_taken count rows);
@@ -68,7 +68,7 @@ query_stands count rows = (
 )
 
 transcript : (nonce : List ℕ) (count start : ℕ) → IsTranscript (gen_input nonce) (gen_segments nonce count start)
-transcript nonce count start = (startup_stands nonce, (query_stands count (rows_of count start), tt))
+transcript nonce count start = (startup_stands nonce, (query_stands count (gen_rows count start), tt))
 
 -- ---- the bytes
 
@@ -95,14 +95,14 @@ none_sent : (ms : List Backend) → sents (map Got ms) ≡ []
 none_sent [] = refl
 none_sent (m ∷ ms) = none_sent ms
 
-joined_are : (nonce : List ℕ) (count start : ℕ) → joined (gen_segments nonce count start) ≡ startup_events nonce ++ query_events count (rows_of count start)
-joined_are nonce count start = ap (λ (l : List Event). startup_events nonce ++ l) (append-nil (query_events count (rows_of count start)))
+joined_are : (nonce : List ℕ) (count start : ℕ) → all_events (gen_segments nonce count start) ≡ startup_events nonce ++ query_events count (gen_rows count start)
+joined_are nonce count start = ap (λ (l : List Event). startup_events nonce ++ l) (append-nil (query_events count (gen_rows count start)))
 
-may_send : (nonce : List ℕ) (count start : ℕ) → CanLogIn (sents (joined (gen_segments nonce count start)))
+may_send : (nonce : List ℕ) (count start : ℕ) → CanLogIn (sents (all_events (gen_segments nonce count start)))
 may_send nonce count start =
-    subst (λ (es : List Event). CanLogIn (sents es)) (sym (joined_are nonce count start)) (tt, (tt, subst CanLogIn (sym (none_sent (answer count (rows_of count start)))) tt))
+    subst (λ (es : List Event). CanLogIn (sents es)) (sym (joined_are nonce count start)) (tt, (tt, subst CanLogIn (sym (none_sent (answer count (gen_rows count start)))) tt))
 
-spelled : (nonce : List ℕ) (count start : ℕ) (bytes : List ℕ) → count < 2 ^ 64 → IsStream count start bytes → SpellsGot (first_standing (gen_input nonce).config) (joined (gen_segments nonce count start)) bytes
+spelled : (nonce : List ℕ) (count start : ℕ) (bytes : List ℕ) → count < 2 ^ 64 → IsStream count start bytes → SpellsGot (first_standing (gen_input nonce).config) (all_events (gen_segments nonce count start)) bytes
 spelled nonce count start bytes small is =
     subst (λ (es : List Event). SpellsGot (first_standing (gen_input nonce).config) es bytes) (sym (joined_are nonce count start))
     (all_spelled (first_standing (gen_input nonce).config) (messages count start) bytes (stream_plain count start small) is)
@@ -124,22 +124,22 @@ rows_tallied fields before (row ∷ rows) es = rows_tallied fields (before ++ ro
 abbrev fields : List FieldInfo
 fields = map field_info_of (column ∷ [])
 
-query_tallied : (count : ℕ) (rows : List DataRow) → tally_of (query_events count rows) ≡ fold tally_at (opened fields rows) (Got (complete count) ∷ Got ready ∷ [])
+query_tallied : (count : ℕ) (rows : List DataRow) → tally_of (query_events count rows) ≡ fold tally_at (opened fields rows) (Got (complete count) ∷ Got stream_ready ∷ [])
 unfolding tally_of
 query_tallied count rows =
-    ap (λ (l : List Event). fold tally_at (opened fields []) l) (map-append Got (map backend.DataRow rows) (end_of count)) ∙ rows_tallied fields [] rows (map Got (end_of count))
+    ap (λ (l : List Event). fold tally_at (opened fields []) l) (map-append Got (map backend.DataRow rows) (stream_end count)) ∙ rows_tallied fields [] rows (map Got (stream_end count))
 
 reported : (count : ℕ) (rows : List DataRow) → flat_map answer_rows (answers_of (gen_query ∷ []) (query_events count rows ∷ [])) ≡ rows
 reported count rows = ap (λ t. flat_map answer_rows (answer_by gen_query t ∷ [])) (query_tallied count rows) ∙ (append-nil (rows ++ []) ∙ append-nil rows)
 
-pub stream_reported : (nonce : List ℕ) (count start : ℕ) → report_rows (report_of (gen_input nonce) (gen_segments nonce count start)) ≡ rows_of count start
+pub stream_reported : (nonce : List ℕ) (count start : ℕ) → report_rows (report_of (gen_input nonce) (gen_segments nonce count start)) ≡ gen_rows count start
 unfolding report_of
-stream_reported nonce count start = reported count (rows_of count start)
+stream_reported nonce count start = reported count (gen_rows count start)
 
 pub numbered : (count x : ℕ) → length (numbers_behind count x) ≡ count
 numbered zero x = refl
 numbered (suc n) x = ap suc (numbered n (next_number x))
 
-pub rows_counted : (count start : ℕ) → length (rows_of count start) ≡ count
+pub rows_counted : (count start : ℕ) → length (gen_rows count start) ≡ count
 unfolding numbers
 rows_counted count start = length-map (numbers_behind count (start % 2147483648)) row_of ∙ numbered count (start % 2147483648)

@@ -23,7 +23,7 @@ use Rattle.pgw_startup.specs.declared.authentication.Authentication.TheVariants 
 use Rattle.pgw_query.specs.Sound.{IsField}
 use Rattle.pgw_frontend.specs.Frontend.{both}
 use Rattle.pgw_backend.specs.Backend.{backend_encoding}
-use Rattle.pgw_backend.specs.Front.{Awaits, Spells, SpellsIn, typed_phase}
+use Rattle.pgw_backend.specs.Front.{AwaitsBackend, Spells, SpellsIn, typed_phase}
 use Rattle.pgw_backend.specs.Texts.{IsSound, Suits}
 use Rattle.pgw_backend.specs.declared.backend.PgWireBackendMessage.{PgWireBackendMessage as Backend}
 use Rattle.pgw_backend.specs.declared.backend.PgWireBackendMessage.TheVariants as backend
@@ -32,7 +32,7 @@ use Rattle.pgw_session.specs.declared.standing.Standing.{Standing}
 use Rattle.pgw_session.specs.Events.{Got}
 use Rattle.pgw_session.specs.Standings.{standing_by}
 use Rattle.pgw_session.specs.Transcript.{SpellsGot}
-use Rattle.pgw_gen.specs.Stream.{HasEncoding, IsStream, Puts, beginning, column, complete, description, encodings, end_of, messages, next_number, numbers, numbers_behind, ready, row_of, rows_of}
+use Rattle.pgw_gen.specs.Stream.{HasEncoding, IsStream, PutsEncodings, before_rows, column, complete, description, stream_encodings, stream_end, messages, next_number, numbers, numbers_behind, stream_ready, row_of, gen_rows}
 
 -- ---- encodings
 
@@ -43,16 +43,16 @@ both_parts (Ok x) (Err e) bytes is = absurd cc
 both_parts (Err e) b bytes is = absurd cc
 
 -- messages behind others
-encodings_behind : (ms ns : List Backend) (x y : List ℕ) → encodings ms ≡ Ok x → encodings ns ≡ Ok y → encodings (ms ++ ns) ≡ Ok (x ++ y)
+encodings_behind : (ms ns : List Backend) (x y : List ℕ) → stream_encodings ms ≡ Ok x → stream_encodings ns ≡ Ok y → stream_encodings (ms ++ ns) ≡ Ok (x ++ y)
 encodings_behind [] ns x y one two = let none : [] ≡ x = cc in two ∙ ap (λ (l : List ℕ). Ok (l ++ y)) none
 encodings_behind (m ∷ ms) ns x y one two =
-    let p = both_parts (backend_encoding m) (encodings ms) x one in
+    let p = both_parts (backend_encoding m) (stream_encodings ms) x one in
     rw (p.2, encodings_behind ms ns p.1 y p.3 two) (ap Ok (sym (append_assoc p.0 p.1 y) ∙ ap (λ (l : List ℕ). l ++ y) (sym p.4)))
 
-pub puts_none : (old : List ℕ) → Puts [] old old
+pub puts_none : (old : List ℕ) → PutsEncodings [] old old
 puts_none old = ([], refl, sym (append-nil old))
 
-pub puts_on : (ms ns : List Backend) (old mid new : List ℕ) → Puts ms old mid → Puts ns mid new → Puts (ms ++ ns) old new
+pub puts_on : (ms ns : List Backend) (old mid new : List ℕ) → PutsEncodings ms old mid → PutsEncodings ns mid new → PutsEncodings (ms ++ ns) old new
 puts_on ms ns old mid new one two = (one.0 ++ two.0, encodings_behind ms ns one.0 two.0 one.1 two.1, two.2 ∙ ap (λ (l : List ℕ). l ++ two.0) one.2 ∙ append_assoc old one.0 two.0)
 
 put_by : (r : Result (List ℕ) PgWireError) (old new : List ℕ) → (r >>= (λ b. Ok (old ++ b))) ≡ Ok new → (bytes : List ℕ) × (both r (Ok []) ≡ Ok bytes) × (new ≡ old ++ bytes)
@@ -60,7 +60,7 @@ put_by (Ok b) old new is = (b, ap Ok (append-nil b), cc)
 put_by (Err e) old new is = absurd cc
 
 -- one message was encoded
-pub puts_one : (m : Backend) (old new : List ℕ) → (backend_encoding m >>= (λ b. Ok (old ++ b))) ≡ Ok new → Puts (m ∷ []) old new
+pub puts_one : (m : Backend) (old new : List ℕ) → (backend_encoding m >>= (λ b. Ok (old ++ b))) ≡ Ok new → PutsEncodings (m ∷ []) old new
 puts_one m old new is = put_by (backend_encoding m) old new is
 
 -- ---- a row
@@ -82,7 +82,7 @@ row_encoded digits small =
     e ∙ ap (λ n. Ok (68 ∷ (to_be_bytes w32 n ++ (i16 (pos 1) ++ (u32 (length digits) ++ digits))))) size
 
 -- a row was put behind some bytes
-pub puts_row : (x : ℕ) (old new : List ℕ) → x < 2 ^ 32 → new ≡ old ++ row_bytes (decimal x) → Puts (backend.DataRow (row_of x) ∷ []) old new
+pub puts_row : (x : ℕ) (old new : List ℕ) → x < 2 ^ 32 → new ≡ old ++ row_bytes (decimal x) → PutsEncodings (backend.DataRow (row_of x) ∷ []) old new
 puts_row x old new small are =
     let len : length (decimal x) ≤ 10 = length-decimal-le 10 x (omega arith) (omega (arith, small)) (omega (arith, small)) in
     let e = row_encoded (decimal x) (omega (arith, len)) in
@@ -100,12 +100,12 @@ row_parts old a b d new are head size = are ∙ append_assoc (((old ++ 68 ∷ []
 pub record PutSome (count before left number : ℕ) (old new : List ℕ) : Type 0 where
   done : List ℕ
   are : numbers_behind count before ≡ done ++ numbers_behind left number
-  put : Puts (map backend.DataRow (map row_of done)) old new
+  put : PutsEncodings (map backend.DataRow (map row_of done)) old new
 
 pub put_none : (count before : ℕ) (old : List ℕ) → PutSome count before count before old old
 put_none count before old = record { done = []; are = refl; put = puts_none old }
 
-pub put_one : (count before left rest number next : ℕ) (old mid new : List ℕ) → PutSome count before left number old mid → left ≡ suc rest → next ≡ next_number number → Puts (backend.DataRow (row_of next) ∷ []) mid new → PutSome count before rest next old new
+pub put_one : (count before left rest number next : ℕ) (old mid new : List ℕ) → PutSome count before left number old mid → left ≡ suc rest → next ≡ next_number number → PutsEncodings (backend.DataRow (row_of next) ∷ []) mid new → PutSome count before rest next old new
 put_one count before left rest number next old mid new p more is one =
     let cut : numbers_behind left number ≡ next ∷ numbers_behind rest next = rw (more, is) refl in
     record {
@@ -114,7 +114,7 @@ put_one count before left rest number next old mid new p more is one =
       put = rw (map-append row_of p.done (next ∷ []), map-append backend.DataRow (map row_of p.done) (row_of next ∷ [])) (puts_on (map backend.DataRow (map row_of p.done)) (backend.DataRow (row_of next) ∷ []) old mid new p.put one);
     }
 
-pub put_all : (count before number : ℕ) (old new : List ℕ) → PutSome count before 0 number old new → Puts (map backend.DataRow (map row_of (numbers_behind count before))) old new
+pub put_all : (count before number : ℕ) (old new : List ℕ) → PutSome count before 0 number old new → PutsEncodings (map backend.DataRow (map row_of (numbers_behind count before))) old new
 put_all count before number old new p = rw (p.are ∙ append-nil p.done) p.put
 
 -- ---- what stands around the rows has encodings
@@ -123,7 +123,7 @@ pub greeting_encodes : HasEncoding (backend.Authentication authentication.Ok)
 unfolding backend_encoding encoded u32
 greeting_encodes = (_, refl)
 
-pub ready_encodes : HasEncoding ready
+pub ready_encodes : HasEncoding stream_ready
 unfolding backend_encoding encoded
 ready_encodes = (_, refl)
 
@@ -155,7 +155,7 @@ complete_encodes count small =
 pub record IsPlain (m : Backend) : Type 0 where
   sound : IsSound m
   suits : (v : ProtocolVersion) → Suits v m
-  awaits : (v : ProtocolVersion) → Awaits (typed_phase v) m
+  awaits : (v : ProtocolVersion) → AwaitsBackend (typed_phase v) m
 
 abbrev pub ArePlain : List Backend → Type 0
 ArePlain [] = Unit {0}
@@ -165,10 +165,10 @@ plain_spells : (v : ProtocolVersion) (m : Backend) (bytes : List ℕ) → IsPlai
 unfolding SpellsIn
 plain_spells v m bytes p is = (p.awaits v, backend_written v m bytes p.sound (p.suits v) is)
 
-pub all_spelled : (s : Standing) (ms : List Backend) (bytes : List ℕ) → ArePlain ms → encodings ms ≡ Ok bytes → SpellsGot s (map Got ms) bytes
+pub all_spelled : (s : Standing) (ms : List Backend) (bytes : List ℕ) → ArePlain ms → stream_encodings ms ≡ Ok bytes → SpellsGot s (map Got ms) bytes
 all_spelled s [] bytes p is = cc
 all_spelled s (m ∷ ms) bytes p is =
-    let parts = both_parts (backend_encoding m) (encodings ms) bytes is in
+    let parts = both_parts (backend_encoding m) (stream_encodings ms) bytes is in
     (parts.0, parts.1, parts.4, plain_spells s.version m parts.0 p.0 parts.2, all_spelled (standing_by s m) ms parts.1 p.1 parts.3)
 
 plain_on : (ms ns : List Backend) → ArePlain ms → ArePlain ns → ArePlain (ms ++ ns)
@@ -196,7 +196,7 @@ tag_text count small = IsUtf8-append (codes "SELECT ") (decimal count) (IsUtf8-f
 plain_greeting : IsPlain (backend.Authentication authentication.Ok)
 plain_greeting = record { sound = tt; suits = λ v. tt; awaits = λ v. (refl, refl) }
 
-plain_ready : IsPlain ready
+plain_ready : IsPlain stream_ready
 plain_ready = record { sound = tt; suits = λ v. tt; awaits = λ v. (refl, refl) }
 
 column_sound : IsField column
@@ -208,23 +208,23 @@ plain_description = record { sound = (column_sound, tt); suits = λ v. tt; await
 plain_complete : (count : ℕ) → count < 2 ^ 64 → IsPlain (complete count)
 plain_complete count small = record { sound = tag_text count small; suits = λ v. tt; awaits = λ v. (refl, refl) }
 
-beginning_plain : ArePlain beginning
+beginning_plain : ArePlain before_rows
 beginning_plain = (plain_greeting, (plain_ready, (plain_description, tt)))
 
-end_plain : (count : ℕ) → count < 2 ^ 64 → ArePlain (end_of count)
+end_plain : (count : ℕ) → count < 2 ^ 64 → ArePlain (stream_end count)
 end_plain count small = (plain_complete count small, (plain_ready, tt))
 
 pub stream_plain : (count start : ℕ) → count < 2 ^ 64 → ArePlain (messages count start)
 unfolding numbers
 stream_plain count start small =
-    plain_on beginning (map backend.DataRow (rows_of count start) ++ end_of count) beginning_plain
-    (plain_on (map backend.DataRow (rows_of count start)) (end_of count) (rows_plain count (start % 2147483648)) (end_plain count small))
+    plain_on before_rows (map backend.DataRow (gen_rows count start) ++ stream_end count) beginning_plain
+    (plain_on (map backend.DataRow (gen_rows count start)) (stream_end count) (rows_plain count (start % 2147483648)) (end_plain count small))
 
 -- ---- the whole
 
-pub stream_put : (count start : ℕ) (one two bytes : List ℕ) → Puts beginning [] one → Puts (map backend.DataRow (map row_of (numbers_behind count (start % 2147483648)))) one two → Puts (end_of count) two bytes → IsStream count start bytes
+pub stream_put : (count start : ℕ) (one two bytes : List ℕ) → PutsEncodings before_rows [] one → PutsEncodings (map backend.DataRow (map row_of (numbers_behind count (start % 2147483648)))) one two → PutsEncodings (stream_end count) two bytes → IsStream count start bytes
 unfolding numbers
 stream_put count start one two bytes a b c =
-    let rows = map backend.DataRow (rows_of count start) in
-    let all = puts_on beginning (rows ++ end_of count) [] one bytes a (puts_on rows (end_of count) one two bytes b c) in
+    let rows = map backend.DataRow (gen_rows count start) in
+    let all = puts_on before_rows (rows ++ stream_end count) [] one bytes a (puts_on rows (stream_end count) one two bytes b c) in
     all.1 ∙ ap Ok (sym all.2)

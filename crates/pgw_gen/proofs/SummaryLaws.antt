@@ -10,20 +10,20 @@ use Rattle.sha2.specs.Sha256.{sha256}
 use Rattle.pgw_session.specs.declared.types.SessionReport.{SessionReport}
 use Rattle.pgw_gen.specs.declared.summary.GenSummary.{GenSummary}
 use Rattle.pgw_gen.specs.declared.summary.Sum.{Sum}
-use Rattle.pgw_gen.specs.Summary.{Adds, AreTooMany, IsSum, payloads, report_rows, summary_of}
+use Rattle.pgw_gen.specs.Summary.{AddsRowsToSum, AreTooMany, IsSum, payloads, report_rows, summary_of}
 
 -- none
-pub adds_none : (sum : Sum) → Adds [] sum sum
+pub adds_none : (sum : Sum) → AddsRowsToSum [] sum sum
 adds_none sum rows is = subst (λ (rs : List DataRow). IsSum sum rs) (sym (append-nil rows)) is
 
 -- some, and others behind them
-pub adds_on : (first mid last : Sum) (more behind : List DataRow) → Adds more first mid → Adds behind mid last → Adds (more ++ behind) first last
+pub adds_on : (first mid last : Sum) (more behind : List DataRow) → AddsRowsToSum more first mid → AddsRowsToSum behind mid last → AddsRowsToSum (more ++ behind) first last
 adds_on first mid last more behind one two rows is = subst (λ (rs : List DataRow). IsSum last rs) (append_assoc rows more behind) (two (rows ++ more) (one rows is))
 
 -- one item more of a list
-pub adds_item : {X : Type 0} (f : X → List DataRow) (first mid last : Sum) (done : List X) (x : X) → Adds (flat_map f done) first mid → Adds (f x) mid last → Adds (flat_map f (done ++ x ∷ [])) first last
+pub adds_item : {X : Type 0} (f : X → List DataRow) (first mid last : Sum) (done : List X) (x : X) → AddsRowsToSum (flat_map f done) first mid → AddsRowsToSum (f x) mid last → AddsRowsToSum (flat_map f (done ++ x ∷ [])) first last
 adds_item f first mid last done x one two =
-    subst (λ (rs : List DataRow). Adds rs first last) (sym (flat_map-append f done (x ∷ []) ∙ ap (λ (l : List DataRow). flat_map f done ++ l) (append-nil (f x)))) (adds_on first mid last (flat_map f done) (f x) one two)
+    subst (λ (rs : List DataRow). AddsRowsToSum rs first last) (sym (flat_map-append f done (x ∷ []) ∙ ap (λ (l : List DataRow). flat_map f done ++ l) (append-nil (f x)))) (adds_on first mid last (flat_map f done) (f x) one two)
 
 -- the payloads of one row more
 pub payload_on : (rows done : List DataRow) (row : DataRow) → payloads (rows ++ done) ++ row.payload ≡ payloads (rows ++ (done ++ row ∷ []))
@@ -46,7 +46,7 @@ at_item f (y ∷ ys) (suc i) x lt is =
     let behind = at_item f ys i x (omega (arith, lt)) is in
     omega (arith, behind, length-append (f y) (flat_map f ys), length-append (f y) (flat_map f (take i ys)))
 
-pub too_many_at : {X : Type 0} (f : X → List DataRow) (xs : List X) (i : ℕ) (x : X) (first mid : Sum) → i < length xs → x ≡ get_or xs i x → Adds (flat_map f (take i xs)) first mid → AreTooMany (f x) mid → AreTooMany (flat_map f xs) first
+pub too_many_at : {X : Type 0} (f : X → List DataRow) (xs : List X) (i : ℕ) (x : X) (first mid : Sum) → i < length xs → x ≡ get_or xs i x → AddsRowsToSum (flat_map f (take i xs)) first mid → AreTooMany (f x) mid → AreTooMany (flat_map f xs) first
 too_many_at f xs i x first mid lt is adds many rows sum =
     let done = flat_map f (take i xs) in
     let more = many (rows ++ done) (adds rows sum) in

@@ -13,7 +13,7 @@ use Rattle.pgw_session.specs.declared.types.Request.TheVariants as request
 use Rattle.pgw_session.specs.declared.types.Response.{Response}
 use Rattle.pgw_session.specs.declared.types.SessionReport.{SessionReport}
 use Rattle.pgw_session.specs.Input.{Input, input_with}
-use Rattle.pgw_session.specs.Responses.{rows_in}
+use Rattle.pgw_session.specs.Responses.{waiting_rows}
 use Rattle.pgw_gen.specs.declared.summary.GenSummary.{GenSummary}
 use Rattle.pgw_gen.specs.declared.summary.Sum.{Sum}
 
@@ -30,7 +30,7 @@ gen_input nonce = input_with gen_config (gen_query ∷ []) nonce
 -- ---- rows
 
 abbrev pub response_rows : Response → List DataRow
-response_rows r = (rows_in r).rows
+response_rows r = (waiting_rows r).rows
 
 -- a server's error has none
 abbrev pub answer_rows : Answer → List DataRow
@@ -53,8 +53,8 @@ summary_of report = record { rows = length (report_rows report); digest = sha256
 abbrev pub IsSum : Sum → List DataRow → Type 0
 IsSum sum rows = (sum.rows ≡ length rows) × Holds256 sum.hasher (payloads rows)
 
-abbrev pub Adds : List DataRow → Sum → Sum → Type 0
-Adds more old new = (rows : List DataRow) → IsSum old rows → IsSum new (rows ++ more)
+abbrev pub AddsRowsToSum : List DataRow → Sum → Sum → Type 0
+AddsRowsToSum more old new = (rows : List DataRow) → IsSum old rows → IsSum new (rows ++ more)
 
 -- with those before them these are more than 64 bits can count
 abbrev pub AreTooMany : List DataRow → Sum → Type 0

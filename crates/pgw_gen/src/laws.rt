@@ -2,7 +2,7 @@
 ghost use Rattle.std.specs.Prelude.{◌≡◌, ◌<◌, ◌^◌, ℕ, List, length};
 ghost use Rattle.pgw_session.specs.Events.{Event};
 ghost use Rattle.pgw_session.specs.Transcript.{Completes, report_of};
-ghost use Rattle.pgw_gen.specs.Stream.{IsStream, gen_segments, rows_of};
+ghost use Rattle.pgw_gen.specs.Stream.{IsStream, gen_segments, gen_rows};
 ghost use Rattle.pgw_gen.specs.Summary.{gen_input, report_rows};
 
 /// The stream completes the session of the user `gen` with its one query, and the report has its rows, as many as asked
@@ -13,6 +13,6 @@ pub fn the_stream_completes_a_session()
         (gen_segments nonce count start) }
     ensures rows { (nonce : List ℕ) (count start : ℕ) →
         report_rows (report_of (gen_input nonce) (gen_segments nonce count start))
-        ≡ rows_of count start }
-    ensures counted { (count start : ℕ) → length (rows_of count start) ≡ count }
+        ≡ gen_rows count start }
+    ensures counted { (count start : ℕ) → length (gen_rows count start) ≡ count }
 {}

@@ -1,7 +1,7 @@
 //! What a server sends in a session with one query that gives a number of rows.
 ghost use Rattle.std.specs.Prelude.{◌≡◌, ◌<◌, ◌∷◌, [], ◌^◌, map, IfOk, OnOk};
 ghost use Rattle.pgw_backend.specs.declared.backend.PgWireBackendMessage.TheVariants as backend;
-ghost use Rattle.pgw_gen.specs.Stream.{HasEncoding, IsStream, Puts, beginning, column, complete as completion, end_of, next_number, numbers_behind, ready as readiness, row_of};
+ghost use Rattle.pgw_gen.specs.Stream.{HasEncoding, IsStream, PutsEncodings, before_rows, column, complete as completion, stream_end, next_number, numbers_behind, stream_ready as readiness, row_of};
 
 use bytes::BytesMut;
 use itoa::Buffer;
@@ -38,7 +38,7 @@ fn next_number(number: u32) -> u32
 // Appends a message, and lets it go.
 fn put(out: &mut BytesMut, message: PgWireBackendMessage) -> Result<(), OutOfMemory>
     requires { HasEncoding message }
-    ensures { OnOk result (Puts (message ∷ []) out.old.items out.new.items) }
+    ensures { OnOk result (PutsEncodings (message ∷ []) out.old.items out.new.items) }
 {
     let put = message.encode(out);
     drop(message);
@@ -56,7 +56,7 @@ fn put(out: &mut BytesMut, message: PgWireBackendMessage) -> Result<(), OutOfMem
 
 // Appends a row whose one field is the number, as it is encoded.
 fn put_row(out: &mut BytesMut, number: u32) -> Result<(), OutOfMemory>
-    ensures { OnOk result (Puts (backend.DataRow (row_of number) ∷ []) out.old.items
+    ensures { OnOk result (PutsEncodings (backend.DataRow (row_of number) ∷ []) out.old.items
         out.new.items) }
 {
     let mut buffer = Buffer::new();
@@ -73,7 +73,7 @@ fn put_row(out: &mut BytesMut, number: u32) -> Result<(), OutOfMemory>
 // Appends so many rows, whose numbers follow this one.
 fn put_rows(out: &mut BytesMut, count: u32, before: u32) -> Result<(), OutOfMemory>
     requires { before < 2 ^ 31 }
-    ensures { OnOk result (Puts (map backend.DataRow (map row_of (numbers_behind count before)))
+    ensures { OnOk result (PutsEncodings (map backend.DataRow (map row_of (numbers_behind count before)))
         out.old.items out.new.items) }
 {
     let mut number = before;
@@ -114,7 +114,7 @@ fn ready() -> PgWireBackendMessage
 
 // What stands before the rows.
 fn put_beginning(alloc: Global, out: &mut BytesMut) -> Result<(), OutOfMemory>
-    ensures { OnOk result (Puts beginning out.old.items out.new.items) }
+    ensures { OnOk result (PutsEncodings before_rows out.old.items out.new.items) }
 {
     put(
         out,
@@ -127,7 +127,7 @@ fn put_beginning(alloc: Global, out: &mut BytesMut) -> Result<(), OutOfMemory>
 
 // What stands behind them.
 fn put_end(alloc: Global, out: &mut BytesMut, count: u32) -> Result<(), OutOfMemory>
-    ensures { OnOk result (Puts (end_of count) out.old.items out.new.items) }
+    ensures { OnOk result (PutsEncodings (stream_end count) out.old.items out.new.items) }
 {
     put(out, complete(alloc, count)?)?;
     put(out, ready())?;

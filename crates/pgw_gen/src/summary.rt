@@ -1,7 +1,7 @@
 //! The rows of a session, told shortly.
 ghost use Rattle.std.specs.Prelude.{◌≡◌, ◌≤◌, ◌^◌, length, IfOk, OnOk, OnErr};
 ghost use Rattle.std.specs.List.{flat_map};
-ghost use Rattle.pgw_gen.specs.Summary.{Adds, AreTooMany, answer_rows, report_rows, response_rows, summary_of as summary_for};
+ghost use Rattle.pgw_gen.specs.Summary.{AddsRowsToSum, AreTooMany, answer_rows, report_rows, response_rows, summary_of as summary_for};
 
 use pgw_query::data_rows::DataRows;
 use pgw_session::types::{Answer, Response, SessionReport};
@@ -40,7 +40,7 @@ struct Sum {
 impl Sum {
     // Adds the rows of a result.
     fn add_rows(&mut self, rows: &DataRows) -> Result<(), TooManyRows>
-        ensures adds { OnOk result (Adds rows.now self.old self.new) }
+        ensures adds { OnOk result (AddsRowsToSum rows.now self.old self.new) }
         ensures too_many { OnErr result (AreTooMany rows.now self.old) }
     {
         let Some(count) = self.rows.checked_add(rows.len() as u64) else {
@@ -54,7 +54,7 @@ impl Sum {
     }
 
     fn add_responses(&mut self, responses: &[Response]) -> Result<(), TooManyRows>
-        ensures adds { OnOk result (Adds (flat_map response_rows responses.now) self.old self.new) }
+        ensures adds { OnOk result (AddsRowsToSum (flat_map response_rows responses.now) self.old self.new) }
         ensures too_many { OnErr result (AreTooMany (flat_map response_rows responses.now)
             self.old) }
     {
@@ -67,7 +67,7 @@ impl Sum {
     }
 
     fn add_answers(&mut self, answers: &[Answer]) -> Result<(), TooManyRows>
-        ensures adds { OnOk result (Adds (flat_map answer_rows answers.now) self.old self.new) }
+        ensures adds { OnOk result (AddsRowsToSum (flat_map answer_rows answers.now) self.old self.new) }
         ensures too_many { OnErr result (AreTooMany (flat_map answer_rows answers.now) self.old) }
     {
         for answer in answers {

@@ -17,7 +17,7 @@ use Rattle.pgw_query.specs.declared.field_info.FieldInfo.{FieldInfo}
 use Rattle.pgw_query.specs.declared.tag.Tag.{Tag}
 use Rattle.pgw_backend.specs.declared.client_error.PgWireClientError.{PgWireClientError as ClientError}
 use Rattle.pgw_handlers.specs.Client.{Sight}
-use Rattle.pgw_handlers.specs.Handling.{Standing, standing}
+use Rattle.pgw_handlers.specs.Handling.{HandlerView, standing}
 
 -- a call of one of its functions, with its message
 pub data ExtendedCall : Type 0 where
@@ -47,9 +47,9 @@ pub data Gift (R : Type 0) : Type 0 where
 abbrev pub Given : Type 0 → Type 0
 Given R = Result (Gift R) ClientError
 
-abbrev pub done : {R : Type 0} → Result (Unit {0}) ClientError → Given R
-done (Ok x) = Ok nothing
-done (Err e) = Err e
+abbrev pub given_nothing : {R : Type 0} → Result (Unit {0}) ClientError → Given R
+given_nothing (Ok x) = Ok nothing
+given_nothing (Err e) = Err e
 
 abbrev pub of_types : {R : Type 0} → Result (List PgType) ClientError → Given R
 of_types (Ok ts) = Ok (types ts)
@@ -71,7 +71,7 @@ of_tag (Err e) = Err e
 
 -- They are heard one after the other, as each is by itself, and these are their responses; for none is anything sent, or
 -- told of the client.
-pub data HearsRows {H R : Type 0} (M : Standing H → ExtendedCall → Standing H → Given R → Type 0)
+pub data HearsRows {H R : Type 0} (M : HandlerView H → ExtendedCall → HandlerView H → Given R → Type 0)
     : List DataRow → List R → H → H → Type 0 where
   none : (h : H) → HearsRows M [] [] h h
   hears : (row : DataRow) (made : R) (rows : List DataRow) (more : List R) (h next after : H) →
@@ -80,8 +80,8 @@ pub data HearsRows {H R : Type 0} (M : Standing H → ExtendedCall → Standing 
       HearsRows M rows more next after → HearsRows M (row ∷ rows) (made ∷ more) h after
 
 -- so many rows that stand whole at the front of some bytes were taken, and heard so; their responses were put behind others
-pub record TakesRows {H R : Type 0}
-    (M : Standing H → ExtendedCall → Standing H → Given R → Type 0)
+pub record TakesExtendedRows {H R : Type 0}
+    (M : HandlerView H → ExtendedCall → HandlerView H → Given R → Type 0)
     (old new : H) (old_responses new_responses : List R) (old_bytes new_bytes : List ℕ) (count : ℕ)
     : Type 0 where
   pub rows : List DataRow

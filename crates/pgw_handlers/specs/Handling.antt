@@ -13,24 +13,24 @@ use Rattle.pgw_handlers.specs.declared.client_info.ReadyState.TheVariants.{Pendi
 use Rattle.pgw_handlers.specs.Client.{Sight, with_parameter}
 
 -- a handler and what it sees
-pub record Standing (H : Type 0) : Type 0 where
+pub record HandlerView (H : Type 0) : Type 0 where
   pub handler : H
   pub sight : Sight
 
-abbrev pub standing : {H : Type 0} → H → Sight → Standing H
+abbrev pub standing : {H : Type 0} → H → Sight → HandlerView H
 standing h s = record { handler = h; sight = s }
 
 -- what a call of any function of a handler answers: it goes on, or this is the outcome
-abbrev pub Answer : Type 0 → Type 0
-Answer A = Result (ReadyState A) ClientError
+abbrev pub CallAnswer : Type 0 → Type 0
+CallAnswer A = Result (ReadyState A) ClientError
 
-abbrev pub pending : {T A : Type 0} → Result T ClientError → Answer A
+abbrev pub pending : {T A : Type 0} → Result T ClientError → CallAnswer A
 pending (Ok x) = Ok Pending
 pending (Err e) = Err e
 
-abbrev pub ready : {A : Type 0} → Result A ClientError → Answer A
-ready (Ok x) = Ok (Ready x)
-ready (Err e) = Err e
+abbrev pub ready_answer : {A : Type 0} → Result A ClientError → CallAnswer A
+ready_answer (Ok x) = Ok (Ready x)
+ready_answer (Err e) = Err e
 
 -- hearing is over exactly behind a ReadyForQuery
 abbrev pub EndsAtReady : {A : Type 0} → Backend → ReadyState A → Type 0
@@ -42,27 +42,27 @@ EndsAtReady m Pending = Unit {0}
 -- ---- what every handler does with some messages
 
 -- nothing is done
-abbrev pub Passes : {H A : Type 0} → Standing H → Standing H → Answer A → Type 0
-Passes before after answer = (after ≡ before) × (answer ≡ Ok Pending)
+abbrev pub HandlerStays : {H A : Type 0} → HandlerView H → HandlerView H → CallAnswer A → Type 0
+HandlerStays before after answer = (after ≡ before) × (answer ≡ Ok Pending)
 
 -- nothing is done, and the answer is such an error
-abbrev pub IsRefusal : {A : Type 0} → (ClientError → Type 0) → Answer A → Type 0
+abbrev pub IsRefusal : {A : Type 0} → (ClientError → Type 0) → CallAnswer A → Type 0
 IsRefusal P (Ok x) = ⊥
 IsRefusal P (Err e) = P e
 
-abbrev pub Refuses : {H A : Type 0} → (ClientError → Type 0) → Standing H → Standing H → Answer A → Type 0
-Refuses P before after answer = (after ≡ before) × IsRefusal P answer
+abbrev pub HandlerRefuses : {H A : Type 0} → (ClientError → Type 0) → HandlerView H → HandlerView H → CallAnswer A → Type 0
+HandlerRefuses P before after answer = (after ≡ before) × IsRefusal P answer
 
 -- a parameter that the server reports is the client's from then on, unless memory runs out
-abbrev pub Keeps : {H A : Type 0} → ParameterStatus → Standing H → Standing H → Answer A → Type 0
-Keeps m before after (Ok answer) = (after ≡ standing before.handler (with_parameter m.name m.value before.sight)) × (answer ≡ Pending)
-Keeps m before after (Err e) = (after ≡ before) × (e ≡ client.OutOfMemory)
+abbrev pub KeepsParameter : {H A : Type 0} → ParameterStatus → HandlerView H → HandlerView H → CallAnswer A → Type 0
+KeepsParameter m before after (Ok answer) = (after ≡ standing before.handler (with_parameter m.name m.value before.sight)) × (answer ≡ Pending)
+KeepsParameter m before after (Err e) = (after ≡ before) × (e ≡ client.OutOfMemory)
 
 -- a notification has no place
-abbrev pub Misplaces : {H A : Type 0} → NotificationResponse → Standing H → Standing H → Answer A →
+abbrev pub HandlerMisplaces : {H A : Type 0} → NotificationResponse → HandlerView H → HandlerView H → CallAnswer A →
     Type 0
-Misplaces m before after answer =
-    Refuses (IsUnexpected (backend.NotificationResponse m)) before after answer
+HandlerMisplaces m before after answer =
+    HandlerRefuses (IsUnexpected (backend.NotificationResponse m)) before after answer
 
 -- ---- causes, told or not
 

@@ -22,7 +22,7 @@ bytes_or_none (Ok bytes) = bytes
 bytes_or_none (Err e) = []
 
 -- a front of the message was written, and the client cannot be used any more
-pub record WroteSome (spelled : Result (List ℕ) PgWireError) (old new : Sight) : Type 0 where
+pub record WritesFront (spelled : Result (List ℕ) PgWireError) (old new : Sight) : Type 0 where
   pub front : List ℕ
   pub behind : List ℕ
   pub cut : bytes_or_none spelled ≡ front ++ behind
@@ -32,19 +32,19 @@ pub record WroteSome (spelled : Result (List ℕ) PgWireError) (old new : Sight)
 -- Why a message was not sent. A refusal of its spelling leaves the client as it was.
 abbrev pub NotSent : Result (List ℕ) PgWireError → Sight → Sight → ClientError → Type 0
 NotSent spelled old new client.Broken = (old.broken ≡ true) × (new ≡ old)
-NotSent spelled old new client.IoError = WroteSome spelled old new
-NotSent spelled old new client.OutOfMemory = WroteSome spelled old new
+NotSent spelled old new client.IoError = WritesFront spelled old new
+NotSent spelled old new client.OutOfMemory = WritesFront spelled old new
 NotSent spelled old new (client.PgWireError why) = (old.broken ≡ false) × (spelled ≡ Err why) × (new ≡ old)
 NotSent spelled old new e = ⊥
 
 -- whether the client can be used before and behind the call, by its answer
-abbrev pub IsUsable : Result (Unit {0}) ClientError → Bool → Bool → Type 0
-IsUsable (Ok done) was is = (was ≡ false) × (is ≡ false)
-IsUsable (Err client.Broken) was is = (was ≡ true) × (is ≡ true)
-IsUsable (Err client.IoError) was is = (was ≡ false) × (is ≡ true)
-IsUsable (Err client.OutOfMemory) was is = (was ≡ false) × (is ≡ true)
-IsUsable (Err (client.PgWireError why)) was is = (was ≡ false) × (is ≡ false)
-IsUsable (Err e) was is = ⊥
+abbrev pub SendLeavesUsable : Result (Unit {0}) ClientError → Bool → Bool → Type 0
+SendLeavesUsable (Ok done) was is = (was ≡ false) × (is ≡ false)
+SendLeavesUsable (Err client.Broken) was is = (was ≡ true) × (is ≡ true)
+SendLeavesUsable (Err client.IoError) was is = (was ≡ false) × (is ≡ true)
+SendLeavesUsable (Err client.OutOfMemory) was is = (was ≡ false) × (is ≡ true)
+SendLeavesUsable (Err (client.PgWireError why)) was is = (was ≡ false) × (is ≡ false)
+SendLeavesUsable (Err e) was is = ⊥
 
 -- told or not: what was sent, or not sent whole, has a spelling, and a message is refused as its spelling is
 abbrev pub IsSpelled : Result (List ℕ) PgWireError → Result (Unit {0}) ClientError → Type 0

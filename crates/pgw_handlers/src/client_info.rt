@@ -1,6 +1,6 @@
 //! What a handler asks and tells of a client.
 ghost use Rattle.std.specs.Prelude.{◌≡◌, ℕ, OnOk, OnErr};
-ghost use Rattle.pgw_handlers.specs.Client.{Sight, with_parameter, with_version, with_status};
+ghost use Rattle.pgw_handlers.specs.Client.{Sight, with_parameter, with_sight_version, with_sight_status};
 
 use pgw_config::config::Config;
 use pgw_query::response::TransactionStatus;
@@ -73,7 +73,7 @@ pub trait ClientInfo: Seen {
         ensures { result ≡ (Self.sight self.now).client.protocol_version };
 
     fn set_protocol_version(&mut self, version: ProtocolVersion)
-        ensures set { Self.sight self.new ≡ with_version version (Self.sight self.old) }
+        ensures set { Self.sight self.new ≡ with_sight_version version (Self.sight self.old) }
         ensures own { Self.own self.new ≡ Self.own self.old }
         ensures rest { Self.rest self.new ≡ Self.rest self.old }
         ensures calm { Self.faults self.new ≡ Self.faults self.old };
@@ -82,7 +82,7 @@ pub trait ClientInfo: Seen {
         ensures { result ≡ (Self.sight self.now).client.transaction_status };
 
     fn set_transaction_status(&mut self, status: TransactionStatus)
-        ensures set { Self.sight self.new ≡ with_status status (Self.sight self.old) }
+        ensures set { Self.sight self.new ≡ with_sight_status status (Self.sight self.old) }
         ensures own { Self.own self.new ≡ Self.own self.old }
         ensures rest { Self.rest self.new ≡ Self.rest self.old }
         ensures calm { Self.faults self.new ≡ Self.faults self.old };

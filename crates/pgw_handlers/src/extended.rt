@@ -6,8 +6,8 @@ ghost use Rattle.pgw_backend.specs.declared.backend.PgWireBackendMessage.TheVari
 ghost use Rattle.pgw_backend.specs.declared.client_error.PgWireClientError.{PgWireClientError as ClientError};
 ghost use Rattle.pgw_backend.specs.ClientError.{IsUnexpected};
 ghost use Rattle.pgw_handlers.specs.Client.{Sight};
-ghost use Rattle.pgw_handlers.specs.Handling.{Standing, standing, Leaves, HasOwnCause};
-ghost use Rattle.pgw_handlers.specs.Extended.{ExtendedCall, parse, bind, execute, describe, close, sync, flush, on_parameter_description, on_row_description, on_data_row, on_command_complete, on_portal_suspended, on_notice, on_notification, Given, nothing, done, of_types, of_columns, of_response, of_tag, TakesRows};
+ghost use Rattle.pgw_handlers.specs.Handling.{HandlerView, standing, Leaves, HasOwnCause};
+ghost use Rattle.pgw_handlers.specs.Extended.{ExtendedCall, parse, bind, execute, describe, close, sync, flush, on_parameter_description, on_row_description, on_data_row, on_command_complete, on_portal_suspended, on_notice, on_notification, Given, nothing, given_nothing, of_types, of_columns, of_response, of_tag, TakesExtendedRows};
 
 use crate::causes::misplaced;
 use crate::client_info::ClientInfo;
@@ -36,7 +36,7 @@ pub trait ExtendedQueryHandler {
     type Responses: ResponseList<Response = Self::QueryResponse>;
 
     /// What the handler does: a call leads from one standing to another, and gives the reply.
-    ghost means: { Standing Self → ExtendedCall → Standing Self → Given Self.QueryResponse →
+    ghost means: { HandlerView Self → ExtendedCall → HandlerView Self → Given Self.QueryResponse →
         Type 0 };
 
     fn parse<C: ClientInfo + Outgoing>(
@@ -46,7 +46,7 @@ pub trait ExtendedQueryHandler {
         message: Parse,
     ) -> PgWireClientResult<()>
         ensures means { means (standing self.old (C.sight client.old)) (parse message)
-            (standing self.new (C.sight client.new)) (done result) }
+            (standing self.new (C.sight client.new)) (given_nothing result) }
         ensures leaves { Leaves C.own C.rest C.faults C.sight client.old client.new result };
 
     fn bind<C: ClientInfo + Outgoing>(
@@ -56,7 +56,7 @@ pub trait ExtendedQueryHandler {
         message: Bind,
     ) -> PgWireClientResult<()>
         ensures means { means (standing self.old (C.sight client.old)) (bind message)
-            (standing self.new (C.sight client.new)) (done result) }
+            (standing self.new (C.sight client.new)) (given_nothing result) }
         ensures leaves { Leaves C.own C.rest C.faults C.sight client.old client.new result };
 
     fn execute<C: ClientInfo + Outgoing>(
@@ -66,7 +66,7 @@ pub trait ExtendedQueryHandler {
         message: Execute,
     ) -> PgWireClientResult<()>
         ensures means { means (standing self.old (C.sight client.old)) (execute message)
-            (standing self.new (C.sight client.new)) (done result) }
+            (standing self.new (C.sight client.new)) (given_nothing result) }
         ensures leaves { Leaves C.own C.rest C.faults C.sight client.old client.new result };
 
     fn describe<C: ClientInfo + Outgoing>(
@@ -76,7 +76,7 @@ pub trait ExtendedQueryHandler {
         message: Describe,
     ) -> PgWireClientResult<()>
         ensures means { means (standing self.old (C.sight client.old)) (describe message)
-            (standing self.new (C.sight client.new)) (done result) }
+            (standing self.new (C.sight client.new)) (given_nothing result) }
         ensures leaves { Leaves C.own C.rest C.faults C.sight client.old client.new result };
 
     fn close<C: ClientInfo + Outgoing>(
@@ -86,7 +86,7 @@ pub trait ExtendedQueryHandler {
         message: Close,
     ) -> PgWireClientResult<()>
         ensures means { means (standing self.old (C.sight client.old)) (close message)
-            (standing self.new (C.sight client.new)) (done result) }
+            (standing self.new (C.sight client.new)) (given_nothing result) }
         ensures leaves { Leaves C.own C.rest C.faults C.sight client.old client.new result };
 
     fn sync<C: ClientInfo + Outgoing>(
@@ -96,7 +96,7 @@ pub trait ExtendedQueryHandler {
         message: Sync,
     ) -> PgWireClientResult<()>
         ensures means { means (standing self.old (C.sight client.old)) sync
-            (standing self.new (C.sight client.new)) (done result) }
+            (standing self.new (C.sight client.new)) (given_nothing result) }
         ensures leaves { Leaves C.own C.rest C.faults C.sight client.old client.new result };
 
     fn flush<C: ClientInfo + Outgoing>(
@@ -106,7 +106,7 @@ pub trait ExtendedQueryHandler {
         message: Flush,
     ) -> PgWireClientResult<()>
         ensures means { means (standing self.old (C.sight client.old)) flush
-            (standing self.new (C.sight client.new)) (done result) }
+            (standing self.new (C.sight client.new)) (given_nothing result) }
         ensures leaves { Leaves C.own C.rest C.faults C.sight client.old client.new result };
 
     /// The types of the parameters.
@@ -148,7 +148,7 @@ pub trait ExtendedQueryHandler {
         bytes: &mut Octets,
         responses: &mut Self::Responses,
     ) -> Result<usize, OutOfMemory>
-        ensures taken { IfOk result (TakesRows means self.old self.new
+        ensures taken { IfOk result (TakesExtendedRows means self.old self.new
             (Self.Responses.listed responses.old) (Self.Responses.listed responses.new)
             bytes.old bytes.new) }
         ensures err { OnErr result ((self.new ≡ self.old) × (responses.new ≡ responses.old) ×
@@ -170,13 +170,13 @@ pub trait ExtendedQueryHandler {
 
     fn on_portal_suspended(&mut self, alloc: Global) -> PgWireClientResult<()>
         ensures means { (seen : Sight) → means (standing self.old seen) on_portal_suspended
-            (standing self.new seen) (done result) }
+            (standing self.new seen) (given_nothing result) }
         ensures cause { HasOwnCause result };
 
     /// Hears a notice of the server's, and does nothing with it.
     fn on_notice(&mut self, alloc: Global, message: NoticeResponse) -> PgWireClientResult<()>
         ensures means { (seen : Sight) → means (standing self.old seen) (on_notice message)
-            (standing self.new seen) (done result) }
+            (standing self.new seen) (given_nothing result) }
         ensures cause { HasOwnCause result }
     {
         drop(message);
@@ -191,7 +191,7 @@ pub trait ExtendedQueryHandler {
         message: NotificationResponse,
     ) -> PgWireClientResult<()>
         ensures means { (seen : Sight) → means (standing self.old seen) (on_notification message)
-            (standing self.new seen) (done result) }
+            (standing self.new seen) (given_nothing result) }
         ensures cause { HasOwnCause result }
     {
         let message = PgWireBackendMessage::NotificationResponse(message);
@@ -199,11 +199,11 @@ pub trait ExtendedQueryHandler {
     }
 
     /// The handler may do as the trait's own bodies: do nothing with a notice,
-    ghost passes: { (before : Standing Self) (m : TheNotice) →
+    ghost passes: { (before : HandlerView Self) (m : TheNotice) →
         means before (on_notice m) before (Ok nothing) };
 
     /// and have no place for a notification.
-    ghost misplaces: { (before : Standing Self) (m : TheNotification) (e : ClientError) →
+    ghost misplaces: { (before : HandlerView Self) (m : TheNotification) (e : ClientError) →
         IsUnexpected (backend.NotificationResponse m) e →
         means before (on_notification m) before (Err e) };
 }

@@ -1,7 +1,7 @@
 //! Where a handler's messages go.
 ghost use Rattle.std.specs.Prelude.{◌≡◌, OnOk, IfErr};
 ghost use Rattle.pgw_frontend.specs.Frontend.{encoding};
-ghost use Rattle.pgw_handlers.specs.Sending.{Sent, NotSent, IsSpelled, IsUsable};
+ghost use Rattle.pgw_handlers.specs.Sending.{Sent, NotSent, IsSpelled, SendLeavesUsable};
 ghost use Rattle.pgw_handlers.specs.Handling.{Leaves};
 
 use crate::client_info::Seen;
@@ -19,7 +19,7 @@ pub trait Outgoing: Seen {
             (Self.sight self.new) e) }
         ensures spelled { IsSpelled (encoding message) result }
         ensures client { (Self.sight self.new).client ≡ (Self.sight self.old).client }
-        ensures usable { IsUsable result (Self.sight self.old).broken (Self.sight self.new).broken }
+        ensures usable { SendLeavesUsable result (Self.sight self.old).broken (Self.sight self.new).broken }
         ensures leaves { Leaves Self.own Self.rest Self.faults Self.sight self.old self.new
             result };
 }

@@ -3,8 +3,8 @@ ghost use Rattle.std.specs.Prelude.{◌≡◌, List, IfOk, OnErr};
 ghost use Rattle.pgw_startup.specs.declared.parameter_status.ParameterStatus.{ParameterStatus as TheStatus};
 ghost use Rattle.pgw_query.specs.declared.response.NoticeResponse.{NoticeResponse as TheNotice};
 ghost use Rattle.pgw_query.specs.declared.notification.NotificationResponse.{NotificationResponse as TheNotification};
-ghost use Rattle.pgw_handlers.specs.Handling.{Standing, standing, Answer, pending, ready, EndsAtReady, Keeps, Passes, Misplaces, Leaves};
-ghost use Rattle.pgw_handlers.specs.Simple.{SimpleCall, simple_query, on_row_description, on_data_row, on_command_complete, on_empty_query, on_parameter_status, on_notice, on_notification, on_ready_for_query, HeardInQuery, TakesRows};
+ghost use Rattle.pgw_handlers.specs.Handling.{HandlerView, standing, CallAnswer, pending, ready_answer, EndsAtReady, KeepsParameter, HandlerStays, HandlerMisplaces, Leaves};
+ghost use Rattle.pgw_handlers.specs.Simple.{SimpleCall, simple_query, on_row_description, on_data_row, on_command_complete, on_empty_query, on_parameter_status, on_notice, on_notification, on_ready_for_query, HeardInQuery, TakesSimpleRows};
 
 use crate::causes::misplaced;
 use crate::client_info::{ClientInfo, ReadyState};
@@ -25,7 +25,7 @@ pub trait SimpleQueryHandler {
     type QueryResponse: Drop;
 
     /// What the handler does: a call leads from one standing to another, and gives the answer.
-    ghost means: { Standing Self → SimpleCall → Standing Self → Answer (List Self.QueryResponse) →
+    ghost means: { HandlerView Self → SimpleCall → HandlerView Self → CallAnswer (List Self.QueryResponse) →
         Type 0 };
 
     /// Asks the query.
@@ -115,7 +115,7 @@ pub trait SimpleQueryHandler {
     /// no client and sends nothing. By its own body it takes none.
     #[tactic(auto, using(crate::proofs::RowLaws::takes_none))]
     fn take_rows(&mut self, bytes: &mut Octets) -> Result<usize, OutOfMemory>
-        ensures taken { IfOk result (TakesRows means self.old self.new bytes.old bytes.new) }
+        ensures taken { IfOk result (TakesSimpleRows means self.old self.new bytes.old bytes.new) }
         ensures err { OnErr result ((self.new ≡ self.old) × (bytes.new ≡ bytes.old)) }
     {
         let _ = bytes;
@@ -197,21 +197,21 @@ pub trait SimpleQueryHandler {
         message: ReadyForQuery,
     ) -> PgWireClientResult<Listed<Self::QueryResponse>>
         ensures means { means (standing self.old (C.sight client.old)) (on_ready_for_query message)
-            (standing self.new (C.sight client.new)) (ready result) }
+            (standing self.new (C.sight client.new)) (ready_answer result) }
         ensures leaves { Leaves C.own C.rest C.faults C.sight client.old client.new result };
 
     /// The handler may do as the trait's own bodies: leave a parameter to the client,
-    ghost keeps: { (before after : Standing Self) (m : TheStatus)
-        (answer : Answer (List Self.QueryResponse)) → Keeps m before after answer →
+    ghost keeps: { (before after : HandlerView Self) (m : TheStatus)
+        (answer : CallAnswer (List Self.QueryResponse)) → KeepsParameter m before after answer →
         means before (on_parameter_status m) after answer };
 
     /// do nothing with a notice,
-    ghost passes: { (before after : Standing Self) (m : TheNotice)
-        (answer : Answer (List Self.QueryResponse)) → Passes before after answer →
+    ghost passes: { (before after : HandlerView Self) (m : TheNotice)
+        (answer : CallAnswer (List Self.QueryResponse)) → HandlerStays before after answer →
         means before (on_notice m) after answer };
 
     /// and have no place for a notification.
-    ghost misplaces: { (before after : Standing Self) (m : TheNotification)
-        (answer : Answer (List Self.QueryResponse)) → Misplaces m before after answer →
+    ghost misplaces: { (before after : HandlerView Self) (m : TheNotification)
+        (answer : CallAnswer (List Self.QueryResponse)) → HandlerMisplaces m before after answer →
         means before (on_notification m) after answer };
 }

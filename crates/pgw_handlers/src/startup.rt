@@ -5,8 +5,8 @@ ghost use Rattle.pgw_startup.specs.declared.parameter_status.ParameterStatus.{Pa
 ghost use Rattle.pgw_query.specs.declared.response.NoticeResponse.{NoticeResponse as TheNotice};
 ghost use Rattle.pgw_query.specs.declared.notification.NotificationResponse.{NotificationResponse as TheNotification};
 ghost use Rattle.pgw_handlers.specs.declared.client_info.ServerInformation.{ServerInformation as TheInformation};
-ghost use Rattle.pgw_handlers.specs.Handling.{Standing, standing, Answer, pending, ready, EndsAtReady, Keeps, Passes, Misplaces, Leaves};
-ghost use Rattle.pgw_handlers.specs.Startup.{StartupCall, startup, on_authentication, on_negotiate_protocol_version, on_parameter_status, on_notice, on_notification, on_backend_key, on_ready_for_query, Settles, HeardAtStartup};
+ghost use Rattle.pgw_handlers.specs.Handling.{HandlerView, standing, CallAnswer, pending, ready_answer, EndsAtReady, KeepsParameter, HandlerStays, HandlerMisplaces, Leaves};
+ghost use Rattle.pgw_handlers.specs.Startup.{StartupCall, startup, on_authentication, on_negotiate_protocol_version, on_parameter_status, on_notice, on_notification, on_backend_key, on_ready_for_query, SettlesVersion, HeardAtStartup};
 
 use crate::causes::{admitted, misplaced};
 use crate::client_info::{ClientInfo, ReadyState, ServerInformation};
@@ -24,7 +24,7 @@ use std::alloc::Global;
 /// Logs a client in: it sends what begins a connection, and hears the server's messages up to the first ReadyForQuery.
 pub trait StartupHandler {
     /// What the handler does: a call leads from one standing to another, and gives the answer.
-    ghost means: { Standing Self → StartupCall → Standing Self → Answer TheInformation → Type 0 };
+    ghost means: { HandlerView Self → StartupCall → HandlerView Self → CallAnswer TheInformation → Type 0 };
 
     /// Whether the handler is within a login exchange, where a server says nothing else than the next of it.
     ghost exchanges: { Self → Bool };
@@ -190,25 +190,25 @@ pub trait StartupHandler {
         message: ReadyForQuery,
     ) -> PgWireClientResult<ServerInformation>
         ensures means { means (standing self.old (C.sight client.old)) (on_ready_for_query message)
-            (standing self.new (C.sight client.new)) (ready result) }
+            (standing self.new (C.sight client.new)) (ready_answer result) }
         ensures leaves { Leaves C.own C.rest C.faults C.sight client.old client.new result };
 
     /// The handler may do as the trait's own bodies: settle on a version,
-    ghost settles: { (before after : Standing Self) (m : TheOffer)
-        (answer : Answer TheInformation) → Settles m before after answer →
+    ghost settles: { (before after : HandlerView Self) (m : TheOffer)
+        (answer : CallAnswer TheInformation) → SettlesVersion m before after answer →
         means before (on_negotiate_protocol_version m) after answer };
 
     /// leave a parameter to the client,
-    ghost keeps: { (before after : Standing Self) (m : TheStatus) (answer : Answer TheInformation) →
-        Keeps m before after answer → means before (on_parameter_status m) after answer };
+    ghost keeps: { (before after : HandlerView Self) (m : TheStatus) (answer : CallAnswer TheInformation) →
+        KeepsParameter m before after answer → means before (on_parameter_status m) after answer };
 
     /// do nothing with a notice,
-    ghost passes: { (before after : Standing Self) (m : TheNotice)
-        (answer : Answer TheInformation) → Passes before after answer →
+    ghost passes: { (before after : HandlerView Self) (m : TheNotice)
+        (answer : CallAnswer TheInformation) → HandlerStays before after answer →
         means before (on_notice m) after answer };
 
     /// and have no place for a notification.
-    ghost misplaces: { (before after : Standing Self) (m : TheNotification)
-        (answer : Answer TheInformation) → Misplaces m before after answer →
+    ghost misplaces: { (before after : HandlerView Self) (m : TheNotification)
+        (answer : CallAnswer TheInformation) → HandlerMisplaces m before after answer →
         means before (on_notification m) after answer };
 }

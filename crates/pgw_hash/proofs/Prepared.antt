@@ -20,7 +20,7 @@ use Rattle.unicode_normalization.specs.Forms.{nfkc}
 use Rattle.unicode_normalization.specs.Hangul.{is_syllable, decompose_hangul, compose_hangul}
 use Rattle.unicode_normalization.proofs.HangulLemmas.{is_syllable-true, IsLv, IsLvt, compose_hangul-some}
 use Rattle.unicode_normalization.proofs.KeptLemmas.{list_all-normalize}
-use Rattle.pgw_hash.specs.Saslprep.{prepared}
+use Rattle.pgw_hash.specs.Saslprep.{saslprep}
 
 -- ---- the tables hold characters alone
 
@@ -98,7 +98,7 @@ form_of : (b : Bool) (cs form : List ℕ) → scalars cs ≡ true
 form_of true cs form all is = absurd cc
 form_of false cs form all is = let same : encode_utf8_all cs ≡ form = cc in (cs, (all, same))
 
-pub prepared_utf8 : (text form : List ℕ) → IsUtf8 text → prepared text ≡ Some form → IsUtf8 form
-unfolding prepared
+pub prepared_utf8 : (text form : List ℕ) → IsUtf8 text → saslprep text ≡ Some form → IsUtf8 form
+unfolding saslprep
 prepared_utf8 text form utf8 is = form_of (list_any is_ascii_control (chars text)) (nfkc (chars text)) form
     (normalized (chars text) (scalars-chars text utf8)) is

@@ -2,7 +2,7 @@
 ghost use Rattle.std.specs.Prelude.{◌≡◌, IfOk, IsNone, chars};
 ghost use Rattle.std.specs.List.{list_any};
 ghost use Rattle.std.specs.Char.{is_ascii_control};
-ghost use Rattle.pgw_hash.specs.Saslprep.{prepared};
+ghost use Rattle.pgw_hash.specs.Saslprep.{saslprep};
 
 use pgw_types::memory::OutOfMemory;
 use pgw_types::text::Text;
@@ -10,10 +10,10 @@ use std::alloc::Global;
 use unicode_normalization::to_nfkc;
 
 /// A text prepared, or `None` where it holds an ASCII control character.
-#[tactic(auto, unfolding(crate::specs::Saslprep::prepared))]
+#[tactic(auto, unfolding(crate::specs::Saslprep::saslprep))]
 pub fn saslprep(alloc: Global, text: &str) -> Result<Option<Text>, OutOfMemory>
-    ensures value { IfOk result (λ form. form ≡ prepared text.now) }
-    ensures refused { IsNone (prepared text.now) → result ≡ Ok None }
+    ensures value { IfOk result (λ form. form ≡ saslprep text.now) }
+    ensures refused { IsNone (saslprep text.now) → result ≡ Ok None }
 {
     if has_control(text) {
         return Ok(None);

@@ -2,8 +2,8 @@
 use Rattle.std.proofs.Common.{◌≡◌, ℕ, ◌+◌, ◌<◌, ◌≤◌, List, [], ◌∷◌, Bool, true, false, ◌&&◌, ◌||◌, ◌==◌, nat_lt, nat_le, refl, ap, ◌∙◌, arith}
 use Rattle.std.specs.List.{list_any}
 use Rattle.std.proofs.lemmas.Bool.Decides.{nat_tests}
-use Rattle.pgw_types.specs.Counts.{counted}
-use Rattle.pgw_link.specs.Calls.{is_listed, is_reached, number_of}
+use Rattle.pgw_types.specs.Counts.{next_count}
+use Rattle.pgw_link.specs.Calls.{is_listed, is_reached, call_number}
 
 none : (n : ℕ) → (nat_lt 0 n && nat_le n 0) ≡ false
 none n = grind (arith, nat_tests)
@@ -35,9 +35,9 @@ or_false false = refl
 
 -- ---- the number of the next call
 
-pub numbered : (made next calls : ℕ) → made ≡ number_of calls → next ≡ counted made → next ≡ number_of (calls + 1)
+pub numbered : (made next calls : ℕ) → made ≡ call_number calls → next ≡ next_count made → next ≡ call_number (calls + 1)
 numbered made next calls was is = omega (arith, was, is)
 
 -- what the real count says of a call, by the number of calls
-pub listed : (numbers : List ℕ) (made next calls : ℕ) (fails : Bool) → fails ≡ list_any (λ n. n == next) numbers → made ≡ number_of calls → next ≡ counted made → fails ≡ is_listed numbers (calls + 1)
+pub listed : (numbers : List ℕ) (made next calls : ℕ) (fails : Bool) → fails ≡ list_any (λ n. n == next) numbers → made ≡ call_number calls → next ≡ next_count made → fails ≡ is_listed numbers (calls + 1)
 listed numbers made next calls fails is was on = is ∙ ap (λ (k : ℕ). list_any (λ n. n == k) numbers) (numbered made next calls was on)

@@ -3,9 +3,9 @@ use Rattle.std.proofs.Common.{◌≡◌, ◌<◌, ◌≤◌, ◌+◌, ◌-◌, �
 use Rattle.std.proofs.lemmas.List.{append-nil, take-append-drop, drop-drop, nil_from_length, take_all}
 use Rattle.std.proofs.Math.Seq.{take-add}
 use Rattle.std.specs.Io.KnownBytes.{Consumes, IsAtEnd, Keeps, Appends, ReadConsumes, WriteAppends}
-use Rattle.pgw_link.specs.Tape.{Tape, Took, Put, Failed}
+use Rattle.pgw_link.specs.Tape.{Tape, Took, Put, LinkFails}
 use Rattle.pgw_link.specs.Log.{after_read}
-use Rattle.pgw_link.specs.Foresight.{Ends, Foreseen}
+use Rattle.pgw_link.specs.Foresight.{TapeEnds, Foreseen}
 
 -- ---- what a note of a read tells, whatever the buffer is
 
@@ -30,7 +30,7 @@ read_took t [] n le some = absurd (omega (arith, some))
 read_took t (b ∷ bs) zero le some = record { took = refl; wrote = refl; flushed = refl; ended = λ e. refl; goes_on = λ lt. absurd (omega (arith, lt)); reads = refl; writes = refl }
 read_took t (b ∷ bs) (suc n) le some = record { took = refl; wrote = refl; flushed = refl; ended = λ e. absurd (omega (arith, e)); goes_on = λ lt. refl; reads = refl; writes = refl }
 
-pub read_idle : (t : Tape) (buf : List ℕ) (n : ℕ) → length buf ≡ 0 → Failed t (after_read t buf n) (t.reads + 1) t.writes
+pub read_idle : (t : Tape) (buf : List ℕ) (n : ℕ) → length buf ≡ 0 → LinkFails t (after_read t buf n) (t.reads + 1) t.writes
 read_idle t [] n none = record { took = refl; wrote = refl; flushed = refl; ended = refl; reads = refl; writes = refl }
 read_idle t (b ∷ bs) n none = absurd (omega (arith, none))
 
@@ -121,11 +121,11 @@ foreseen_kept (Some xs) (Some ys) t u same k = record { taken = []; took = same 
 
 -- ---- the end over several calls
 
-pub ends_still : (a : Option (List ℕ)) (t : Tape) → Ends a t t
+pub ends_still : (a : Option (List ℕ)) (t : Tape) → TapeEnds a t t
 ends_still a t = record { answers = []; ended = sym (append-nil t.ended); at_end = λ some. absurd (omega (arith, some)) }
 
 -- calls that did not meet the end
-pub ends_on : (a : Option (List ℕ)) (t u : Tape) → u.ended ≡ t.ended → Ends a t u
+pub ends_on : (a : Option (List ℕ)) (t u : Tape) → u.ended ≡ t.ended → TapeEnds a t u
 ends_on a t u same = record { answers = []; ended = same ∙ sym (append-nil t.ended); at_end = λ some. absurd (omega (arith, some)) }
 
 -- where nothing was to come, nothing is
@@ -138,7 +138,7 @@ either : {P : Type 0} (xs ys : List ℕ) → 0 < length (xs ++ ys) → (0 < leng
 either [] ys any first second = second any
 either (x ∷ xs) ys any first second = first (omega arith)
 
-pub ends_further : (a b : Option (List ℕ)) (t u v : Tape) → IsSome a → Ends a t u → Foreseen a b u v → Ends b u v → Ends b t v
+pub ends_further : (a b : Option (List ℕ)) (t u v : Tape) → IsSome a → TapeEnds a t u → Foreseen a b u v → TapeEnds b u v → TapeEnds b t v
 ends_further a b t u v some e f g = record {
   answers = e.answers ++ g.answers;
   ended = g.ended ∙ ap (λ (z : List ℕ). z ++ g.answers) e.ended ∙ append_assoc t.ended e.answers g.answers;

@@ -3,12 +3,12 @@ use Rattle.std.specs.Prelude.{ℕ, ◌-◌, ◌^◌, min, List, [], ◌∷◌, B
 use Rattle.std.specs.List.{list_any}
 
 -- the number by which the last of so many calls is listed: it stays at the greatest u64
-abbrev pub number_of : ℕ → ℕ
-number_of made = min made (2 ^ 64 - 1)
+abbrev pub call_number : ℕ → ℕ
+call_number made = min made (2 ^ 64 - 1)
 
 -- whether the last of so many calls is listed
 abbrev pub is_listed : List ℕ → ℕ → Bool
-is_listed numbers made = list_any (λ n. n == number_of made) numbers
+is_listed numbers made = list_any (λ n. n == call_number made) numbers
 
 -- whether one of the listed calls was made
 abbrev pub is_reached : List ℕ → ℕ → Bool

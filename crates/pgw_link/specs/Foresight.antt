@@ -10,7 +10,7 @@ pub record Foreseen (was is : Option (List ℕ)) (old new : Tape) : Type 0 where
   pub consumes : Consumes was is taken
 
 -- where the end was answered, nothing is to come any more
-pub record Ends (is : Option (List ℕ)) (old new : Tape) : Type 0 where
+pub record TapeEnds (is : Option (List ℕ)) (old new : Tape) : Type 0 where
   pub answers : List ℕ
   pub ended : new.ended ≡ old.ended ++ answers
   pub at_end : 0 < length answers → IsAtEnd is

@@ -21,9 +21,9 @@ abbrev pub after_read : Tape → List ℕ → ℕ → Tape
 after_read t [] n = after_none t
 after_read t (b ∷ bytes) n = record t { took = t.took ++ take n (b ∷ bytes); ended = ended_after t.ended t.flushed n; reads = t.reads + 1 }
 
-abbrev pub noted : Tape → Note → Tape
-noted t (note.Read buf n) = after_read t buf.now n
-noted t note.Unread = after_none t
-noted t (note.Wrote piece n) = record t { wrote = t.wrote ++ take n piece.now; writes = t.writes + 1 }
-noted t note.Unwritten = record t { writes = t.writes + 1 }
-noted t note.Flushed = record t { flushed = length t.wrote }
+abbrev pub with_note : Tape → Note → Tape
+with_note t (note.Read buf n) = after_read t buf.now n
+with_note t note.Unread = after_none t
+with_note t (note.Wrote piece n) = record t { wrote = t.wrote ++ take n piece.now; writes = t.writes + 1 }
+with_note t note.Unwritten = record t { writes = t.writes + 1 }
+with_note t note.Flushed = record t { flushed = length t.wrote }

@@ -1,6 +1,6 @@
 -- What a dialer in memory tells.
 use Rattle.std.specs.Prelude.{ℕ, ◌+◌, List, [], ◌∷◌, map, Bool, true, false, ◌||◌}
-use Rattle.pgw_types.specs.Counts.{counted}
+use Rattle.pgw_types.specs.Counts.{next_count}
 use Rattle.pgw_link.specs.Calls.{is_listed}
 use Rattle.pgw_link.specs.Dials.{DialTape}
 use Rattle.pgw_link.specs.DialLog.{dial_tape_of}
@@ -28,5 +28,5 @@ is_none [] = true
 is_none (link ∷ more) = false
 
 -- the next dial is listed, or there is no link left
-abbrev pub is_refused : MemoryDialer → Bool
-is_refused d = is_listed d.dials.numbers (counted d.dials.made) || is_none d.links.items
+abbrev pub is_dial_refused : MemoryDialer → Bool
+is_dial_refused d = is_listed d.dials.numbers (next_count d.dials.made) || is_none d.links.items

@@ -22,7 +22,7 @@ abbrev pub sink_tape_of : Log → SinkTape
 sink_tape_of l = record { wrote = l.wrote; writes = l.writes }
 
 -- a read gave these bytes; none only at the end
-pub record Drew (old new : SourceTape) (bytes : List ℕ) : Type 0 where
+pub record DrewSource (old new : SourceTape) (bytes : List ℕ) : Type 0 where
   pub took : new.took ≡ old.took ++ bytes
   pub ended : length bytes ≡ 0 → new.ended ≡ old.ended + 1
   pub goes_on : 0 < length bytes → new.ended ≡ old.ended

@@ -1,7 +1,7 @@
 //! Calls that are to fail.
 ghost use Rattle.std.specs.Prelude.{◌≡◌, ◌≤◌, ◌==◌, nat_lt, if◌then◌else◌};
 ghost use Rattle.std.specs.List.{list_any};
-ghost use Rattle.pgw_types.specs.Counts.{counted};
+ghost use Rattle.pgw_types.specs.Counts.{next_count};
 ghost use Rattle.pgw_link.specs.Calls.{is_reached};
 
 use pgw_types::listed::Listed;
@@ -31,8 +31,8 @@ impl Calls {
     /// Counts a call, and says whether it is to fail.
     pub fn is_failing(&mut self) -> bool
         ensures fails { result ≡ list_any (λ n. n == self.new.made) self.old.numbers }
-        ensures made { self.new.made ≡ counted self.old.made }
-        ensures failed { self.new.failed ≡ (if result then counted self.old.failed
+        ensures made { self.new.made ≡ next_count self.old.made }
+        ensures failed { self.new.failed ≡ (if result then next_count self.old.failed
             else self.old.failed) }
         ensures later { self.old.failed ≤ self.new.failed }
         ensures kept { self.new.numbers ≡ self.old.numbers }

@@ -1,7 +1,7 @@
 //! A link to a server.
 ghost use Rattle.std.specs.Prelude.{◌≡◌, ◌<◌, ◌≤◌, ◌+◌, ℕ, List, Option, None, ◌++◌, length, take, IfOk, IsSome, OnOk, OnErr};
 ghost use Rattle.std.specs.Io.KnownBytes.{Keeps, ReadConsumes, WriteAppends};
-ghost use Rattle.pgw_link.specs.Tape.{Tape, HasCause, Took, Put, Flushed, Failed, Idle};
+ghost use Rattle.pgw_link.specs.Tape.{Tape, HasTapeCause, Took, Put, Flushed, LinkFails, Idle};
 
 /// A call failed.
 #[derive(Clone, Copy, Debug, PartialEq, Eq, Drop)]
@@ -39,10 +39,10 @@ pub trait Link: Drop {
         ensures moved { 0 < length buf.old → IfOk result
             (λ n. Took (tape self.old) (tape self.new) (take n buf.new)) }
         ensures no_room { length buf.old ≡ 0 → OnOk result (Idle (tape self.old) (tape self.new)) }
-        ensures failed { OnErr result (Failed (tape self.old) (tape self.new)
+        ensures failed { OnErr result (LinkFails (tape self.old) (tape self.new)
             ((tape self.old).reads + 1) (tape self.old).writes) }
         ensures drawn { ReadConsumes (left self.old) (left self.new) result buf.new }
-        ensures cause { HasCause (faults self.old) (faults self.new) result }
+        ensures cause { HasTapeCause (faults self.old) (faults self.new) result }
         ensures no_fault { OnOk result (faults self.new ≡ faults self.old) }
         ensures kept { plan self.new ≡ plan self.old };
 
@@ -52,22 +52,22 @@ pub trait Link: Drop {
         ensures some { IfOk result (λ n. 0 < n) }
         ensures bound { IfOk result (λ n. n ≤ length piece.now) }
         ensures moved { IfOk result (λ n. Put (tape self.old) (tape self.new) (take n piece.now)) }
-        ensures failed { OnErr result (Failed (tape self.old) (tape self.new) (tape self.old).reads
+        ensures failed { OnErr result (LinkFails (tape self.old) (tape self.new) (tape self.old).reads
             ((tape self.old).writes + 1)) }
         ensures poured { WriteAppends (held self.old) (held self.new) result piece.now }
         ensures left { foretells → Keeps (left self.old) (left self.new) }
-        ensures cause { HasCause (faults self.old) (faults self.new) result }
+        ensures cause { HasTapeCause (faults self.old) (faults self.new) result }
         ensures no_fault { OnOk result (faults self.new ≡ faults self.old) }
         ensures kept { plan self.new ≡ plan self.old };
 
     /// Makes sure that what was written is on its way.
     fn flush(&mut self) -> Result<(), LinkFault>
         ensures done { OnOk result (Flushed (tape self.old) (tape self.new)) }
-        ensures failed { OnErr result (Failed (tape self.old) (tape self.new) (tape self.old).reads
+        ensures failed { OnErr result (LinkFails (tape self.old) (tape self.new) (tape self.old).reads
             (tape self.old).writes) }
         ensures held { Keeps (held self.old) (held self.new) }
         ensures left { foretells → Keeps (left self.old) (left self.new) }
-        ensures cause { HasCause (faults self.old) (faults self.new) result }
+        ensures cause { HasTapeCause (faults self.old) (faults self.new) result }
         ensures no_fault { OnOk result (faults self.new ≡ faults self.old) }
         ensures kept { plan self.new ≡ plan self.old };
 

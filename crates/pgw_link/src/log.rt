@@ -34,7 +34,7 @@ pub enum Note<'a> {
 }
 
 impl Log {
-    ghost use Rattle.pgw_link.specs.Log.{tape_of, noted};
+    ghost use Rattle.pgw_link.specs.Log.{tape_of, with_note};
 
     /// The history of no call.
     pub fn new() -> Log
@@ -46,7 +46,7 @@ impl Log {
     /// This history with one call more.
     #[inline(always)]
     pub fn then(&self, _note: &Note<'_>) -> Log
-        ensures { tape_of result ≡ noted (tape_of self.now) _note.now }
+        ensures { tape_of result ≡ with_note (tape_of self.now) _note.now }
     {
         Log {}
     }

@@ -2,8 +2,8 @@
 ghost use Rattle.std.specs.Prelude.{◌≡◌, ◌<◌, ◌≤◌, ◌+◌, ◌*◌, ◌||◌, ◌⊎◌, ℕ, nat_lt, length, take, Some, IfOk, IsOk, OnOk, OnErr, is_err, true, false};
 ghost use Rattle.std.specs.Io.KnownBytes.{Keeps, ReadConsumes, WriteAppends};
 ghost use Rattle.pgw_types.specs.Counts.{Rose};
-ghost use Rattle.pgw_link.specs.Tape.{new_tape, HasCause, Took, Put, Flushed, Failed, Idle};
-ghost use Rattle.pgw_link.specs.Calls.{is_listed, is_reached, number_of};
+ghost use Rattle.pgw_link.specs.Tape.{new_tape, HasTapeCause, Took, Put, Flushed, LinkFails, Idle};
+ghost use Rattle.pgw_link.specs.Calls.{is_listed, is_reached, call_number};
 
 use crate::calls::Calls;
 use crate::link::{Link, LinkFault};
@@ -29,8 +29,8 @@ pub struct MemoryLink {
     ghost moves: { 0 < cut },
     ghost is_written: { log.wrote ≡ written.items },
     ghost flushed_in: { log.flushed ≤ length log.wrote },
-    ghost reads_counted: { reads.made ≡ number_of log.reads },
-    ghost writes_counted: { writes.made ≡ number_of log.writes },
+    ghost reads_counted: { reads.made ≡ call_number log.reads },
+    ghost writes_counted: { writes.made ≡ call_number log.writes },
     ghost read_in_cuts: { at ≤ cut * log.reads },
     ghost wrote_in_cuts: { length written.items ≤ cut * log.writes },
 }
@@ -81,8 +81,8 @@ impl MemoryLink {
     pub fn was_short_of_memory(&self) -> bool
         ensures value { result ≡ nat_lt 0 self.now.wanting }
         ensures causes { nat_lt 0 (faults_of self.now)
-            ≡ (is_reached (making_of self.now).reads (number_of (memory_tape self.now).reads)
-            || is_reached (making_of self.now).writes (number_of (memory_tape self.now).writes)
+            ≡ (is_reached (making_of self.now).reads (call_number (memory_tape self.now).reads)
+            || is_reached (making_of self.now).writes (call_number (memory_tape self.now).writes)
             || result) }
     {
         self.wanting > 0
@@ -134,11 +134,11 @@ impl Link for MemoryLink {
             (λ n. Took (memory_tape self.old) (memory_tape self.new) (take n buf.new)) }
         ensures no_room { length buf.old ≡ 0 →
             OnOk result (Idle (memory_tape self.old) (memory_tape self.new)) }
-        ensures failed { OnErr result (Failed (memory_tape self.old) (memory_tape self.new)
+        ensures failed { OnErr result (LinkFails (memory_tape self.old) (memory_tape self.new)
             ((memory_tape self.old).reads + 1) (memory_tape self.old).writes) }
         ensures drawn { ReadConsumes (Some (memory_left self.old)) (Some (memory_left self.new))
             result buf.new }
-        ensures cause { HasCause (faults_of self.old) (faults_of self.new) result }
+        ensures cause { HasTapeCause (faults_of self.old) (faults_of self.new) result }
         ensures no_fault { OnOk result (faults_of self.new ≡ faults_of self.old) }
         ensures kept { making_of self.new ≡ making_of self.old }
     {
@@ -164,12 +164,12 @@ impl Link for MemoryLink {
             ⊎ Rose self.old.wanting self.new.wanting) }
         ensures moved { IfOk result (λ n. Put (memory_tape self.old) (memory_tape self.new)
             (take n piece.now)) }
-        ensures failed { OnErr result (Failed (memory_tape self.old) (memory_tape self.new)
+        ensures failed { OnErr result (LinkFails (memory_tape self.old) (memory_tape self.new)
             (memory_tape self.old).reads ((memory_tape self.old).writes + 1)) }
         ensures poured { WriteAppends (Some self.old.written.items) (Some self.new.written.items)
             result piece.now }
         ensures left { memory_left self.new ≡ memory_left self.old }
-        ensures cause { HasCause (faults_of self.old) (faults_of self.new) result }
+        ensures cause { HasTapeCause (faults_of self.old) (faults_of self.new) result }
         ensures no_fault { OnOk result (faults_of self.new ≡ faults_of self.old) }
         ensures kept { making_of self.new ≡ making_of self.old }
     {
@@ -195,11 +195,11 @@ impl Link for MemoryLink {
         // A flush finds all in memory, so it never fails.
         ensures never { IsOk result }
         ensures done { OnOk result (Flushed (memory_tape self.old) (memory_tape self.new)) }
-        ensures failed { OnErr result (Failed (memory_tape self.old) (memory_tape self.new)
+        ensures failed { OnErr result (LinkFails (memory_tape self.old) (memory_tape self.new)
             (memory_tape self.old).reads (memory_tape self.old).writes) }
         ensures held { self.new.written.items ≡ self.old.written.items }
         ensures left { memory_left self.new ≡ memory_left self.old }
-        ensures cause { HasCause (faults_of self.old) (faults_of self.new) result }
+        ensures cause { HasTapeCause (faults_of self.old) (faults_of self.new) result }
         ensures no_fault { OnOk result (faults_of self.new ≡ faults_of self.old) }
         ensures kept { making_of self.new ≡ making_of self.old }
     {

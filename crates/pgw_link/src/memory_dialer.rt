@@ -32,7 +32,7 @@ impl MemoryDialer {
     ghost use Rattle.pgw_types.specs.Counts.{Rose};
     ghost use Rattle.pgw_link.specs.Dials.{new_dials};
     ghost use Rattle.pgw_link.specs.MemoryLinks.{IsUnused};
-    ghost use Rattle.pgw_link.specs.MemoryDials.{dial_tape, dial_faults, links_of, is_refused};
+    ghost use Rattle.pgw_link.specs.MemoryDials.{dial_tape, dial_faults, links_of, is_dial_refused};
 
     pub fn new(links: Listed<MemoryLink>, fail_dials: Listed<u64>) -> MemoryDialer
         requires { All IsUnused links }
@@ -62,7 +62,7 @@ impl MemoryDialer {
 
     /// Counts a dial, and says whether it is refused.
     fn is_refusing(&mut self) -> bool
-        ensures refused { result ≡ is_refused self.old }
+        ensures refused { result ≡ is_dial_refused self.old }
         ensures left { result ≡ false → 0 < length (links_of self.new) }
         ensures links { links_of self.new ≡ links_of self.old }
         ensures listing { self.new.dials.numbers ≡ self.old.dials.numbers }
@@ -98,7 +98,7 @@ impl Dialer for MemoryDialer {
     ghost use Rattle.std.specs.Prelude.{◌∷◌, true, false, Some, IfOk, IsOk, IsErrOf, OnErr};
     ghost use Rattle.pgw_link.specs.Dials.{Dialled, NotDialled, CountsDial, CountsClose, Shut, MakesNext};
     ghost use Rattle.pgw_link.specs.Memory.{memory_left};
-    ghost use Rattle.pgw_link.specs.MemoryDials.{offers_of, dial_tape, dial_faults, links_of, is_refused};
+    ghost use Rattle.pgw_link.specs.MemoryDials.{offers_of, dial_tape, dial_faults, links_of, is_dial_refused};
 
     type Link = MemoryLink;
 
@@ -113,8 +113,8 @@ impl Dialer for MemoryDialer {
     ghost links_foretell = { λ t. t };
 
     fn dial(&mut self, address: &Address) -> Result<MemoryLink, DialError>
-        ensures fails { is_refused self.old ≡ true → IsErrOf result DialError.Fault }
-        ensures serves { is_refused self.old ≡ false → IsOk result }
+        ensures fails { is_dial_refused self.old ≡ true → IsErrOf result DialError.Fault }
+        ensures serves { is_dial_refused self.old ≡ false → IsOk result }
         ensures hands_out { IfOk result (λ made. links_of self.old ≡ made ∷ links_of self.new) }
         ensures keeps { OnErr result (links_of self.new ≡ links_of self.old) }
         ensures listing { self.new.dials.numbers ≡ self.old.dials.numbers }

@@ -2,9 +2,9 @@
 ghost use Rattle.std.specs.Prelude.{◌≡◌, ◌<◌, ◌≤◌, ◌⊎◌, ℕ, Some, [], length, take, IfOk, OnOk, OnErr, is_err, true, false};
 ghost use Rattle.std.specs.Io.KnownBytes.{ReadConsumes, WriteAppends};
 ghost use Rattle.pgw_types.specs.Counts.{Rose};
-ghost use Rattle.pgw_link.specs.Tape.{HasCause};
-ghost use Rattle.pgw_link.specs.Calls.{is_listed, number_of};
-ghost use Rattle.pgw_link.specs.Stream.{Drew, NotDrawn, Poured, NotPoured};
+ghost use Rattle.pgw_link.specs.Tape.{HasTapeCause};
+ghost use Rattle.pgw_link.specs.Calls.{is_listed, call_number};
+ghost use Rattle.pgw_link.specs.Stream.{DrewSource, NotDrawn, Poured, NotPoured};
 
 use crate::calls::Calls;
 use crate::log::{Log, Note};
@@ -24,7 +24,7 @@ pub struct MemorySource {
     log: Log,
     ghost within: { at ≤ length bytes },
     ghost moves: { 0 < cut },
-    ghost reads_counted: { reads.made ≡ number_of log.reads },
+    ghost reads_counted: { reads.made ≡ call_number log.reads },
 }
 
 impl MemorySource {
@@ -69,13 +69,13 @@ impl Source for MemorySource {
         ensures fails { is_err result ≡ is_listed self.old.reads.numbers
             (source_tape self.new).reads }
         ensures moved { 0 < length buf.old → IfOk result
-            (λ n. Drew (source_tape self.old) (source_tape self.new) (take n buf.new)) }
+            (λ n. DrewSource (source_tape self.old) (source_tape self.new) (take n buf.new)) }
         ensures no_room { length buf.old ≡ 0 →
             OnOk result (NotDrawn (source_tape self.old) (source_tape self.new)) }
         ensures failed { OnErr result (NotDrawn (source_tape self.old) (source_tape self.new)) }
         ensures drawn { ReadConsumes (Some (source_left self.old)) (Some (source_left self.new))
             result buf.new }
-        ensures cause { HasCause self.old.reads.failed self.new.reads.failed result }
+        ensures cause { HasTapeCause self.old.reads.failed self.new.reads.failed result }
         ensures no_fault { OnOk result (self.new.reads.failed ≡ self.old.reads.failed) }
         ensures kept { self.new.reads.numbers ≡ self.old.reads.numbers }
         ensures cut_kept { self.new.cut ≡ self.old.cut }
@@ -102,7 +102,7 @@ pub struct MemorySink {
     log: Log,
     ghost moves: { 0 < cut },
     ghost is_written: { log.wrote ≡ written.items },
-    ghost writes_counted: { writes.made ≡ number_of log.writes },
+    ghost writes_counted: { writes.made ≡ call_number log.writes },
 }
 
 impl MemorySink {
@@ -156,7 +156,7 @@ impl Sink for MemorySink {
         ensures failed { OnErr result (NotPoured (sink_tape self.old) (sink_tape self.new)) }
         ensures poured { WriteAppends (Some self.old.written.items) (Some self.new.written.items)
             result piece.now }
-        ensures cause { HasCause (sink_faults self.old) (sink_faults self.new) result }
+        ensures cause { HasTapeCause (sink_faults self.old) (sink_faults self.new) result }
         ensures no_fault { OnOk result (sink_faults self.new ≡ sink_faults self.old) }
         ensures kept { self.new.writes.numbers ≡ self.old.writes.numbers }
         ensures cut_kept { self.new.cut ≡ self.old.cut }

@@ -1,8 +1,8 @@
 //! One-way streams of bytes.
 ghost use Rattle.std.specs.Prelude.{◌≡◌, ◌<◌, ◌≤◌, ℕ, List, Option, None, length, take, IfOk, IsSome, OnOk, OnErr};
 ghost use Rattle.std.specs.Io.KnownBytes.{ReadConsumes, WriteAppends};
-ghost use Rattle.pgw_link.specs.Tape.{HasCause};
-ghost use Rattle.pgw_link.specs.Stream.{SourceTape, SinkTape, Drew, NotDrawn, Poured, NotPoured};
+ghost use Rattle.pgw_link.specs.Tape.{HasTapeCause};
+ghost use Rattle.pgw_link.specs.Stream.{SourceTape, SinkTape, DrewSource, NotDrawn, Poured, NotPoured};
 
 /// A read failed.
 #[derive(Clone, Copy, Debug, PartialEq, Eq, Drop)]
@@ -31,12 +31,12 @@ pub trait Source: Drop {
     fn read(&mut self, buf: &mut [u8]) -> Result<usize, SourceFault>
         ensures bound { IfOk result (λ n. n ≤ length buf.new) }
         ensures moved { 0 < length buf.old → IfOk result
-            (λ n. Drew (tape self.old) (tape self.new) (take n buf.new)) }
+            (λ n. DrewSource (tape self.old) (tape self.new) (take n buf.new)) }
         ensures no_room { length buf.old ≡ 0 →
             OnOk result (NotDrawn (tape self.old) (tape self.new)) }
         ensures failed { OnErr result (NotDrawn (tape self.old) (tape self.new)) }
         ensures drawn { ReadConsumes (left self.old) (left self.new) result buf.new }
-        ensures cause { HasCause (faults self.old) (faults self.new) result }
+        ensures cause { HasTapeCause (faults self.old) (faults self.new) result }
         ensures no_fault { OnOk result (faults self.new ≡ faults self.old) };
 
     ghost knows: { foretells → (source : Self) → IsSome (left source) };
@@ -62,6 +62,6 @@ pub trait Sink: Drop {
             (take n piece.now)) }
         ensures failed { OnErr result (NotPoured (tape self.old) (tape self.new)) }
         ensures poured { WriteAppends (held self.old) (held self.new) result piece.now }
-        ensures cause { HasCause (faults self.old) (faults self.new) result }
+        ensures cause { HasTapeCause (faults self.old) (faults self.new) result }
         ensures no_fault { OnOk result (faults self.new ≡ faults self.old) };
 }

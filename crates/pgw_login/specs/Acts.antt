@@ -3,7 +3,7 @@ use Rattle.std.specs.Prelude.{◌≡◌, ◌⊎◌, ◌≤◌, ℕ, Bool, true, 
 use Rattle.pgw_types.specs.declared.error.PgWireError.{PgWireError}
 use Rattle.pgw_types.specs.declared.error.PgWireError.TheVariants.{OutOfMemory, InvalidSASLState}
 use Rattle.pgw_backend.specs.declared.backend.PgWireBackendMessage.{PgWireBackendMessage as Message}
-use Rattle.pgw_login.specs.Client.{Client}
+use Rattle.pgw_login.specs.Client.{LoginClient}
 use Rattle.pgw_login.specs.Sending.{NotTaken}
 use Rattle.pgw_login.specs.Registered.{CanRelease, guard_of}
 use Rattle.pgw_login.specs.declared.state.LoginState.{LoginState}
@@ -12,12 +12,12 @@ use Rattle.pgw_login.specs.declared.state.SASLState.TheVariants.{Initial, ScramC
 
 -- what is seen of the client, the login, and how many calls of the outbox have failed
 pub record Standing : Type 0 where
-  pub client : Client
+  pub client : LoginClient
   pub login : LoginState
   pub faults : ℕ
 
-abbrev pub standing : Client → LoginState → ℕ → Standing
-standing client login faults = record { client = client; login = login; faults = faults }
+abbrev pub standing_in_login : LoginClient → LoginState → ℕ → Standing
+standing_in_login client login faults = record { client = client; login = login; faults = faults }
 
 abbrev pub Answer : Type 0
 Answer = Result (Unit {0}) PgWireError
@@ -34,22 +34,22 @@ pub data Then (first next : Standing → Standing → List Message → Answer �
   goes : (before mid after : Standing) → (front back : List Message) → (answer : Answer) → first before mid front (Ok tt) → next mid after back answer → Then first next before after (front ++ back) answer
 
 -- or memory runs out, and nothing is done
-abbrev pub Refuses : PgWireError → Standing → Standing → List Message → Answer → Type 0
-Refuses e before after sent answer = (after ≡ before) × (sent ≡ []) × (answer ≡ Err e)
+abbrev pub LoginRefuses : PgWireError → Standing → Standing → List Message → Answer → Type 0
+LoginRefuses e before after sent answer = (after ≡ before) × (sent ≡ []) × (answer ≡ Err e)
 
 abbrev pub OrNoMemory : Act → Standing → Standing → List Message → Answer → Type 0
-OrNoMemory act before after sent answer = Refuses OutOfMemory before after sent answer ⊎ act before after sent answer
+OrNoMemory act before after sent answer = LoginRefuses OutOfMemory before after sent answer ⊎ act before after sent answer
 
 -- nothing is done
-abbrev pub Passes : Standing → Standing → List Message → Answer → Type 0
-Passes before after sent answer = (after ≡ before) × (sent ≡ []) × (answer ≡ Ok tt)
+abbrev pub LoginStays : Standing → Standing → List Message → Answer → Type 0
+LoginStays before after sent answer = (after ≡ before) × (sent ≡ []) × (answer ≡ Ok tt)
 
 -- nothing is sent or changed, and the answer is one of these
-abbrev pub Tells : (Standing → Answer → Type 0) → Standing → Standing → List Message → Answer → Type 0
-Tells P before after sent answer = (after ≡ before) × (sent ≡ []) × P before answer
+abbrev pub AnswersLogin : (Standing → Answer → Type 0) → Standing → Standing → List Message → Answer → Type 0
+AnswersLogin P before after sent answer = (after ≡ before) × (sent ≡ []) × P before answer
 
 -- the client, or the login, is changed
-abbrev pub Sets : (Client → Client) → Standing → Standing → List Message → Answer → Type 0
+abbrev pub Sets : (LoginClient → LoginClient) → Standing → Standing → List Message → Answer → Type 0
 Sets f before after sent answer = (after ≡ record before { client = f before.client }) × (sent ≡ []) × (answer ≡ Ok tt)
 
 abbrev pub Marks : (LoginState → LoginState) → Standing → Standing → List Message → Answer → Type 0
@@ -72,9 +72,9 @@ abbrev pub failed : Standing → Standing
 failed s = record s { login = with_sasl Failed s.login }
 
 -- after a refusal the login has failed
-abbrev pub settled : Answer → LoginState → LoginState
-settled (Ok done) s = s
-settled (Err e) s = with_sasl Failed s
+abbrev pub login_by_answer : Answer → LoginState → LoginState
+login_by_answer (Ok done) s = s
+login_by_answer (Err e) s = with_sasl Failed s
 
 abbrev pub OrFails : Act → Standing → Standing → List Message → Answer → Type 0
 OrFails act before after sent (Ok done) = act before after sent (Ok done)
@@ -93,25 +93,25 @@ is_initial Failed = false
 -- a login begins once, and only where no message of it was refused
 abbrev pub StartsFrom : Bool → Standing → Standing → List Message → Answer → Type 0
 StartsFrom true = Marks with_started
-StartsFrom false = Refuses InvalidSASLState
+StartsFrom false = LoginRefuses InvalidSASLState
 
-abbrev pub StartsAt : Bool → Standing → Standing → List Message → Answer → Type 0
-StartsAt true before = Refuses InvalidSASLState before
-StartsAt false before = StartsFrom (is_initial before.login.sasl) before
+abbrev pub StartsLoginAt : Bool → Standing → Standing → List Message → Answer → Type 0
+StartsLoginAt true before = LoginRefuses InvalidSASLState before
+StartsLoginAt false before = StartsFrom (is_initial before.login.sasl) before
 
-abbrev pub Starts : Standing → Standing → List Message → Answer → Type 0
-Starts before = StartsAt before.login.started before
+abbrev pub StartsLogin : Standing → Standing → List Message → Answer → Type 0
+StartsLogin before = StartsLoginAt before.login.started before
 
 -- a password is taken once, of a login that has begun
 abbrev pub awaits : LoginState → Bool
 awaits s = if s.started then is_initial s.sasl else false
 
 abbrev pub AwaitsAt : Bool → Standing → Standing → List Message → Answer → Type 0
-AwaitsAt true = Passes
-AwaitsAt false = Refuses InvalidSASLState
+AwaitsAt true = LoginStays
+AwaitsAt false = LoginRefuses InvalidSASLState
 
-abbrev pub Awaits : Standing → Standing → List Message → Answer → Type 0
-Awaits before = AwaitsAt (awaits before.login) before
+abbrev pub LoginAwaits : Standing → Standing → List Message → Answer → Type 0
+LoginAwaits before = AwaitsAt (awaits before.login) before
 
 -- what a login may draw from, and what it has registered, is as before
 abbrev pub IsSameSource : LoginState → LoginState → Type 0

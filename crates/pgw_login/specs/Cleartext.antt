@@ -15,10 +15,10 @@ use Rattle.pgw_backend.specs.declared.backend.PgWireBackendMessage.TheVariants a
 use Rattle.pgw_frontend.specs.declared.frontend.PgWireFrontendMessage.{PgWireFrontendMessage}
 use Rattle.pgw_registry.specs.Passes.{Known}
 use Rattle.pgw_registry.specs.declared.error.RegistryError.{RegistryError}
-use Rattle.pgw_login.specs.Client.{Client}
+use Rattle.pgw_login.specs.Client.{LoginClient}
 use Rattle.pgw_login.specs.Login.{Login, login_seen}
-use Rattle.pgw_login.specs.Registered.{Pair}
-use Rattle.pgw_login.specs.Acts.{Standing, Answer, Then, Passes, Tells, Sends, OrFails, Awaits}
+use Rattle.pgw_login.specs.Registered.{HandlePair}
+use Rattle.pgw_login.specs.Acts.{Standing, Answer, Then, LoginStays, AnswersLogin, Sends, OrFails, LoginAwaits}
 use Rattle.pgw_login.specs.Opening.{Opens}
 use Rattle.pgw_login.specs.Finish.{Finishes}
 use Rattle.pgw_login.specs.Hearing.{heard}
@@ -44,16 +44,16 @@ CheckedBy A (Err e) login answer = answer ≡ Err e
 CheckedBy A (Ok m) login answer = (given : Result Kept PgWireError) × A login given × ComparedTo m.password login given answer
 
 -- the message is read as a password, and the source is asked for the login; or memory runs out
-abbrev pub Checked : (Login → Result Kept PgWireError → Type 0) → PasswordMessageFamily → Login → Answer → Type 0
-Checked A message login answer = (answer ≡ Err OutOfMemory) ⊎ CheckedBy A (as_password message) login answer
+abbrev pub ChecksPassword : (Login → Result Kept PgWireError → Type 0) → PasswordMessageFamily → Login → Answer → Type 0
+ChecksPassword A message login answer = (answer ≡ Err OutOfMemory) ⊎ CheckedBy A (as_password message) login answer
 
 abbrev pub Checks : (Login → Result Kept PgWireError → Type 0) → PasswordMessageFamily → Standing → Standing → List Message → Answer → Type 0
-Checks A message = Tells (λ before answer. Checked A message (login_seen before.client) answer)
+Checks A message = AnswersLogin (λ before answer. ChecksPassword A message (login_seen before.client) answer)
 
-abbrev pub CleartextOn : (Login → Result Kept PgWireError → Type 0) → (Client → Option Held → Type 0) → (Option Known → ℤ → SecretKey → Option Known → Result (Option Pair) RegistryError → Type 0) → Heard → Standing → Standing → List Message → Answer → Type 0
+abbrev pub CleartextOn : (Login → Result Kept PgWireError → Type 0) → (LoginClient → Option Held → Type 0) → (Option Known → ℤ → SecretKey → Option Known → Result (Option HandlePair) RegistryError → Type 0) → Heard → Standing → Standing → List Message → Answer → Type 0
 CleartextOn A P R (of.Startup s) = Then (Opens s) (Sends (cleartext_request ∷ []))
-CleartextOn A P R (of.Password m) = Then Awaits (Then (Checks A m) (Finishes P R))
-CleartextOn A P R of.Other = Passes
+CleartextOn A P R (of.Password m) = Then LoginAwaits (Then (Checks A m) (Finishes P R))
+CleartextOn A P R of.Other = LoginStays
 
-abbrev pub CleartextMeans : (Login → Result Kept PgWireError → Type 0) → (Client → Option Held → Type 0) → (Option Known → ℤ → SecretKey → Option Known → Result (Option Pair) RegistryError → Type 0) → PgWireFrontendMessage → Standing → Standing → List Message → Answer → Type 0
+abbrev pub CleartextMeans : (Login → Result Kept PgWireError → Type 0) → (LoginClient → Option Held → Type 0) → (Option Known → ℤ → SecretKey → Option Known → Result (Option HandlePair) RegistryError → Type 0) → PgWireFrontendMessage → Standing → Standing → List Message → Answer → Type 0
 CleartextMeans A P R m = OrFails (CleartextOn A P R (heard m))

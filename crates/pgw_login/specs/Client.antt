@@ -7,7 +7,7 @@ use Rattle.pgw_query.specs.declared.response.TransactionStatus.{TransactionStatu
 use Rattle.pgw_login.specs.declared.client_info.PgWireConnectionState.{PgWireConnectionState}
 
 -- where it calls from and how, what was settled with it, how far it is, and the parameters that it gave
-pub record Client : Type 0 where
+pub record LoginClient : Type 0 where
   pub host : List ℕ
   pub is_secure : Bool
   pub protocol_version : ProtocolVersion
@@ -18,17 +18,17 @@ pub record Client : Type 0 where
   pub metadata : Held
 
 -- each part set, and the others as they were
-abbrev pub with_version : ProtocolVersion → Client → Client
+abbrev pub with_version : ProtocolVersion → LoginClient → LoginClient
 with_version version c = record c { protocol_version = version }
 
-abbrev pub with_key : ℤ → SecretKey → Client → Client
+abbrev pub with_key : ℤ → SecretKey → LoginClient → LoginClient
 with_key pid key c = record c { pid = pid; secret_key = key }
 
-abbrev pub with_state : PgWireConnectionState → Client → Client
+abbrev pub with_state : PgWireConnectionState → LoginClient → LoginClient
 with_state state c = record c { state = state }
 
-abbrev pub with_status : TransactionStatus → Client → Client
+abbrev pub with_status : TransactionStatus → LoginClient → LoginClient
 with_status status c = record c { transaction_status = status }
 
-abbrev pub with_metadata : Held → Client → Client
+abbrev pub with_metadata : Held → LoginClient → LoginClient
 with_metadata metadata c = record c { metadata = metadata }

@@ -16,9 +16,9 @@ use Rattle.pgw_registry.specs.declared.error.PidError.{PidError}
 use Rattle.pgw_registry.specs.declared.error.PidError.TheVariants as pid
 use Rattle.pgw_registry.specs.declared.error.RegistryError.{RegistryError}
 use Rattle.pgw_registry.specs.declared.error.RegistryError.TheVariants as registry
-use Rattle.pgw_login.specs.Client.{Client, with_key, with_state}
-use Rattle.pgw_login.specs.Registered.{Pair}
-use Rattle.pgw_login.specs.Acts.{Standing, Answer, Then, Refuses, Passes, OrNoMemory, Sets, Marks, Sends, with_sasl}
+use Rattle.pgw_login.specs.Client.{LoginClient, with_key, with_state}
+use Rattle.pgw_login.specs.Registered.{HandlePair}
+use Rattle.pgw_login.specs.Acts.{Standing, Answer, Then, LoginRefuses, LoginStays, OrNoMemory, Sets, Marks, Sends, with_sasl}
 use Rattle.pgw_login.specs.declared.client_info.PgWireConnectionState.TheVariants.{ReadyForQuery}
 use Rattle.pgw_login.specs.declared.state.LoginState.{LoginState}
 use Rattle.pgw_login.specs.declared.state.SASLState.TheVariants.{Finished}
@@ -48,57 +48,57 @@ Draws before after sent (Err e) = (sent ≡ []) × (after ≡ record before { lo
 abbrev pub with_pass : Option Known → LoginState → LoginState
 with_pass pass s = record s { pass = pass }
 
-abbrev pub with_pair : Option Known → Option Pair → LoginState → LoginState
-with_pair pass pair s = record s { pass = pass; registered = pair }
+abbrev pub with_handle_pair : Option Known → Option HandlePair → LoginState → LoginState
+with_handle_pair pass pair s = record s { pass = pass; registered = pair }
 
 -- what the registry's answer comes to
-abbrev pub Entered : Result (Option Pair) RegistryError → Option Known → Standing → Standing → Answer → Type 0
-Entered (Ok pair) pass before after answer = (after ≡ record before { login = with_pair pass pair before.login }) × (answer ≡ Ok tt)
+abbrev pub Entered : Result (Option HandlePair) RegistryError → Option Known → Standing → Standing → Answer → Type 0
+Entered (Ok pair) pass before after answer = (after ≡ record before { login = with_handle_pair pass pair before.login }) × (answer ≡ Ok tt)
 Entered (Err registry.Gone) pass before after answer = ⊥
 Entered (Err registry.Exhausted) pass before after answer = (after ≡ record before { login = with_pass pass before.login }) × (answer ≡ Err RegistryExhausted)
 Entered (Err registry.OutOfMemory) pass before after answer = (after ≡ record before { login = with_pass pass before.login }) × (answer ≡ Err OutOfMemory)
 
-abbrev pub EnrollsAt : Bool → (Option Known → ℤ → SecretKey → Option Known → Result (Option Pair) RegistryError → Type 0) → Standing → Standing → List Message → Answer → Type 0
-EnrollsAt true R before after sent answer = Passes before after sent answer
-EnrollsAt false R before after sent answer = (sent ≡ []) × ((pass : Option Known) × (got : Result (Option Pair) RegistryError) × R before.login.pass before.client.pid before.client.secret_key pass got × Entered got pass before after answer)
+abbrev pub EnrollsAt : Bool → (Option Known → ℤ → SecretKey → Option Known → Result (Option HandlePair) RegistryError → Type 0) → Standing → Standing → List Message → Answer → Type 0
+EnrollsAt true R before after sent answer = LoginStays before after sent answer
+EnrollsAt false R before after sent answer = (sent ≡ []) × ((pass : Option Known) × (got : Result (Option HandlePair) RegistryError) × R before.login.pass before.client.pid before.client.secret_key pass got × Entered got pass before after answer)
 
 -- the client's number and key are registered, unless they are already
-abbrev pub Enrolls : (Option Known → ℤ → SecretKey → Option Known → Result (Option Pair) RegistryError → Type 0) → Standing → Standing → List Message → Answer → Type 0
+abbrev pub Enrolls : (Option Known → ℤ → SecretKey → Option Known → Result (Option HandlePair) RegistryError → Type 0) → Standing → Standing → List Message → Answer → Type 0
 Enrolls R before = EnrollsAt (is_some before.login.registered) R before
 
 -- the number and the key are drawn, and then registered
-abbrev pub Accepts : (Option Known → ℤ → SecretKey → Option Known → Result (Option Pair) RegistryError → Type 0) → Standing → Standing → List Message → Answer → Type 0
-Accepts R = Then Draws (Enrolls R)
+abbrev pub AcceptsLogin : (Option Known → ℤ → SecretKey → Option Known → Result (Option HandlePair) RegistryError → Type 0) → Standing → Standing → List Message → Answer → Type 0
+AcceptsLogin R = Then Draws (Enrolls R)
 
 -- ---- what the client is told
 
-abbrev pub status_of : List ℕ × List ℕ → Message
-status_of p = backend.ParameterStatus (record { name = p.0; value = p.1 })
+abbrev pub status_message : List ℕ × List ℕ → Message
+status_message p = backend.ParameterStatus (record { name = p.0; value = p.1 })
 
 -- in the order of the names
 abbrev pub statuses : Option Held → List Message
 statuses None = []
-statuses (Some held) = map status_of (finite.entries held)
+statuses (Some held) = map status_message (finite.entries held)
 
-abbrev pub key_data : Client → Message
+abbrev pub key_data : LoginClient → Message
 key_data c = backend.BackendKeyData (record { pid = c.pid; secret_key = c.secret_key })
 
-abbrev pub introduction : Client → Option Held → List Message
+abbrev pub introduction : LoginClient → Option Held → List Message
 introduction c parameters = backend.Authentication auth.Ok ∷ (statuses parameters ++ key_data c ∷ [])
 
 -- the login is accepted, with what the provider gives for the client, its number and its key
-abbrev pub Introduces : (Client → Option Held → Type 0) → Standing → Standing → List Message → Answer → Type 0
+abbrev pub Introduces : (LoginClient → Option Held → Type 0) → Standing → Standing → List Message → Answer → Type 0
 Introduces P = OrNoMemory (λ before after sent answer. (parameters : Option Held) × P before.client parameters × Sends (introduction before.client parameters) before after sent answer)
 
-abbrev pub ready : Message
-ready = backend.ReadyForQuery (record { status = Idle })
+abbrev pub login_ready : Message
+login_ready = backend.ReadyForQuery (record { status = Idle })
 
 abbrev pub Readies : Message → Standing → Standing → List Message → Answer → Type 0
 Readies m = Then (Sends (m ∷ [])) (Sets (with_state ReadyForQuery))
 
-abbrev pub FinishesAuthentication : (Client → Option Held → Type 0) → Standing → Standing → List Message → Answer → Type 0
-FinishesAuthentication P = Then (Introduces P) (Readies ready)
+abbrev pub FinishesAuthentication : (LoginClient → Option Held → Type 0) → Standing → Standing → List Message → Answer → Type 0
+FinishesAuthentication P = Then (Introduces P) (Readies login_ready)
 
 -- the whole end of a login that is accepted
-abbrev pub Finishes : (Client → Option Held → Type 0) → (Option Known → ℤ → SecretKey → Option Known → Result (Option Pair) RegistryError → Type 0) → Standing → Standing → List Message → Answer → Type 0
-Finishes P R = Then (Accepts R) (Then (FinishesAuthentication P) (Marks (with_sasl Finished)))
+abbrev pub Finishes : (LoginClient → Option Held → Type 0) → (Option Known → ℤ → SecretKey → Option Known → Result (Option HandlePair) RegistryError → Type 0) → Standing → Standing → List Message → Answer → Type 0
+Finishes P R = Then (AcceptsLogin R) (Then (FinishesAuthentication P) (Marks (with_sasl Finished)))

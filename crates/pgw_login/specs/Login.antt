@@ -1,7 +1,7 @@
 -- Who logs in.
 use Rattle.std.specs.Prelude.{ℕ, List, Option, codes}
 use Rattle.std.specs.FinMap as map
-use Rattle.pgw_login.specs.Client.{Client}
+use Rattle.pgw_login.specs.Client.{LoginClient}
 
 pub record Login : Type 0 where
   pub user : Option (List ℕ)
@@ -9,5 +9,5 @@ pub record Login : Type 0 where
   pub host : List ℕ
 
 -- as the client's parameters name it
-abbrev pub login_seen : Client → Login
+abbrev pub login_seen : LoginClient → Login
 login_seen c = record { user = map.get c.metadata (codes "user"); database = map.get c.metadata (codes "database"); host = c.host }

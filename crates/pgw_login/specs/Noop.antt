@@ -8,13 +8,13 @@ use Rattle.pgw_frontend.specs.declared.frontend.PgWireFrontendMessage.{PgWireFro
 use Rattle.pgw_frontend.specs.declared.frontend.PgWireFrontendMessage.TheVariants as frontend
 use Rattle.pgw_registry.specs.Passes.{Known}
 use Rattle.pgw_registry.specs.declared.error.RegistryError.{RegistryError}
-use Rattle.pgw_login.specs.Client.{Client}
-use Rattle.pgw_login.specs.Registered.{Pair}
+use Rattle.pgw_login.specs.Client.{LoginClient}
+use Rattle.pgw_login.specs.Registered.{HandlePair}
 use Rattle.pgw_login.specs.Provider.{default_provider, default_parameters}
 use Rattle.pgw_login.specs.declared.provider.DefaultServerParameterProvider.{DefaultServerParameterProvider}
-use Rattle.pgw_login.specs.Acts.{Standing, Answer, Then, Passes, Marks, OrFails, with_sasl}
-use Rattle.pgw_login.specs.Opening.{Begins}
-use Rattle.pgw_login.specs.Finish.{Accepts, Introduces, Readies, ready}
+use Rattle.pgw_login.specs.Acts.{Standing, Answer, Then, LoginStays, Marks, OrFails, with_sasl}
+use Rattle.pgw_login.specs.Opening.{BeginsLogin}
+use Rattle.pgw_login.specs.Finish.{AcceptsLogin, Introduces, Readies, login_ready}
 use Rattle.pgw_login.specs.Hearing.{heard}
 use Rattle.pgw_login.specs.declared.handler.Heard.{Heard}
 use Rattle.pgw_login.specs.declared.handler.Heard.TheVariants as of
@@ -24,14 +24,14 @@ abbrev pub IntroducesBy : DefaultServerParameterProvider → Standing → Standi
 IntroducesBy p = Introduces (λ c o. o ≡ Some (default_parameters p c))
 
 -- the login is accepted at once, and something is done before the client may ask
-abbrev pub Welcomes : (PgWireFrontendMessage → Standing → Standing → List Message → Answer → Type 0) → (Option Known → ℤ → SecretKey → Option Known → Result (Option Pair) RegistryError → Type 0) → Startup → Standing → Standing → List Message → Answer → Type 0
-Welcomes posts R s = Then (Begins s) (Then (Accepts R) (Then (IntroducesBy default_provider) (Then (posts (frontend.Startup s)) (Then (Readies ready) (Marks (with_sasl Finished))))))
+abbrev pub Welcomes : (PgWireFrontendMessage → Standing → Standing → List Message → Answer → Type 0) → (Option Known → ℤ → SecretKey → Option Known → Result (Option HandlePair) RegistryError → Type 0) → Startup → Standing → Standing → List Message → Answer → Type 0
+Welcomes posts R s = Then (BeginsLogin s) (Then (AcceptsLogin R) (Then (IntroducesBy default_provider) (Then (posts (frontend.Startup s)) (Then (Readies login_ready) (Marks (with_sasl Finished))))))
 
 -- a password is passed over
-abbrev pub NoopOn : (PgWireFrontendMessage → Standing → Standing → List Message → Answer → Type 0) → (Option Known → ℤ → SecretKey → Option Known → Result (Option Pair) RegistryError → Type 0) → Heard → Standing → Standing → List Message → Answer → Type 0
+abbrev pub NoopOn : (PgWireFrontendMessage → Standing → Standing → List Message → Answer → Type 0) → (Option Known → ℤ → SecretKey → Option Known → Result (Option HandlePair) RegistryError → Type 0) → Heard → Standing → Standing → List Message → Answer → Type 0
 NoopOn posts R (of.Startup s) = Welcomes posts R s
-NoopOn posts R (of.Password m) = Passes
-NoopOn posts R of.Other = Passes
+NoopOn posts R (of.Password m) = LoginStays
+NoopOn posts R of.Other = LoginStays
 
-abbrev pub NoopMeans : (PgWireFrontendMessage → Standing → Standing → List Message → Answer → Type 0) → (Option Known → ℤ → SecretKey → Option Known → Result (Option Pair) RegistryError → Type 0) → PgWireFrontendMessage → Standing → Standing → List Message → Answer → Type 0
+abbrev pub NoopMeans : (PgWireFrontendMessage → Standing → Standing → List Message → Answer → Type 0) → (Option Known → ℤ → SecretKey → Option Known → Result (Option HandlePair) RegistryError → Type 0) → PgWireFrontendMessage → Standing → Standing → List Message → Answer → Type 0
 NoopMeans posts R m = OrFails (NoopOn posts R (heard m))

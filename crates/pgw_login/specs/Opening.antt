@@ -9,8 +9,8 @@ use Rattle.pgw_wire.specs.Pairs.{Held}
 use Rattle.pgw_startup.specs.declared.startup.Startup.{Startup}
 use Rattle.pgw_backend.specs.declared.backend.PgWireBackendMessage.{PgWireBackendMessage as Message}
 use Rattle.pgw_backend.specs.declared.backend.PgWireBackendMessage.TheVariants as backend
-use Rattle.pgw_login.specs.Client.{Client, with_version, with_metadata, with_state}
-use Rattle.pgw_login.specs.Acts.{Standing, Answer, Then, Starts, Refuses, OrNoMemory, Sets, Sends}
+use Rattle.pgw_login.specs.Client.{LoginClient, with_version, with_metadata, with_state}
+use Rattle.pgw_login.specs.Acts.{Standing, Answer, Then, StartsLogin, LoginRefuses, OrNoMemory, Sets, Sends}
 use Rattle.pgw_login.specs.declared.client_info.PgWireConnectionState.TheVariants.{AuthenticationInProgress}
 
 -- 196610 is version 3.2, and there are no options that the server does not know
@@ -24,17 +24,17 @@ by_minor minor = if minor == 0 then (PROTOCOL3_0, None) else (if minor == 2 then
 abbrev pub negotiation : Startup → Result (ProtocolVersion × Option Message) PgWireError
 negotiation s = if s.protocol_number_major == 3 then Ok (by_minor s.protocol_number_minor) else Err (UnsupportedProtocolVersion s.protocol_number_major s.protocol_number_minor)
 
-abbrev pub told : Option Message → List Message
-told None = []
-told (Some m) = m ∷ []
+abbrev pub offered_messages : Option Message → List Message
+offered_messages None = []
+offered_messages (Some m) = m ∷ []
 
-abbrev pub Settles : Result (ProtocolVersion × Option Message) PgWireError → Standing → Standing → List Message → Answer → Type 0
-Settles (Err e) = Refuses e
-Settles (Ok (version, offered)) = Then (Sends (told offered)) (Sets (with_version version))
+abbrev pub LoginSettlesVersion : Result (ProtocolVersion × Option Message) PgWireError → Standing → Standing → List Message → Answer → Type 0
+LoginSettlesVersion (Err e) = LoginRefuses e
+LoginSettlesVersion (Ok (version, offered)) = Then (Sends (offered_messages offered)) (Sets (with_version version))
 
 -- the client is told where the version is another than it asked for, and the version is set
 abbrev pub Negotiates : Startup → Standing → Standing → List Message → Answer → Type 0
-Negotiates s = Settles (negotiation s)
+Negotiates s = LoginSettlesVersion (negotiation s)
 
 -- a later value replaces an earlier one
 abbrev pub saved : Held → Held → Held
@@ -44,9 +44,9 @@ abbrev pub Saves : Startup → Standing → Standing → List Message → Answer
 Saves s = OrNoMemory (Sets (λ c. with_metadata (saved c.metadata s.parameters) c))
 
 -- the login begins, the version is settled, and the parameters are saved
-abbrev pub Begins : Startup → Standing → Standing → List Message → Answer → Type 0
-Begins s = Then Starts (Then (Negotiates s) (Saves s))
+abbrev pub BeginsLogin : Startup → Standing → Standing → List Message → Answer → Type 0
+BeginsLogin s = Then StartsLogin (Then (Negotiates s) (Saves s))
 
 -- where something is asked for, the client is in authentication from then on
 abbrev pub Opens : Startup → Standing → Standing → List Message → Answer → Type 0
-Opens s = Then (Begins s) (Sets (with_state AuthenticationInProgress))
+Opens s = Then (BeginsLogin s) (Sets (with_state AuthenticationInProgress))

@@ -11,6 +11,6 @@ with_given name None held = held
 with_given name (Some value) held = map.insert held name value
 
 -- the value that is set, or else the other one
-abbrev pub given : Option (List ℕ) → Option (List ℕ) → Option (List ℕ)
-given None own = own
-given (Some value) own = Some value
+abbrev pub parameter_or_own : Option (List ℕ) → Option (List ℕ) → Option (List ℕ)
+parameter_or_own None own = own
+parameter_or_own (Some value) own = Some value

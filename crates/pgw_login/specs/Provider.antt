@@ -3,8 +3,8 @@ use Rattle.std.specs.Prelude.{ℕ, true, false, List, Some, None, codes}
 use Rattle.std.specs.Fmt.{decimal}
 use Rattle.std.specs.FinMap as map
 use Rattle.pgw_wire.specs.Pairs.{Held}
-use Rattle.pgw_login.specs.Client.{Client}
-use Rattle.pgw_login.specs.Parameters.{with_switch, with_given, given}
+use Rattle.pgw_login.specs.Client.{LoginClient}
+use Rattle.pgw_login.specs.Parameters.{with_switch, with_given, parameter_or_own}
 use Rattle.pgw_login.specs.declared.provider.DefaultServerParameterProvider.{DefaultServerParameterProvider as Provider}
 
 abbrev pub default_provider : Provider
@@ -45,9 +45,9 @@ with_session p held =
 -- what is not set is the client's own
 abbrev pub with_client : Provider → Held → Held → Held
 with_client p metadata held =
-    with_given (codes "session_authorization") (given p.session_authorization (map.get metadata (codes "user")))
-    (with_given (codes "application_name") (given p.application_name (map.get metadata (codes "application_name")))
-    (with_given (codes "client_encoding") (given p.client_encoding (map.get metadata (codes "client_encoding"))) held))
+    with_given (codes "session_authorization") (parameter_or_own p.session_authorization (map.get metadata (codes "user")))
+    (with_given (codes "application_name") (parameter_or_own p.application_name (map.get metadata (codes "application_name")))
+    (with_given (codes "client_encoding") (parameter_or_own p.client_encoding (map.get metadata (codes "client_encoding"))) held))
 
-abbrev pub default_parameters : Provider → Client → Held
+abbrev pub default_parameters : Provider → LoginClient → Held
 default_parameters p c = with_client p c.metadata (with_session p (with_server p map.empty))

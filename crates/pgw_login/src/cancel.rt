@@ -5,7 +5,7 @@ ghost use Rattle.pgw_opening.specs.declared.cancel.CancelRequest.{CancelRequest 
 ghost use Rattle.pgw_registry.specs.Passes.{Known};
 ghost use Rattle.pgw_registry.specs.declared.error.RegistryError.{RegistryError as Refusal};
 ghost use Rattle.pgw_types.specs.declared.error.PgWireError.{PgWireError as Error};
-ghost use Rattle.pgw_login.specs.Client.{Client};
+ghost use Rattle.pgw_login.specs.Client.{LoginClient};
 ghost use Rattle.pgw_login.specs.Canceling.{CanceledBy};
 
 use crate::client_info::ClientInfo;
@@ -85,7 +85,7 @@ impl<G> CancelHandler for NoopHandler<G> {
 /// Looks at an error before it is told the client.
 pub trait ErrorHandler {
     /// What may become of an error.
-    ghost turns: { Self → Client → Error → Error → Type 0 };
+    ghost turns: { Self → LoginClient → Error → Error → Type 0 };
 
     fn on_error<C: ClientInfo>(&self, client: &C, error: &mut PgWireError)
         ensures { turns self.now (C.sight client.now) error.old error.new };

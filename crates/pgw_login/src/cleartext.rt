@@ -2,10 +2,10 @@
 ghost use Rattle.std.specs.Prelude.{◌≡◌, ◌⊎◌, OnOk, Result, Err};
 ghost use Rattle.std.specs.Option.{option_copied};
 ghost use Rattle.pgw_login.specs.Logins.{login_of};
-ghost use Rattle.pgw_login.specs.Acts.{standing, Did, Then, Awaits, IsReleasable};
+ghost use Rattle.pgw_login.specs.Acts.{standing_in_login, Did, Then, LoginAwaits, IsReleasable};
 ghost use Rattle.std.specs.Arc.{arc_value};
 ghost use Rattle.pgw_login.specs.Finish.{Finishes};
-ghost use Rattle.pgw_login.specs.Cleartext.{CleartextMeans, CleartextOn, Checked, Checks, ComparedTo, wrong_password};
+ghost use Rattle.pgw_login.specs.Cleartext.{CleartextMeans, CleartextOn, ChecksPassword, Checks, ComparedTo, wrong_password};
 ghost use Rattle.pgw_scram.specs.declared.password.Password.{Password as Kept};
 ghost use Rattle.pgw_types.specs.declared.error.PgWireError.{PgWireError as Refusal};
 ghost use Rattle.pgw_types.specs.declared.error.PgWireError.TheVariants.{OutOfMemory as NoMemory};
@@ -84,7 +84,7 @@ where
         login: &LoginInfo<'_>,
         message: PasswordMessageFamily,
     ) -> PgWireResult<()>
-        ensures { Checked (A.answers self.now.auth_source) message (login_of login.now) result }
+        ensures { ChecksPassword (A.answers self.now.auth_source) message (login_of login.now) result }
     {
         let password = message.into_password(alloc)?;
         self.verify_text(alloc, login, password.password.as_str())
@@ -126,10 +126,10 @@ where
             × M.fits self.now.registry state.new.pass }
         ensures releasable { IsReleasable state.old → IsReleasable state.new }
         ensures checked { Did O.add (O.sent out.old) (O.sent out.new)
-            (Then Awaits (Then (Checks (A.answers self.now.auth_source) message)
+            (Then LoginAwaits (Then (Checks (A.answers self.now.auth_source) message)
             (Finishes (P.provides self.now.parameter_provider) (M.registers self.now.registry))))
-            (standing (C.sight client.old) state.old (O.faults out.old))
-            (standing (C.sight client.new) state.new (O.faults out.new)) result }
+            (standing_in_login (C.sight client.old) state.old (O.faults out.old))
+            (standing_in_login (C.sight client.new) state.new (O.faults out.new)) result }
         ensures flushed { OnOk result (O.waiting out.new ≡ 0) }
     {
         state.await_password()?;
@@ -162,8 +162,8 @@ where
         ensures answered { Did O.add (O.sent out.old) (O.sent out.new)
             (CleartextOn (A.answers self.now.auth_source) (P.provides self.now.parameter_provider)
             (M.registers self.now.registry) message)
-            (standing (C.sight client.old) state.old (O.faults out.old))
-            (standing (C.sight client.new) state.new (O.faults out.new)) result }
+            (standing_in_login (C.sight client.old) state.old (O.faults out.old))
+            (standing_in_login (C.sight client.new) state.new (O.faults out.new)) result }
         ensures flushed { O.waiting out.old ≡ 0 → OnOk result (O.waiting out.new ≡ 0) }
     {
         match message {

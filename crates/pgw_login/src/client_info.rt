@@ -4,7 +4,7 @@ ghost use Rattle.std.specs.FinMap as map;
 ghost use Rattle.pgw_types.specs.declared.context.ProtocolVersion.TheVariants.{PROTOCOL3_2};
 ghost use Rattle.pgw_wire.specs.declared.secret_key.SecretKey.TheVariants.{I32};
 ghost use Rattle.pgw_query.specs.declared.response.TransactionStatus.TheVariants.{Idle};
-ghost use Rattle.pgw_login.specs.Client.{Client, with_version, with_key, with_state, with_status, with_metadata};
+ghost use Rattle.pgw_login.specs.Client.{LoginClient, with_version, with_key, with_state, with_status, with_metadata};
 ghost use Rattle.pgw_login.specs.declared.client_info.PgWireConnectionState.TheVariants.{AwaitingSslRequest};
 
 use pgw_query::response::TransactionStatus;
@@ -47,7 +47,7 @@ impl Default for PgWireConnectionState {
 /// What handlers ask and tell of a client.
 pub trait ClientInfo {
     /// What is seen of the client.
-    ghost sight: { Self → Client };
+    ghost sight: { Self → LoginClient };
 
     /// Where the client calls from.
     fn host(&self) -> &Text
@@ -131,9 +131,9 @@ impl<E> DefaultClient<E> {
 }
 
 impl<E> ClientInfo for DefaultClient<E> {
-    ghost use Rattle.pgw_login.specs.DefaultClients.{seen};
+    ghost use Rattle.pgw_login.specs.DefaultClients.{login_client};
 
-    ghost sight = { seen };
+    ghost sight = { login_client };
 
     fn host(&self) -> &Text {
         &self.host

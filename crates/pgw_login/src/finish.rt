@@ -2,8 +2,8 @@
 ghost use Rattle.std.specs.Prelude.{◌≡◌, ℕ, [], ◌∷◌, ◌++◌, map, Option, OnOk, IfOk};
 ghost use Rattle.std.specs.FinMap as finite;
 ghost use Rattle.pgw_wire.specs.Pairs.{Held};
-ghost use Rattle.pgw_login.specs.Acts.{standing, Did, IsReleasable};
-ghost use Rattle.pgw_login.specs.Finish.{Draws, Accepts, Enrolls, Introduces, Readies, ready, FinishesAuthentication, Finishes, introduction, status_of, pid_refusal};
+ghost use Rattle.pgw_login.specs.Acts.{standing_in_login, Did, IsReleasable};
+ghost use Rattle.pgw_login.specs.Finish.{Draws, AcceptsLogin, Enrolls, Introduces, Readies, login_ready, FinishesAuthentication, Finishes, introduction, status_message, pid_refusal};
 ghost use Rattle.pgw_login.specs.declared.state.LoginState.{LoginState as TheState};
 
 use crate::acts::{feed_all, send};
@@ -45,8 +45,8 @@ pub fn draw<C: ClientInfo, G: PidSecretKeyGenerator>(
     ensures fits { G.fits generator.now state.new.seat }
     ensures pass { (state.new.pass ≡ state.old.pass)
         × (state.new.registered ≡ state.old.registered) }
-    ensures drawn { (faults : ℕ) → Draws (standing (C.sight client.old) state.old faults)
-        (standing (C.sight client.new) state.new faults) [] result }
+    ensures drawn { (faults : ℕ) → Draws (standing_in_login (C.sight client.old) state.old faults)
+        (standing_in_login (C.sight client.new) state.new faults) [] result }
 {
     let version = client.protocol_version();
     match generator.generate(&mut state.seat, version, &state.words) {
@@ -70,8 +70,8 @@ pub fn enroll<C: ClientInfo, M: Registers>(
     ensures seat { state.new.seat ≡ state.old.seat }
     ensures releasable { IsReleasable state.old → IsReleasable state.new }
     ensures enrolled { (faults : ℕ) → Enrolls (M.registers registry.now)
-        (standing (C.sight client.now) state.old faults)
-        (standing (C.sight client.now) state.new faults) [] result }
+        (standing_in_login (C.sight client.now) state.old faults)
+        (standing_in_login (C.sight client.now) state.new faults) [] result }
 {
     if state.registered.is_some() {
         return Ok(());
@@ -101,9 +101,9 @@ pub fn accept<C: ClientInfo, G: PidSecretKeyGenerator, M: Registers>(
     requires { G.fits generator.now state.old.seat × M.fits registry.now state.old.pass }
     ensures fits { G.fits generator.now state.new.seat × M.fits registry.now state.new.pass }
     ensures releasable { IsReleasable state.old → IsReleasable state.new }
-    ensures accepted { (faults : ℕ) → Accepts (M.registers registry.now)
-        (standing (C.sight client.old) state.old faults)
-        (standing (C.sight client.new) state.new faults) [] result }
+    ensures accepted { (faults : ℕ) → AcceptsLogin (M.registers registry.now)
+        (standing_in_login (C.sight client.old) state.old faults)
+        (standing_in_login (C.sight client.new) state.new faults) [] result }
 {
     draw(client, state, generator)?;
     enroll(alloc, client, state, registry)
@@ -115,7 +115,7 @@ fn push_statuses(
     parameters: &Params,
 ) -> Result<(), OutOfMemory>
     ensures { OnOk result (messages.new.items ≡ messages.old.items
-        ++ map status_of (finite.entries parameters.now)) }
+        ++ map status_message (finite.entries parameters.now)) }
 {
     for (name, value) in parameters.iter() {
         let status = ParameterStatus::new(name.duplicate()?, value.duplicate()?);
@@ -154,8 +154,8 @@ pub fn introduce<C: ClientInfo, O: Outbox, P: ServerParameterProvider>(
 ) -> PgWireResult<()>
     ensures { (login : TheState) → Did O.add (O.sent out.old) (O.sent out.new)
         (Introduces (P.provides provider.now))
-        (standing (C.sight client.now) login (O.faults out.old))
-        (standing (C.sight client.now) login (O.faults out.new)) result }
+        (standing_in_login (C.sight client.now) login (O.faults out.old))
+        (standing_in_login (C.sight client.now) login (O.faults out.new)) result }
 {
     let messages = introduction(alloc, client, provider)?;
     feed_all(out, messages)
@@ -164,8 +164,8 @@ pub fn introduce<C: ClientInfo, O: Outbox, P: ServerParameterProvider>(
 /// Tells the client that it may ask.
 pub fn ready<C: ClientInfo, O: Outbox>(client: &mut C, out: &mut O) -> PgWireResult<()>
     ensures readied { (login : TheState) → Did O.add (O.sent out.old) (O.sent out.new)
-        (Readies ready) (standing (C.sight client.old) login (O.faults out.old))
-        (standing (C.sight client.new) login (O.faults out.new)) result }
+        (Readies login_ready) (standing_in_login (C.sight client.old) login (O.faults out.old))
+        (standing_in_login (C.sight client.new) login (O.faults out.new)) result }
     ensures flushed { OnOk result (O.waiting out.new ≡ 0) }
 {
     let ready = ReadyForQuery {
@@ -186,8 +186,8 @@ pub fn finish_authentication<C: ClientInfo, O: Outbox, P: ServerParameterProvide
 ) -> PgWireResult<()>
     ensures finished { (login : TheState) → Did O.add (O.sent out.old) (O.sent out.new)
         (FinishesAuthentication (P.provides provider.now))
-        (standing (C.sight client.old) login (O.faults out.old))
-        (standing (C.sight client.new) login (O.faults out.new)) result }
+        (standing_in_login (C.sight client.old) login (O.faults out.old))
+        (standing_in_login (C.sight client.new) login (O.faults out.new)) result }
     ensures flushed { OnOk result (O.waiting out.new ≡ 0) }
 {
     introduce(alloc, client, out, provider)?;
@@ -215,8 +215,8 @@ where
     ensures releasable { IsReleasable state.old → IsReleasable state.new }
     ensures finished { Did O.add (O.sent out.old) (O.sent out.new)
         (Finishes (P.provides provider.now) (M.registers registry.now))
-        (standing (C.sight client.old) state.old (O.faults out.old))
-        (standing (C.sight client.new) state.new (O.faults out.new)) result }
+        (standing_in_login (C.sight client.old) state.old (O.faults out.old))
+        (standing_in_login (C.sight client.new) state.new (O.faults out.new)) result }
     ensures flushed { OnOk result (O.waiting out.new ≡ 0) }
 {
     accept(alloc, client, state, generator, registry)?;

@@ -2,7 +2,7 @@
 ghost use Rattle.std.specs.Prelude.{◌≡◌, OnOk, List};
 ghost use Rattle.pgw_frontend.specs.declared.frontend.PgWireFrontendMessage.{PgWireFrontendMessage as TheMessage};
 ghost use Rattle.pgw_backend.specs.declared.backend.PgWireBackendMessage.{PgWireBackendMessage as Backend};
-ghost use Rattle.pgw_login.specs.Acts.{Standing, standing, Answer, Did};
+ghost use Rattle.pgw_login.specs.Acts.{Standing, standing_in_login, Answer, Did};
 ghost use Rattle.pgw_login.specs.Hearing.{heard};
 ghost use Rattle.pgw_login.specs.declared.state.LoginState.{LoginState as TheState};
 
@@ -69,8 +69,8 @@ pub trait StartupHandler {
         requires { fits self.now state.old }
         ensures fits { fits self.now state.new }
         ensures means { Did O.add (O.sent out.old) (O.sent out.new) (means self.now message)
-            (standing (C.sight client.old) state.old (O.faults out.old))
-            (standing (C.sight client.new) state.new (O.faults out.new)) result }
+            (standing_in_login (C.sight client.old) state.old (O.faults out.old))
+            (standing_in_login (C.sight client.new) state.new (O.faults out.new)) result }
         // Where nothing waited in the outbox before, nothing waits there behind an answer that is Ok.
         ensures flushed { O.waiting out.old ≡ 0 → OnOk result (O.waiting out.new ≡ 0) };
 }

@@ -1,11 +1,11 @@
 //! Logins by a password that MD5 is taken of.
 ghost use Rattle.std.specs.Prelude.{◌≡◌, ◌⊎◌, OnOk, Ok, Err};
 ghost use Rattle.pgw_login.specs.Logins.{login_of};
-ghost use Rattle.pgw_login.specs.Acts.{standing, Did, Then, Awaits, IsSameSource, IsReleasable};
+ghost use Rattle.pgw_login.specs.Acts.{standing_in_login, Did, Then, LoginAwaits, IsSameSource, IsReleasable};
 ghost use Rattle.std.specs.Arc.{arc_value};
 ghost use Rattle.pgw_login.specs.Finish.{Finishes};
 ghost use Rattle.pgw_login.specs.Opening.{Opens};
-ghost use Rattle.pgw_login.specs.Md5.{Md5Means, Md5On, Salted, salt_of, Challenges, Matched, Matches};
+ghost use Rattle.pgw_login.specs.Md5.{Md5Means, Md5On, AsksForSalt, kept_salt, Challenges, Matched, Matches};
 ghost use Rattle.pgw_types.specs.declared.error.PgWireError.TheVariants.{OutOfMemory as NoMemory};
 
 use crate::acts::send;
@@ -86,7 +86,7 @@ fn compare(
 
 // The salt of a kept password, and its text.
 fn salt_and_text(alloc: Global, kept: &Password) -> PgWireResult<(Octets, Octets)>
-    ensures { (result ≡ Err NoMemory) ⊎ (result ≡ salt_of (Ok kept.now)) }
+    ensures { (result ≡ Err NoMemory) ⊎ (result ≡ kept_salt (Ok kept.now)) }
 {
     let Some(salt) = kept.salt() else {
         return Err(PgWireError::SaltRequired);
@@ -104,7 +104,7 @@ where
 {
     // The salt of the login's password, and the text.
     fn salted(&self, alloc: Global, login: &LoginInfo<'_>) -> PgWireResult<(Octets, Octets)>
-        ensures { Salted (A.answers self.now.auth_source) (login_of login.now) result }
+        ensures { AsksForSalt (A.answers self.now.auth_source) (login_of login.now) result }
     {
         let kept = self.auth_source.get_password(alloc, login)?;
         salt_and_text(alloc, &kept)
@@ -120,8 +120,8 @@ where
         ensures source { IsSameSource state.old state.new }
         ensures challenged { Did O.add (O.sent out.old) (O.sent out.new)
             (Challenges (A.answers self.now.auth_source))
-            (standing (C.sight client.now) state.old (O.faults out.old))
-            (standing (C.sight client.now) state.new (O.faults out.new)) result }
+            (standing_in_login (C.sight client.now) state.old (O.faults out.old))
+            (standing_in_login (C.sight client.now) state.new (O.faults out.new)) result }
         ensures flushed { OnOk result (O.waiting out.new ≡ 0) }
     {
         let (salt, password) = self.salted(alloc, &LoginInfo::from_client_info(client))?;
@@ -141,8 +141,8 @@ where
         ensures source { IsSameSource state.old state.new }
         ensures opened { Did O.add (O.sent out.old) (O.sent out.new)
             (Then (Opens startup.now) (Challenges (A.answers self.now.auth_source)))
-            (standing (C.sight client.old) state.old (O.faults out.old))
-            (standing (C.sight client.new) state.new (O.faults out.new)) result }
+            (standing_in_login (C.sight client.old) state.old (O.faults out.old))
+            (standing_in_login (C.sight client.new) state.new (O.faults out.new)) result }
         ensures flushed { OnOk result (O.waiting out.new ≡ 0) }
     {
         open_login(alloc, client, out, state, startup)?;
@@ -163,10 +163,10 @@ where
             × M.fits self.now.registry state.new.pass }
         ensures releasable { IsReleasable state.old → IsReleasable state.new }
         ensures checked { Did O.add (O.sent out.old) (O.sent out.new)
-            (Then Awaits (Then (Matches message)
+            (Then LoginAwaits (Then (Matches message)
             (Finishes (P.provides self.now.parameter_provider) (M.registers self.now.registry))))
-            (standing (C.sight client.old) state.old (O.faults out.old))
-            (standing (C.sight client.new) state.new (O.faults out.new)) result }
+            (standing_in_login (C.sight client.old) state.old (O.faults out.old))
+            (standing_in_login (C.sight client.new) state.new (O.faults out.new)) result }
         ensures flushed { OnOk result (O.waiting out.new ≡ 0) }
     {
         state.await_password()?;
@@ -204,8 +204,8 @@ where
         ensures answered { Did O.add (O.sent out.old) (O.sent out.new)
             (Md5On (A.answers self.now.auth_source) (P.provides self.now.parameter_provider)
             (M.registers self.now.registry) message)
-            (standing (C.sight client.old) state.old (O.faults out.old))
-            (standing (C.sight client.new) state.new (O.faults out.new)) result }
+            (standing_in_login (C.sight client.old) state.old (O.faults out.old))
+            (standing_in_login (C.sight client.new) state.new (O.faults out.new)) result }
         ensures flushed { O.waiting out.old ≡ 0 → OnOk result (O.waiting out.new ≡ 0) }
     {
         match message {

@@ -1,8 +1,8 @@
 //! The beginning of a login.
 ghost use Rattle.std.specs.Prelude.{◌≡◌, [], ◌∷◌, OnOk, OnErr, IfOk};
-ghost use Rattle.pgw_login.specs.Acts.{standing, Did, Then, Sends, IsSameSource};
-ghost use Rattle.pgw_login.specs.Client.{Client, with_metadata};
-ghost use Rattle.pgw_login.specs.Opening.{negotiation, told, saved, Negotiates, Begins, Opens};
+ghost use Rattle.pgw_login.specs.Acts.{standing_in_login, Did, Then, Sends, IsSameSource};
+ghost use Rattle.pgw_login.specs.Client.{LoginClient, with_metadata};
+ghost use Rattle.pgw_login.specs.Opening.{negotiation, offered_messages, saved, Negotiates, BeginsLogin, Opens};
 ghost use Rattle.pgw_login.specs.declared.state.LoginState.{LoginState as TheState};
 
 use crate::acts::send;
@@ -51,9 +51,9 @@ fn negotiation(
 
 // Tells what is to be told.
 fn tell<O: Outbox>(out: &mut O, offer: Option<PgWireBackendMessage>) -> PgWireResult<()>
-    ensures told { (client : Client) (login : TheState) →
-        Did O.add (O.sent out.old) (O.sent out.new) (Sends (told offer))
-        (standing client login (O.faults out.old)) (standing client login (O.faults out.new))
+    ensures told { (client : LoginClient) (login : TheState) →
+        Did O.add (O.sent out.old) (O.sent out.new) (Sends (offered_messages offer))
+        (standing_in_login client login (O.faults out.old)) (standing_in_login client login (O.faults out.new))
         result }
     ensures flushed { O.waiting out.old ≡ 0 → OnOk result (O.waiting out.new ≡ 0) }
 {
@@ -73,8 +73,8 @@ pub fn protocol_negotiation<C: ClientInfo, O: Outbox>(
 ) -> PgWireResult<()>
     ensures negotiated { (login : TheState) →
         Did O.add (O.sent out.old) (O.sent out.new) (Negotiates startup.now)
-        (standing (C.sight client.old) login (O.faults out.old))
-        (standing (C.sight client.new) login (O.faults out.new)) result }
+        (standing_in_login (C.sight client.old) login (O.faults out.old))
+        (standing_in_login (C.sight client.new) login (O.faults out.new)) result }
     ensures flushed { O.waiting out.old ≡ 0 → OnOk result (O.waiting out.new ≡ 0) }
 {
     let (version, offer) = negotiation(alloc, startup)?;
@@ -118,9 +118,9 @@ pub fn begin<C: ClientInfo, O: Outbox>(
     startup: &Startup,
 ) -> PgWireResult<()>
     ensures source { IsSameSource state.old state.new }
-    ensures begun { Did O.add (O.sent out.old) (O.sent out.new) (Begins startup.now)
-        (standing (C.sight client.old) state.old (O.faults out.old))
-        (standing (C.sight client.new) state.new (O.faults out.new)) result }
+    ensures begun { Did O.add (O.sent out.old) (O.sent out.new) (BeginsLogin startup.now)
+        (standing_in_login (C.sight client.old) state.old (O.faults out.old))
+        (standing_in_login (C.sight client.new) state.new (O.faults out.new)) result }
     ensures flushed { O.waiting out.old ≡ 0 → OnOk result (O.waiting out.new ≡ 0) }
 {
     state.start()?;
@@ -139,8 +139,8 @@ pub fn open_login<C: ClientInfo, O: Outbox>(
 ) -> PgWireResult<()>
     ensures source { IsSameSource state.old state.new }
     ensures opened { Did O.add (O.sent out.old) (O.sent out.new) (Opens startup.now)
-        (standing (C.sight client.old) state.old (O.faults out.old))
-        (standing (C.sight client.new) state.new (O.faults out.new)) result }
+        (standing_in_login (C.sight client.old) state.old (O.faults out.old))
+        (standing_in_login (C.sight client.new) state.new (O.faults out.new)) result }
     ensures flushed { O.waiting out.old ≡ 0 → OnOk result (O.waiting out.new ≡ 0) }
 {
     begin(alloc, client, out, state, startup)?;
@@ -160,8 +160,8 @@ pub fn ask<C: ClientInfo, O: Outbox>(
     ensures source { IsSameSource state.old state.new }
     ensures asked { Did O.add (O.sent out.old) (O.sent out.new)
         (Then (Opens startup.now) (Sends (PgWireBackendMessage.Authentication request ∷ [])))
-        (standing (C.sight client.old) state.old (O.faults out.old))
-        (standing (C.sight client.new) state.new (O.faults out.new)) result }
+        (standing_in_login (C.sight client.old) state.old (O.faults out.old))
+        (standing_in_login (C.sight client.new) state.new (O.faults out.new)) result }
     ensures flushed { OnOk result (O.waiting out.new ≡ 0) }
 {
     open_login(alloc, client, out, state, startup)?;

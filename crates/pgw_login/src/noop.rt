@@ -2,7 +2,7 @@
 ghost use Rattle.std.specs.Prelude.{◌≡◌, OnOk, List};
 ghost use Rattle.pgw_frontend.specs.declared.frontend.PgWireFrontendMessage.{PgWireFrontendMessage as TheMessage};
 ghost use Rattle.pgw_backend.specs.declared.backend.PgWireBackendMessage.{PgWireBackendMessage as Backend};
-ghost use Rattle.pgw_login.specs.Acts.{Standing, standing, Answer, Did, Passes, IsReleasable};
+ghost use Rattle.pgw_login.specs.Acts.{Standing, standing_in_login, Answer, Did, LoginStays, IsReleasable};
 ghost use Rattle.pgw_login.specs.Noop.{NoopMeans, NoopOn, Welcomes, IntroducesBy};
 ghost use Rattle.pgw_login.specs.Provider.{default_provider};
 ghost use Rattle.pgw_login.specs.declared.state.LoginState.{LoginState as TheState};
@@ -49,8 +49,8 @@ pub trait NoopStartupHandler {
         message: PgWireFrontendMessage,
     ) -> PgWireResult<()>
         ensures { (login : TheState) → Did O.add (O.sent out.old) (O.sent out.new)
-            (posts self.now message) (standing (C.sight client.old) login (O.faults out.old))
-            (standing (C.sight client.new) login (O.faults out.new)) result };
+            (posts self.now message) (standing_in_login (C.sight client.old) login (O.faults out.old))
+            (standing_in_login (C.sight client.new) login (O.faults out.new)) result };
 }
 
 // What the client is told where nothing else is said.
@@ -60,8 +60,8 @@ fn introduce_default<C: ClientInfo, O: Outbox>(
     out: &mut O,
 ) -> PgWireResult<()>
     ensures { (login : TheState) → Did O.add (O.sent out.old) (O.sent out.new)
-        (IntroducesBy default_provider) (standing (C.sight client.now) login (O.faults out.old))
-        (standing (C.sight client.now) login (O.faults out.new)) result }
+        (IntroducesBy default_provider) (standing_in_login (C.sight client.now) login (O.faults out.old))
+        (standing_in_login (C.sight client.now) login (O.faults out.new)) result }
 {
     let provider = DefaultServerParameterProvider::new(alloc)?;
     let told = introduce(alloc, client, out, &provider);
@@ -84,8 +84,8 @@ fn welcome<H: NoopStartupHandler, C: ClientInfo, O: Outbox>(
     ensures releasable { IsReleasable state.old → IsReleasable state.new }
     ensures welcomed { Did O.add (O.sent out.old) (O.sent out.new)
         (Welcomes (H.posts handler.now) (H.Registry.registers (H.registry handler.now)) startup)
-        (standing (C.sight client.old) state.old (O.faults out.old))
-        (standing (C.sight client.new) state.new (O.faults out.new)) result }
+        (standing_in_login (C.sight client.old) state.old (O.faults out.old))
+        (standing_in_login (C.sight client.new) state.new (O.faults out.new)) result }
     ensures flushed { OnOk result (O.waiting out.new ≡ 0) }
 {
     begin(alloc, client, out, state, &startup)?;
@@ -119,8 +119,8 @@ fn answer<H: NoopStartupHandler, C: ClientInfo, O: Outbox>(
     ensures releasable { IsReleasable state.old → IsReleasable state.new }
     ensures answered { Did O.add (O.sent out.old) (O.sent out.new)
         (NoopOn (H.posts handler.now) (H.Registry.registers (H.registry handler.now)) message)
-        (standing (C.sight client.old) state.old (O.faults out.old))
-        (standing (C.sight client.new) state.new (O.faults out.new)) result }
+        (standing_in_login (C.sight client.old) state.old (O.faults out.old))
+        (standing_in_login (C.sight client.new) state.new (O.faults out.new)) result }
     ensures flushed { O.waiting out.old ≡ 0 → OnOk result (O.waiting out.new ≡ 0) }
 {
     match message {
@@ -146,8 +146,8 @@ pub fn noop_startup<H: NoopStartupHandler, C: ClientInfo, O: Outbox>(
     ensures releasable { IsReleasable state.old → IsReleasable state.new }
     ensures means { Did O.add (O.sent out.old) (O.sent out.new)
         (NoopMeans (H.posts handler.now) (H.Registry.registers (H.registry handler.now)) message)
-        (standing (C.sight client.old) state.old (O.faults out.old))
-        (standing (C.sight client.new) state.new (O.faults out.new)) result }
+        (standing_in_login (C.sight client.old) state.old (O.faults out.old))
+        (standing_in_login (C.sight client.new) state.new (O.faults out.new)) result }
     ensures flushed { O.waiting out.old ≡ 0 → OnOk result (O.waiting out.new ≡ 0) }
 {
     let answer = answer(handler, alloc, client, out, state, Heard::of(message));
@@ -177,7 +177,7 @@ impl<G: PidSecretKeyGenerator> NoopStartupHandler for NoopHandler<G> {
 
     ghost registry = { λ h. record {} };
 
-    ghost posts = { λ h m. Passes };
+    ghost posts = { λ h m. LoginStays };
 
     fn connection_manager(&self) -> &NoRegistry {
         &NoRegistry
@@ -202,7 +202,7 @@ impl<G: PidSecretKeyGenerator> StartupHandler for NoopHandler<G> {
 
     ghost fits = { λ h s. G.fits h.generator s.seat × IsReleasable s };
 
-    ghost means = { λ h. NoopMeans (λ m. Passes)
+    ghost means = { λ h. NoopMeans (λ m. LoginStays)
         (λ before pid key after answer. NotRegistered before after answer) };
 
     fn on_startup<C: ClientInfo, O: Outbox>(

@@ -3,8 +3,8 @@ ghost use Rattle.std.specs.Prelude.{◌≡◌, OnOk, IfOk, Option};
 ghost use Rattle.std.specs.FinMap as map;
 ghost use Rattle.std.specs.Option.{option_copied};
 ghost use Rattle.pgw_wire.specs.Pairs.{Held};
-ghost use Rattle.pgw_login.specs.Client.{Client};
-ghost use Rattle.pgw_login.specs.Parameters.{with_switch, with_given, given};
+ghost use Rattle.pgw_login.specs.Client.{LoginClient};
+ghost use Rattle.pgw_login.specs.Parameters.{with_switch, with_given, parameter_or_own};
 
 use crate::client_info::ClientInfo;
 use pgw_types::listed::Duplicate;
@@ -16,7 +16,7 @@ use std::alloc::Global;
 /// Which parameters a client is told as its login ends.
 pub trait ServerParameterProvider {
     /// What may be told a client.
-    ghost provides: { Self → Client → Option Held → Type 0 };
+    ghost provides: { Self → LoginClient → Option Held → Type 0 };
 
     /// The parameters for a client, or none.
     fn server_parameters<C: ClientInfo>(
@@ -120,7 +120,7 @@ fn put_switch(alloc: Global, held: &mut Params, name: &str, value: bool) -> Resu
 
 // The value that is set, or else the client's own.
 fn given<'a>(set: &'a Option<Text>, metadata: &'a Params, key: &str) -> Option<&'a Text>
-    ensures { option_copied result ≡ given set.now (map.get metadata.now key.now) }
+    ensures { option_copied result ≡ parameter_or_own set.now (map.get metadata.now key.now) }
 {
     match set {
         Some(value) => Some(value),
@@ -138,7 +138,7 @@ fn put_given(
     key: &str,
 ) -> Result<(), OutOfMemory>
     ensures { OnOk result (held.new ≡ with_given name.now
-        (given set.now (map.get metadata.now key.now)) held.old) }
+        (parameter_or_own set.now (map.get metadata.now key.now)) held.old) }
 {
     match given(set, metadata, key) {
         Some(value) => put(alloc, held, name, value.as_str()),

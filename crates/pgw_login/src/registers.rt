@@ -3,7 +3,7 @@ ghost use Rattle.std.specs.Prelude.{◌≡◌, ℤ, Option, Result, IfOk};
 ghost use Rattle.pgw_registry.specs.Passes.{Known};
 ghost use Rattle.pgw_registry.specs.declared.error.RegistryError.{RegistryError as Refusal};
 ghost use Rattle.pgw_wire.specs.declared.secret_key.SecretKey.{SecretKey as Key};
-ghost use Rattle.pgw_login.specs.Registered.{Pair, CanBe, CanRelease, guard_of};
+ghost use Rattle.pgw_login.specs.Registered.{HandlePair, CanBe, CanRelease, guard_of};
 
 use pgw_registry::error::RegistryError;
 use pgw_registry::manager::{ConnectionGuard, ConnectionHandle, ConnectionManager, Pass};
@@ -18,7 +18,7 @@ pub trait Registers {
     ghost fits: { Self → Option Known → Type 0 };
 
     /// What may become of a pass, and be answered, for a process number and key.
-    ghost registers: { Self → Option Known → ℤ → Key → Option Known → Result (Option Pair) Refusal →
+    ghost registers: { Self → Option Known → ℤ → Key → Option Known → Result (Option HandlePair) Refusal →
         Type 0 };
 
     /// Registers a connection by its process number and key, or does not where there is no pass.

@@ -1,8 +1,8 @@
 //! How far a login is.
 ghost use Rattle.std.specs.Prelude.{◌≡◌, ℕ, [], None, false};
-ghost use Rattle.pgw_login.specs.Client.{Client};
-ghost use Rattle.pgw_login.specs.Acts.{standing, Starts, Awaits, IsSameSource, with_sasl, settled, IsReleasable};
-ghost use Rattle.pgw_login.specs.Registered.{CanRelease, guard_of, handle_of};
+ghost use Rattle.pgw_login.specs.Client.{LoginClient};
+ghost use Rattle.pgw_login.specs.Acts.{standing_in_login, StartsLogin, LoginAwaits, IsSameSource, with_sasl, login_by_answer, IsReleasable};
+ghost use Rattle.pgw_login.specs.Registered.{CanRelease, guard_of, pair_handle};
 ghost use Rattle.pgw_login.specs.declared.state.SASLState.TheVariants.{Initial};
 
 use pgw_registry::generator::PidSeat;
@@ -97,8 +97,8 @@ impl LoginState {
     /// Begins the login, which can be done once, and not where a message of it was refused.
     pub fn start(&mut self) -> PgWireResult<()>
         ensures source { IsSameSource self.old self.new }
-        ensures started { (client : Client) (faults : ℕ) →
-            Starts (standing client self.old faults) (standing client self.new faults) [] result }
+        ensures started { (client : LoginClient) (faults : ℕ) →
+            StartsLogin (standing_in_login client self.old faults) (standing_in_login client self.new faults) [] result }
     {
         match &self.sasl {
             SASLState::Initial if !self.started => {
@@ -111,8 +111,8 @@ impl LoginState {
 
     /// Whether a first password message may come. It may come once.
     pub fn await_password(&self) -> PgWireResult<()>
-        ensures { (client : Client) (faults : ℕ) →
-            Awaits (standing client self.now faults) (standing client self.now faults) [] result }
+        ensures { (client : LoginClient) (faults : ℕ) →
+            LoginAwaits (standing_in_login client self.now faults) (standing_in_login client self.now faults) [] result }
     {
         match &self.sasl {
             SASLState::Initial if self.started => Ok(()),
@@ -123,7 +123,7 @@ impl LoginState {
     /// What a message's answer makes of the login: after a refusal it has failed.
     pub fn settle(&mut self, answer: PgWireResult<()>) -> PgWireResult<()>
         ensures answer { result ≡ answer }
-        ensures settled { self.new ≡ settled answer self.old }
+        ensures settled { self.new ≡ login_by_answer answer self.old }
     {
         match answer {
             Ok(()) => Ok(()),
@@ -144,7 +144,7 @@ impl LoginState {
         Option<ConnectionGuard>,
     )
         ensures drawn { (result.0 ≡ self.seat) × (result.1 ≡ self.pass) }
-        ensures registered { (result.2 ≡ handle_of self.registered)
+        ensures registered { (result.2 ≡ pair_handle self.registered)
             × (result.3 ≡ guard_of self.registered) }
         ensures releasable { IsReleasable self → CanRelease result.3 result.1 }
     {

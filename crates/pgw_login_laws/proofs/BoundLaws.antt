@@ -11,10 +11,10 @@ use Rattle.pgw_scram.specs.Answers.{unless, unless_so, first_of}
 use Rattle.pgw_scram.specs.Base64.{base64}
 use Rattle.pgw_scram.specs.Refusals.{begins_with}
 use Rattle.pgw_scram.specs.Honest.{LetsIn}
-use Rattle.pgw_scram.specs.Offers.{is_bound, names_end_point, is_misbound, channel_refusal, bound, answered, answered_as}
+use Rattle.pgw_scram.specs.Offers.{is_bound, names_end_point, is_misbound, channel_refusal, bound, final_for_offer, answered_as}
 use Rattle.pgw_scram.specs.declared.offer.Offer.{Offer}
 use Rattle.pgw_scram.specs.Readers.{read_client_first, read_client_final}
-use Rattle.pgw_scram.specs.Server.{offered_to, offered_as, offered_with, unless_misbound, accepted_as}
+use Rattle.pgw_scram.specs.Server.{offered_to, scram_offer_as, offered_with, unless_misbound, accepted_as}
 use Rattle.pgw_scram.specs.declared.messages.ClientFinal.{ClientFinal}
 use Rattle.pgw_scram.specs.declared.messages.ClientFirst.{ClientFirst}
 use Rattle.pgw_scram.specs.declared.password.Password.{Password as Kept}
@@ -83,7 +83,7 @@ is_bound_by A server begin earlier t run named =
       server_final = run.server_final;
       is_first = f.1;
       is_answer = a.1;
-      offers = ap (λ (r : Result ClientFirst ScramMessageFault). offered_as server r kept begin.login.nonce) f.1 ∙ f.3;
+      offers = ap (λ (r : Result ClientFirst ScramMessageFault). scram_offer_as server r kept begin.login.nonce) f.1 ∙ f.3;
       accepts = run.takes;
     } in
     record {
@@ -112,10 +112,10 @@ suits true e answer r is = absurd cc
 -- client-first is read, its header binds, and the server offers
 stored_first : (name : List ℕ) (server : StoredScramAuth) (r : Result ClientFirst ScramMessageFault) (nonce : List ℕ)
     (out : List ℕ × StoredScramWaiting) → stored.offered_by name server r nonce ≡ Ok out → binds name ≡ true
-    → (parts : ClientFirst) × (r ≡ Ok parts) × (is_bound parts.header ≡ true) × (secret.offered_to server parts nonce ≡ Ok out)
+    → (parts : ClientFirst) × (r ≡ Ok parts) × (is_bound parts.header ≡ true) × (secret.stored_offer_to server parts nonce ≡ Ok out)
 stored_first name server (Err why) nonce out is plus = absurd cc
 stored_first name server (Ok parts) nonce out is plus =
-    let p = passed (is_misnamed name parts.header) (InvalidScramMessage ChannelBinding) (secret.offered_to server parts nonce) out is in
+    let p = passed (is_misnamed name parts.header) (InvalidScramMessage ChannelBinding) (secret.stored_offer_to server parts nonce) out is in
     let header : not (is_bound parts.header) ≡ false = sym (ap (λ (b : Bool). if b then not (is_bound parts.header) else is_bound parts.header) plus) ∙ p.0 in
     (parts, refl, so_bound (is_bound parts.header) header, p.1)
 
@@ -152,13 +152,13 @@ is_bound_over S server begin earlier t run named =
     let out : List ℕ × StoredScramWaiting = (o.server_first, run.waiting) in
     let f = stored_first o.name own (read_client_first o.client_first) begin.login.nonce out o.gives.offers (ap binds named) in
     let header = f.0.header in
-    let offered : Result (List ℕ × StoredScramWaiting) PgWireError = Ok (secret.saying (secret.waiting own f.0 begin.login.nonce)) in
+    let offered : Result (List ℕ × StoredScramWaiting) PgWireError = Ok (secret.stored_with_first (secret.stored_wait own f.0 begin.login.nonce)) in
     let h = has_hash server.certificate_hash f.0 offered out f.3 f.2 in
     let p = suits (is_misbound server.certificate_hash header) (InvalidScramMessage ChannelBinding) offered out f.3 in
     let with_hash : is_misbound (Some h.0) header ≡ false = sym (ap (λ (o : Option (List ℕ)). is_misbound o header) h.1) ∙ p.0 in
     let names : names_end_point header ≡ true = names_by (begins_with header (codes "y,")) (is_bound header) (names_end_point header) with_hash f.2 in
     let awaits = sym (ap (λ (s : List ℕ × StoredScramWaiting). s.1.offer.binding) (waiting_same _ out p.1)) in
-    let j = judged run.waiting (answered run.waiting.offer run.client_final) run.server_final run.takes in
+    let j = judged run.waiting (final_for_offer run.waiting.offer run.client_final) run.server_final run.takes in
     let a = stored_answer run.waiting.offer (read_client_final run.client_final) j.0 j.1 in
     record {
       hash = h.0;

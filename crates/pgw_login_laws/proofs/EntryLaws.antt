@@ -24,12 +24,12 @@ use Rattle.pgw_frontend.specs.declared.frontend.PgWireFrontendMessage.{PgWireFro
 use Rattle.pgw_frontend.specs.declared.frontend.PgWireFrontendMessage.TheVariants as frontend
 use Rattle.pgw_registry.specs.Passes.{Known}
 use Rattle.pgw_registry.specs.declared.error.RegistryError.{RegistryError}
-use Rattle.pgw_login.specs.Client.{Client}
+use Rattle.pgw_login.specs.Client.{LoginClient}
 use Rattle.pgw_login.specs.Login.{Login, login_seen}
-use Rattle.pgw_login.specs.Registered.{Pair}
-use Rattle.pgw_login.specs.Acts.{Standing, Answer, Act, Then, Refuses, Passes, Marks, Sends, with_sasl, with_started}
+use Rattle.pgw_login.specs.Registered.{HandlePair}
+use Rattle.pgw_login.specs.Acts.{Standing, Answer, Act, Then, LoginRefuses, LoginStays, Marks, Sends, with_sasl, with_started}
 use Rattle.pgw_login.specs.Opening.{Opens}
-use Rattle.pgw_login.specs.Finish.{Accepts, FinishesAuthentication, Finishes}
+use Rattle.pgw_login.specs.Finish.{AcceptsLogin, FinishesAuthentication, Finishes}
 use Rattle.pgw_login.specs.Hearing.{heard}
 use Rattle.pgw_login.specs.declared.handler.Heard.{Heard}
 use Rattle.pgw_login.specs.declared.handler.Heard.TheVariants as of
@@ -42,13 +42,13 @@ use Rattle.pgw_server.specs.Entry.{lets_in, LetsInBy, IsNamed}
 use Rattle.pgw_server.proofs.EntryActs.{not_both, then_both, Quiet, nothing_said, quiet_then, quiet_sends, quiet_passes, quiet_opens, quiet_memory, quiet_marks, Roots, roots_then, roots_sends, roots_marked, roots_passes, roots_finishes, opened}
 use Rattle.pgw_server.proofs.EntryLaws.{IsKnown, Goes, guarded}
 use Rattle.pgw_server.proofs.PasswordEntry.{heard_password, heard_startup, quiet_says, on_and_off, never_ready, known_begun, known_proven, known_on, known_passed}
-use Rattle.pgw_sasl.specs.Methods.{method_of}
-use Rattle.pgw_sasl.specs.Oauth.{token_of, judged, Judged, finished, ByToken, ByData}
+use Rattle.pgw_sasl.specs.Methods.{sasl_method}
+use Rattle.pgw_sasl.specs.Oauth.{token_of, judged, Judged, oauth_reply, ByToken, ByData}
 use Rattle.pgw_sasl.specs.Replies.{Reply}
 use Rattle.pgw_sasl.specs.Scram.{and_some, ByScram}
-use Rattle.pgw_sasl.specs.Sasl.{sasl_request, Offers, ByOauth, By, ByTurn, Replied, Ends, RespondsBy, SaslOn, SaslMeans}
-use Rattle.pgw_sasl.specs.Turns.{stage_of, named_by, named, further, turned, begun, entered}
-use Rattle.pgw_login_laws.specs.Entry.{IsInitial, HasName, IsFurther, IsOffered, ProvesScram, ProvesToken, ProvesByScram, ProvesByToken, ProvesSasl}
+use Rattle.pgw_sasl.specs.Sasl.{sasl_request, Offers, ByOauth, By, ByTurn, Replied, EndsSaslLogin, RespondsBy, SaslOn, SaslMeans}
+use Rattle.pgw_sasl.specs.Turns.{sasl_stage, named_by, named_method, further, turned, sasl_start, entered}
+use Rattle.pgw_login_laws.specs.Entry.{IsInitial, HasMethodName, IsFurther, IsOffered, ProvesScram, ProvesToken, ProvesByScram, ProvesByToken, ProvesSasl}
 use Rattle.pgw_login_laws.proofs.Ends.{is_sent, Apart, CameFirst, none_given, gave, CameFurther, none_taken, taken, IsEnd}
 use Rattle.pgw_sasl.specs.declared.methods.Method.{Method}
 use Rattle.pgw_sasl.specs.declared.methods.Method.TheVariants.{Scram, OauthBearer}
@@ -83,7 +83,7 @@ module _ {S X W : Type 0} {D : X → Type 0} (E : S → ScramServerAuth → Logi
   data Meant (login : Login) (nonce : List ℕ) (sasl : SASLState) (message : Message) : Reply → Type 0 where
     refuses : (e : PgWireError) → Meant login nonce sasl message (Err e)
     offers : (sc : ScramAuth S) → (name first offer : List ℕ) → (waiting : W) → scram ≡ Some sc
-        → IsInitial message Scram first → HasName message name → G sc login name first nonce offer waiting
+        → IsInitial message Scram first → HasMethodName message name → G sc login name first nonce offer waiting
         → Meant login nonce sasl message (Ok (Some (auth.SASLContinue offer), waits waiting))
     accepts : (waiting : W) → (final verifier : List ℕ) → sasl ≡ waits waiting → IsFurther message final
         → T waiting final verifier
@@ -105,7 +105,7 @@ module _ {S X W : Type 0} {D : X → Type 0} (E : S → ScramServerAuth → Logi
     first_came : (sc : ScramAuth S) (read : SASLInitialResponse)
         (replied : Result (Authentication × SASLState) PgWireError) (reply : Reply) → scram ≡ Some sc
         → ((first : List ℕ) → read.payload ≡ Some first → IsInitial message Scram first)
-        → HasName message read.auth_method
+        → HasMethodName message read.auth_method
         → CameFirst waits (G sc login read.auth_method) nonce read.payload replied → reply ≡ and_some replied
         → Means reply
     first_came sc read replied reply set is under (none_given e) same = refused e reply same
@@ -115,7 +115,7 @@ module _ {S X W : Type 0} {D : X → Type 0} (E : S → ScramServerAuth → Logi
 
     scram_first : (is_set : Option (ScramAuth S)) (read : SASLInitialResponse) (reply : Reply) → scram ≡ is_set
         → ((first : List ℕ) → read.payload ≡ Some first → IsInitial message Scram first)
-        → HasName message read.auth_method
+        → HasMethodName message read.auth_method
         → ByScram E is_set login (family.SASLInitialResponse read) nonce state.ScramClientFirstReceived reply
         → Means reply
     scram_first None read reply set is under (inl h) = refused _ reply h
@@ -170,7 +170,7 @@ module _ {S X W : Type 0} {D : X → Type 0} (E : S → ScramServerAuth → Logi
     by_verdict : (o : Oauth X D) (payload token : List ℕ) (verdict : Answer) (reply : Reply) → oauth ≡ Some o
         → IsInitial message OauthBearer payload ⊎ IsFurther message payload
         → token_of (lossy payload) ≡ Ok (Some token) → Judged (V o) o.issuer o.scope token login.user verdict
-        → reply ≡ finished verdict → Means reply
+        → reply ≡ oauth_reply verdict → Means reply
     by_verdict o payload token (Err e) reply set is has_token h same = refused e reply same
     by_verdict o payload token (Ok done) reply set is has_token h same = subst (Meant login nonce sasl message)
         (sym same) (bears o payload set is (bears_judged o payload token login.user (Ok done) refl has_token h refl))
@@ -223,30 +223,30 @@ module _ {S X W : Type 0} {D : X → Type 0} (E : S → ScramServerAuth → Logi
 
     by_first : (p : PasswordMessageFamily) (read : SASLInitialResponse) (method : Method) (reply : Reply)
         → message ≡ frontend.PasswordMessageFamily p → as_initial_response p ≡ Ok read
-        → method_of read.auth_method ≡ Some method
-        → By (ByScram E scram) (ByOauth oauth V) login method (family.SASLInitialResponse read) nonce (begun method)
+        → sasl_method read.auth_method ≡ Some method
+        → By (ByScram E scram) (ByOauth oauth V) login method (family.SASLInitialResponse read) nonce (sasl_start method)
         reply → Means reply
-    by_first p read Scram reply is reads named h = scram_first scram read reply refl (λ first has. (
+    by_first p read Scram reply is reads named_method h = scram_first scram read reply refl (λ first has. (
       p,
       read,
       is,
       reads,
-      named,
+      named_method,
       has,
     )) (p, read, is, reads, refl) h
-    by_first p read OauthBearer reply is reads named h = oauth_first oauth read reply refl (λ payload has. (
+    by_first p read OauthBearer reply is reads named_method h = oauth_first oauth read reply refl (λ payload has. (
       p,
       read,
       is,
       reads,
-      named,
+      named_method,
       has,
     )) h
 
     -- a further message, in each state
     by_further : (p : PasswordMessageFamily) (read : SASLResponse) (at : SASLState) (method : Method) (reply : Reply)
         → message ≡ frontend.PasswordMessageFamily p → as_response p ≡ Ok read → sasl ≡ at
-        → stage_of true at ≡ turn.Further method → By (ByScram E scram) (ByOauth oauth V) login method
+        → sasl_stage true at ≡ turn.Further method → By (ByScram E scram) (ByOauth oauth V) login method
         (family.SASLResponse read) nonce (entered method at)
         reply → Means reply
     by_further p read state.Initial method reply is reads here stage h = absurd cc
@@ -272,22 +272,22 @@ module _ {S X W : Type 0} {D : X → Type 0} (E : S → ScramServerAuth → Logi
     abbrev Turns : Reply → Type 0
     Turns reply = Meant login st.nonce st.sasl message reply
 
-    turned_named : (read : SASLInitialResponse) (named : Option Method) (reply : Reply)
-        → as_initial_response p ≡ Ok read → method_of read.auth_method ≡ named → st.sasl ≡ state.Initial
-        → ByTurn (ByScram E scram) (ByOauth oauth V) login st (named_by named read) reply → Turns reply
-    turned_named read None reply reads named here h = refused login st.nonce st.sasl message _ reply h
-    turned_named read (Some method) reply reads named here h =
-        by_first login st.nonce st.sasl message p read method reply is reads named
+    turned_named : (read : SASLInitialResponse) (named_method : Option Method) (reply : Reply)
+        → as_initial_response p ≡ Ok read → sasl_method read.auth_method ≡ named_method → st.sasl ≡ state.Initial
+        → ByTurn (ByScram E scram) (ByOauth oauth V) login st (named_by named_method read) reply → Turns reply
+    turned_named read None reply reads named_method here h = refused login st.nonce st.sasl message _ reply h
+    turned_named read (Some method) reply reads named_method here h =
+        by_first login st.nonce st.sasl message p read method reply is reads named_method
         (subst (λ (s : SASLState). By (ByScram E scram) (ByOauth oauth V) login method
         (family.SASLInitialResponse read) st.nonce (entered method s) reply) here h)
 
     turned_first : (r : Result SASLInitialResponse PgWireError) (reply : Reply) → as_initial_response p ≡ r
-        → st.sasl ≡ state.Initial → ByTurn (ByScram E scram) (ByOauth oauth V) login st (named r) reply → Turns reply
+        → st.sasl ≡ state.Initial → ByTurn (ByScram E scram) (ByOauth oauth V) login st (named_method r) reply → Turns reply
     turned_first (Err e) reply reads here h = refused login st.nonce st.sasl message e reply h
-    turned_first (Ok read) reply reads here h = turned_named read (method_of read.auth_method) reply reads refl here h
+    turned_first (Ok read) reply reads here h = turned_named read (sasl_method read.auth_method) reply reads refl here h
 
     turned_further : (at : SASLState) (method : Method) (r : Result SASLResponse PgWireError) (reply : Reply)
-        → as_response p ≡ r → st.sasl ≡ at → stage_of true at ≡ turn.Further method
+        → as_response p ≡ r → st.sasl ≡ at → sasl_stage true at ≡ turn.Further method
         → ByTurn (ByScram E scram) (ByOauth oauth V) login st (further method r) reply → Turns reply
     turned_further at method (Err e) reply reads here stage h = refused login st.nonce st.sasl message e reply h
     turned_further at method (Ok read) reply reads here stage h =
@@ -296,7 +296,7 @@ module _ {S X W : Type 0} {D : X → Type 0} (E : S → ScramServerAuth → Logi
         st.nonce (entered method s) reply) here h)
 
     turned_at : (started : Bool) (at : SASLState) (reply : Reply) → st.started ≡ started → st.sasl ≡ at
-        → ByTurn (ByScram E scram) (ByOauth oauth V) login st (turned (stage_of started at) p) reply → Turns reply
+        → ByTurn (ByScram E scram) (ByOauth oauth V) login st (turned (sasl_stage started at) p) reply → Turns reply
     turned_at false at reply on here h = refused login st.nonce st.sasl message _ reply h
     turned_at true state.Initial reply on here h = turned_first (as_initial_response p) reply refl here h
     turned_at true state.ScramClientFirstReceived reply on here h = turned_further state.ScramClientFirstReceived Scram
@@ -314,7 +314,7 @@ module _ {S X W : Type 0} {D : X → Type 0} (E : S → ScramServerAuth → Logi
 
     -- a login that has not begun refuses
     begun_or_refused : (started : Bool) (at : SASLState) (reply : Reply)
-        → ByTurn (ByScram E scram) (ByOauth oauth V) login st (turned (stage_of started at) p) reply
+        → ByTurn (ByScram E scram) (ByOauth oauth V) login st (turned (sasl_stage started at) p) reply
         → ((e : PgWireError) × (reply ≡ Err e)) ⊎ (started ≡ true)
     begun_or_refused false at reply h = inl (_, h)
     begun_or_refused true at reply h = inr refl
@@ -389,13 +389,13 @@ module _ {S X W : Type 0} {D : X → Type 0} (E : S → ScramServerAuth → Logi
       → IsOfferedBy is_set begin.login.nonce ts login waiting → IsFurther t.message final
       → T waiting final verifier → ProvesByScram Shows is_set begin ts t
   unfolding IsOfferedBy
-  proves_scram None begin ts t login waiting final verifier named o is takes = absurd o
-  proves_scram (Some sc) begin ts t login waiting final verifier named o is takes = record {
+  proves_scram None begin ts t login waiting final verifier named_method o is takes = absurd o
+  proves_scram (Some sc) begin ts t login waiting final verifier named_method o is takes = record {
     login = login;
     waiting = waiting;
     client_final = final;
     server_final = verifier;
-    named = named;
+    named = named_method;
     offered = o;
     proof = is;
     takes = takes;
@@ -405,8 +405,8 @@ module _ {S X W : Type 0} {D : X → Type 0} (E : S → ScramServerAuth → Logi
       (login : Login) (payload : List ℕ) → is_set ≡ Some o → IsNamed begin.client ts login
       → IsInitial t.message OauthBearer payload ⊎ IsFurther t.message payload → Bears o login payload
       → ProvesByToken V is_set begin ts t
-  proves_token None o begin ts t login payload set named is b = absurd cc
-  proves_token (Some other) o begin ts t login payload set named is b =
+  proves_token None o begin ts t login payload set named_method is b = absurd cc
+  proves_token (Some other) o begin ts t login payload set named_method is b =
       let same : o ≡ other = cc in
       subst (λ (x : Oauth X D). ProvesToken (V x) x.issuer x.scope begin ts t) same
       (record {
@@ -415,7 +415,7 @@ module _ {S X W : Type 0} {D : X → Type 0} (E : S → ScramServerAuth → Logi
         payload = payload;
         token = b.token;
         verdict = b.verdict;
-        named = named;
+        named = named_method;
         has_user = b.has_user;
         proof = is;
         has_token = b.has_token;
@@ -425,7 +425,7 @@ module _ {S X W : Type 0} {D : X → Type 0} (E : S → ScramServerAuth → Logi
 
   offers_now : (is_set : Option (ScramAuth S)) (sc : ScramAuth S) (nonce : List ℕ) (ts : List Taken) (t : Taken)
       (login : Login) (name first offer : List ℕ) (waiting : W) → is_set ≡ Some sc → IsInitial t.message Scram first
-      → HasName t.message name → G sc login name first nonce offer waiting
+      → HasMethodName t.message name → G sc login name first nonce offer waiting
       → t.said ≡ backend.Authentication (auth.SASLContinue offer) ∷ []
       → IsOfferedBy is_set nonce (ts ++ t ∷ []) login waiting
   unfolding IsOfferedBy
@@ -445,8 +445,8 @@ module _ {S X W : Type 0} {D : X → Type 0} (E : S → ScramServerAuth → Logi
         told = said;
       })
 
-  module _ (P : Client → Option Held → Type 0) (R : Option Known → ℤ → SecretKey → Option Known
-      → Result (Option Pair) RegistryError → Type 0) (begin : Stage) where
+  module _ (P : LoginClient → Option Held → Type 0) (R : Option Known → ℤ → SecretKey → Option Known
+      → Result (Option HandlePair) RegistryError → Type 0) (begin : Stage) where
     abbrev Proves : List Taken → Taken → Type 0
     Proves ts t = ProvesSasl Shows scram V oauth begin ts t
 
@@ -464,22 +464,22 @@ module _ {S X W : Type 0} {D : X → Type 0} (E : S → ScramServerAuth → Logi
     -- ---- a reply that goes on
 
     abbrev On : List Backend → SASLState → Act
-    On due next = Then (Sends due) (Then (Marks (with_sasl next)) Passes)
+    On due next = Then (Sends due) (Then (Marks (with_sasl next)) LoginStays)
 
     quiet_on : (due : List Backend) (next : SASLState) → list_any lets_in due ≡ false → Quiet (On due next)
-    quiet_on due next none = quiet_then (Sends due) (Then (Marks (with_sasl next)) Passes) (quiet_sends due none)
-        (quiet_then (Marks (with_sasl next)) Passes (quiet_marks (with_sasl next)) quiet_passes)
+    quiet_on due next none = quiet_then (Sends due) (Then (Marks (with_sasl next)) LoginStays) (quiet_sends due none)
+        (quiet_then (Marks (with_sasl next)) LoginStays (quiet_marks (with_sasl next)) quiet_passes)
 
     roots_on : (due : List Backend) (next : SASLState) → Roots (On due next)
-    roots_on due next = roots_then (Sends due) (Then (Marks (with_sasl next)) Passes) (roots_sends due)
-        (roots_then (Marks (with_sasl next)) Passes (roots_marked next) roots_passes)
+    roots_on due next = roots_then (Sends due) (Then (Marks (with_sasl next)) LoginStays) (roots_sends due)
+        (roots_then (Marks (with_sasl next)) LoginStays (roots_marked next) roots_passes)
 
     went_on : (due : List Backend) (next : SASLState) (before after : Standing) (sent : List Backend) (answer : Answer)
         → On due next before after sent answer → answer ≡ Ok tt → (after.client.state ≡ before.client.state)
         × (after.login.sasl ≡ next) × (sent ≡ due)
     went_on due next before after sent answer h ok =
-        let b = then_both (Sends due) (Then (Marks (with_sasl next)) Passes) before after sent answer h ok in
-        let c = then_both (Marks (with_sasl next)) Passes b.0 after b.2 (Ok tt) b.4 refl in
+        let b = then_both (Sends due) (Then (Marks (with_sasl next)) LoginStays) before after sent answer h ok in
+        let c = then_both (Marks (with_sasl next)) LoginStays b.0 after b.2 (Ok tt) b.4 refl in
         let back : b.2 ≡ [] = c.5 ∙ ap (λ (l : List Backend). l ++ c.2) c.3.1 ∙ c.4.1 in (
           ap (λ (s : Standing). s.client.state) (c.4.0 ∙ c.3.0) ∙ ap (λ (s : Standing). s.client.state) b.3.0,
           ap (λ (s : Standing). s.login.sasl) (c.4.0 ∙ c.3.0),
@@ -514,7 +514,7 @@ module _ {S X W : Type 0} {D : X → Type 0} (E : S → ScramServerAuth → Logi
     finished_at : (before after : Standing) (sent : List Backend) (answer : Answer)
         → Finishes P R before after sent answer → answer ≡ Ok tt → after.login.sasl ≡ state.Finished
     finished_at before after sent answer h ok =
-        let b = then_both (Accepts R) (Then (FinishesAuthentication P) (Marks (with_sasl state.Finished))) before after
+        let b = then_both (AcceptsLogin R) (Then (FinishesAuthentication P) (Marks (with_sasl state.Finished))) before after
         sent answer h ok in
         let c = then_both (FinishesAuthentication P) (Marks (with_sasl state.Finished)) b.0 after b.2 (Ok tt) b.4 refl
         in
@@ -552,7 +552,7 @@ module _ {S X W : Type 0} {D : X → Type 0} (E : S → ScramServerAuth → Logi
     responds ts t before after sent answer reply k on said (offers sc name first offer waiting set is under gives) h =
         let due : List Backend = backend.Authentication (auth.SASLContinue offer) ∷ [] in
         let act : On due (waits waiting) before after sent answer = subst (λ (b : Bool). Then (Sends due)
-        (Then (Marks (with_sasl (waits waiting))) (Ends P R b)) before after sent answer) (apart.goes_on waiting) h in
+        (Then (Marks (with_sasl (waits waiting))) (EndsSaslLogin P R b)) before after sent answer) (apart.goes_on waiting) h in
         goes_on ts t before after due sent (waits waiting) answer k on refl act (λ all own at who. record {
           own = own;
           rests = λ off. absurd (on_and_off after.login.started
@@ -586,7 +586,7 @@ module _ {S X W : Type 0} {D : X → Type 0} (E : S → ScramServerAuth → Logi
         (reply : Reply) (e : PgWireError) → reply ≡ Err e → RespondsBy P R reply before after sent answer
         → GoesOn ts t after sent answer
     refused_reply ts t before after sent answer reply e is h =
-        let r : Refuses e before after sent answer = subst (λ (x : Reply). RespondsBy P R x before after sent answer)
+        let r : LoginRefuses e before after sent answer = subst (λ (x : Reply). RespondsBy P R x before after sent answer)
         is h in
         record {
           says = λ says. quiet_says sent (nothing_said sent r.1) says;
@@ -643,8 +643,8 @@ module _ {S X W : Type 0} {D : X → Type 0} (E : S → ScramServerAuth → Logi
         let g = sasl_on methods ts t m (heard m) before h.0 sent (Err e) k is said refl h.1 in
         record { says = g.says; keeps = λ ok. absurd (not_both (Err e) e refl ok) }
 
-  pub sasl_lets_in : (methods : List (List ℕ)) (P : Client → Option Held → Type 0)
-      (R : Option Known → ℤ → SecretKey → Option Known → Result (Option Pair) RegistryError → Type 0)
+  pub sasl_lets_in : (methods : List (List ℕ)) (P : LoginClient → Option Held → Type 0)
+      (R : Option Known → ℤ → SecretKey → Option Known → Result (Option HandlePair) RegistryError → Type 0)
       → LetsInBy (SaslMeans methods (ByScram E scram) (ByOauth oauth V) P R) (ProvesSasl Shows scram V oauth)
   sasl_lets_in methods P R bound client login given course new way =
       guarded (SaslMeans methods (ByScram E scram) (ByOauth oauth V) P R)

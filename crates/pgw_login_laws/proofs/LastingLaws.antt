@@ -7,9 +7,9 @@ use Rattle.pgw_startup.specs.declared.password.PasswordMessageFamily.{PasswordMe
 use Rattle.pgw_backend.specs.declared.backend.PgWireBackendMessage.{PgWireBackendMessage as Backend}
 use Rattle.pgw_registry.specs.Passes.{Known}
 use Rattle.pgw_registry.specs.declared.error.RegistryError.{RegistryError}
-use Rattle.pgw_login.specs.Client.{Client}
+use Rattle.pgw_login.specs.Client.{LoginClient}
 use Rattle.pgw_login.specs.Login.{Login}
-use Rattle.pgw_login.specs.Registered.{Pair}
+use Rattle.pgw_login.specs.Registered.{HandlePair}
 use Rattle.pgw_login.specs.Acts.{Standing, Answer, Then, halts, Marks, Sends, with_sasl}
 use Rattle.pgw_login.specs.Acts as acts
 use Rattle.pgw_login.specs.Hearing.{heard}
@@ -20,7 +20,7 @@ use Rattle.pgw_server.specs.Lasting.{IsReady, KeepsReady}
 use Rattle.pgw_server.proofs.LastingLaws.{no_error, passed, finishes_ready, opens_once}
 use Rattle.pgw_sasl.specs.Replies.{Reply}
 use Rattle.pgw_sasl.specs.Turns.{is_finished}
-use Rattle.pgw_sasl.specs.Sasl.{Offers, told, Ends, RespondsBy, SaslOn, SaslMeans}
+use Rattle.pgw_sasl.specs.Sasl.{Offers, sasl_messages, EndsSaslLogin, RespondsBy, SaslOn, SaslMeans}
 
 -- acts that leave a client which may ask so
 Stays : (Standing → Standing → List Backend → Answer → Type 0) → Type 0
@@ -40,8 +40,8 @@ stays_marked : (next : SASLState) → Stays (Marks (with_sasl next))
 unfolding Stays
 stays_marked next before after sent answer h ok is = (ap (λ s. s.client.state) h.0 ∙ is.0, ap (λ s. s.login.started) h.0 ∙ is.1)
 
-module _ (P : Client → Option Held → Type 0) (R : Option Known → ℤ → SecretKey → Option Known → Result (Option Pair) RegistryError → Type 0) where
-  stays_ends : (b : Bool) → Stays (Ends P R b)
+module _ (P : LoginClient → Option Held → Type 0) (R : Option Known → ℤ → SecretKey → Option Known → Result (Option HandlePair) RegistryError → Type 0) where
+  stays_ends : (b : Bool) → Stays (EndsSaslLogin P R b)
   unfolding Stays
   stays_ends false before after sent answer h ok is = (ap (λ s. s.client.state) h.0 ∙ is.0, ap (λ s. s.login.started) h.0 ∙ is.1)
   stays_ends true before after sent answer h ok is = finishes_ready P R before after sent answer h ok is
@@ -50,10 +50,10 @@ module _ (P : Client → Option Held → Type 0) (R : Option Known → ℤ → S
   unfolding Stays
   stays_responds (Err e) before after sent answer h ok is = absurd (no_error answer _ h.2 ok)
   stays_responds (Ok (reply, next)) before after sent answer h ok is =
-      stays_then (Sends (told reply)) (Then (Marks (with_sasl next)) (Ends P R (is_finished next))) (stays_sends (told reply))
-      (stays_then (Marks (with_sasl next)) (Ends P R (is_finished next)) (stays_marked next) (stays_ends (is_finished next))) before after sent answer h ok is
+      stays_then (Sends (sasl_messages reply)) (Then (Marks (with_sasl next)) (EndsSaslLogin P R (is_finished next))) (stays_sends (sasl_messages reply))
+      (stays_then (Marks (with_sasl next)) (EndsSaslLogin P R (is_finished next)) (stays_marked next) (stays_ends (is_finished next))) before after sent answer h ok is
 
-module _ (methods : List (List ℕ)) (S O : Login → PasswordMessageFamily → List ℕ → SASLState → Reply → Type 0) (P : Client → Option Held → Type 0) (R : Option Known → ℤ → SecretKey → Option Known → Result (Option Pair) RegistryError → Type 0) where
+module _ (methods : List (List ℕ)) (S O : Login → PasswordMessageFamily → List ℕ → SASLState → Reply → Type 0) (P : LoginClient → Option Held → Type 0) (R : Option Known → ℤ → SecretKey → Option Known → Result (Option HandlePair) RegistryError → Type 0) where
   sasl_on : (m : Heard) (before after : Standing) (sent : List Backend) → IsReady before.client before.login → SaslOn methods S O P R m before after sent (Ok tt) → IsReady after.client after.login
   unfolding Stays
   sasl_on (of.Startup s) before after sent is h = absurd (opens_once s (Offers methods) before after sent h is.1)

@@ -6,7 +6,7 @@ use Rattle.pgw_startup.specs.declared.password.PasswordMessageFamily.TheVariants
 use Rattle.pgw_startup.specs.declared.sasl.SASLInitialResponse.{SASLInitialResponse}
 use Rattle.pgw_startup.specs.declared.sasl.SASLResponse.{SASLResponse}
 use Rattle.pgw_scram.specs.declared.server.ScramServerAuth.{ScramServerAuth}
-use Rattle.pgw_secrets.specs.Server.{Accepts}
+use Rattle.pgw_secrets.specs.Server.{AcceptsStored}
 use Rattle.pgw_secrets.specs.declared.secret.StoredSecret.{StoredSecret}
 use Rattle.pgw_secrets.specs.declared.server.StoredScramWaiting.{StoredScramWaiting}
 use Rattle.pgw_login.specs.Login.{Login}
@@ -72,7 +72,7 @@ module _ (S : SecretSource) (server : ScramServerAuth) where
   not_taken at payload e replied is = subst (CameFurther waits TakesStored at payload) (sym is) (none_taken e)
 
   by_verdict : (waiting : StoredScramWaiting) (payload : List ℕ) (r : Result (List ℕ) PgWireError)
-      (replied : Result (Authentication × SASLState) PgWireError) → Accepts waiting payload r
+      (replied : Result (Authentication × SASLState) PgWireError) → AcceptsStored waiting payload r
       → replied ≡ final_reply r → CameFurther waits TakesStored (waits waiting) payload replied
   by_verdict waiting payload (Err e) replied has is = not_taken (waits waiting) payload e replied is
   by_verdict waiting payload (Ok verifier) replied has is =

@@ -19,9 +19,9 @@ use Rattle.pgw_login.specs.Login.{Login}
 use Rattle.pgw_server.specs.Server.{Stage}
 use Rattle.pgw_server.specs.Taken.{Taken}
 use Rattle.pgw_server.specs.Entry.{IsNamed, Proving, Source}
-use Rattle.pgw_sasl.specs.Methods.{method_of}
+use Rattle.pgw_sasl.specs.Methods.{sasl_method}
 use Rattle.pgw_sasl.specs.Oauth.{token_of}
-use Rattle.pgw_secrets.specs.Server.{Accepts}
+use Rattle.pgw_secrets.specs.Server.{AcceptsStored}
 use Rattle.pgw_secrets.specs.declared.secret.StoredSecret.{StoredSecret}
 use Rattle.pgw_secrets.specs.declared.server.StoredScramWaiting.{StoredScramWaiting}
 use Rattle.pgw_sasl.specs.Scram.{offered_under}
@@ -37,7 +37,7 @@ use Rattle.pgw_sasl.specs.declared.validator.ValidatorModuleResult.{ValidatorMod
 abbrev pub IsInitial : Message → Method → List ℕ → Type 0
 IsInitial message method payload = (m : PasswordMessageFamily) × (read : SASLInitialResponse)
     × (message ≡ frontend.PasswordMessageFamily m) × (as_initial_response m ≡ Ok read)
-    × (method_of read.auth_method ≡ Some method) × (read.payload ≡ Some payload)
+    × (sasl_method read.auth_method ≡ Some method) × (read.payload ≡ Some payload)
 
 abbrev pub IsFurther : Message → List ℕ → Type 0
 IsFurther message payload = (m : PasswordMessageFamily) × (read : SASLResponse)
@@ -45,8 +45,8 @@ IsFurther message payload = (m : PasswordMessageFamily) × (read : SASLResponse)
     × (read.payload ≡ payload)
 
 -- the message names a method by this name
-abbrev pub HasName : Message → List ℕ → Type 0
-HasName message name = (m : PasswordMessageFamily) × (read : SASLInitialResponse)
+abbrev pub HasMethodName : Message → List ℕ → Type 0
+HasMethodName message name = (m : PasswordMessageFamily) × (read : SASLInitialResponse)
     × (message ≡ frontend.PasswordMessageFamily m) × (as_initial_response m ≡ Ok read)
     × (read.auth_method ≡ name)
 
@@ -71,7 +71,7 @@ pub record IsOffered {W : Type 0} (Gives : Giving W) (nonce : List ℕ) (earlier
   pub server_first : List ℕ
   pub came : Contains earlier asked
   pub first : IsInitial asked.message Scram client_first
-  pub under : HasName asked.message name
+  pub under : HasMethodName asked.message name
   pub gives : Gives login name client_first nonce server_first waiting
   pub told : asked.said ≡ backend.Authentication (auth.SASLContinue server_first) ∷ []
 
@@ -114,7 +114,7 @@ pub record GivesStored (S : SecretSource) (server : ScramServerAuth) (login : Lo
 
 -- its proof hashes to StoredKey
 abbrev pub TakesStored : StoredScramWaiting → (client_final server_final : List ℕ) → Type 0
-TakesStored waiting client_final server_final = Accepts waiting client_final (Ok server_final)
+TakesStored waiting client_final server_final = AcceptsStored waiting client_final (Ok server_final)
 
 abbrev pub ProvesStored : {S : Type 0} → (S → SecretSource) → ScramAuth (Secrets S) → Stage → Proving
 ProvesStored S scram begin earlier t =

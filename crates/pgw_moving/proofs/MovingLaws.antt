@@ -19,8 +19,8 @@ use Rattle.pgw_moving.specs.declared.moving.Moved.{Moved}
 use Rattle.pgw_moving.specs.Future.{CameTo}
 use Rattle.pgw_moving.specs.declared.engine.Turn.{Turn}
 use Rattle.pgw_moving.specs.declared.engine.Turn.TheVariants.{More, Over}
-use Rattle.pgw_moving.specs.Calls.{Call, Gave, Ended, Wrote, Flushed, Waited, Unread, Unwritten, Unflushed, GoesOn, fault_of}
-use Rattle.pgw_moving.specs.Moving.{Held, IsSame, IsSent, Met, Polled, Ran, Runs, Step, WaitsFor}
+use Rattle.pgw_moving.specs.Calls.{Call, Gave, Ended, Wrote, Flushed, Waited, Unread, Unwritten, Unflushed, CallGoesOn, fault_of}
+use Rattle.pgw_moving.specs.Moving.{Mover, IsSameButStream, IsSent, Met, Polled, Ran, Runs, Step, WaitsFor}
 
 -- no byte is there
 pub no_bytes : (bytes : List ℕ) → (0 < length bytes → ⊥) → bytes ≡ []
@@ -38,32 +38,32 @@ module _ {S E : Type 0} (reader : AsyncRead.Ghosts S) (writer : AsyncWrite.Ghost
     (engine : Engine.Ghosts E)
   where
     -- what a poll did that did not fail, and one that failed
-    abbrev pub Going : Held S E → Held S E → Type 0
-    Going old new = (calls : List Call) × (mid : Held S E) × Runs reader writer engine old calls mid ×
+    abbrev pub Going : Mover S E → Mover S E → Type 0
+    Going old new = (calls : List Call) × (mid : Mover S E) × Runs reader writer engine old calls mid ×
         (mid ≡ new)
 
-    abbrev pub Broken : Held S E → Held S E → Error → Type 0
-    Broken old new e = (calls : List Call) × (mid : Held S E) × Runs reader writer engine old calls mid ×
+    abbrev pub Broken : Mover S E → Mover S E → Error → Type 0
+    Broken old new e = (calls : List Call) × (mid : Mover S E) × Runs reader writer engine old calls mid ×
         ((last : Call) × (fault_of last ≡ Some e) × Step reader writer engine mid last new)
 
     -- one that goes on
-    pub going : (old new : Held S E) (call : Call) → GoesOn call → Step reader writer engine old call new
+    pub going : (old new : Mover S E) (call : Call) → CallGoesOn call → Step reader writer engine old call new
         → Going old new
     going old new call on step = (call ∷ [], new, (new, on, step, refl), refl)
 
     -- none
-    pub staying : (old new : Held S E) → old ≡ new → Going old new
+    pub staying : (old new : Mover S E) → old ≡ new → Going old new
     staying old new same = ([], old, refl, same)
 
     -- one that failed
-    pub breaking : (old new : Held S E) (call : Call) (e : Error) → fault_of call ≡ Some e
+    pub breaking : (old new : Mover S E) (call : Call) (e : Error) → fault_of call ≡ Some e
         → Step reader writer engine old call new → Broken old new e
     breaking old new call e is step = ([], old, refl, (call, is, step))
 
     -- one that failed, or is to be made again
-    pub failing : {T : Type 0} (old new : Held S E) (again call : Call) (e : Error)
+    pub failing : {T : Type 0} (old new : Mover S E) (again call : Call) (e : Error)
         (r : Poll (Result T Error))
-        → GoesOn again → Step reader writer engine old again new
+        → CallGoesOn again → Step reader writer engine old again new
         → fault_of call ≡ Some e → Step reader writer engine old call new
         → (r ≡ Ready (Err e)) ⊎ (r ≡ Pending)
         → Polled reader writer engine old new r
@@ -72,8 +72,8 @@ module _ {S E : Type 0} (reader : AsyncRead.Ghosts S) (writer : AsyncWrite.Ghost
     failing {T} old new again call e r on waits is fails (inr pending) =
         subst (Polled reader writer engine {T = T} old new) (sym pending) (going old new again on waits)
 
-    pub met_failing : (old new : Held S E) (again call : Call) (e : Error) (r : Poll (Result Bool Error))
-        → GoesOn again → Step reader writer engine old again new
+    pub met_failing : (old new : Mover S E) (again call : Call) (e : Error) (r : Poll (Result Bool Error))
+        → CallGoesOn again → Step reader writer engine old again new
         → fault_of call ≡ Some e → Step reader writer engine old call new
         → (r ≡ Ready (Err e)) ⊎ (r ≡ Pending)
         → Met reader writer engine old new r
@@ -84,51 +84,51 @@ module _ {S E : Type 0} (reader : AsyncRead.Ghosts S) (writer : AsyncWrite.Ghost
 
     -- ---- more calls
 
-    pub runs_on : (a b c : Held S E) (first second : List Call) → Runs reader writer engine a first b
+    pub runs_on : (a b c : Mover S E) (first second : List Call) → Runs reader writer engine a first b
         → Runs reader writer engine b second c → Runs reader writer engine a (first ++ second) c
     runs_on a b c [] second p q = subst (λ h. Runs reader writer engine h second c) (sym p) q
     runs_on a b c (call ∷ first) second p q = (p.0, p.1, p.2, runs_on p.0 b c first second p.3 q)
 
     -- behind some calls
-    abbrev pub Went : Held S E → Held S E → Type 0
+    abbrev pub Went : Mover S E → Mover S E → Type 0
     Went a b = (calls : List Call) × Runs reader writer engine a calls b
 
     -- behind a poll that did not fail
-    pub went_on : (a b c : Held S E) → Went a b → Going b c → Went a c
+    pub went_on : (a b c : Mover S E) → Went a b → Going b c → Went a c
     went_on a b c w p = (
       w.0 ++ p.0,
       subst (Runs reader writer engine a (w.0 ++ p.0)) p.3
           (runs_on a b p.1 w.0 p.0 w.1 p.2),
     )
 
-    pub polled_on : {T : Type 0} (a b c : Held S E) (r : Poll (Result T Error)) → Went a b
+    pub polled_on : {T : Type 0} (a b c : Mover S E) (r : Poll (Result T Error)) → Went a b
         → Polled reader writer engine b c r → Polled reader writer engine a c r
     polled_on a b c r w p = (w.0 ++ p.0, p.1, runs_on a b p.1 w.0 p.0 w.1 p.2, p.3)
 
-    pub polled_by : {T : Type 0} (a b c : Held S E) (r s : Poll (Result T Error)) → r ≡ s → Went a b
+    pub polled_by : {T : Type 0} (a b c : Mover S E) (r s : Poll (Result T Error)) → r ≡ s → Went a b
         → Polled reader writer engine b c r → Polled reader writer engine a c s
     polled_by {T} a b c r s is w p = polled_on a b c s w
         (subst (Polled reader writer engine {T = T} b c) is p)
 
-    pub went_pending : {T : Type 0} (a b c : Held S E) (r : Poll (Result T Error)) → r ≡ Pending → Went a b
+    pub went_pending : {T : Type 0} (a b c : Mover S E) (r : Poll (Result T Error)) → r ≡ Pending → Went a b
         → Polled reader writer engine b c r → Went a c
     went_pending {T} a b c r is w p = went_on a b c w (subst (Polled reader writer engine {T = T} b c) is p)
 
-    pub went_ok : {T : Type 0} (a b c : Held S E) (r : Poll (Result T Error)) (value : T)
+    pub went_ok : {T : Type 0} (a b c : Mover S E) (r : Poll (Result T Error)) (value : T)
         → r ≡ Ready (Ok value)
         → Went a b → Polled reader writer engine b c r → Went a c
     went_ok {T} a b c r value is w p = went_on a b c w (subst (Polled reader writer engine {T = T} b c) is p)
 
-    pub met_pending : (a b c : Held S E) (r : Poll (Result Bool Error)) → r ≡ Pending → Went a b
+    pub met_pending : (a b c : Mover S E) (r : Poll (Result Bool Error)) → r ≡ Pending → Went a b
         → Met reader writer engine b c r → Went a c
     met_pending a b c r is w p = went_on a b c w (subst (Met reader writer engine b c) is p)
 
-    pub met_ok : (a b c : Held S E) (r : Poll (Result Bool Error)) → r ≡ Ready (Ok true) → Went a b
+    pub met_ok : (a b c : Mover S E) (r : Poll (Result Bool Error)) → r ≡ Ready (Ok true) → Went a b
         → Met reader writer engine b c r → Went a c
     met_ok a b c r is w p = went_on a b c w (subst (Met reader writer engine b c) is p)
 
     -- other bytes to be written that are the same
-    pub went_same : (a : Held S E) (stream : S) (held : E) (turn : Turn) (unflushed : Bool) (out too : List ℕ)
+    pub went_same : (a : Mover S E) (stream : S) (held : E) (turn : Turn) (unflushed : Bool) (out too : List ℕ)
         → out ≡ too
         → Went a (record { stream = stream; engine = held; turn = turn; out = out; unflushed = unflushed })
         → Went a (record { stream = stream; engine = held; turn = turn; out = too; unflushed = unflushed })
@@ -144,7 +144,7 @@ module _ {S E : Type 0} (reader : AsyncRead.Ghosts S) (writer : AsyncWrite.Ghost
 
     -- ---- the last call
 
-    broken_by : (a b c : Held S E) (e : Error) → Went a b → Broken b c e
+    broken_by : (a b c : Mover S E) (e : Error) → Went a b → Broken b c e
         → Ran reader writer engine a (stop.Fault e) c
     broken_by a b c e w p = record {
       calls = w.0 ++ p.0;
@@ -154,18 +154,18 @@ module _ {S E : Type 0} (reader : AsyncRead.Ghosts S) (writer : AsyncWrite.Ghost
       stops = ((p.3).0, refl, (p.3).1, (p.3).2);
     }
 
-    pub ran_fault : {T : Type 0} (a b c : Held S E) (r : Poll (Result T Error)) (e : Error)
+    pub ran_fault : {T : Type 0} (a b c : Mover S E) (r : Poll (Result T Error)) (e : Error)
         → r ≡ Ready (Err e)
         → Went a b → Polled reader writer engine b c r → Ran reader writer engine a (stop.Fault e) c
     ran_fault {T} a b c r e is w p = broken_by a b c e w
         (subst (Polled reader writer engine {T = T} b c) is p)
 
-    pub met_fault : (a b c : Held S E) (r : Poll (Result Bool Error)) (e : Error) → r ≡ Ready (Err e)
+    pub met_fault : (a b c : Mover S E) (r : Poll (Result Bool Error)) (e : Error) → r ≡ Ready (Err e)
         → Went a b
         → Met reader writer engine b c r → Ran reader writer engine a (stop.Fault e) c
     met_fault a b c r e is w p = broken_by a b c e w (subst (Met reader writer engine b c) is p)
 
-    pub met_end : (a b c : Held S E) (r : Poll (Result Bool Error)) → r ≡ Ready (Ok false) → Went a b
+    pub met_end : (a b c : Mover S E) (r : Poll (Result Bool Error)) → r ≡ Ready (Ok false) → Went a b
         → Met reader writer engine b c r → Ran reader writer engine a stop.End c
     met_end a b c r is w p =
         let q = subst (Met reader writer engine b c) is p in
@@ -178,7 +178,7 @@ module _ {S E : Type 0} (reader : AsyncRead.Ghosts S) (writer : AsyncWrite.Ghost
               (refl, q.3);
         }
 
-    pub ran_over : (a b : Held S E) → Went a b → IsSent b → b.turn ≡ Over
+    pub ran_over : (a b : Mover S E) → Went a b → IsSent b → b.turn ≡ Over
         → Ran reader writer engine a stop.Over b
     ran_over a b w sent over = record {
       calls = w.0;
@@ -189,7 +189,7 @@ module _ {S E : Type 0} (reader : AsyncRead.Ghosts S) (writer : AsyncWrite.Ghost
           (refl, refl, sent, over);
     }
 
-    pub ran_on : (a b c : Held S E) (why : Stop) → Went a b → Ran reader writer engine b why c
+    pub ran_on : (a b c : Mover S E) (why : Stop) → Went a b → Ran reader writer engine b why c
         → Ran reader writer engine a why c
     ran_on a b c why w r = record {
       calls = w.0 ++ r.calls;
@@ -200,7 +200,7 @@ module _ {S E : Type 0} (reader : AsyncRead.Ghosts S) (writer : AsyncWrite.Ghost
       stops = r.stops;
     }
 
-    pub came_on : (a b : Held S E) (m : Moved S E) → Went a b → CameTo reader writer engine b m
+    pub came_on : (a b : Mover S E) (m : Moved S E) → Went a b → CameTo reader writer engine b m
         → CameTo reader writer engine a m
     came_on a b m w came = record {
       last = came.last;
@@ -213,7 +213,7 @@ module _ {S E : Type 0} (reader : AsyncRead.Ghosts S) (writer : AsyncWrite.Ghost
 
     -- ---- the calls
 
-    abbrev pub moved_to : Held S E → S → List ℕ → Bool → Held S E
+    abbrev pub moved_to : Mover S E → S → List ℕ → Bool → Mover S E
     moved_to old stream out unflushed = record {
       stream = stream;
       engine = old.engine;
@@ -223,19 +223,19 @@ module _ {S E : Type 0} (reader : AsyncRead.Ghosts S) (writer : AsyncWrite.Ghost
       unflushed = unflushed;
     }
 
-    same_but : (old : Held S E) (stream : S) (out : List ℕ) → out ≡ old.out
-        → IsSame old (moved_to old stream out old.unflushed)
+    same_but : (old : Mover S E) (stream : S) (out : List ℕ) → out ≡ old.out
+        → IsSameButStream old (moved_to old stream out old.unflushed)
     same_but old stream out is = ap (λ o. moved_to old stream o old.unflushed) is
 
     -- a write of nothing, of some, or one that failed
-    pub write_waited : (old : Held S E) (stream : S) (out : List ℕ) (r : Poll (Result ℕ Error)) → r ≡ Pending
+    pub write_waited : (old : Mover S E) (stream : S) (out : List ℕ) (r : Poll (Result ℕ Error)) → r ≡ Pending
         → writer.writes old.stream (bytes_moved r old.out) stream → out ≡ drop (count_moved r) old.out
         → Going old (moved_to old stream out old.unflushed)
     write_waited old stream out (Ready x) is writes rest = cc
     write_waited old stream out Pending is writes rest =
         going old (moved_to old stream out old.unflushed) Waited tt (inr writes, same_but old stream out rest)
 
-    pub write_full : (old : Held S E) (stream : S) (out : List ℕ) (e : Error) (r : Poll (Result ℕ Error))
+    pub write_full : (old : Mover S E) (stream : S) (out : List ℕ) (e : Error) (r : Poll (Result ℕ Error))
         → r ≡ Ready (Ok 0) → writer.writes old.stream (bytes_moved r old.out) stream
         → out ≡ drop (count_moved r) old.out
         → error_kind e ≡ WriteZero → (r ≡ Ready (Ok 0) → 0 < length old.out → writer.is_full stream)
@@ -253,7 +253,7 @@ module _ {S E : Type 0} (reader : AsyncRead.Ghosts S) (writer : AsyncWrite.Ghost
           (some, same_but old stream out (subst (λ k. out ≡ drop k old.out) none rest)),
         )
 
-    pub write_took : (old : Held S E) (stream : S) (out : List ℕ) (n : ℕ) (r : Poll (Result ℕ Error))
+    pub write_took : (old : Mover S E) (stream : S) (out : List ℕ) (n : ℕ) (r : Poll (Result ℕ Error))
         → r ≡ Ready (Ok n) → (n ≡ 0 → ⊥) → writer.writes old.stream (bytes_moved r old.out) stream
         → out ≡ drop (count_moved r) old.out
         → count_moved r ≤ length old.out → Going old (moved_to old stream out true)
@@ -266,7 +266,7 @@ module _ {S E : Type 0} (reader : AsyncRead.Ghosts S) (writer : AsyncWrite.Ghost
           (sym (take-append-drop m old.out) ∙ ap (λ (l : List ℕ). take m old.out ++ l) (sym rest), refl),
         )
 
-    pub write_failed : {T : Type 0} (old : Held S E) (stream : S) (out : List ℕ) (e : Error)
+    pub write_failed : {T : Type 0} (old : Mover S E) (stream : S) (out : List ℕ) (e : Error)
         (r : Poll (Result ℕ Error)) (p : Poll (Result T Error)) → r ≡ Ready (Err e)
         → writer.writes old.stream (bytes_moved r old.out) stream
         → out ≡ drop (count_moved r) old.out → IfReadyErr r (writer.fails stream) → 0 < length old.out
@@ -281,12 +281,12 @@ module _ {S E : Type 0} (reader : AsyncRead.Ghosts S) (writer : AsyncWrite.Ghost
         ((writes, inl (subst (writer.fails stream) same fails)), (some, same_but old stream out rest)) which
 
     -- a flush
-    pub flush_waited : (old : Held S E) (stream : S) → writer.writes old.stream [] stream
+    pub flush_waited : (old : Mover S E) (stream : S) → writer.writes old.stream [] stream
         → Going old (moved_to old stream old.out old.unflushed)
     flush_waited old stream writes = going old (moved_to old stream old.out old.unflushed) Waited tt
         (inr writes, refl)
 
-    pub flush_done : (old : Held S E) (stream : S) (r : Poll (Result Unit Error)) (done : Unit {0})
+    pub flush_done : (old : Mover S E) (stream : S) (r : Poll (Result Unit Error)) (done : Unit {0})
         → r ≡ Ready (Ok done) → writer.writes old.stream [] stream → OnReadyOk r (writer.is_flushed stream)
         → old.out ≡ [] → old.unflushed ≡ true
         → Going old (moved_to old stream old.out false)
@@ -295,7 +295,7 @@ module _ {S E : Type 0} (reader : AsyncRead.Ghosts S) (writer : AsyncWrite.Ghost
     flush_done old stream (Ready (Ok x)) done is writes flushed empty some =
         going old (moved_to old stream old.out false) Flushed tt ((writes, flushed), (empty, some, refl))
 
-    pub flush_failed : {T : Type 0} (old : Held S E) (stream : S) (e : Error) (r : Poll (Result Unit Error))
+    pub flush_failed : {T : Type 0} (old : Mover S E) (stream : S) (e : Error) (r : Poll (Result Unit Error))
         (p : Poll (Result T Error)) → r ≡ Ready (Err e) → writer.writes old.stream [] stream
         → IfReadyErr r (writer.fails stream) → old.out ≡ [] → old.unflushed ≡ true
         → (p ≡ Ready (Err e)) ⊎ (p ≡ Pending) → Polled reader writer engine old
@@ -309,7 +309,7 @@ module _ {S E : Type 0} (reader : AsyncRead.Ghosts S) (writer : AsyncWrite.Ghost
         ((writes, subst (writer.fails stream) same fails), (empty, some, refl)) which
 
     -- a read
-    pub read_waited : (old : Held S E) (stream : S) (piece : List ℕ) (r : Poll (Result ℕ Error)) → r ≡ Pending
+    pub read_waited : (old : Mover S E) (stream : S) (piece : List ℕ) (r : Poll (Result ℕ Error)) → r ≡ Pending
         → reader.reads old.stream (bytes_moved r piece) stream
         → Going old (moved_to old stream old.out old.unflushed)
     read_waited old stream piece (Ready x) is reads = cc
@@ -317,10 +317,10 @@ module _ {S E : Type 0} (reader : AsyncRead.Ghosts S) (writer : AsyncWrite.Ghost
         going old (moved_to old stream old.out old.unflushed) Waited tt
         (inl reads, refl)
 
-    pub read_ended : (old : Held S E) (stream : S) (piece : List ℕ) (r : Poll (Result ℕ Error))
+    pub read_ended : (old : Mover S E) (stream : S) (piece : List ℕ) (r : Poll (Result ℕ Error))
         → r ≡ Ready (Ok 0)
         → reader.reads old.stream (bytes_moved r piece) stream → (r ≡ Ready (Ok 0) → reader.is_at_end stream)
-        → IsSent old → old.turn ≡ More → (calls : List Call) × (mid : Held S E) × Runs reader writer engine
+        → IsSent old → old.turn ≡ More → (calls : List Call) × (mid : Mover S E) × Runs reader writer engine
         old calls
         mid × Step reader writer engine mid Ended (moved_to old stream old.out old.unflushed)
     read_ended old stream piece Pending is reads end sent more = cc
@@ -336,7 +336,7 @@ module _ {S E : Type 0} (reader : AsyncRead.Ghosts S) (writer : AsyncWrite.Ghost
           ),
         )
 
-    pub read_gave : (old : Held S E) (stream : S) (other : E) (turn : Turn) (piece given out : List ℕ) (n : ℕ)
+    pub read_gave : (old : Mover S E) (stream : S) (other : E) (turn : Turn) (piece given out : List ℕ) (n : ℕ)
         (r : Poll (Result ℕ Error)) → r ≡ Ready (Ok n) → reader.reads old.stream (bytes_moved r piece) stream
         → given ≡ take n piece
         → 0 < length given → length given ≤ engine.room old.engine → IsSent old → old.turn ≡ More
@@ -378,7 +378,7 @@ module _ {S E : Type 0} (reader : AsyncRead.Ghosts S) (writer : AsyncWrite.Ghost
           ),
         )
 
-    pub read_failed : (old : Held S E) (stream : S) (piece : List ℕ) (e : Error) (r : Poll (Result ℕ Error))
+    pub read_failed : (old : Mover S E) (stream : S) (piece : List ℕ) (e : Error) (r : Poll (Result ℕ Error))
         (p : Poll (Result Bool Error)) → r ≡ Ready (Err e)
         → reader.reads old.stream (bytes_moved r piece) stream
         → IfReadyErr r (reader.fails stream)
@@ -395,7 +395,7 @@ module _ {S E : Type 0} (reader : AsyncRead.Ghosts S) (writer : AsyncWrite.Ghost
 -- ---- where a poll waits
 
 module _ {S E : Type 0} (reader : AsyncRead.Ghosts S) (writer : AsyncWrite.Ghosts S) where
-  pub waits_to_read : (cx : Context) (h : Held S E) → IsSent h → Covers cx (reader.needs h.stream)
+  pub waits_to_read : (cx : Context) (h : Mover S E) → IsSent h → Covers cx (reader.needs h.stream)
       → Covers cx (WaitsFor reader writer h)
   waits_to_read cx h sent covers = (
     covers.0,
@@ -403,7 +403,7 @@ module _ {S E : Type 0} (reader : AsyncRead.Ghosts S) (writer : AsyncWrite.Ghost
         [ inl read ↦ covers.1 source read.1 | inr write ↦ absurd (write.0 sent) ],
   )
 
-  pub waits_to_write : (cx : Context) (h : Held S E) → (IsSent h → ⊥) → Covers cx (writer.needs h.stream)
+  pub waits_to_write : (cx : Context) (h : Mover S E) → (IsSent h → ⊥) → Covers cx (writer.needs h.stream)
       → Covers cx (WaitsFor reader writer h)
   waits_to_write cx h not covers = (
     covers.0,
@@ -411,6 +411,6 @@ module _ {S E : Type 0} (reader : AsyncRead.Ghosts S) (writer : AsyncWrite.Ghost
         [ inl read ↦ absurd (not read.0) | inr write ↦ covers.1 source write.1 ],
   )
 
-  pub waits_again : (cx : Context) (h : Held S E) → IsArmed cx × ((source : ℕ) → Hears cx source)
+  pub waits_again : (cx : Context) (h : Mover S E) → IsArmed cx × ((source : ℕ) → Hears cx source)
       → Covers cx (WaitsFor reader writer h)
   waits_again cx h all = (all.0, λ source needed. all.1 source)

@@ -25,12 +25,12 @@ fault_of (Unflushed e) = Some e
 fault_of c = None
 
 -- it neither failed nor met the end
-abbrev pub GoesOn : Call → Type 0
-GoesOn Ended = ⊥
-GoesOn (Unread e) = ⊥
-GoesOn (Unwritten e) = ⊥
-GoesOn (Unflushed e) = ⊥
-GoesOn c = Unit {0}
+abbrev pub CallGoesOn : Call → Type 0
+CallGoesOn Ended = ⊥
+CallGoesOn (Unread e) = ⊥
+CallGoesOn (Unwritten e) = ⊥
+CallGoesOn (Unflushed e) = ⊥
+CallGoesOn c = Unit {0}
 
 module _ {S : Type 0} (reader : AsyncRead.Ghosts S) (writer : AsyncWrite.Ghosts S) where
   -- the call led the stream from a to b

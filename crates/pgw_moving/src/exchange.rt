@@ -85,7 +85,7 @@ fn poll_read_piece<S: AsyncRead>(
 
 impl<S: AsyncRead + AsyncWrite, E: Engine> Exchange<S, E> {
     ghost use Rattle.pgw_moving.specs.Calls.{Call};
-    ghost use Rattle.pgw_moving.specs.Moving.{held_in, IsSent, IsSound, Met, Polled, Ran, Runs, WaitsFor};
+    ghost use Rattle.pgw_moving.specs.Moving.{held_in, IsSent, HasSoundEngine, Met, Polled, Ran, Runs, WaitsFor};
 
     // One write from the front of what is to be written.
     fn poll_write(&mut self, cx: &mut Context<'_>) -> Poll<io::Result<()>>
@@ -167,10 +167,10 @@ impl<S: AsyncRead + AsyncWrite, E: Engine> Exchange<S, E> {
     fn poll_fill(&mut self, cx: &mut Context<'_>) -> Poll<io::Result<bool>>
         requires sent { IsSent (held_in self.old) }
         requires waits { self.old.turn ≡ Turn.More }
-        requires sound { IsSound E.Engine (held_in self.old) }
+        requires sound { HasSoundEngine E.Engine (held_in self.old) }
         ensures met { Met S.AsyncRead S.AsyncWrite E.Engine (held_in self.old)
             (held_in self.new) result }
-        ensures sound { IsSound E.Engine (held_in self.new) }
+        ensures sound { HasSoundEngine E.Engine (held_in self.new) }
         ensures registered { OnPending result
             (Covers cx.new (WaitsFor S.AsyncRead S.AsyncWrite (held_in self.new))) }
         ensures kept { Keeps cx.old cx.new }
@@ -188,14 +188,14 @@ impl<S: AsyncRead + AsyncWrite, E: Engine> Exchange<S, E> {
 
     // Moves bytes until there is no more to move, or nothing can be moved now.
     pub(crate) fn poll_exchange(&mut self, cx: &mut Context<'_>) -> Poll<Stop>
-        requires sound { IsSound E.Engine (held_in self.old) }
+        requires sound { HasSoundEngine E.Engine (held_in self.old) }
         ensures ended { IfReady result
             (λ why. Ran S.AsyncRead S.AsyncWrite E.Engine (held_in self.old) why
             (held_in self.new)) }
         ensures went { OnPending result
             ((calls : List Call) × Runs S.AsyncRead S.AsyncWrite E.Engine (held_in self.old) calls
             (held_in self.new)) }
-        ensures sound { IsSound E.Engine (held_in self.new) }
+        ensures sound { HasSoundEngine E.Engine (held_in self.new) }
         ensures registered { OnPending result
             (Covers cx.new (WaitsFor S.AsyncRead S.AsyncWrite (held_in self.new))) }
         ensures kept { Keeps cx.old cx.new }

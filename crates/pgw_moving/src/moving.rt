@@ -1,6 +1,6 @@
 //! The future that moves bytes.
 ghost use Rattle.std.specs.Prelude.{◌≡◌, IsSomeAnd};
-ghost use Rattle.pgw_moving.specs.Moving.{held_in, IsSound, WaitsFor};
+ghost use Rattle.pgw_moving.specs.Moving.{held_in, HasSoundEngine, WaitsFor};
 
 use crate::engine::{Engine, Turn};
 use crate::exchange::{Exchange, Piece, Stop};
@@ -26,12 +26,12 @@ pub struct Moved<S, E> {
 }
 
 impl<S: AsyncRead + AsyncWrite, E: Engine> Moving<S, E> {
-    ghost use Rattle.pgw_moving.specs.Future.{begun};
+    ghost use Rattle.pgw_moving.specs.Future.{fresh_mover};
 
     /// Begins with bytes that are to be written first, and an engine that answered this turn.
     pub fn new(stream: S, engine: E, turn: Turn, out: BytesMut, piece: Piece) -> Moving<S, E>
         ensures { IsSomeAnd result.state
-            (λ x. held_in x ≡ begun stream engine turn out.items) }
+            (λ x. held_in x ≡ fresh_mover stream engine turn out.items) }
     {
         Moving {
             state: Some(Exchange {
@@ -74,7 +74,7 @@ impl<S: AsyncRead + AsyncWrite, E: Engine> Future for Moving<S, E> {
 
     ghost use Rattle.pgw_moving.specs.Future.{CameTo};
 
-    ghost can_poll = { λ f. IsSomeAnd f.state (λ x. IsSound E.Engine (held_in x)) };
+    ghost can_poll = { λ f. IsSomeAnd f.state (λ x. HasSoundEngine E.Engine (held_in x)) };
 
     ghost needs = { λ f source. IsSomeAnd f.state
         (λ x. WaitsFor S.AsyncRead S.AsyncWrite (held_in x) source) };

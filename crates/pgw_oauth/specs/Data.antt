@@ -41,8 +41,8 @@ abbrev pub is_auth : List ℕ → Bool
 is_auth key = pointwise nat_eq key (codes "auth")
 
 -- the value of `auth` once a pair is read, of the one before it: an empty one counts as none, and there is one at most
-abbrev pub with_value : Option (List ℕ) → List ℕ → List ℕ → Result (Option (List ℕ)) OauthFault
-with_value auth key value =
+abbrev pub with_auth_value : Option (List ℕ) → List ℕ → List ℕ → Result (Option (List ℕ)) OauthFault
+with_auth_value auth key value =
     if not (list_all is_letter key) then Err fault.Key
     else (if is_auth key && is_some auth then Err fault.TwiceAuth
     else (if not (list_all is_value_byte value) then Err fault.Value
@@ -50,15 +50,15 @@ with_value auth key value =
 
 abbrev pub with_cut : Option (List ℕ) → List ℕ → Option (List ℕ) → Result (Option (List ℕ)) OauthFault
 with_cut auth key None = Err fault.Pair
-with_cut auth key (Some value) = with_value auth key value
+with_cut auth key (Some value) = with_auth_value auth key value
 
-unfoldable pub with_pair : Option (List ℕ) → List ℕ → Result (Option (List ℕ)) OauthFault
-with_pair auth pair = with_cut auth (before_mark 61 pair) (behind_mark 61 pair)
+unfoldable pub with_auth_pair : Option (List ℕ) → List ℕ → Result (Option (List ℕ)) OauthFault
+with_auth_pair auth pair = with_cut auth (before_mark 61 pair) (behind_mark 61 pair)
 
 -- pairs are read up to an empty one
 abbrev pub with_pairs : Option (List ℕ) → List (List ℕ) → Result (Option (List ℕ)) OauthFault
 with_pairs auth [] = Ok auth
-with_pairs auth (pair ∷ pairs) = if length pair == 0 then Ok auth else (with_pair auth pair >>= (λ next. with_pairs next pairs))
+with_pairs auth (pair ∷ pairs) = if length pair == 0 then Ok auth else (with_auth_pair auth pair >>= (λ next. with_pairs next pairs))
 
 -- the value of `auth`, if there is one
 abbrev pub auth_in : List ℕ → Result (Option (List ℕ)) OauthFault

@@ -2,7 +2,7 @@
 ghost use Rattle.std.specs.Prelude.{◌≡◌, ◌⊎◌, map, Ok, Err, IfOk, IfErr, None};
 ghost use Rattle.std.specs.List.{list_all};
 ghost use Rattle.std.specs.Option.{option_copied};
-ghost use Rattle.pgw_oauth.specs.Data.{is_letter, is_value_byte, behind_byte, behind_header, with_pair, with_pairs, auth_in};
+ghost use Rattle.pgw_oauth.specs.Data.{is_letter, is_value_byte, behind_byte, behind_header, with_auth_pair, with_pairs, auth_in};
 ghost use Rattle.pgw_types.specs.declared.error.OauthFault.{OauthFault as Fault};
 ghost use Rattle.pgw_types.specs.declared.error.PgWireError.TheVariants.{OutOfMemory as NoMemory};
 
@@ -64,11 +64,11 @@ fn behind_header(bytes: &[u8]) -> Result<&[u8], OauthFault>
 }
 
 // The value of `auth` once a pair is read, of the one before it.
-#[tactic(auto, unfolding(crate::specs::Data::with_pair))]
+#[tactic(auto, unfolding(crate::specs::Data::with_auth_pair))]
 fn with_pair<'a>(auth: Option<&'a [u8]>, pair: &'a [u8]) -> Result<Option<&'a [u8]>, OauthFault>
-    ensures ok { IfOk result (λ next. with_pair (option_copied auth.entry) pair.now
+    ensures ok { IfOk result (λ next. with_auth_pair (option_copied auth.entry) pair.now
         ≡ Ok (option_copied next)) }
-    ensures err { IfErr result (λ e. with_pair (option_copied auth.entry) pair.now ≡ Err e) }
+    ensures err { IfErr result (λ e. with_auth_pair (option_copied auth.entry) pair.now ≡ Err e) }
 {
     let (key, value) = cut_at(pair, b'=');
     let Some(value) = value else {

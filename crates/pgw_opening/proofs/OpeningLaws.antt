@@ -12,7 +12,7 @@ use Rattle.pgw_wire.specs.declared.secret_key.SecretKey.{SecretKey}
 use Rattle.pgw_wire.specs.declared.secret_key.SecretKey.TheVariants.{I32, Bytes}
 use Rattle.pgw_wire.specs.declared.framing.Framing.TheVariants.{Untyped, Opening, Code}
 use Rattle.pgw_wire.specs.Reading.{nat_at, int_at, rest_at, all_of}
-use Rattle.pgw_wire.specs.Framing.{code_in, frame, framed, front}
+use Rattle.pgw_wire.specs.Framing.{code_in, frame, framed, wire_front}
 use Rattle.pgw_wire.specs.Formats.{IsRow, NoBody, pair_at, Pair, made_at, tried_at, SpellsNat, SpellsInt, ReadsLast, SpellsUntyped}
 use Rattle.pgw_wire.specs.Keys.{key_of, SpellsKey}
 use Rattle.pgw_wire.proofs.Laws.{bind_ok, ok_is, chosen, which, tried_some}
@@ -109,19 +109,19 @@ cancel_body_again ctx body m h =
 
 -- a request with its code is as any message without a type byte
 module _ {M : Type 0} (code limit : ℕ) (read : List ℕ → Result M PgWireError) (bytes : List ℕ) where
-  fewer : ltb (length bytes) 8 ≡ true → front (Opening code) limit read bytes ≡ Ok None
-  unfolding front frame
+  fewer : ltb (length bytes) 8 ≡ true → wire_front (Opening code) limit read bytes ≡ Ok None
+  unfolding wire_front frame
   fewer h = rw h refl
 
-  eight : ltb (length bytes) 8 ≡ false → eqb (code_in bytes) code ≡ true → front (Opening code) limit read bytes ≡ front Untyped limit read bytes
-  unfolding front frame
+  eight : ltb (length bytes) 8 ≡ false → eqb (code_in bytes) code ≡ true → wire_front (Opening code) limit read bytes ≡ wire_front Untyped limit read bytes
+  unfolding wire_front frame
   eight h k = rw (h, k) refl
 
-  other_code : ltb (length bytes) 8 ≡ false → eqb (code_in bytes) code ≡ false → front (Opening code) limit read bytes ≡ Err InvalidCancelRequest
-  unfolding front frame
+  other_code : ltb (length bytes) 8 ≡ false → eqb (code_in bytes) code ≡ false → wire_front (Opening code) limit read bytes ≡ Err InvalidCancelRequest
+  unfolding wire_front frame
   other_code h k = rw (h, k) refl
 
-pub cancel_found : (ctx : DecodeContext) (bytes : List ℕ) (m : CancelRequest) (rest : List ℕ) → front (Opening 80877102) 10000 (cancel_request_of ctx) bytes ≡ Ok (Some (m, rest)) → (g : List ℕ) × (bytes ≡ g ++ rest) × SpellsUntyped 10000 (SpellsCancelRequest ctx.protocol_version) m g
+pub cancel_found : (ctx : DecodeContext) (bytes : List ℕ) (m : CancelRequest) (rest : List ℕ) → wire_front (Opening 80877102) 10000 (cancel_request_of ctx) bytes ≡ Ok (Some (m, rest)) → (g : List ℕ) × (bytes ≡ g ++ rest) × SpellsUntyped 10000 (SpellsCancelRequest ctx.protocol_version) m g
 cancel_found ctx bytes m rest e = elim (which (ltb (length bytes) 8)) [
   | inl h ↦ absurd (nothing m rest (sym (fewer 80877102 10000 (cancel_request_of ctx) bytes h) ∙ e))
   | inr h ↦ elim (which (eqb (code_in bytes) 80877102)) [
@@ -136,7 +136,7 @@ cancel_found ctx bytes m rest e = elim (which (ltb (length bytes) 8)) [
     refused : (m : CancelRequest) (rest : List ℕ) → ◌≡◌ {A = Result (Option (CancelRequest × List ℕ)) PgWireError} (Err InvalidCancelRequest) (Ok (Some (m, rest))) → ⊥
     refused m rest e = cc
 
-pub cancel_again : (ctx : DecodeContext) (m : CancelRequest) (g rest : List ℕ) → SpellsUntyped 10000 (SpellsCancelRequest ctx.protocol_version) m g → front (Opening 80877102) 10000 (cancel_request_of ctx) (g ++ rest) ≡ Ok (Some (m, rest))
+pub cancel_again : (ctx : DecodeContext) (m : CancelRequest) (g rest : List ℕ) → SpellsUntyped 10000 (SpellsCancelRequest ctx.protocol_version) m g → wire_front (Opening 80877102) 10000 (cancel_request_of ctx) (g ++ rest) ≡ Ok (Some (m, rest))
 cancel_again ctx m g rest h =
     let least = cancel_least ctx.protocol_version m h.1 h.5 in
     let long : ltb (length (g ++ rest)) 8 ≡ false = le-ltb _ _ (omega (arith, length-append g rest, ap length h.2, length-append h.0 h.1, least)) in
@@ -151,15 +151,15 @@ module _ {M : Type 0} (code : ℕ) (one : M) (why : PgWireError) where
   code_reads : ReadsLast (tried_at (only_code code one why) (nat_at w32)) (λ y bytes. (x : ℕ) × (only_code code one why x ≡ Ok y) × SpellsNat w32 x bytes)
   code_reads = reads_last _ _ (tried_some (only_code code one why) (nat_at w32) (SpellsNat w32) (nat_reads w32))
 
-  many : (bytes : List ℕ) → ltb (length bytes) 8 ≡ false → front Code 10000 read_code bytes ≡ framed read_code bytes (Some (4, 8))
-  unfolding front frame
+  many : (bytes : List ℕ) → ltb (length bytes) 8 ≡ false → wire_front Code 10000 read_code bytes ≡ framed read_code bytes (Some (4, 8))
+  unfolding wire_front frame
   many bytes h = rw h refl
 
-  few : (bytes : List ℕ) → ltb (length bytes) 8 ≡ true → front Code 10000 read_code bytes ≡ Ok None
-  unfolding front frame
+  few : (bytes : List ℕ) → ltb (length bytes) 8 ≡ true → wire_front Code 10000 read_code bytes ≡ Ok None
+  unfolding wire_front frame
   few bytes h = rw h refl
 
-  pub coded_found : (bytes : List ℕ) (m : M) (rest : List ℕ) → front Code 10000 read_code bytes ≡ Ok (Some (m, rest)) → (g : List ℕ) × (bytes ≡ g ++ rest) × SpellsCoded code g
+  pub coded_found : (bytes : List ℕ) (m : M) (rest : List ℕ) → wire_front Code 10000 read_code bytes ≡ Ok (Some (m, rest)) → (g : List ℕ) × (bytes ≡ g ++ rest) × SpellsCoded code g
   coded_found bytes m rest e = elim (which (ltb (length bytes) 8)) [
     | inl h ↦ absurd (nothing m rest (sym (few bytes h) ∙ e))
     | inr h ↦
@@ -180,7 +180,7 @@ module _ {M : Type 0} (code : ℕ) (one : M) (why : PgWireError) where
       cut bytes = append_assoc (take 4 bytes) (take 4 (drop 4 bytes)) (drop 8 bytes)
           ∙ ap (λ (r : List ℕ). take 4 bytes ++ (take 4 (drop 4 bytes) ++ r)) (sym (drop-drop 4 4 bytes)) ∙ ap (λ (r : List ℕ). take 4 bytes ++ r) (take-append-drop 4 (drop 4 bytes)) ∙ take-append-drop 4 bytes
 
-  pub coded_again : (g rest : List ℕ) → SpellsCoded code g → front Code 10000 read_code (g ++ rest) ≡ Ok (Some (one, rest))
+  pub coded_again : (g rest : List ℕ) → SpellsCoded code g → wire_front Code 10000 read_code (g ++ rest) ≡ Ok (Some (one, rest))
   coded_again g rest h =
       let regrouped : g ++ rest ≡ h.0 ++ (h.1 ++ rest) = ap (λ (f : List ℕ). f ++ rest) h.2 ∙ append_assoc h.0 h.1 rest in
       let long : ltb (length (g ++ rest)) 8 ≡ false = le-ltb _ _ (omega (arith, ap length regrouped, length-append h.0 (h.1 ++ rest), length-append h.1 rest, h.3, h.4.0)) in
@@ -189,19 +189,19 @@ module _ {M : Type 0} (code : ℕ) (one : M) (why : PgWireError) where
       let read : read_code h.1 ≡ Ok one = all_again _ _ code_reads h.1 one (code, code_passes code one why, h.4) in
       many (g ++ rest) long ∙ rw (cut, left, read) refl
 
-pub ssl_found : (ctx : DecodeContext) (bytes : List ℕ) (m : SslRequest) (rest : List ℕ) → front Code 10000 (ssl_request_of ctx) bytes ≡ Ok (Some (m, rest)) → (g : List ℕ) × (bytes ≡ g ++ rest) × SpellsCoded 80877103 g
+pub ssl_found : (ctx : DecodeContext) (bytes : List ℕ) (m : SslRequest) (rest : List ℕ) → wire_front Code 10000 (ssl_request_of ctx) bytes ≡ Ok (Some (m, rest)) → (g : List ℕ) × (bytes ≡ g ++ rest) × SpellsCoded 80877103 g
 unfolding ssl_request_of
 ssl_found ctx = coded_found 80877103 (record {}) InvalidSSLRequestMessage
 
-pub ssl_again : (ctx : DecodeContext) (m : SslRequest) (g rest : List ℕ) → SpellsCoded 80877103 g → front Code 10000 (ssl_request_of ctx) (g ++ rest) ≡ Ok (Some (m, rest))
+pub ssl_again : (ctx : DecodeContext) (m : SslRequest) (g rest : List ℕ) → SpellsCoded 80877103 g → wire_front Code 10000 (ssl_request_of ctx) (g ++ rest) ≡ Ok (Some (m, rest))
 unfolding ssl_request_of
 ssl_again ctx m = coded_again 80877103 (record {}) InvalidSSLRequestMessage
 
-pub gss_found : (ctx : DecodeContext) (bytes : List ℕ) (m : GssEncRequest) (rest : List ℕ) → front Code 10000 (gss_enc_request_of ctx) bytes ≡ Ok (Some (m, rest)) → (g : List ℕ) × (bytes ≡ g ++ rest) × SpellsCoded 80877104 g
+pub gss_found : (ctx : DecodeContext) (bytes : List ℕ) (m : GssEncRequest) (rest : List ℕ) → wire_front Code 10000 (gss_enc_request_of ctx) bytes ≡ Ok (Some (m, rest)) → (g : List ℕ) × (bytes ≡ g ++ rest) × SpellsCoded 80877104 g
 unfolding gss_enc_request_of
 gss_found ctx = coded_found 80877104 (record {}) InvalidGssEncRequestMessage
 
-pub gss_again : (ctx : DecodeContext) (m : GssEncRequest) (g rest : List ℕ) → SpellsCoded 80877104 g → front Code 10000 (gss_enc_request_of ctx) (g ++ rest) ≡ Ok (Some (m, rest))
+pub gss_again : (ctx : DecodeContext) (m : GssEncRequest) (g rest : List ℕ) → SpellsCoded 80877104 g → wire_front Code 10000 (gss_enc_request_of ctx) (g ++ rest) ≡ Ok (Some (m, rest))
 unfolding gss_enc_request_of
 gss_again ctx m = coded_again 80877104 (record {}) InvalidGssEncRequestMessage
 
@@ -212,7 +212,7 @@ empty_reads = record {
   found = λ bytes n rest short e.
       let made : Terminate × List ℕ = (record {}, bytes) in
       subst (λ (y : Terminate × List ℕ). (f : List ℕ) × (bytes ≡ f ++ y.1) × NoBody y.0 f) (ok_is made (n, rest) e) ([], refl, refl);
-  only = λ n front h. rw h refl;
+  only = λ n wire_front h. rw h refl;
 }
 
 pub terminate : (ctx : DecodeContext) → IsRow 88 10000 (terminate_of ctx) NoBody

@@ -79,7 +79,7 @@ impl Message for CancelRequest {
         self.secret_key.put(out)
     }
 
-    #[tactic(auto, unfolding(crate::specs::Openings::cancel_request_of, crate::specs::Openings::only_code, pgw_wire::specs::Reading::rest_at, pgw_wire::specs::Reading::ended))]
+    #[tactic(auto, unfolding(crate::specs::Openings::cancel_request_of, crate::specs::Openings::only_code, pgw_wire::specs::Reading::rest_at, pgw_wire::specs::Reading::read_end))]
     fn decode_body(
         _alloc: Global,
         body: &Octets,

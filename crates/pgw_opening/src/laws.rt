@@ -3,7 +3,7 @@ ghost use Rattle.std.specs.Prelude.{◌≡◌, ◌<◌, ◌^◌, ◌++◌, ℕ, 
 ghost use Rattle.pgw_types.specs.declared.context.DecodeContext.{DecodeContext as TheContext};
 ghost use Rattle.pgw_types.specs.declared.context.ProtocolVersion.{ProtocolVersion as TheVersion};
 ghost use Rattle.pgw_wire.specs.declared.framing.Framing.TheVariants.{Opening, Code};
-ghost use Rattle.pgw_wire.specs.Framing.{front, encoded};
+ghost use Rattle.pgw_wire.specs.Framing.{wire_front, encoded};
 ghost use Rattle.pgw_wire.specs.Formats.{IsRow, NoBody, SpellsUntyped};
 ghost use Rattle.pgw_wire.specs.Keys.{key_fault, SuitsKey};
 ghost use Rattle.pgw_wire.specs.Writing.{u32};
@@ -17,13 +17,13 @@ ghost use Rattle.pgw_opening.specs.Openings.{has_code, ssl_request_of, gss_enc_r
 /// What is read is spelled so: a request of eight bytes by its code alone.
 pub fn what_is_read_is_spelled()
     ensures ssl { (ctx : TheContext) (bytes : List ℕ) (m : TheSsl) (rest : List ℕ) →
-        front Code 10000 (ssl_request_of ctx) bytes ≡ Ok (Some (m, rest)) → (g : List ℕ)
+        wire_front Code 10000 (ssl_request_of ctx) bytes ≡ Ok (Some (m, rest)) → (g : List ℕ)
         × (bytes ≡ g ++ rest) × SpellsCoded 80877103 g }
     ensures gss { (ctx : TheContext) (bytes : List ℕ) (m : TheGss) (rest : List ℕ) →
-        front Code 10000 (gss_enc_request_of ctx) bytes ≡ Ok (Some (m, rest)) → (g : List ℕ)
+        wire_front Code 10000 (gss_enc_request_of ctx) bytes ≡ Ok (Some (m, rest)) → (g : List ℕ)
         × (bytes ≡ g ++ rest) × SpellsCoded 80877104 g }
     ensures cancel { (ctx : TheContext) (bytes : List ℕ) (m : TheCancel) (rest : List ℕ) →
-        front (Opening 80877102) 10000 (cancel_request_of ctx) bytes ≡ Ok (Some (m, rest)) →
+        wire_front (Opening 80877102) 10000 (cancel_request_of ctx) bytes ≡ Ok (Some (m, rest)) →
         (g : List ℕ) × (bytes ≡ g ++ rest) × SpellsUntyped 10000
         (SpellsCancelRequest ctx.protocol_version) m g }
     ensures terminate { (ctx : TheContext) → IsRow 88 10000 (terminate_of ctx) NoBody }
@@ -32,12 +32,12 @@ pub fn what_is_read_is_spelled()
 /// What is spelled so is read, whatever follows it.
 pub fn what_is_spelled_is_read()
     ensures ssl { (ctx : TheContext) (m : TheSsl) (g rest : List ℕ) → SpellsCoded 80877103 g →
-        front Code 10000 (ssl_request_of ctx) (g ++ rest) ≡ Ok (Some (m, rest)) }
+        wire_front Code 10000 (ssl_request_of ctx) (g ++ rest) ≡ Ok (Some (m, rest)) }
     ensures gss { (ctx : TheContext) (m : TheGss) (g rest : List ℕ) → SpellsCoded 80877104 g →
-        front Code 10000 (gss_enc_request_of ctx) (g ++ rest) ≡ Ok (Some (m, rest)) }
+        wire_front Code 10000 (gss_enc_request_of ctx) (g ++ rest) ≡ Ok (Some (m, rest)) }
     ensures cancel { (ctx : TheContext) (m : TheCancel) (g rest : List ℕ) →
         SpellsUntyped 10000 (SpellsCancelRequest ctx.protocol_version) m g →
-        front (Opening 80877102) 10000 (cancel_request_of ctx) (g ++ rest) ≡ Ok (Some (m, rest)) }
+        wire_front (Opening 80877102) 10000 (cancel_request_of ctx) (g ++ rest) ≡ Ok (Some (m, rest)) }
 {}
 
 /// What is written spells the message.

@@ -4,8 +4,8 @@ use Rattle.std.proofs.Common.{inl, inr, append_assoc}
 use Rattle.std.proofs.lemmas.Bool.{cases_Bool, ne_eqb}
 use Rattle.std.specs.List.{flat_map, list_any}
 use Rattle.csv.specs.Writing.{default_writer, escaped, field_text, fields_text, is_blank, needs_byte, row_body}
-use Rattle.pgw_output.specs.CsvLines.{field_of, blank_text, csv_fields, csv_line, csv_rest, escaped_byte}
-use Rattle.pgw_output.specs.CsvLines.{is_blank_line, written}
+use Rattle.pgw_output.specs.CsvLines.{csv_field_text, blank_text, csv_fields, csv_line, csv_rest, escaped_byte}
+use Rattle.pgw_output.specs.CsvLines.{is_blank_line, field_in_csv}
 
 escaped_is : (field : List ℕ) → flat_map escaped_byte field ≡ escaped default_writer field
 unfolding escaped
@@ -15,19 +15,19 @@ escaped_is (b ∷ field) = elim (cases_Bool (b == 34)) [
   | inr other ↦ rw other (ap (λ (t : List ℕ). b ∷ t) (escaped_is field))
 ]
 
-written_is : (field : List ℕ) → written field ≡ field_text default_writer field
+written_is : (field : List ℕ) → field_in_csv field ≡ field_text default_writer field
 written_is field = rw (escaped_is field) refl
 
-rest_is : (row : List (Option (List ℕ))) → csv_rest row ≡ fields_text default_writer (map field_of row)
+rest_is : (row : List (Option (List ℕ))) → csv_rest row ≡ fields_text default_writer (map csv_field_text row)
 unfolding fields_text
 rest_is [] = refl
-rest_is (value ∷ row) = rw (written_is (field_of value)) (ap (λ (t : List ℕ). 44 ∷ (field_text default_writer
-    (field_of value) ++ t)) (rest_is row))
+rest_is (value ∷ row) = rw (written_is (csv_field_text value)) (ap (λ (t : List ℕ). 44 ∷ (field_text default_writer
+    (csv_field_text value) ++ t)) (rest_is row))
 
-fields_are : (row : List (Option (List ℕ))) → csv_fields row ≡ row_body default_writer (map field_of row)
+fields_are : (row : List (Option (List ℕ))) → csv_fields row ≡ row_body default_writer (map csv_field_text row)
 fields_are [] = refl
-fields_are (value ∷ row) = rw (written_is (field_of value)) (ap (λ (t : List ℕ). field_text default_writer
-    (field_of value) ++ t) (rest_is row))
+fields_are (value ∷ row) = rw (written_is (csv_field_text value)) (ap (λ (t : List ℕ). field_text default_writer
+    (csv_field_text value) ++ t) (rest_is row))
 
 not_none : (b : ℕ) (x : List ℕ) → (length (b ∷ x) == 0) ≡ false
 not_none b x = ne_eqb (suc (length x)) 0 (λ z. cc z)
@@ -40,10 +40,10 @@ empty_field (b ∷ x) = elim (cases_Bool (list_any (needs_byte default_writer) (
   | inr plain ↦ rw plain refl
 ]
 
-blank_is : (row : List (Option (List ℕ))) → is_blank_line row ≡ is_blank default_writer (map field_of row)
+blank_is : (row : List (Option (List ℕ))) → is_blank_line row ≡ is_blank default_writer (map csv_field_text row)
 unfolding is_blank
 blank_is [] = refl
-blank_is (value ∷ []) = sym (empty_field (field_of value))
+blank_is (value ∷ []) = sym (empty_field (csv_field_text value))
 blank_is (value ∷ next ∷ row) = refl
 
 line_is : (row : List (Option (List ℕ))) → csv_fields row ++ (blank_text row ++ (10 ∷ [])) ≡ csv_line row

@@ -20,7 +20,7 @@ use Rattle.pgw_output.specs.declared.columns.Column.{Column}
 use Rattle.pgw_output.specs.declared.columns.ColumnKind.{ColumnKind}
 use Rattle.pgw_output.specs.declared.columns.ColumnKind.TheVariants as kind
 use Rattle.pgw_output.specs.Columns.{Value}
-use Rattle.pgw_output.specs.CsvLines.{csv_line, field_of}
+use Rattle.pgw_output.specs.CsvLines.{csv_line, csv_field_text}
 use Rattle.pgw_output.specs.JsonLines.{is_at_end, json_of, json_row, json_text, members_of, truth_of}
 use Rattle.pgw_output.specs.ReadBack.{CsvReadsBack, JsonReadsBack}
 
@@ -29,22 +29,22 @@ use Rattle.pgw_output.specs.ReadBack.{CsvReadsBack, JsonReadsBack}
 -- a line has a byte at least
 line_some : (row : List Value) → 1 ≤ length (csv_line row)
 unfolding csv_line
-line_some row = two_parts (row_body default_writer (map field_of row)) (if is_blank default_writer
-    (map field_of row) then 34 ∷ 34 ∷ [] else []) where
+line_some row = two_parts (row_body default_writer (map csv_field_text row)) (if is_blank default_writer
+    (map csv_field_text row) then 34 ∷ 34 ∷ [] else []) where
       two_parts : (xs ys : List ℕ) → 1 ≤ length (xs ++ (ys ++ (10 ∷ [])))
       two_parts xs ys = rw (length-append xs (ys ++ (10 ∷ []))) (rw (length-append ys (10 ∷ [])) (omega arith))
 
 -- no more turns than lines are wanted
 read_lines : (rows : List (List Value)) (turns : ℕ) → length rows ≤ turns
     → records_from default_config turns st.StartRecord (flat_map csv_line rows)
-    ≡ map (λ row. read_back (map field_of row)) rows
+    ≡ map (λ row. read_back (map csv_field_text row)) rows
 unfolding records_from next_record csv_line
 read_lines [] zero p = refl
 read_lines [] (suc turns) p = refl
 read_lines (row ∷ rows) zero p = absurd (omega (arith, p))
 read_lines (row ∷ rows) (suc turns) p =
-    rw (read-write (map field_of row) (flat_map csv_line rows)) (ap (λ (t : List (List (List ℕ))). read_back
-    (map field_of row) ∷ t) (read_lines rows turns (omega (arith, p))))
+    rw (read-write (map csv_field_text row) (flat_map csv_line rows)) (ap (λ (t : List (List (List ℕ))). read_back
+    (map csv_field_text row) ∷ t) (read_lines rows turns (omega (arith, p))))
 
 -- there are as many bytes as lines at least
 lines_bound : (rows : List (List Value)) → length rows ≤ length (flat_map csv_line rows)

@@ -8,8 +8,8 @@ abbrev pub Value : Type 0
 Value = Option (List ℕ)
 
 -- boolean; bigint, smallint, integer, oid, real, double precision and numeric (pg_type)
-abbrev pub kind_of : ℕ → ColumnKind
-kind_of oid =
+abbrev pub column_kind : ℕ → ColumnKind
+column_kind oid =
     if oid == 16 then kind.Truth
     else if (oid == 20) || (oid == 21) || (oid == 23) || (oid == 26) || (oid == 700) ||
     (oid == 701) || (oid == 1700) then kind.Number

@@ -9,12 +9,12 @@ use Rattle.pgw_output.specs.declared.table_lines.TableColumn.{TableColumn}
 use Rattle.pgw_output.specs.Columns.{Value}
 use Rattle.pgw_output.specs.TableLines.{widened}
 
-abbrev pub name_of : Column → Value
-name_of column = Some column.name
+abbrev pub column_name : Column → Value
+column_name column = Some column.name
 
 -- the names of columns as a row
 abbrev pub names_of : List Column → List Value
-names_of columns = map name_of columns
+names_of columns = map column_name columns
 
 -- words stand on the left, in the last column with no blanks behind them
 abbrev pub words_side : Bool → Side
@@ -22,17 +22,17 @@ words_side true = side.Open
 words_side false = side.Left
 
 -- numbers stand on the right
-abbrev pub side_of : ColumnKind → Bool → Side
-side_of kind.Number is_last = side.Right
-side_of kind.Truth is_last = words_side is_last
-side_of kind.Words is_last = words_side is_last
+abbrev pub column_side : ColumnKind → Bool → Side
+column_side kind.Number is_last = side.Right
+column_side kind.Truth is_last = words_side is_last
+column_side kind.Words is_last = words_side is_last
 
 -- columns of no width
 abbrev pub columns_for : List Column → List TableColumn
 columns_for [] = []
 columns_for (column ∷ columns) = record {
   width = 0;
-  side = side_of column.kind
+  side = column_side column.kind
       (length columns == 0);
 } ∷ columns_for columns
 

@@ -23,10 +23,10 @@ unfoldable pub table_text : List Column → List (List Value) → List ℕ
 table_text columns rows = aligned_text (laid_out columns (take 100 rows)) columns rows
 
 -- the rows of a result: CSV has the names of the columns on its first line
-abbrev pub result_text : RowFormat → List Column → List (List Value) → List ℕ
-result_text format.Csv columns rows = csv_line (names_of columns) ++ flat_map csv_line rows
-result_text format.Json columns rows = flat_map (json_line columns) rows
-result_text format.Table columns rows = table_text columns rows
+abbrev pub output_text : RowFormat → List Column → List (List Value) → List ℕ
+output_text format.Csv columns rows = csv_line (names_of columns) ++ flat_map csv_line rows
+output_text format.Json columns rows = flat_map (json_line columns) rows
+output_text format.Table columns rows = table_text columns rows
 
 -- what a printer prints of the rows that are still to come
 abbrev pub text_for : RowPrinter → List (List Value) → List ℕ
@@ -36,12 +36,12 @@ text_for (printer.Sampling sample) rows = table_text sample.columns (sample.rows
 text_for (printer.Aligned laid) rows = flat_map (table_line laid.items) rows
 
 -- whatever rows come, what is printed now and then is the result
-abbrev pub Begins : RowFormat → List Column → List ℕ → List ℕ → RowPrinter → Type 0
-Begins f columns before after new = (rows : List (List Value))
-    → after ++ text_for new rows ≡ before ++ result_text f columns rows
+abbrev pub BeginsOutput : RowFormat → List Column → List ℕ → List ℕ → RowPrinter → Type 0
+BeginsOutput f columns before after new = (rows : List (List Value))
+    → after ++ text_for new rows ≡ before ++ output_text f columns rows
 
 -- whatever rows come, what is printed now and then is what was to be printed of the row and of
 -- those
-abbrev pub Prints : RowPrinter → List Value → List ℕ → List ℕ → RowPrinter → Type 0
-Prints old row before after new = (rows : List (List Value))
+abbrev pub PrintsRow : RowPrinter → List Value → List ℕ → List ℕ → RowPrinter → Type 0
+PrintsRow old row before after new = (rows : List (List Value))
     → after ++ text_for new rows ≡ before ++ text_for old (row ∷ rows)

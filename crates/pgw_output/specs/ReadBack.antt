@@ -6,13 +6,13 @@ use Rattle.csv.specs.Writing.{read_back}
 use Rattle.json.specs.Json.{document}
 use Rattle.pgw_output.specs.declared.columns.Column.{Column}
 use Rattle.pgw_output.specs.Columns.{Value}
-use Rattle.pgw_output.specs.CsvLines.{csv_line, field_of}
+use Rattle.pgw_output.specs.CsvLines.{csv_line, csv_field_text}
 use Rattle.pgw_output.specs.JsonLines.{json_object, json_row}
 
 -- the records of the lines are the rows, with an empty field for NULL
 abbrev pub CsvReadsBack : List (List Value) → Type 0
 CsvReadsBack rows = records default_config (flat_map csv_line rows)
-    ≡ map (λ row. read_back (map field_of row)) rows
+    ≡ map (λ row. read_back (map csv_field_text row)) rows
 
 -- the line without its line feed is one document, the object of the row
 abbrev pub JsonReadsBack : List Column → List Value → Type 0

@@ -18,6 +18,6 @@ abbrev pub without_controls : List ℕ → List ℕ
 without_controls text = flat_map visible (chars text)
 
 -- with U+FFFD for what is not UTF-8
-unfoldable pub shown : Value → List ℕ
-shown None = codes "NULL"
-shown (Some bytes) = without_controls (utf8_lossy bytes)
+unfoldable pub printed_value : Value → List ℕ
+printed_value None = codes "NULL"
+printed_value (Some bytes) = without_controls (utf8_lossy bytes)

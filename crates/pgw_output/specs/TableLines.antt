@@ -6,14 +6,14 @@ use Rattle.pgw_output.specs.declared.table_lines.Side.{Side}
 use Rattle.pgw_output.specs.declared.table_lines.Side.TheVariants as side
 use Rattle.pgw_output.specs.declared.table_lines.TableColumn.{TableColumn}
 use Rattle.pgw_output.specs.Columns.{Value}
-use Rattle.pgw_output.specs.Shown.{shown}
+use Rattle.pgw_output.specs.Shown.{printed_value}
 
 -- the columns of a terminal that a text takes
 abbrev pub width : List ℕ → ℕ
 width text = str_width false (chars text)
 
 abbrev pub width_of : Value → ℕ
-width_of value = width (shown value)
+width_of value = width (printed_value value)
 
 -- a text and the blanks that fill its column
 abbrev pub beside : Side → List ℕ → List ℕ → List ℕ
@@ -25,7 +25,7 @@ abbrev pub padded : TableColumn → List ℕ → List ℕ
 padded column text = beside column.side text (replicate (column.width - width text) 32)
 
 unfoldable pub cell_text : TableColumn → Value → List ℕ
-cell_text column value = padded column (shown value)
+cell_text column value = padded column (printed_value value)
 
 -- the cells behind the first
 abbrev pub table_rest : List TableColumn → List Value → List ℕ

@@ -1,6 +1,6 @@
 //! The columns of printed rows.
 ghost use Rattle.std.specs.Prelude.{◌≡◌};
-ghost use Rattle.pgw_output.specs.Columns.{kind_of};
+ghost use Rattle.pgw_output.specs.Columns.{column_kind};
 
 use pgw_types::text::Text;
 
@@ -15,7 +15,7 @@ pub enum ColumnKind {
 impl ColumnKind {
     /// The kind of a type's values, by its object identifier (pg_type).
     pub fn of_type(oid: u32) -> ColumnKind
-        ensures { result ≡ kind_of oid }
+        ensures { result ≡ column_kind oid }
     {
         match oid {
             16 => ColumnKind::Truth,

@@ -2,7 +2,7 @@
 ghost use Rattle.std.specs.Prelude.{◌≡◌, ◌++◌, OnOk};
 ghost use Rattle.std.specs.List.{flat_map};
 ghost use Rattle.csv.specs.Writing.{default_writer, needs_byte, needs_quotes as calls_for_quotes};
-ghost use Rattle.pgw_output.specs.CsvLines.{blank_text, csv_field, csv_fields, csv_line, csv_rest, escaped_byte, is_blank_line, written};
+ghost use Rattle.pgw_output.specs.CsvLines.{blank_text, csv_field, csv_fields, csv_line, csv_rest, escaped_byte, is_blank_line, field_in_csv};
 
 use crate::pieces::put;
 use pgw_types::memory::OutOfMemory;
@@ -42,7 +42,7 @@ fn put_escaped(out: &mut Vec<u8>, field: &[u8]) -> Result<(), OutOfMemory>
 }
 
 fn put_text(out: &mut Vec<u8>, field: &[u8]) -> Result<(), OutOfMemory>
-    ensures { OnOk result (out.new.items ≡ out.old.items ++ written field.now) }
+    ensures { OnOk result (out.new.items ≡ out.old.items ++ field_in_csv field.now) }
 {
     if needs_quotes(field) {
         put(out, b"\"")?;

@@ -2,7 +2,7 @@
 ghost use Rattle.std.specs.Prelude.{◌≡◌, ◌++◌, ◌∷◌, [], OnOk};
 ghost use Rattle.json.specs.Token.{end_object};
 ghost use Rattle.json.specs.Tree.{json_tokens, members_tokens};
-ghost use Rattle.pgw_output.specs.JsonLines.{json_line, json_row, json_of, json_text, members_of, Adds};
+ghost use Rattle.pgw_output.specs.JsonLines.{json_line, json_row, json_of, json_text, members_of, AddsJsonTokens};
 ghost use Rattle.pgw_output.specs.declared.columns.ColumnKind.TheVariants as kind;
 
 use crate::columns::{Column, ColumnKind};
@@ -14,7 +14,7 @@ use std::alloc::{AllocError, Global};
 use std::mem::replace;
 
 fn put_truth(writer: &mut Writer, text: &str) -> Result<(), AllocError>
-    ensures { Adds writer.old writer.new result (json_tokens (json_text kind.Truth text.now)) }
+    ensures { AddsJsonTokens writer.old writer.new result (json_tokens (json_text kind.Truth text.now)) }
 {
     if text == "t" {
         writer.boolean(true)
@@ -26,7 +26,7 @@ fn put_truth(writer: &mut Writer, text: &str) -> Result<(), AllocError>
 }
 
 fn put_number(writer: &mut Writer, text: &str) -> Result<(), AllocError>
-    ensures { Adds writer.old writer.new result (json_tokens (json_text kind.Number text.now)) }
+    ensures { AddsJsonTokens writer.old writer.new result (json_tokens (json_text kind.Number text.now)) }
 {
     if is_number(text) {
         writer.number(text)
@@ -36,7 +36,7 @@ fn put_number(writer: &mut Writer, text: &str) -> Result<(), AllocError>
 }
 
 fn put_text(writer: &mut Writer, kind: ColumnKind, text: &str) -> Result<(), AllocError>
-    ensures { Adds writer.old writer.new result (json_tokens (json_text kind text.now)) }
+    ensures { AddsJsonTokens writer.old writer.new result (json_tokens (json_text kind text.now)) }
 {
     match kind {
         ColumnKind::Truth => put_truth(writer, text),
@@ -51,7 +51,7 @@ fn put_value(
     kind: ColumnKind,
     value: &Option<Octets>,
 ) -> Result<(), AllocError>
-    ensures { Adds writer.old writer.new result (json_tokens (json_of kind value.now)) }
+    ensures { AddsJsonTokens writer.old writer.new result (json_tokens (json_of kind value.now)) }
 {
     match value {
         Some(bytes) => {
@@ -88,7 +88,7 @@ fn put_object(
     columns: &[Column],
     row: &[Option<Octets>],
 ) -> Result<(), AllocError>
-    ensures { Adds writer.old writer.new result (json_tokens (json_row columns.now row.now)) }
+    ensures { AddsJsonTokens writer.old writer.new result (json_tokens (json_row columns.now row.now)) }
 {
     writer.begin_object()?;
     put_members(alloc, writer, columns, row)?;

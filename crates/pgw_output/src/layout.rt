@@ -1,6 +1,6 @@
 //! How a table's columns are laid out.
 ghost use Rattle.std.specs.Prelude.{◌≡◌, ◌==◌, ◌+◌, length, map, IfOk, OnOk};
-ghost use Rattle.pgw_output.specs.Layout.{columns_for, laid_out, name_of, names_of, side_of, widened_by};
+ghost use Rattle.pgw_output.specs.Layout.{columns_for, laid_out, column_name, names_of, column_side, widened_by};
 
 use crate::columns::{Column, ColumnKind};
 use crate::table_lines::{Side, TableColumn, widen};
@@ -26,7 +26,7 @@ pub fn names(alloc: Global, columns: &[Column]) -> Result<Row, OutOfMemory>
 
 // Numbers stand on the right. Nothing stands behind the last column's words.
 fn side(kind: ColumnKind, is_last: bool) -> Side
-    ensures { result ≡ side_of kind is_last }
+    ensures { result ≡ column_side kind is_last }
 {
     match kind {
         ColumnKind::Number => Side::Right,

@@ -3,7 +3,7 @@ ghost use Rattle.std.specs.Prelude.{◌≡◌, ◌++◌, [], IfOk, OnOk};
 ghost use Rattle.std.specs.List.{flat_map};
 ghost use Rattle.pgw_output.specs.declared.printer.RowPrinter.TheVariants as printer;
 ghost use Rattle.pgw_output.specs.Layout.{laid_out};
-ghost use Rattle.pgw_output.specs.Printing.{aligned_text, text_for, Prints, Begins};
+ghost use Rattle.pgw_output.specs.Printing.{aligned_text, text_for, PrintsRow, BeginsOutput};
 ghost use Rattle.pgw_output.specs.TableLines.{table_line};
 
 use crate::columns::Column;
@@ -78,7 +78,7 @@ impl RowPrinter {
         columns: Listed<Column>,
         out: &mut Vec<u8>,
     ) -> Result<RowPrinter, OutOfMemory>
-        ensures { IfOk result (Begins format columns out.old.items out.new.items) }
+        ensures { IfOk result (BeginsOutput format columns out.old.items out.new.items) }
     {
         match format {
             RowFormat::Csv => {
@@ -101,7 +101,7 @@ fn wait(
     row: Row,
     out: &mut Vec<u8>,
 ) -> Result<RowPrinter, OutOfMemory>
-    ensures { IfOk result (Prints (printer.Sampling sample) row out.old.items out.new.items) }
+    ensures { IfOk result (PrintsRow (printer.Sampling sample) row out.old.items out.new.items) }
 {
     let Sample { columns, mut rows } = sample;
     rows.push(row)?;
@@ -117,7 +117,7 @@ fn wait(
 impl RowPrinter {
     /// Prints the next row.
     pub fn row(self, alloc: Global, row: Row, out: &mut Vec<u8>) -> Result<RowPrinter, OutOfMemory>
-        ensures { IfOk result (Prints self row out.old.items out.new.items) }
+        ensures { IfOk result (PrintsRow self row out.old.items out.new.items) }
     {
         match self {
             RowPrinter::Csv => {

@@ -1,6 +1,6 @@
 //! A value as people are shown it.
 ghost use Rattle.std.specs.Prelude.{◌≡◌, ◌++◌, string_bytes, IfOk, OnOk};
-ghost use Rattle.pgw_output.specs.Shown.{visible, shown as shown_of, without_controls};
+ghost use Rattle.pgw_output.specs.Shown.{visible, printed_value as shown_of, without_controls};
 
 use pgw_types::memory::OutOfMemory;
 use pgw_types::octets::Octets;
@@ -31,7 +31,7 @@ pub fn plain(alloc: Global, text: &str) -> Result<String, OutOfMemory>
 }
 
 /// A value as people are shown it; NULL is the word.
-#[tactic(auto, unfolding(crate::specs::Shown::shown))]
+#[tactic(auto, unfolding(crate::specs::Shown::printed_value))]
 pub fn shown(alloc: Global, value: &Option<Octets>) -> Result<String, OutOfMemory>
     ensures { IfOk result (λ text. string_bytes text ≡ shown_of value.now) }
 {

@@ -25,7 +25,7 @@ use Rattle.std.specs.Prelude.{nat_lt}
 use Rattle.std.specs.Fmt as fmt
 use Rattle.std.specs.Fmt.{decimal}
 use Rattle.pgw_scram.proofs.Base64Laws.{ascii_utf8}
-use Rattle.pgw_login.specs.Client.{Client}
+use Rattle.pgw_login.specs.Client.{LoginClient}
 use Rattle.pgw_login.specs.Parameters.{with_given}
 use Rattle.pgw_login.specs.Provider.{default_provider, default_parameters}
 use Rattle.pgw_wire.specs.Pairs.{pair_written, is_pair_refused}
@@ -60,7 +60,7 @@ use Rattle.pgw_pair.proofs.ServerRungs.{IsAble, before_final}
 use Rattle.pgw_pair.proofs.Ladder.{Opens, GreetsAll, sent_one}
 use Rattle.pgw_pair.proofs.Sizes.{base64_short, signature_short}
 use Rattle.pgw_pair.proofs.Texts.{was_accepted}
-use Rattle.pgw_login.specs.Finish.{status_of, key_data, introduction, ready}
+use Rattle.pgw_login.specs.Finish.{status_message, key_data, introduction, login_ready}
 use Rattle.pgw_pair.proofs.Finals.{CanSend, final_with}
 use Rattle.pgw_pair.proofs.Honest.{fits}
 use Rattle.pgw_pair.proofs.Welcome.{Greets, AreGreetings}
@@ -117,7 +117,7 @@ pub text_length : (t : List ℕ) → length (text t) ≡ length t + 1
 unfolding text
 text_length t = length-append t (0 ∷ [])
 
-status_encodes : (p : List ℕ × List ℕ) → IsPlain p → Encodes (status_of p)
+status_encodes : (p : List ℕ × List ℕ) → IsPlain p → Encodes (status_message p)
 unfolding backend_encoding
 status_encodes p plain =
     let size = length-append (text p.0) (text p.1) in
@@ -125,14 +125,14 @@ status_encodes p plain =
     let fault : refused_if (has_zero p.0 || has_zero p.1) ≡ None = no_fault (has_zero p.0 || has_zero p.1) (rw ((plain.0).zero, (plain.1).zero) refl) in
     (f.0, ap (λ (o : Option PgWireError). framing.encoded (Typed 83) 30000 o (text p.0 ++ text p.1)) fault ∙ f.1)
 
-status_greets : (p : List ℕ × List ℕ) → IsPlain p → Greets (status_of p)
+status_greets : (p : List ℕ × List ℕ) → IsPlain p → Greets (status_message p)
 status_greets p plain = record { news = refl; steady = λ s. refl; sound = ((plain.0).utf8, (plain.1).utf8); suits = tt; phase = (refl, refl) }
 
-statuses_encode : (ps : List (List ℕ × List ℕ)) → ArePlain ps → AllEncode (map status_of ps)
+statuses_encode : (ps : List (List ℕ × List ℕ)) → ArePlain ps → AllEncode (map status_message ps)
 statuses_encode [] plain = tt
 statuses_encode (p ∷ ps) plain = (status_encodes p plain.0, statuses_encode ps plain.1)
 
-statuses_greet : (ps : List (List ℕ × List ℕ)) → ArePlain ps → AreGreetings (map status_of ps)
+statuses_greet : (ps : List (List ℕ × List ℕ)) → ArePlain ps → AreGreetings (map status_message ps)
 statuses_greet [] plain = tt
 statuses_greet (p ∷ ps) plain = (status_greets p plain.0, statuses_greet ps plain.1)
 
@@ -206,7 +206,7 @@ given_plain : (k : List ℕ) (o : Option (List ℕ)) (held : Held) → IsPlainTe
 given_plain k None held x y all = all
 given_plain k (Some v) held x y all = insert_plain held k v (x, y) all
 
-pub told_plain : (c : Client) → AllPlain c.metadata → AllPlain (default_parameters default_provider c)
+pub told_plain : (c : LoginClient) → AllPlain c.metadata → AllPlain (default_parameters default_provider c)
 unfolding fmt.digits
 told_plain c all =
     let server = with_plain (codes "scram_iterations") (decimal 4096) _ (literal (codes "scram_iterations") refl refl (lit≤ tt)) (literal (decimal 4096) refl refl (lit≤ tt))
@@ -264,7 +264,7 @@ accepted_encodes : Encodes (backend.Authentication auth.Ok)
 unfolding backend_encoding framing.encoded writing.u32
 accepted_encodes = (82 ∷ 0 ∷ 0 ∷ 0 ∷ 8 ∷ 0 ∷ 0 ∷ 0 ∷ 0 ∷ [], refl)
 
-ready_encodes : Encodes ready
+ready_encodes : Encodes login_ready
 unfolding backend_encoding framing.encoded writing.u32
 ready_encodes = (90 ∷ 0 ∷ 0 ∷ 0 ∷ 5 ∷ 73 ∷ [], refl)
 
@@ -315,7 +315,7 @@ accepted_small waiting text final is =
 -- ---- all of it
 
 module _ (generator : TableId) (input : PairInput) (sound : IsSoundInput input) where
-  abbrev knowing : (waiting : WaitingForClientFinal) → Drawn (proved_at (before_final generator input waiting)) → Client
+  abbrev knowing : (waiting : WaitingForClientFinal) → Drawn (proved_at (before_final generator input waiting)) → LoginClient
   knowing waiting d = known_by (proved_at (before_final generator input waiting)) d
 
   metadata_plain : Opens generator input → AllPlain (fold (λ m p. finite.insert m p.0 p.1) finite.empty (finite.entries (startup_parameters (client_input input))))
@@ -328,18 +328,18 @@ module _ (generator : TableId) (input : PairInput) (sound : IsSoundInput input) 
 
   pub tells_all : Opens generator input → (waiting : WaitingForClientFinal) (d : Drawn (proved_at (before_final generator input waiting))) → AllEncode (introduction (knowing waiting d) (Some (default_parameters default_provider (knowing waiting d))))
   tells_all opens waiting d =
-      (accepted_encodes, all_join (map status_of (finite.entries (default_parameters default_provider (knowing waiting d)))) (key_data (knowing waiting d) ∷ []) (statuses_encode (finite.entries (default_parameters default_provider (knowing waiting d))) (parameters_plain opens waiting d)) (key_encodes (pos d.number) _ (pid_fits d.number d.low) sound.key, tt))
+      (accepted_encodes, all_join (map status_message (finite.entries (default_parameters default_provider (knowing waiting d)))) (key_data (knowing waiting d) ∷ []) (statuses_encode (finite.entries (default_parameters default_provider (knowing waiting d))) (parameters_plain opens waiting d)) (key_encodes (pos d.number) _ (pid_fits d.number d.low) sound.key, tt))
 
   pub greets_all : Opens generator input → GreetsAll generator input
   greets_all opens waiting d =
-      (accepted_greets, greets_join (map status_of (finite.entries (default_parameters default_provider (knowing waiting d)))) (key_data (knowing waiting d) ∷ []) (statuses_greet (finite.entries (default_parameters default_provider (knowing waiting d))) (parameters_plain opens waiting d)) (key_greets (pos d.number) _ (pid_fits d.number d.low) sound.key, tt))
+      (accepted_greets, greets_join (map status_message (finite.entries (default_parameters default_provider (knowing waiting d)))) (key_data (knowing waiting d) ∷ []) (statuses_greet (finite.entries (default_parameters default_provider (knowing waiting d))) (parameters_plain opens waiting d)) (key_greets (pos d.number) _ (pid_fits d.number d.low) sound.key, tt))
 
   pub is_able : CanDraw (unused generator 100000) → Opens generator input → IsAble generator input
   is_able draws opens = record {
     draws = draws;
     finals = λ waiting text final acc. can_send (final_with final ∷ []) (final_encodes final (accepted_small waiting text final acc), tt);
     tells = λ waiting d. can_send (introduction (knowing waiting d) (Some (default_parameters default_provider (knowing waiting d)))) (tells_all opens waiting d);
-    readies = can_send (ready ∷ []) (ready_encodes, tt);
+    readies = can_send (login_ready ∷ []) (ready_encodes, tt);
   }
 
   pub startup_sound : IsSoundFrontend (frontend.Startup (startup_of input))

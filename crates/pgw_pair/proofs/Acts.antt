@@ -7,17 +7,17 @@ use Rattle.pgw_backend.specs.declared.backend.PgWireBackendMessage.{PgWireBacken
 use Rattle.pgw_frontend.specs.declared.frontend.PgWireFrontendMessage.TheVariants as frontend
 use Rattle.pgw_types.specs.declared.error.PgWireError.TheVariants.{OutOfMemory}
 use Rattle.pgw_types.specs.declared.context.ProtocolVersion.TheVariants.{PROTOCOL3_0}
-use Rattle.pgw_login.specs.Client.{Client, with_version, with_metadata, with_state}
+use Rattle.pgw_login.specs.Client.{LoginClient, with_version, with_metadata, with_state}
 use Rattle.pgw_login.specs.declared.client_info.PgWireConnectionState.TheVariants.{AuthenticationInProgress}
-use Rattle.pgw_login.specs.Acts.{Standing, Answer, Then, halts, goes, Refuses, OrNoMemory, Sets, Sends, Starts, StartsFrom, StartsAt, is_initial, with_started}
-use Rattle.pgw_login.specs.Opening.{Begins, Opens, Negotiates, Settles, negotiation, by_minor, told, saved, Saves}
+use Rattle.pgw_login.specs.Acts.{Standing, Answer, Then, halts, goes, LoginRefuses, OrNoMemory, Sets, Sends, StartsLogin, StartsFrom, StartsLoginAt, is_initial, with_started}
+use Rattle.pgw_login.specs.Opening.{BeginsLogin, Opens, Negotiates, LoginSettlesVersion, negotiation, by_minor, offered_messages, saved, Saves}
 use Rattle.pgw_sasl.specs.Sasl.{Offers, sasl_request}
 use Rattle.pgw_pair.specs.declared.parties.PairInput.{PairInput}
 use Rattle.pgw_pair.specs.Server.{Means, methods}
 
 -- behind the startup message
 
-abbrev opened_client : Startup → Client → Client
+abbrev opened_client : Startup → LoginClient → LoginClient
 opened_client s c = with_state AuthenticationInProgress (with_metadata (saved c.metadata s.parameters) (with_version PROTOCOL3_0 c))
 
 abbrev pub opened : Startup → Standing → Standing
@@ -53,7 +53,7 @@ then_err first next before after sent answer e (goes b mid a front back r x y) i
 -- ---- the startup message
 
 -- an act that is one of two, and went well, was the second
-pub not_refused : (act : Act) (e : PgWireError) (before after : Standing) (sent : List Backend) → Refuses e before after sent (Ok tt) ⊎ act before after sent (Ok tt) → act before after sent (Ok tt)
+pub not_refused : (act : Act) (e : PgWireError) (before after : Standing) (sent : List Backend) → LoginRefuses e before after sent (Ok tt) ⊎ act before after sent (Ok tt) → act before after sent (Ok tt)
 not_refused act e before after sent (inl h) = absurd (ok_is_no_error {e = e} h.2 refl)
 not_refused act e before after sent (inr h) = h
 
@@ -61,7 +61,7 @@ started_from : (b : Bool) (before after : Standing) (sent : List Backend) → St
 started_from true before after sent h = (h.0, h.1)
 started_from false before after sent h = absurd (let z = h.2 in cc)
 
-started_by : (b : Bool) (before after : Standing) (sent : List Backend) → b ≡ false → StartsAt b before after sent (Ok tt) → (after ≡ record before { login = with_started before.login }) × (sent ≡ [])
+started_by : (b : Bool) (before after : Standing) (sent : List Backend) → b ≡ false → StartsLoginAt b before after sent (Ok tt) → (after ≡ record before { login = with_started before.login }) × (sent ≡ [])
 started_by true before after sent is h = absurd (let z = is in cc)
 started_by false before after sent is h = started_from (is_initial (before.login).sasl) before after sent h
 
@@ -82,14 +82,14 @@ nothing xs ys a b = ap (λ (l : List _). l ++ ys) a ∙ b
 
 version_set : (s : Startup) (before after : Standing) (sent : List Backend) → negotiation s ≡ Ok (by_minor 0) → Negotiates s before after sent (Ok tt) → (after ≡ at_version before) × (sent ≡ [])
 version_set s before after sent is h =
-    let e = then_ok (Sends (told None)) (Sets (with_version PROTOCOL3_0)) before after sent (Ok tt) (subst (λ r. Settles r before after sent (Ok tt)) is h) refl in
+    let e = then_ok (Sends (offered_messages None)) (Sets (with_version PROTOCOL3_0)) before after sent (Ok tt) (subst (λ r. LoginSettlesVersion r before after sent (Ok tt)) is h) refl in
     (e.two.0 ∙ ap at_version e.one.0, e.all ∙ nothing e.front e.back e.one.1 e.two.1)
 
 pub begun_ok : (s : Startup) (before after : Standing) (sent : List Backend) → s.protocol_number_major ≡ 3 → s.protocol_number_minor ≡ 0 → (before.login).started ≡ false → Opens s before after sent (Ok tt)
     → (after ≡ opened s before) × (sent ≡ [])
 begun_ok s before after sent major minor new h =
-    let b = then_ok (Begins s) (Sets (with_state AuthenticationInProgress)) before after sent (Ok tt) h refl in
-    let c = then_ok Starts (Then (Negotiates s) (Saves s)) before b.mid b.front (Ok tt) b.one refl in
+    let b = then_ok (BeginsLogin s) (Sets (with_state AuthenticationInProgress)) before after sent (Ok tt) h refl in
+    let c = then_ok StartsLogin (Then (Negotiates s) (Saves s)) before b.mid b.front (Ok tt) b.one refl in
     let d = then_ok (Negotiates s) (Saves s) c.mid b.mid c.back (Ok tt) c.two refl in
     let st = started_by (before.login).started before c.mid c.front new c.one in
     let ve = version_set s c.mid d.mid d.front (settled_by s major minor) d.one in
@@ -120,20 +120,20 @@ sent_err due before after sent e calm still (m, rest, cut, left, not_taken) = el
   | inr why ↦ (m, rest, cut, left ∙ ap (λ (n : ℕ). record before { faults = n }) (still ∙ sym calm), why)
 ]
 
-pub never_sets : (f : Client → Client) (before after : Standing) (sent : List Backend) (e : PgWireError) → Sets f before after sent (Err e) → ⊥
+pub never_sets : (f : LoginClient → LoginClient) (before after : Standing) (sent : List Backend) (e : PgWireError) → Sets f before after sent (Err e) → ⊥
 never_sets f before after sent e h = ok_is_no_error {e = e} refl h.2
 
 starts_from_err : (b : Bool) (before after : Standing) (sent : List Backend) (e : PgWireError) → b ≡ true → StartsFrom b before after sent (Err e) → ⊥
 starts_from_err true before after sent e fresh h = ok_is_no_error {e = e} refl h.2
 starts_from_err false before after sent e fresh h = let z = fresh in cc
 
-started_err : (b : Bool) (before after : Standing) (sent : List Backend) (e : PgWireError) → b ≡ false → is_initial (before.login).sasl ≡ true → StartsAt b before after sent (Err e) → ⊥
+started_err : (b : Bool) (before after : Standing) (sent : List Backend) (e : PgWireError) → b ≡ false → is_initial (before.login).sasl ≡ true → StartsLoginAt b before after sent (Err e) → ⊥
 started_err true before after sent e is fresh h = let z = is in cc
 started_err false before after sent e is fresh h = starts_from_err (is_initial (before.login).sasl) before after sent e fresh h
 
 version_err : (s : Startup) (before after : Standing) (sent : List Backend) (e : PgWireError) → negotiation s ≡ Ok (by_minor 0) → Negotiates s before after sent (Err e) → ⊥
 version_err s before after sent e is h =
-    elim (then_err (Sends (told None)) (Sets (with_version PROTOCOL3_0)) before after sent (Err e) e (subst (λ r. Settles r before after sent (Err e)) is h) refl) [
+    elim (then_err (Sends (offered_messages None)) (Sets (with_version PROTOCOL3_0)) before after sent (Err e) e (subst (λ r. LoginSettlesVersion r before after sent (Err e)) is h) refl) [
       | inl k ↦ no_front sent k.0 k.1 k.2
       | inr w ↦ never_sets (with_version PROTOCOL3_0) w.mid after w.back e w.two
     ]
@@ -142,9 +142,9 @@ pub or_memory : (act : Act) (before after : Standing) (sent : List Backend) (e :
 or_memory act before after sent e (inl h) = inl (err_is h.2)
 or_memory act before after sent e (inr h) = inr h
 
-begins_err : (s : Startup) (before after : Standing) (sent : List Backend) (e : PgWireError) → s.protocol_number_major ≡ 3 → s.protocol_number_minor ≡ 0 → (before.login).started ≡ false → is_initial (before.login).sasl ≡ true → Begins s before after sent (Err e) → e ≡ OutOfMemory
+begins_err : (s : Startup) (before after : Standing) (sent : List Backend) (e : PgWireError) → s.protocol_number_major ≡ 3 → s.protocol_number_minor ≡ 0 → (before.login).started ≡ false → is_initial (before.login).sasl ≡ true → BeginsLogin s before after sent (Err e) → e ≡ OutOfMemory
 begins_err s before after sent e major minor new fresh h =
-    elim (then_err Starts (Then (Negotiates s) (Saves s)) before after sent (Err e) e h refl) [
+    elim (then_err StartsLogin (Then (Negotiates s) (Saves s)) before after sent (Err e) e h refl) [
       | inl k ↦ absurd (started_err (before.login).started before after sent e new fresh k)
       | inr w ↦ elim (then_err (Negotiates s) (Saves s) w.mid after w.back (Err e) e w.two refl) [
         | inl k ↦ absurd (version_err s w.mid after w.back e (settled_by s major minor) k)
@@ -157,7 +157,7 @@ begins_err s before after sent e major minor new fresh h =
 
 pub opens_err : (s : Startup) (before after : Standing) (sent : List Backend) (e : PgWireError) → s.protocol_number_major ≡ 3 → s.protocol_number_minor ≡ 0 → (before.login).started ≡ false → is_initial (before.login).sasl ≡ true → Opens s before after sent (Err e) → e ≡ OutOfMemory
 opens_err s before after sent e major minor new fresh h =
-    elim (then_err (Begins s) (Sets (with_state AuthenticationInProgress)) before after sent (Err e) e h refl) [
+    elim (then_err (BeginsLogin s) (Sets (with_state AuthenticationInProgress)) before after sent (Err e) e h refl) [
       | inl k ↦ begins_err s before after sent e major minor new fresh k
       | inr w ↦ absurd (never_sets (with_state AuthenticationInProgress) w.mid after w.back e w.two)
     ]

@@ -13,7 +13,7 @@ use Rattle.pgw_frontend.specs.declared.frontend.PgWireFrontendMessage.{PgWireFro
 use Rattle.pgw_frontend.specs.declared.frontend.PgWireFrontendMessage.TheVariants as frontend
 use Rattle.pgw_config.specs.declared.config.Config.{Config}
 use Rattle.pgw_course.specs.Course.{Course, Waits, Over, sent_of}
-use Rattle.pgw_server.specs.Server.{Stage, Ending as ServerEnding}
+use Rattle.pgw_server.specs.Server.{Stage, ServerEnding}
 use Rattle.pgw_session.specs.declared.standing.Standing.{Standing as Told}
 use Rattle.pgw_session.specs.Events.{Event as Said, Sent, Got, sents}
 use Rattle.pgw_session.specs.Machine.{Complete, error_of}
@@ -29,7 +29,7 @@ use Rattle.pgw_pair.specs.declared.parties.ClientEnd.TheVariants as of_client
 use Rattle.pgw_pair.specs.declared.parties.ServerEnd.{ServerEnd}
 use Rattle.pgw_pair.specs.declared.parties.ServerEnd.TheVariants as of_server
 use Rattle.pgw_pair.specs.World.{client_config, client_input, client_login, most, talk}
-use Rattle.pgw_pair.specs.Parties.{events_in, gots, information_of, client_by, server_end, Exchanged, proof_due, verifier_due, SaysVerifier, IsBoundTo, ServerCause, HaveDifferentHashes, ShareAPassword, AreHonest, HasTakenAll, is_refused_client, is_refused_server, Pairs, TwoParty, heard_in, said_in}
+use Rattle.pgw_pair.specs.Parties.{events_in, gots, information_of, client_by, server_end, PartyTexts, proof_due, verifier_due, SaysVerifier, IsBoundTo, ServerCause, HaveDifferentHashes, ShareAPassword, AreHonestParties, HasTakenAll, is_refused_client, is_refused_server, Pairs, TwoParty, heard_in, said_in}
 use Rattle.pgw_pair.specs.Parties.{server_over}
 use Rattle.pgw_pair.specs.Sound.{IsSoundInput}
 use Rattle.pgw_pair.proofs.Bound.{written, same_text}
@@ -40,7 +40,7 @@ use Rattle.pgw_pair.proofs.Firsts.{continue_with}
 use Rattle.pgw_pair.proofs.Finals.{final_with}
 use Rattle.pgw_scram.specs.Exchange.{signature}
 use Rattle.pgw_scram.specs.Formulas.{auth_message, server_signature}
-use Rattle.pgw_scram.specs.Refusals.{final_refusal}
+use Rattle.pgw_scram.specs.Refusals.{scram_refusal}
 use Rattle.pgw_backend.specs.ClientError.{of_scram}
 use Rattle.std.specs.Prelude.{codes, option_map}
 use Rattle.pgw_pair.proofs.Misbound.{different_hashes}
@@ -165,21 +165,21 @@ module _ (input : PairInput) (o : PairOutcome) (p : Pairs input o) (small : leng
     done_so ending out at whole = end_by (Ok phase.Done) (done_here input (take o.taken_by_client o.to_client) taken_length course refl ending out at whole)
 
     -- the verifier that was said is the one that the client awaits
-    trusted_by : (x : Exchanged input heard said) → SaysVerifier x → Trusts p.generator input said → signature (client_login input) x.offer ≡ verifier_due x
+    trusted_by : (x : PartyTexts input heard said) → SaysVerifier x → Trusts p.generator input said → signature (client_login input) x.offer ≡ verifier_due x
     trusted_by x (more, says) (head, first, final, rest, is, verified) =
         let same = said_same (sym x.said_are ∙ is) says in
         verifier_same (server_signature (input.stored).password (auth_message (x.opening).bare x.offer (x.closing).without_proof)) (signature (client_login input) x.offer)
-        (ap (λ (f : List ℕ). final_refusal (signature (client_login input) f) (codes "v=" ++ verifier_due x)) same.0 ∙ ap (final_refusal (signature (client_login input) first)) same.1
-        ∙ none_mapped of_scram (final_refusal (signature (client_login input) first) final) verified)
+        (ap (λ (f : List ℕ). scram_refusal (signature (client_login input) f) (codes "v=" ++ verifier_due x)) same.0 ∙ ap (scram_refusal (signature (client_login input) first)) same.1
+        ∙ none_mapped of_scram (scram_refusal (signature (client_login input) first) final) verified)
 
-    finished_by : ServerAt p.generator input o.server heard said → o.server ≡ of_server.Finished → (x : Exchanged input heard said) × ((x.closing).proof ≡ proof_due x) × SaysVerifier x
+    finished_by : ServerAt p.generator input o.server heard said → o.server ≡ of_server.Finished → (x : PartyTexts input heard said) × ((x.closing).proof ≡ proof_due x) × SaysVerifier x
     finished_by (waiting at) is = absurd (waiting_not_finished (sym at ∙ is))
     finished_by (lost why at cause other) is = absurd (refused_not_finished (sym at ∙ is))
     finished_by (finished at x proof says own) is = (x, proof, says)
 
     ready_by : ServerAt p.generator input o.server heard said → Here → (information : ServerInformation) → o.client ≡ of_client.Ready information
         → (o.server ≡ of_server.Finished) × (information ≡ information_of (standing_of (client_config input) (map Got said)))
-        × (x : Exchanged input heard said) × ((x.closing).proof ≡ proof_due x) × SaysVerifier x × (signature (client_login input) x.offer ≡ verifier_due x)
+        × (x : PartyTexts input heard said) × ((x.closing).proof ≡ proof_due x) × SaysVerifier x × (signature (client_login input) x.offer ≡ verifier_due x)
     ready_by server (waiting t out pending at none short) information is = absurd (not_ready (sym (waits_so t out pending at none) ∙ is))
     ready_by server (lost t outcome e out at why cause) information is = absurd (not_refused (sym (refused_so (record { notes = t; outcome = outcome }) out e at why) ∙ is))
     ready_by server (won t out at gots_are ended trusts) information is =
@@ -194,7 +194,7 @@ module _ (input : PairInput) (o : PairOutcome) (p : Pairs input o) (small : leng
         )
 
     -- the client wrote the text of its hash, and the server took that of its own
-    bound_by : IsSoundInput input → ServerAt p.generator input o.server heard said → (hash own : List ℕ) → input.client_hash ≡ Some hash → input.server_hash ≡ Some own → o.server ≡ of_server.Finished → (hash ≡ own) × ((x : Exchanged input heard said) × IsBoundTo own x)
+    bound_by : IsSoundInput input → ServerAt p.generator input o.server heard said → (hash own : List ℕ) → input.client_hash ≡ Some hash → input.server_hash ≡ Some own → o.server ≡ of_server.Finished → (hash ≡ own) × ((x : PartyTexts input heard said) × IsBoundTo own x)
     bound_by sound (waiting at) hash own client server is = absurd (waiting_not_finished (sym at ∙ is))
     bound_by sound (lost why at cause other) hash own client server is = absurd (refused_not_finished (sym at ∙ is))
     bound_by sound (finished at x proof says bound) hash own client server is =
@@ -206,7 +206,7 @@ module _ (input : PairInput) (o : PairOutcome) (p : Pairs input o) (small : leng
     misbound_by (lost why at cause other) is = different_hashes p.generator input why cause (refused_is (sym at ∙ is))
     misbound_by (finished at x proof says own) is = absurd (finished_not_refused (sym at ∙ is))
 
-    password_by : ServerAt p.generator input o.server heard said → (user : List ℕ) → o.server ≡ of_server.Refused (InvalidPassword user) → (x : Exchanged input heard said) × ((x.closing).proof ≢ proof_due x)
+    password_by : ServerAt p.generator input o.server heard said → (user : List ℕ) → o.server ≡ of_server.Refused (InvalidPassword user) → (x : PartyTexts input heard said) × ((x.closing).proof ≢ proof_due x)
     password_by (waiting at) user is = absurd (waiting_not_refused (sym at ∙ is))
     password_by (lost why at cause other) user is = other user (refused_is (sym at ∙ is))
     password_by (finished at x proof says own) user is = absurd (finished_not_refused (sym at ∙ is))
@@ -255,7 +255,7 @@ module _ (input : PairInput) (o : PairOutcome) (p : Pairs input o) (small : leng
       → (ShareAPassword input → ((e : ClientError) → ClientCause p.generator input e → ⊥) × ((why : PgWireError) → ServerCause input why → (why ≡ InvalidScramMessage fault.ChannelBinding) × HaveDifferentHashes input)) → TwoParty input o
   agree able all sound fits share =
       let r = place able all sound in
-      let no_server : AreHonest input → (why : PgWireError) → ServerCause input why → ⊥ = λ h why cause. h.1 ((share h.0).1 why cause).1 in (
+      let no_server : AreHonestParties input → (why : PgWireError) → ServerCause input why → ⊥ = λ h why cause. h.1 ((share h.0).1 why cause).1 in (
         p,
         record {
           sent = ap (λ (es : List Said). client_encodings (sents es)) r.events_are ∙ r.sent;

@@ -5,7 +5,7 @@ use Rattle.std.proofs.lemmas.Bool.{and_parts, ltb-true}
 use Rattle.base64.specs.GeneralPurpose.{IsBytes}
 use Rattle.pgw_config.specs.declared.config.ChannelBinding.TheVariants as channel_binding
 use Rattle.pgw_scram.specs.Base64.{base64, salt_of}
-use Rattle.pgw_scram.specs.Binding.{header, binding_text}
+use Rattle.pgw_scram.specs.Binding.{gs2_header, binding_text}
 use Rattle.pgw_scram.specs.Offers.{bound, is_misbound}
 use Rattle.pgw_scram.proofs.HonestLaws.{salt_is}
 use Rattle.pgw_sasl.specs.Methods.{bound_methods}
@@ -23,21 +23,21 @@ pub login_bound : (input : PairInput) → (client_login input).binding ≡ bound
 login_bound input = bound_by input.client_hash input.server_hash
 
 -- where both have a hash, the server awaits the text of its own, and the client writes that of its own
-pub awaited : (input : PairInput) (hash own : List ℕ) → input.client_hash ≡ Some hash → input.server_hash ≡ Some own → base64 (bound (header (bound_to input)) input.server_hash) ≡ base64 (codes "p=tls-server-end-point,," ++ own)
-awaited input hash own client server = λ i. base64 (bound (header (binding_between (client i) (server i))) (server i))
+pub awaited : (input : PairInput) (hash own : List ℕ) → input.client_hash ≡ Some hash → input.server_hash ≡ Some own → base64 (bound (gs2_header (bound_to input)) input.server_hash) ≡ base64 (codes "p=tls-server-end-point,," ++ own)
+awaited input hash own client server = λ i. base64 (bound (gs2_header (binding_between (client i) (server i))) (server i))
 
 pub written : (input : PairInput) (hash own : List ℕ) → input.client_hash ≡ Some hash → input.server_hash ≡ Some own → binding_text (bound_to input) ≡ base64 (codes "p=tls-server-end-point,," ++ hash)
 written input hash own client server = λ i. binding_text (binding_between (client i) (server i))
 
 -- where these texts differ, both have a hash
-pub differ_by : (hash own : Option (List ℕ)) → (binding_text (binding_between hash own) ≢ base64 (bound (header (binding_between hash own)) own)) → (h : List ℕ) × (o : List ℕ) × (hash ≡ Some h) × (own ≡ Some o) × (h ≢ o)
+pub differ_by : (hash own : Option (List ℕ)) → (binding_text (binding_between hash own) ≢ base64 (bound (gs2_header (binding_between hash own)) own)) → (h : List ℕ) × (o : List ℕ) × (hash ≡ Some h) × (own ≡ Some o) × (h ≢ o)
 differ_by None None other = absurd (other refl)
 differ_by None (Some o) other = absurd (other refl)
 differ_by (Some h) None other = absurd (other refl)
 differ_by (Some h) (Some o) other = (h, o, refl, refl, λ same. other (ap (λ (l : List ℕ). base64 (codes "p=tls-server-end-point,," ++ l)) same))
 
 -- what the client says of binding suits the server
-pub suits_by : (hash own : Option (List ℕ)) → is_misbound own (header (binding_between hash own)) ≡ false
+pub suits_by : (hash own : Option (List ℕ)) → is_misbound own (gs2_header (binding_between hash own)) ≡ false
 suits_by None None = refl
 suits_by None (Some o) = refl
 suits_by (Some h) None = refl

@@ -6,7 +6,7 @@ use Rattle.pgw_backend.specs.declared.client_error.PgWireClientError.{PgWireClie
 use Rattle.pgw_backend.specs.declared.client_error.PgWireClientError.TheVariants as client
 use Rattle.pgw_frontend.specs.Frontend.{encodings}
 use Rattle.pgw_course.specs.Course.{Waits, Over, run, sent_of}
-use Rattle.pgw_session.specs.Events.{Event as Said, joined}
+use Rattle.pgw_session.specs.Events.{Event as Said, all_events}
 use Rattle.pgw_session.specs.Input.{Input, input_with}
 use Rattle.pgw_session.specs.Machine.{Complete, Unencoded}
 use Rattle.pgw_session.specs.Segments.{startup_message}
@@ -33,8 +33,8 @@ use Rattle.pgw_pair.specs.declared.client_side.ClientSide.{ClientSide}
 use Rattle.pgw_pair.specs.declared.parties.PairInput.{PairInput}
 use Rattle.pgw_pair.specs.declared.parties.ClientEnd.TheVariants as of_client
 use Rattle.pgw_pair.specs.Parties.{client_by, client_end, events_in, information_of}
-use Rattle.pgw_pair.specs.Sides.{ClientAt, ClientTook, IsGoing, Keeps}
-use Rattle.pgw_pair.specs.World.{client_config, client_input, handed, most, next, talk}
+use Rattle.pgw_pair.specs.Sides.{ClientAt, ClientTook, IsGoing, PartyStands}
+use Rattle.pgw_pair.specs.World.{client_config, client_input, handed, most, party_bytes, talk}
 use Rattle.pgw_pair.proofs.ClientRungs.{never_starts, over_by, started}
 use Rattle.pgw_pair.proofs.Events.{client_takes}
 use Rattle.pgw_pair.proofs.Meets.{piece_taken}
@@ -63,43 +63,43 @@ module _ (input : PairInput) where
 
   pub refused_took : (side : ClientSide) (bytes : List ℕ) (count : ℕ) (e : ClientError) → side.dialogue ≡ Err e → ClientAt input side (take side.taken bytes) → ClientTook input side side bytes count
   refused_took side bytes count e is at =
-      let kept : Keeps input (Err e) side.phase (take side.taken bytes) (side.out).items = subst (λ x. Keeps input x side.phase (take side.taken bytes) (side.out).items) is at.keeps in
-      let none : length (handed (answer_to given most (take side.taken bytes)) (next count side.taken bytes)) ≡ 0 = ap (λ (r : Result DialoguePhase ClientError). length (handed r (next count side.taken bytes))) kept.0 in
+      let kept : PartyStands input (Err e) side.phase (take side.taken bytes) (side.out).items = subst (λ x. PartyStands input x side.phase (take side.taken bytes) (side.out).items) is at.keeps in
+      let none : length (handed (answer_to given most (take side.taken bytes)) (party_bytes count side.taken bytes)) ≡ 0 = ap (λ (r : Result DialoguePhase ClientError). length (handed r (party_bytes count side.taken bytes))) kept.0 in
       record { taken = omega (arith, none); is_at = at }
 
   -- where its dialogue's call answered this
-  module _ (old new : ClientSide) (bytes : List ℕ) (count : ℕ) (d after : Dialogue) (answer : Result DialoguePhase ClientError) (piece : List ℕ) (is_next : piece ≡ next count old.taken bytes) (long : old.taken ≤ length bytes) (here : old.dialogue ≡ Ok d) (going : IsBehind d (Ok old.phase))
+  module _ (old new : ClientSide) (bytes : List ℕ) (count : ℕ) (d after : Dialogue) (answer : Result DialoguePhase ClientError) (piece : List ℕ) (is_next : piece ≡ party_bytes count old.taken bytes) (long : old.taken ≤ length bytes) (here : old.dialogue ≡ Ok d) (going : IsBehind d (Ok old.phase))
       (takes : Takes d after piece (old.out).items (new.out).items answer) (starved : IsStarved after → IsStarved d ⊎ (answer ≡ Err client.OutOfMemory)) (ample : answer ≢ Err client.OutOfMemory)
       (taken : new.taken ≡ old.taken + length piece) (at : ClientAt input old (take old.taken bytes)) where
     abbrev before : List ℕ
     before = take old.taken bytes
 
-    kept : Keeps input (Ok d) old.phase before (old.out).items
-    kept = subst (λ x. Keeps input x old.phase before (old.out).items) here at.keeps
+    kept : PartyStands input (Ok d) old.phase before (old.out).items
+    kept = subst (λ x. PartyStands input x old.phase before (old.out).items) here at.keeps
 
     all : take new.taken bytes ≡ before ++ piece
     all = ap (λ n. take n bytes) taken ∙ piece_taken old.taken bytes piece long (count, is_next)
 
-    took_taken : new.taken ≡ old.taken + length (handed (answer_to given most before) (next count old.taken bytes))
-    took_taken = taken ∙ ap (λ (l : List ℕ). old.taken + length l) is_next ∙ ap (λ (r : Result DialoguePhase ClientError). old.taken + length (handed r (next count old.taken bytes))) (sym kept.1)
+    took_taken : new.taken ≡ old.taken + length (handed (answer_to given most before) (party_bytes count old.taken bytes))
+    took_taken = taken ∙ ap (λ (l : List ℕ). old.taken + length l) is_next ∙ ap (λ (r : Result DialoguePhase ClientError). old.taken + length (handed r (party_bytes count old.taken bytes))) (sym kept.1)
 
-    took_at : ((put : List ℕ) → Stands given most after (before ++ piece) put → answer ≡ answer_to given most (before ++ piece) → Keeps input new.dialogue new.phase (before ++ piece) put) → ClientAt input new (before ++ piece)
+    took_at : ((put : List ℕ) → Stands given most after (before ++ piece) put → answer ≡ answer_to given most (before ++ piece) → PartyStands input new.dialogue new.phase (before ++ piece) put) → ClientAt input new (before ++ piece)
     took_at keeps =
         let t = client_takes given most d after before (old.out).items piece (old.out).items (new.out).items answer kept.0 (not_broken d old.phase going) takes starved ample in
         record {
           sent = takes.puts ∙ t.sent;
           tells = subst (λ (l : List ℕ). Tells given most (before ++ piece) l (answer_to given most (before ++ piece))) (sym takes.puts) (subst (Tells given most (before ++ piece) ((old.out).items ++ takes.out)) t.answer t.tells);
-          keeps = subst (Keeps input new.dialogue new.phase (before ++ piece)) (sym takes.puts) (keeps ((old.out).items ++ takes.out) t.stands t.answer);
+          keeps = subst (PartyStands input new.dialogue new.phase (before ++ piece)) (sym takes.puts) (keeps ((old.out).items ++ takes.out) t.stands t.answer);
         }
 
-    took_by : ((put : List ℕ) → Stands given most after (before ++ piece) put → answer ≡ answer_to given most (before ++ piece) → Keeps input new.dialogue new.phase (before ++ piece) put) → ClientTook input old new bytes count
+    took_by : ((put : List ℕ) → Stands given most after (before ++ piece) put → answer ≡ answer_to given most (before ++ piece) → PartyStands input new.dialogue new.phase (before ++ piece) put) → ClientTook input old new bytes count
     took_by keeps = record { taken = took_taken; is_at = subst (ClientAt input new) (sym all) (took_at keeps) }
 
     pub took_ok : (p : DialoguePhase) → answer ≡ Ok p → new.dialogue ≡ Ok after → new.phase ≡ p → ClientTook input old new bytes count
-    took_ok p is there now = took_by (λ put stands same. subst (λ x. Keeps input x new.phase (before ++ piece) put) (sym there) (stands, sym same ∙ is ∙ ap Ok (sym now)))
+    took_ok p is there now = took_by (λ put stands same. subst (λ x. PartyStands input x new.phase (before ++ piece) put) (sym there) (stands, sym same ∙ is ∙ ap Ok (sym now)))
 
     pub took_err : (e : ClientError) → answer ≡ Err e → new.dialogue ≡ Err e → ClientTook input old new bytes count
-    took_err e is there = took_by (λ put stands same. subst (λ x. Keeps input x new.phase (before ++ piece) put) (sym there) (sym same ∙ is, λ lacks. ample (is ∙ ap Err lacks)))
+    took_err e is there = took_by (λ put stands same. subst (λ x. PartyStands input x new.phase (before ++ piece) put) (sym there) (sym same ∙ is, λ lacks. ample (is ∙ ap Err lacks)))
 
   -- ---- the beginning
 
@@ -122,7 +122,7 @@ module _ (input : PairInput) where
         sent = puts ∙ sym (ap sent_of talks);
         tells = subst (λ (l : List ℕ). Tells given most [] l (answer_to given most [])) (sym puts) (subst (Tells given most [] put) (waits_on (most - 0) (omega arith) ∙ sym answers)
             (waiting_tells given most [] put [] (started input) (most - 0) 0 talks refl (λ full. absurd (omega (arith, full)))));
-        keeps = subst (λ (l : List ℕ). Keeps input side.dialogue side.phase [] l) (sym puts) (subst (λ x. Keeps input x side.phase [] put) (sym is) (stands, answers ∙ ap Ok (sym now)));
+        keeps = subst (λ (l : List ℕ). PartyStands input side.dialogue side.phase [] l) (sym puts) (subst (λ x. PartyStands input x side.phase [] put) (sym is) (stands, answers ∙ ap Ok (sym now)));
       }
 
   unsent : (side : ClientSide) (e : ClientError) (why : PgWireError) → side.dialogue ≡ Err e → e ≢ client.OutOfMemory → (side.out).items ≡ [] → e ≡ client.PgWireError why → encodings (startup_message given ∷ []) ≡ Err why → ClientAt input side []
@@ -133,7 +133,7 @@ module _ (input : PairInput) where
         sent = puts ∙ sym (ap sent_of talks);
         tells = subst (λ (l : List ℕ). Tells given most [] l (answer_to given most [])) (sym puts) (subst (Tells given most [] []) (sym answers)
             (ended_as given most [] [] (over_by (between []) (Unencoded why)) (Unencoded why) e talks refl (ap Some (sym same))));
-        keeps = subst (λ x. Keeps input x side.phase [] (side.out).items) (sym is) (answers, ample);
+        keeps = subst (λ x. PartyStands input x side.phase [] (side.out).items) (sym is) (answers, ample);
       }
 
   pub begun_err : (side : ClientSide) (e : ClientError) → side.dialogue ≡ Err e → e ≢ client.OutOfMemory → Starts given most [] (side.out).items (Err e) → ClientAt input side []
@@ -167,35 +167,35 @@ module _ (input : PairInput) where
   told_in r = record { parameters = r.parameters; process_id = r.process_id; secret_key = r.secret_key }
 
   -- a whole conversation has neither a segment open nor a message passed over
-  whole_heard : (taken put : List ℕ) (t : Talk) → conversation given taken ≡ Over (over_by t Complete) put → heard_of t ≡ joined t.closed
+  whole_heard : (taken put : List ℕ) (t : Talk) → conversation given taken ≡ Over (over_by t Complete) put → heard_of t ≡ all_events t.closed
   whole_heard taken put t is =
       let final = subst (SoundAt given taken) is (conversation_sound given taken) in
       let cause = final.cause in
-      sym (clean_heard t cause.2) ∙ ap (λ (o : List Said). joined t.closed ++ o) cause.1 ∙ append-nil (joined t.closed)
+      sym (clean_heard t cause.2) ∙ ap (λ (o : List Said). all_events t.closed ++ o) cause.1 ∙ append-nil (all_events t.closed)
 
-  told_report : (closed : List (List Said)) → told_in (report_of given closed) ≡ information_of (standing_of (client_config input) (joined closed))
+  told_report : (closed : List (List Said)) → told_in (report_of given closed) ≡ information_of (standing_of (client_config input) (all_events closed))
   unfolding report_of
   told_report closed = refl
 
-  pub ended_done : (taken put : List ℕ) (d : Dialogue) (report : SessionReport) → IsDone d → Keeps input (Ok d) phase.Done taken put → report ≡ report_at d.notes → of_client.Ready (told_in report) ≡ client_end input taken
+  pub ended_done : (taken put : List ℕ) (d : Dialogue) (report : SessionReport) → IsDone d → PartyStands input (Ok d) phase.Done taken put → report ≡ report_at d.notes → of_client.Ready (told_in report) ≡ client_end input taken
   ended_done taken put d report done kept is =
       let s : StandsIn state.Done d given most taken put = subst (λ x. StandsIn x d given most taken put) done (kept.0).stands in
-      let heard : events_in (talk input taken) ≡ joined (s.0).closed = ap events_in s.1 ∙ whole_heard (taken_of most taken) put s.0 s.1 in
+      let heard : events_in (talk input taken) ≡ all_events (s.0).closed = ap events_in s.1 ∙ whole_heard (taken_of most taken) put s.0 s.1 in
       ap of_client.Ready (ap told_in (is ∙ s.2) ∙ told_report (s.0).closed ∙ ap (λ (es : List Said). information_of (standing_of (client_config input) es)) (sym heard)) ∙ sym (ap (client_by (told taken)) kept.1)
 
-  pub ended_waiting : (taken put : List ℕ) (d : Dialogue) → Keeps input (Ok d) phase.Waiting taken put → of_client.Waiting ≡ client_end input taken
+  pub ended_waiting : (taken put : List ℕ) (d : Dialogue) → PartyStands input (Ok d) phase.Waiting taken put → of_client.Waiting ≡ client_end input taken
   ended_waiting taken put d kept = sym (ap (client_by (told taken)) kept.1)
 
-  pub ended_between : (taken put : List ℕ) (d : Dialogue) → Keeps input (Ok d) phase.Ready taken put → of_client.Waiting ≡ client_end input taken
+  pub ended_between : (taken put : List ℕ) (d : Dialogue) → PartyStands input (Ok d) phase.Ready taken put → of_client.Waiting ≡ client_end input taken
   ended_between taken put d kept = sym (ap (client_by (told taken)) kept.1)
 
   pub ended_refused : (side : ClientSide) (taken : List ℕ) (e : ClientError) → side.dialogue ≡ Err e → ClientAt input side taken → of_client.Refused e ≡ client_end input taken
   ended_refused side taken e is at =
-      let kept : Keeps input (Err e) side.phase taken (side.out).items = subst (λ x. Keeps input x side.phase taken (side.out).items) is at.keeps in
+      let kept : PartyStands input (Err e) side.phase taken (side.out).items = subst (λ x. PartyStands input x side.phase taken (side.out).items) is at.keeps in
       sym (ap (client_by (told taken)) kept.0)
 
-  pub going_keeps : (side : ClientSide) (taken : List ℕ) (d : Dialogue) → side.dialogue ≡ Ok d → ClientAt input side taken → Keeps input (Ok d) side.phase taken (side.out).items
-  going_keeps side taken d is at = subst (λ x. Keeps input x side.phase taken (side.out).items) is at.keeps
+  pub going_keeps : (side : ClientSide) (taken : List ℕ) (d : Dialogue) → side.dialogue ≡ Ok d → ClientAt input side taken → PartyStands input (Ok d) side.phase taken (side.out).items
+  going_keeps side taken d is at = subst (λ x. PartyStands input x side.phase taken (side.out).items) is at.keeps
 
   -- it never ends for want of memory
   refused_is : {a b : ClientError} → of_client.Refused a ≡ of_client.Refused b → a ≡ b
@@ -207,7 +207,7 @@ module _ (input : PairInput) where
   by_answer t (Ok phase.Done) h = cc
   by_answer t (Err e) h = ap Err (refused_is h)
 
-  keeps_memory : (kept : Result Dialogue ClientError) (p : DialoguePhase) (taken put : List ℕ) → Keeps input kept p taken put → answer_to given most taken ≡ Err client.OutOfMemory → ⊥
+  keeps_memory : (kept : Result Dialogue ClientError) (p : DialoguePhase) (taken put : List ℕ) → PartyStands input kept p taken put → answer_to given most taken ≡ Err client.OutOfMemory → ⊥
   keeps_memory (Ok d) p taken put kept lacks = let both = sym kept.1 ∙ lacks in absurd cc
   keeps_memory (Err e) p taken put kept lacks = let both : ◌≡◌ {A = Result DialoguePhase ClientError} (Err e) (Err client.OutOfMemory) = sym kept.0 ∙ lacks in kept.1 cc
 

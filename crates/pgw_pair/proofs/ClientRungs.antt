@@ -7,7 +7,7 @@ use Rattle.pgw_backend.specs.declared.client_error.PgWireClientError.{PgWireClie
 use Rattle.pgw_frontend.specs.Frontend.{encodings}
 use Rattle.pgw_frontend.specs.declared.frontend.PgWireFrontendMessage.{PgWireFrontendMessage as Frontend}
 use Rattle.pgw_course.specs.Course.{Move, On, Ends, Course, Waits, Over, Rules, run}
-use Rattle.pgw_course.specs.Play.{Leads, play_of, behind}
+use Rattle.pgw_course.specs.Play.{Leads, play_of, course_behind}
 use Rattle.pgw_course.proofs.CourseLaws.{run_over}
 use Rattle.pgw_course.specs.Fronts.{IsReadAs, Deed, deeds_in, TakesFront, awaits, breaks_off, ends_by, goes_by}
 use Rattle.pgw_course.proofs.FrontLaws.{taken_from, run_leads, run_behind}
@@ -18,9 +18,9 @@ use Rattle.pgw_types.specs.declared.context.ProtocolVersion.{ProtocolVersion}
 use Rattle.pgw_types.specs.declared.context.ProtocolVersion.TheVariants.{PROTOCOL3_0}
 use Rattle.pgw_scram.proofs.Base64Laws.{ascii_utf8}
 use Rattle.pgw_backend.specs.Backend.{backend_encoding}
-use Rattle.pgw_backend.specs.Front.{Awaits as AwaitsBackend, typed_phase}
+use Rattle.pgw_backend.specs.Front.{AwaitsBackend, typed_phase}
 use Rattle.pgw_backend.specs.Texts.{IsSound, Suits}
-use Rattle.pgw_session.specs.Reading.{reading as reading_of_server}
+use Rattle.pgw_session.specs.Reading.{version_front as reading_of_server}
 use Rattle.pgw_session.specs.Standings.{standing_of}
 use Rattle.pgw_session.specs.Talk.{heard_of}
 use Rattle.pgw_pair.proofs.Readings.{reads_backend}
@@ -29,7 +29,7 @@ use Rattle.pgw_session.specs.Input.{Input}
 use Rattle.pgw_scram.specs.declared.exchange.ClientLogin.{ClientLogin}
 use Rattle.pgw_session.specs.Logins.{methods_refusal, first_refusal, final_refusal, expected_of, first_message, final_message}
 use Rattle.pgw_session.specs.Machine.{Outcome, Unencoded, Refused, sending, moves_by}
-use Rattle.pgw_session.specs.Table.{unless}
+use Rattle.pgw_session.specs.Table.{next_unless}
 use Rattle.pgw_session.specs.declared.stage.Next.TheVariants.{Goes}
 use Rattle.pgw_session.specs.Segments.{startup_message}
 use Rattle.pgw_session.specs.Talk.{Talk, Ending, between, talk_book, talk_rules, beginning, conversation}
@@ -79,13 +79,13 @@ module _ (input : PairInput) where
   pub data Does (t : Talk) (g : List ℕ) (count : ℕ) (rest : List ℕ) : Move Talk Ending → Course Talk Ending → Type 0 where
     still : (move : Move Talk Ending) → count < length g → Does t g count rest move (Waits t [] (take count g))
     ended : (ending : Ending) → (out : List ℕ) → length g ≤ count → Does t g count rest (Ends ending out) (Over ending out)
-    on : (next : Talk) → (out : List ℕ) → (c : Course Talk Ending) → length g ≤ count → LeadsClient next (take (count - length g) rest) c → Does t g count rest (On next out) (behind out c)
+    on : (next : Talk) → (out : List ℕ) → (c : Course Talk Ending) → length g ≤ count → LeadsClient next (take (count - length g) rest) c → Does t g count rest (On next out) (course_behind out c)
 
   does_from : (t : Talk) (m : Backend) (g : List ℕ) (count : ℕ) (rest : List ℕ) (c : Course Talk Ending) (ds : List (Deed (play_of rules))) (move : Move Talk Ending) → rules.step t m ≡ move → TakesFront (play_of rules) t g m count rest c ds → Does t g count rest move c
   does_from t m g count rest c ds move is (awaits short) = still move short
   does_from t m g count rest c ds move is (breaks_off ending b) = absurd b
   does_from t m g count rest c ds move is (ends_by ending out long step) = subst (λ (x : Move Talk Ending). Does t g count rest x (Over ending out)) (step ∙ is) (ended ending out long)
-  does_from t m g count rest c ds move is (goes_by next out c' long step leads) = subst (λ (x : Move Talk Ending). Does t g count rest x (behind out c')) (step ∙ is) (on next out c' long leads)
+  does_from t m g count rest c ds move is (goes_by next out c' long step leads) = subst (λ (x : Move Talk Ending). Does t g count rest x (course_behind out c')) (step ∙ is) (on next out c' long leads)
 
   pub does : (t : Talk) (m : Backend) (g : List ℕ) (count : ℕ) (rest bytes : List ℕ) (c : Course Talk Ending) (move : Move Talk Ending) → rules.step t m ≡ move → IsReadAs (rules.read t) g m → bytes ≡ take count (g ++ rest) → LeadsClient t bytes c → Does t g count rest move c
   does t m g count rest bytes c move is reads are leads = does_from t m g count rest c (deeds_in (play_of rules) t bytes c leads) move is (taken_from (play_of rules) (steady_by (talk_book given) given) t g m count rest bytes c reads are leads)
@@ -95,11 +95,11 @@ module _ (input : PairInput) where
   abbrev pub started : Talk
   started = talking (Sent (startup_message given) ∷ []) Starting
 
-  pub starts : (g bytes : List ℕ) → encodings (startup_message given ∷ []) ≡ Ok g → (c : Course Talk Ending) × LeadsClient started bytes c × (conversation given bytes ≡ behind g c)
+  pub starts : (g bytes : List ℕ) → encodings (startup_message given ∷ []) ≡ Ok g → (c : Course Talk Ending) × LeadsClient started bytes c × (conversation given bytes ≡ course_behind g c)
   unfolding conversation
   starts g bytes is =
       let first : Course Talk Ending = Waits started [] [] in
-      let begins : beginning given ≡ behind g first = rw is (ap (λ (l : List ℕ). Waits started l []) (sym (append-nil g))) in
+      let begins : beginning given ≡ course_behind g first = rw is (ap (λ (l : List ℕ). Waits started l []) (sym (append-nil g))) in
       (run rules first bytes, run_leads rules (steady_by (talk_book given) given) started bytes, ap (λ (b : Course Talk Ending). run rules b bytes) begins ∙ run_behind rules g first bytes)
 
   pub never_starts : (e : PgWireError) (bytes : List ℕ) → encodings (startup_message given ∷ []) ≡ Err e → conversation given bytes ≡ Over (over_by (between []) (Unencoded e)) []
@@ -133,7 +133,7 @@ module _ (input : PairInput) where
   unfolding replying
   asked_step = go (methods_refusal given (methods input))
     where
-      go : (e : Option ClientError) → moves_by (talk_book given) given started asked (unless e (Goes (Challenged login) (Some first_sent))) ≡ replying started unsent_first challenged e first_sent
+      go : (e : Option ClientError) → moves_by (talk_book given) given started asked (next_unless e (Goes (Challenged login) (Some first_sent))) ≡ replying started unsent_first challenged e first_sent
       go None = refl
       go (Some e) = refl
 
@@ -148,7 +148,7 @@ module _ (input : PairInput) where
   unfolding replying
   continue_step first = go (first_refusal login first)
     where
-      go : (e : Option ClientError) → moves_by (talk_book given) given challenged (continue_with first) (unless e (Goes (Proving (expected_of login first)) (Some (final_message login first)))) ≡ replying challenged (unsent_final first) (proving first) e (final_message login first)
+      go : (e : Option ClientError) → moves_by (talk_book given) given challenged (continue_with first) (next_unless e (Goes (Proving (expected_of login first)) (Some (final_message login first)))) ≡ replying challenged (unsent_final first) (proving first) e (final_message login first)
       go None = refl
       go (Some e) = refl
 
@@ -164,7 +164,7 @@ module _ (input : PairInput) where
   unfolding proved_move
   final_step first final = go (final_refusal (expected_of login first) final)
     where
-      go : (e : Option ClientError) → moves_by (talk_book given) given (proving first) (final_with final) (unless e (Goes Admitted None)) ≡ proved_move first final e
+      go : (e : Option ClientError) → moves_by (talk_book given) given (proving first) (final_with final) (next_unless e (Goes Admitted None)) ≡ proved_move first final e
       go None = refl
       go (Some e) = refl
 
@@ -176,7 +176,7 @@ module _ (input : PairInput) where
 
   -- it was taken, and bytes were put out
   abbrev pub Led : Talk → List ℕ → List ℕ → ℕ → List ℕ → Course Talk Ending → Type 0
-  Led next out g count rest c = (length g ≤ count) × (d : Course Talk Ending) × LeadsClient next (take (count - length g) rest) d × (c ≡ behind out d)
+  Led next out g count rest c = (length g ≤ count) × (d : Course Talk Ending) × LeadsClient next (take (count - length g) rest) d × (c ≡ course_behind out d)
 
   pub does_end : (t : Talk) (g : List ℕ) (count : ℕ) (rest : List ℕ) (move : Move Talk Ending) (c : Course Talk Ending) (ending : Ending) (out : List ℕ) → move ≡ Ends ending out → Does t g count rest move c → Still t g count c ⊎ ((length g ≤ count) × (c ≡ Over ending out))
   does_end t g count rest move c ending out is (still m short) = inl (short, refl)
@@ -188,7 +188,7 @@ module _ (input : PairInput) where
   does_on t g count rest move c next out is (ended e o long) = absurd (on_is_no_end (sym is))
   does_on t g count rest move c next out is (on n o c' long leads) =
       let same = on_is is in
-      inr (long, c', subst (λ (x : Talk). LeadsClient x (take (count - length g) rest) c') same.0 leads, ap (λ (l : List ℕ). behind l c') same.1)
+      inr (long, c', subst (λ (x : Talk). LeadsClient x (take (count - length g) rest) c') same.0 leads, ap (λ (l : List ℕ). course_behind l c') same.1)
 
   -- a message that may be refused and is answered: it is awaited; refused; or taken, and its answer has no encoding, or is sent
   pub data Replies (t mid next : Talk) (refusal : Option ClientError) (m : Frontend) (g : List ℕ) (count : ℕ) (rest : List ℕ) (c : Course Talk Ending) : Type 0 where

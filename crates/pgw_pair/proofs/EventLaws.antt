@@ -14,13 +14,13 @@ use Rattle.pgw_pair.specs.declared.server_side.ServerSide.{ServerSide}
 use Rattle.pgw_pair.specs.declared.parties.PairInput.{PairInput}
 use Rattle.pgw_pair.specs.Server.{Means}
 use Rattle.pgw_pair.specs.Sides.{AreActs, AreIn, ClientAt, ClientTook, ServerAt, ServerTook}
-use Rattle.pgw_pair.specs.World.{World, Happens, Meets, client_input, first_world, first_stage, handed, most, next, talk, taken_then, to_the_client, to_the_server, unless_over}
+use Rattle.pgw_pair.specs.World.{World, Happens, PartiesMeet, client_input, first_world, first_stage, handed, most, party_bytes, talk, taken_then, to_the_client, to_the_server, unless_over}
 use Rattle.pgw_pair.proofs.Meets.{Grows, first_meets, goes_grows, runs_meet, same_front}
 use Rattle.pgw_pair.proofs.Moves.{continues_as}
 use Rattle.pgw_pair.proofs.ServerLaws.{at_sent}
 
 module _ (generator : TableId) (input : PairInput) where
-  pub meets_then : (w there : World) (e : Event) → Happens input w e there → Meets generator input w → Meets generator input there
+  pub meets_then : (w there : World) (e : Event) → Happens input w e there → PartiesMeet generator input w → PartiesMeet generator input there
   meets_then w there e happens meets = runs_meet generator input (e ∷ []) w there (there, happens, refl) meets
 
   module _ {H : Type 0} where
@@ -50,7 +50,7 @@ module _ (generator : TableId) (input : PairInput) where
     client_event client after server w bytes count event is same_event are took =
         let there : World = record w { by_client = taken_then input w count; to_server = sent_of (talk input (take (taken_then input w count) w.to_client)) } in
         let happens : Happens input w (ToClient count) there = to_the_client count in
-        let f : ℕ → List ℕ → ℕ = λ n l. n + length (handed (answer_to (client_input input) most (take n l)) (next count n l)) in
+        let f : ℕ → List ℕ → ℕ = λ n l. n + length (handed (answer_to (client_input input) most (take n l)) (party_bytes count n l)) in
         let to_client : bytes ≡ w.to_client = is ∙ are.to_client in
         let taken : after.taken ≡ taken_then input w count = took.taken ∙ ap (λ n. f n bytes) are.by_client ∙ ap (f w.by_client) to_client in
         let now : take after.taken bytes ≡ take (taken_then input w count) w.to_client = ap (λ n. take n bytes) taken ∙ ap (take (taken_then input w count)) to_client in (
@@ -70,9 +70,9 @@ module _ (generator : TableId) (input : PairInput) where
     pub server_event : (means : Acts) → AreActs means (Means input) → (client : ClientSide) (server after : ServerSide H) (w : World) (bytes : List ℕ) (count : ℕ) (event : Event) → bytes ≡ (client.out).items → event ≡ ToServer count → AreIn generator input client server w → ServerTook means server after bytes count w.server
         → (there : World) × Happens input w event there × AreIn generator input client after there
     server_event means acts client server after w bytes count event is same_event are took =
-        let piece = unless_over w.server (next count w.by_server w.to_server) in
+        let piece = unless_over w.server (party_bytes count w.by_server w.to_server) in
         let there : World = record w { by_server = w.by_server + length piece; server = took.there; to_client = sent_of took.there } in
-        let g : ℕ → List ℕ → List ℕ = λ n l. unless_over w.server (next count n l) in
+        let g : ℕ → List ℕ → List ℕ = λ n l. unless_over w.server (party_bytes count n l) in
         let same : g server.taken bytes ≡ piece = ap (λ n. g n bytes) are.by_server ∙ ap (g w.by_server) (is ∙ are.to_server) in
         let goes : Continues (serving (Means input)) w.server piece took.there = subst (λ (l : List ℕ). Continues (serving (Means input)) w.server l took.there) same (continues_as means (Means input) acts w.server (g server.taken bytes) took.there took.goes) in
         let happens : Happens input w (ToServer count) there = to_the_server count took.there goes in

@@ -21,19 +21,19 @@ use Rattle.pgw_scram.specs.Answers.{unless, unless_so, first_of}
 use Rattle.pgw_scram.specs.Refusals as scram
 use Rattle.pgw_scram.specs.Refusals.{user_refusal}
 use Rattle.pgw_scram.specs.Base64.{base64, nonce_text}
-use Rattle.pgw_scram.specs.Binding.{header, binding_text}
+use Rattle.pgw_scram.specs.Binding.{gs2_header, binding_text}
 use Rattle.pgw_scram.specs.declared.binding.ClientBinding.{ClientBinding}
 use Rattle.pgw_config.specs.declared.config.ChannelBinding.TheVariants as channel_binding
 use Rattle.pgw_sasl.specs.Methods.{bound_methods}
-use Rattle.pgw_scram.specs.Client.{login_of, began, proved}
+use Rattle.pgw_scram.specs.Client.{scram_client_login, began, proved}
 use Rattle.pgw_scram.specs.Exchange.{client_first, client_first_bare, client_final, signature}
 use Rattle.pgw_scram.specs.Readers.{read_client_first, read_client_final}
-use Rattle.pgw_hash.specs.Saslprep.{prepared}
+use Rattle.pgw_hash.specs.Saslprep.{saslprep}
 use Rattle.pgw_hash.proofs.Prepared.{prepared_utf8}
 use Rattle.pgw_scram.specs.declared.exchange.ClientLogin.{ClientLogin}
 use Rattle.pgw_scram.specs.Honest.{Agree, AreHonest as EndsAreHonest, BothAccept}
 use Rattle.pgw_scram.specs.Offers.{server_first, whole_nonce, is_misbound, bound, offer_of, answered_as}
-use Rattle.pgw_scram.specs.Server.{offered, offered_as, offered_with, unless_misbound, accepted, accepted_as, waiting}
+use Rattle.pgw_scram.specs.Server.{scram_offer, scram_offer_as, offered_with, unless_misbound, accepted, accepted_as, scram_wait}
 use Rattle.pgw_scram.specs.declared.server.ScramServerAuth.{ScramServerAuth}
 use Rattle.pgw_scram.specs.declared.messages.ClientFinal.{ClientFinal}
 use Rattle.pgw_scram.specs.declared.client.ScramClientAuth.{ScramClientAuth}
@@ -105,7 +105,7 @@ agree_by None own = tt
 agree_by (Some h) None = refl
 agree_by (Some h) (Some o) = refl
 
-suits_for : (hash own : Option (List ℕ)) → is_misbound (hash_for hash own) (header (binding_by_two hash own)) ≡ false
+suits_for : (hash own : Option (List ℕ)) → is_misbound (hash_for hash own) (gs2_header (binding_by_two hash own)) ≡ false
 unfolding hash_for
 suits_for None None = refl
 suits_for None (Some o) = refl
@@ -127,7 +127,7 @@ module _ (generator : TableId) (input : PairInput) (sound : IsSoundInput input) 
 
   -- the client's login, by the prepared name
   abbrev login : ClientLogin
-  login = login_of client h.user (nonce_text input.client_nonce)
+  login = scram_client_login client h.user (nonce_text input.client_nonce)
 
   -- an end that agrees with the client on what is bound
   agreeing : ScramServerAuth
@@ -153,7 +153,7 @@ module _ (generator : TableId) (input : PairInput) (sound : IsSoundInput input) 
   both = both_accept client agreeing input.stored input.client_nonce input.server_nonce honest_ends
 
   login_is : client_login input ≡ login
-  login_is = ap (λ (o : Option (List ℕ)). login_of client (unwrap_or o []) (nonce_text input.client_nonce)) h.is_prepared
+  login_is = ap (λ (o : Option (List ℕ)). scram_client_login client (unwrap_or o []) (nonce_text input.client_nonce)) h.is_prepared
 
   begins : began client input.client_nonce ≡ Ok (client_first login, record { login = login })
   begins = rw h.is_prepared refl
@@ -167,41 +167,41 @@ module _ (generator : TableId) (input : PairInput) (sound : IsSoundInput input) 
   whole = whole_nonce (nonce_text input.client_nonce) input.server_nonce
 
   abbrev read_first : ClientFirst
-  read_first = record { header = header login.binding; bare = client_first_bare login.user login.nonce; user = login.user; nonce = login.nonce }
+  read_first = record { header = gs2_header login.binding; bare = client_first_bare login.user login.nonce; user = login.user; nonce = login.nonce }
 
   -- a server that has offered, and awaits this text of what is bound
   abbrev awaiting : List ℕ → WaitingForClientFinal
-  awaiting binding = record (waiting (scram_end input) read_first h.salt (input.stored).password input.server_nonce) {
+  awaiting binding = record (scram_wait (scram_end input) read_first h.salt (input.stored).password input.server_nonce) {
     offer = record (offer_of read_first None h.salt input.count input.server_nonce) { binding = binding };
   }
 
   abbrev offers : Option (List ℕ) → List ℕ × WaitingForClientFinal
-  offers hash = (server_first whole h.salt input.count, awaiting (base64 (bound (header login.binding) hash)))
+  offers hash = (server_first whole h.salt input.count, awaiting (base64 (bound (gs2_header login.binding) hash)))
 
-  offers_so : (hash : Option (List ℕ)) → is_misbound hash (header login.binding) ≡ false → offered (record { iterations = input.count; certificate_hash = hash }) (client_first login) input.stored input.server_nonce ≡ Ok (offers hash)
+  offers_so : (hash : Option (List ℕ)) → is_misbound hash (gs2_header login.binding) ≡ false → scram_offer (record { iterations = input.count; certificate_hash = hash }) (client_first login) input.stored input.server_nonce ≡ Ok (offers hash)
   offers_so hash suits =
       let end : ScramServerAuth = record { iterations = input.count; certificate_hash = hash } in
       let reads : read_client_first (client_first login) ≡ Ok read_first = reads_client_first login (prepared_utf8 input.user h.user sound.user_utf8 h.is_prepared) h.user_value (base64_utf8 input.client_nonce) (base64_value input.client_nonce) in
-      ap (λ (r : Result ClientFirst ScramMessageFault). offered_as end r input.stored input.server_nonce) reads
+      ap (λ (r : Result ClientFirst ScramMessageFault). scram_offer_as end r input.stored input.server_nonce) reads
       ∙ ap (λ (b : Bool). unless_misbound (unless_so (not b) (InvalidScramMessage fault.ChannelBinding)) (offered_with end read_first (input.stored).salt (input.stored).password input.server_nonce)) suits
       ∙ ap (λ (s : Option (List ℕ)). offered_with end read_first s (input.stored).password input.server_nonce) h.has_salt
 
-  both_are : (both.server_first ≡ server_first whole h.salt input.count) × (both.server_offered ≡ awaiting (base64 (bound (header login.binding) (hash_for input.client_hash input.server_hash))))
+  both_are : (both.server_first ≡ server_first whole h.salt input.count) × (both.server_offered ≡ awaiting (base64 (bound (gs2_header login.binding) (hash_for input.client_hash input.server_hash))))
   unfolding agreeing
-  both_are = pair_is (ap (λ (t : List ℕ). offered agreeing t input.stored input.server_nonce) (sym first_is.0) ∙ both.offers) (offers_so (hash_for input.client_hash input.server_hash) (suits_for input.client_hash input.server_hash))
+  both_are = pair_is (ap (λ (t : List ℕ). scram_offer agreeing t input.stored input.server_nonce) (sym first_is.0) ∙ both.offers) (offers_so (hash_for input.client_hash input.server_hash) (suits_for input.client_hash input.server_hash))
 
   server_first_is : both.server_first ≡ server_first whole h.salt input.count
   server_first_is = both_are.0
 
   -- what the server awaits
   own_text : List ℕ
-  own_text = base64 (bound (header login.binding) input.server_hash)
+  own_text = base64 (bound (gs2_header login.binding) input.server_hash)
 
   offer_is : IsOffer generator input both.server_first (awaiting own_text)
   unfolding own_text
   offer_is =
-      let suits = ap (λ (b : ClientBinding). is_misbound input.server_hash (header b)) (login_bound input) ∙ suits_by input.client_hash input.server_hash in
-      ap (λ (l : ClientLogin). offered (scram_end input) (client_first l) input.stored input.server_nonce) login_is ∙ offers_so input.server_hash suits ∙ ap (λ (f : List ℕ). Ok (f, awaiting (base64 (bound (header login.binding) input.server_hash)))) (sym server_first_is)
+      let suits = ap (λ (b : ClientBinding). is_misbound input.server_hash (gs2_header b)) (login_bound input) ∙ suits_by input.client_hash input.server_hash in
+      ap (λ (l : ClientLogin). scram_offer (scram_end input) (client_first l) input.stored input.server_nonce) login_is ∙ offers_so input.server_hash suits ∙ ap (λ (f : List ℕ). Ok (f, awaiting (base64 (bound (gs2_header login.binding) input.server_hash)))) (sym server_first_is)
 
   same_offer : (first : List ℕ) (offer : WaitingForClientFinal) → IsOffer generator input first offer → (first ≡ both.server_first) × (offer ≡ awaiting own_text)
   same_offer first offer off = pair_is off offer_is
@@ -211,7 +211,7 @@ module _ (generator : TableId) (input : PairInput) (sound : IsSoundInput input) 
   proves =
       let p : proved (record { login = login }) both.server_first ≡ Ok (both.client_final, both.client_proved) = ap (λ (b : Began). proved b both.server_first) (sym first_is.1) ∙ both.proves in
       let made : List ℕ × Proved = (client_final login both.server_first, record { signature = signature login both.server_first }) in
-      let u = unrefused (scram.first_refusal (client_login input).nonce both.server_first) made (both.client_final, both.client_proved) p in
+      let u = unrefused (scram.scram_first_refusal (client_login input).nonce both.server_first) made (both.client_final, both.client_proved) p in
       (ap (option_map of_scram) u.0, λ i. (u.1 i).0, λ i. ((u.1 i).1).signature)
 
   last_is : last generator input both.server_first ≡ both.client_final
@@ -221,14 +221,14 @@ module _ (generator : TableId) (input : PairInput) (sound : IsSoundInput input) 
   expected_is = ap (λ (l : ClientLogin). signature l both.server_first) login_is ∙ proves.2
 
   verifies : final_refusal (expected_of (client_login input) both.server_first) both.server_final ≡ None
-  verifies = ap (λ (e : List ℕ). final_refusal e both.server_final) expected_is ∙ ap (option_map of_scram) (unrefused (scram.final_refusal (both.client_proved).signature both.server_final) tt tt both.verifies).0
+  verifies = ap (λ (e : List ℕ). final_refusal e both.server_final) expected_is ∙ ap (option_map of_scram) (unrefused (scram.scram_refusal (both.client_proved).signature both.server_final) tt tt both.verifies).0
 
   accepts : accepted both.server_offered (last generator input both.server_first) ≡ Ok both.server_final
   accepts = ap (accepted both.server_offered) last_is ∙ both.accepts
 
   methods_fine : methods_refusal given (methods input) ≡ None
   methods_fine =
-      ap (λ (b : Bool). first_of (unless_so b (client_error.UnsupportedSASLAuthMethods (methods input))) (first_of (unless_so (is_utf8 input.password) (client_error.ScramError scram_fault.PasswordNotUtf8)) (option_map of_scram (user_refusal (prepared input.user)))))
+      ap (λ (b : Bool). first_of (unless_so b (client_error.UnsupportedSASLAuthMethods (methods input))) (first_of (unless_so (is_utf8 input.password) (client_error.ScramError scram_fault.PasswordNotUtf8)) (option_map of_scram (user_refusal (saslprep input.user)))))
       (takes_by_two input.client_hash input.server_hash)
       ∙ rw (h.password_utf8, h.is_prepared) refl
 
@@ -242,11 +242,11 @@ module _ (generator : TableId) (input : PairInput) (sound : IsSoundInput input) 
     agreed : awaiting own_text ≡ both.server_offered → Judged
     misbound : accepted (awaiting own_text) (last generator input both.server_first) ≡ Err (InvalidScramMessage fault.ChannelBinding) → HaveDifferentHashes input → Judged
 
-  differs : (closing : ClientFinal) → read_client_final (last generator input both.server_first) ≡ Ok closing → bytes_eq closing.binding own_text ≡ false → binding_text (bound_to input) ≢ base64 (bound (header (bound_to input)) input.server_hash)
+  differs : (closing : ClientFinal) → read_client_final (last generator input both.server_first) ≡ Ok closing → bytes_eq closing.binding own_text ≡ false → binding_text (bound_to input) ≢ base64 (bound (gs2_header (bound_to input)) input.server_hash)
   unfolding own_text
   differs closing reads is same =
       let given : closing.binding ≡ binding_text (bound_to input) = binding_read (client_login input) both.server_first closing reads ∙ ap binding_text (login_bound input) in
-      let due : own_text ≡ base64 (bound (header (bound_to input)) input.server_hash) = ap (λ (b : ClientBinding). base64 (bound (header b) input.server_hash)) (login_bound input) in
+      let due : own_text ≡ base64 (bound (gs2_header (bound_to input)) input.server_hash) = ap (λ (b : ClientBinding). base64 (bound (gs2_header b) input.server_hash)) (login_bound input) in
       let yes = (bytes_eq-Decides closing.binding own_text).1 (given ∙ same ∙ sym due) in
       let no = sym is ∙ yes in
       absurd cc

@@ -4,7 +4,7 @@ use Rattle.std.specs.Prelude.{codes, unwrap_or}
 use Rattle.std.specs.Fmt.{decimal}
 use Rattle.std.specs.Str.{is_utf8}
 use Rattle.std.proofs.lemmas.Fmt.{length-decimal-le}
-use Rattle.pgw_hash.specs.Saslprep.{prepared}
+use Rattle.pgw_hash.specs.Saslprep.{saslprep}
 use Rattle.pgw_scram.specs.Attributes.{IsValue}
 use Rattle.std.specs.List.{list_any, flat_map}
 use Rattle.std.specs.FinMap as finite
@@ -24,7 +24,7 @@ use Rattle.pgw_backend.specs.declared.backend.PgWireBackendMessage.TheVariants a
 use Rattle.pgw_frontend.specs.Frontend.{encoding}
 use Rattle.pgw_hash.specs.Pbkdf2.{salted_password}
 use Rattle.pgw_scram.specs.Base64.{base64, nonce_text}
-use Rattle.pgw_scram.specs.Binding.{header, channel_data, binding_text}
+use Rattle.pgw_scram.specs.Binding.{gs2_header, channel_data, binding_text}
 use Rattle.pgw_scram.specs.Exchange.{client_first, client_first_bare, client_final, without_proof, exchanged}
 use Rattle.pgw_scram.specs.Formulas.{client_proof}
 use Rattle.pgw_scram.specs.Offers.{whole_nonce}
@@ -33,7 +33,7 @@ use Rattle.pgw_scram.specs.declared.binding.ClientBinding.TheVariants as binding
 use Rattle.pgw_scram.specs.declared.exchange.ClientLogin.{ClientLogin}
 use Rattle.pgw_scram.proofs.Base64Laws.{base64_utf8, base64_value, value_append}
 use Rattle.pgw_scram.proofs.HonestLaws.{reads_server_first, salt_is}
-use Rattle.pgw_server.specs.Server.{encodings}
+use Rattle.pgw_server.specs.Server.{server_encodings}
 use Rattle.pgw_session.specs.Logins.{method_of, first_message, final_message}
 use Rattle.pgw_session.specs.Segments.{startup_message, startup_parameters}
 use Rattle.pgw_pair.specs.declared.parties.PairInput.{PairInput}
@@ -92,7 +92,7 @@ first_fits input small =
     let fault : refused_if (is_method_refused name) ≡ None = no_fault (is_method_refused name) (named_clean (client_login input).binding) in
     (f.0 ++ [], rw (ap (λ (o : Option PgWireError). framing.encoded (Typed 112) 10000 o body) fault ∙ f.1) refl)
 
-header_short : (b : ClientBinding) → length (method_of b) + length (header b) ≤ 42
+header_short : (b : ClientBinding) → length (method_of b) + length (gs2_header b) ≤ 42
 header_short binding.None = lit≤ tt
 header_short binding.NotOffered = lit≤ tt
 header_short (binding.EndPoint hash) = lit≤ tt
@@ -105,7 +105,7 @@ bare_length user nonce =
     omega (arith, a, b, c)
 
 -- a prepared name of at most so many bytes
-pub name_fits : (input : PairInput) (user : List ℕ) → IsSoundInput input → prepared input.user ≡ Some user → length user ≤ 9920 → IsWritten (first_message (client_login input))
+pub name_fits : (input : PairInput) (user : List ℕ) → IsSoundInput input → saslprep input.user ≡ Some user → length user ≤ 9920 → IsWritten (first_message (client_login input))
 unfolding client_first
 name_fits input user sound is small =
     let named : (client_login input).user ≡ user = ap (λ (o : Option (List ℕ)). unwrap_or o []) is in
@@ -113,14 +113,14 @@ name_fits input user sound is small =
     let h = header_short (client_login input).binding in
     let same : length (method_of (client_login input).binding) ≡ length (method_of (bound_to input)) = ap (λ (b : ClientBinding). length (method_of b)) (login_bound input) in
     let bare = bare_length (client_login input).user (nonce_text input.client_nonce) in
-    let whole = length-append (header (client_login input).binding) (client_first_bare (client_login input).user (nonce_text input.client_nonce)) in
+    let whole = length-append (gs2_header (client_login input).binding) (client_first_bare (client_login input).user (nonce_text input.client_nonce)) in
     first_fits input (omega (arith, ap length named, n, sound.client_nonce, h, same, bare, whole, small))
 
 -- a hash of at most so many bytes, where the login is bound to one
 binding_short : (b : ClientBinding) → ((hash : List ℕ) → b ≡ binding.EndPoint hash → length hash ≤ 7398) → length (binding_text b) ≤ 9896
-binding_short binding.None small = omega (arith, base64_length (header binding.None ++ channel_data binding.None))
-binding_short binding.NotOffered small = omega (arith, base64_length (header binding.NotOffered ++ channel_data binding.NotOffered))
-binding_short (binding.EndPoint hash) small = omega (arith, base64_length (header (binding.EndPoint hash) ++ hash), length-append (header (binding.EndPoint hash)) hash, small hash refl)
+binding_short binding.None small = omega (arith, base64_length (gs2_header binding.None ++ channel_data binding.None))
+binding_short binding.NotOffered small = omega (arith, base64_length (gs2_header binding.NotOffered ++ channel_data binding.NotOffered))
+binding_short (binding.EndPoint hash) small = omega (arith, base64_length (gs2_header (binding.EndPoint hash) ++ hash), length-append (gs2_header (binding.EndPoint hash)) hash, small hash refl)
 
 final_length : (text nonce proof : List ℕ) → length text ≤ 9896 → length nonce ≤ 48 → length proof ≤ 44 → length ((codes "c=" ++ text ++ codes ",r=" ++ nonce) ++ codes ",p=" ++ proof) + 4 ≤ 10000
 final_length text nonce proof small few also =
@@ -167,7 +167,7 @@ module _ (input : PairInput) (salt : List ℕ) (sound : IsSoundInput input) (is 
       (f.0 ++ [], rw f.1 refl)
 
 -- an offer of at most so many bytes
-pub offer_fits : (offer : List ℕ) → length offer ≤ 29992 → (g : List ℕ) × (encodings (backend.Authentication (auth.SASLContinue offer) ∷ []) ≡ Ok g)
+pub offer_fits : (offer : List ℕ) → length offer ≤ 29992 → (g : List ℕ) × (server_encodings (backend.Authentication (auth.SASLContinue offer) ∷ []) ≡ Ok g)
 unfolding backend_encoding
 offer_fits offer small =
     let a = length-append (writing.u32 11) offer in
@@ -184,7 +184,7 @@ offer_length nonce salt count few small digits =
     omega (arith, a, b, c, d, e, few, small, digits)
 
 -- a salt of at most so many bytes
-pub salt_fits : (input : PairInput) (salt : List ℕ) → IsSoundInput input → length salt ≤ 22443 → (g : List ℕ) × (encodings (backend.Authentication (auth.SASLContinue (offer_by input salt)) ∷ []) ≡ Ok g)
+pub salt_fits : (input : PairInput) (salt : List ℕ) → IsSoundInput input → length salt ≤ 22443 → (g : List ℕ) × (server_encodings (backend.Authentication (auth.SASLContinue (offer_by input salt)) ∷ []) ≡ Ok g)
 salt_fits input salt sound small =
     let a = base64_length input.client_nonce in
     let b = base64_length input.server_nonce in
@@ -193,7 +193,7 @@ salt_fits input salt sound small =
     offer_fits (offer_by input salt) (offer_length (whole_nonce (nonce_text input.client_nonce) input.server_nonce) (base64 salt) (decimal input.count) (omega (arith, a, b, y, sound.client_nonce, sound.server_nonce)) (omega (arith, base64_length salt, small)) digits)
 
 -- what honest parties know, in these lengths
-pub share_fits : (input : PairInput) (user salt : List ℕ) → IsSoundInput input → is_utf8 input.password ≡ true → prepared input.user ≡ Some user → IsValue user → (input.stored).salt ≡ Some salt → (input.stored).password ≡ salted_password input.password salt input.count → has_zero input.user ≡ false → length input.user ≤ 9985 → length user ≤ 9920 → length salt ≤ 22443
+pub share_fits : (input : PairInput) (user salt : List ℕ) → IsSoundInput input → is_utf8 input.password ≡ true → saslprep input.user ≡ Some user → IsValue user → (input.stored).salt ≡ Some salt → (input.stored).password ≡ salted_password input.password salt input.count → has_zero input.user ≡ false → length input.user ≤ 9985 → length user ≤ 9920 → length salt ≤ 22443
     → ((hash : List ℕ) → bound_to input ≡ binding.EndPoint hash → length hash ≤ 7398) → ShareAPassword input
 share_fits input user salt sound utf8 is value has salted plain name short few hashes = record {
   user = user;

@@ -5,19 +5,19 @@ use Rattle.std.proofs.Math.Seq.{take-append-add}
 use Rattle.std.proofs.lemmas.Bool.{cases_lt}
 use Rattle.atomic_table.specs.Seated.{TableId}
 use Rattle.pgw_course.specs.Course.{IsReading, Course, Waits, Over, run, sent_of}
-use Rattle.pgw_course.specs.Play.{Play, Leads, waits, Continues, behind}
+use Rattle.pgw_course.specs.Play.{Play, Leads, waits, Continues, course_behind}
 use Rattle.pgw_course.proofs.CourseLaws.{run_append, sent_grows}
 use Rattle.pgw_course.proofs.PlayLaws.{leads_on}
 use Rattle.pgw_session.specs.Talk.{conversation, talk_rules, beginning}
 use Rattle.pgw_dialogue.specs.Answers.{answer_to}
-use Rattle.pgw_server.specs.Server.{Stage, Ending as ServerEnding, bound_at, reading, serving}
+use Rattle.pgw_server.specs.Server.{Stage, ServerEnding, bound_at, stage_front, serving}
 use Rattle.pgw_server.proofs.ClientFront.{steady}
 use Rattle.pgw_course.specs.declared.event.Event.{Event}
 use Rattle.pgw_pair.specs.declared.parties.PairInput.{PairInput}
 use Rattle.pgw_pair.specs.Server.{Means}
-use Rattle.pgw_pair.specs.World.{World, first_world, first_stage, client_input, most, talk, next, handed, unless_over, taken_then, Happens, to_the_client, to_the_server, Runs, Meets}
+use Rattle.pgw_pair.specs.World.{World, first_world, first_stage, client_input, most, talk, party_bytes, handed, unless_over, taken_then, Happens, to_the_client, to_the_server, Runs, PartiesMeet}
 
-pub steady_at : (stage : Stage) → IsReading (reading stage)
+pub steady_at : (stage : Stage) → IsReading (stage_front stage)
 steady_at stage = steady stage.started (bound_at stage) stage.client.protocol_version
 
 -- ---- fronts
@@ -33,13 +33,13 @@ same_front n old new (more, is) within = ap (take n) is ∙ take-append-le n old
 
 -- a piece of what is not yet taken
 abbrev pub Piece : ℕ → List ℕ → List ℕ → Type 0
-Piece n all piece = (count : ℕ) × (piece ≡ next count n all)
+Piece n all piece = (count : ℕ) × (piece ≡ party_bytes count n all)
 
-pub handed_piece : {A E : Type 0} (r : Result A E) (count n : ℕ) (all : List ℕ) → Piece n all (handed r (next count n all))
+pub handed_piece : {A E : Type 0} (r : Result A E) (count n : ℕ) (all : List ℕ) → Piece n all (handed r (party_bytes count n all))
 handed_piece (Ok a) count n all = (count, refl)
 handed_piece (Err e) count n all = (0, refl)
 
-pub over_piece : (c : Course Stage ServerEnding) (count n : ℕ) (all : List ℕ) → Piece n all (unless_over c (next count n all))
+pub over_piece : (c : Course Stage ServerEnding) (count n : ℕ) (all : List ℕ) → Piece n all (unless_over c (party_bytes count n all))
 over_piece (Waits stage out pending) count n all = (count, refl)
 over_piece (Over ending out) count n all = (0, refl)
 
@@ -84,7 +84,7 @@ talk_grows input a b (piece, is) =
     let g = run_grows input (take most a) c.0 in
     (g.0, ap (λ (l : List ℕ). sent_of (conversation (client_input input) (take most l))) is ∙ ap (λ (l : List ℕ). sent_of (conversation (client_input input) l)) c.1 ∙ g.1)
 
-pub behind_grows : {S R : Type 0} (out : List ℕ) (c : Course S R) → sent_of (behind out c) ≡ out ++ sent_of c
+pub behind_grows : {S R : Type 0} (out : List ℕ) (c : Course S R) → sent_of (course_behind out c) ≡ out ++ sent_of c
 behind_grows out (Waits s o p) = refl
 behind_grows out (Over e o) = refl
 
@@ -95,7 +95,7 @@ goes_grows play (Over e out) piece there is = ([], ap sent_of is ∙ sym (append
 -- ---- the events
 
 module _ (generator : TableId) (input : PairInput) where
-  pub first_meets : Meets generator input (first_world generator input)
+  pub first_meets : PartiesMeet generator input (first_world generator input)
   first_meets = record {
     wrote = refl;
     serves = waits (first_stage generator input) [] ((steady_at (first_stage generator input)).none);
@@ -104,10 +104,10 @@ module _ (generator : TableId) (input : PairInput) where
     by_client = omega arith;
   }
 
-  client_meets : (w : World) (count : ℕ) → Meets generator input w → Meets generator input (record w { by_client = taken_then input w count; to_server = sent_of (talk input (take (taken_then input w count) w.to_client)) })
+  client_meets : (w : World) (count : ℕ) → PartiesMeet generator input w → PartiesMeet generator input (record w { by_client = taken_then input w count; to_server = sent_of (talk input (take (taken_then input w count) w.to_client)) })
   client_meets w count meets =
       let r = answer_to (client_input input) most (take w.by_client w.to_client) in
-      let piece = handed r (next count w.by_client w.to_client) in
+      let piece = handed r (party_bytes count w.by_client w.to_client) in
       let is = handed_piece r count w.by_client w.to_client in
       let there = piece_taken w.by_client w.to_client piece meets.by_client is in
       let grows = talk_grows input (take w.by_client w.to_client) (take (taken_then input w count) w.to_client) (piece, there) in
@@ -121,10 +121,10 @@ module _ (generator : TableId) (input : PairInput) where
         by_client = piece_within w.by_client w.to_client piece meets.by_client is;
       }
 
-  server_meets : (w : World) (count : ℕ) (there : Course Stage ServerEnding) → Continues (serving (Means input)) w.server (unless_over w.server (next count w.by_server w.to_server)) there → Meets generator input w
-      → Meets generator input (record w { by_server = w.by_server + length (unless_over w.server (next count w.by_server w.to_server)); server = there; to_client = sent_of there })
+  server_meets : (w : World) (count : ℕ) (there : Course Stage ServerEnding) → Continues (serving (Means input)) w.server (unless_over w.server (party_bytes count w.by_server w.to_server)) there → PartiesMeet generator input w
+      → PartiesMeet generator input (record w { by_server = w.by_server + length (unless_over w.server (party_bytes count w.by_server w.to_server)); server = there; to_client = sent_of there })
   server_meets w count there goes meets =
-      let piece = unless_over w.server (next count w.by_server w.to_server) in
+      let piece = unless_over w.server (party_bytes count w.by_server w.to_server) in
       let is = over_piece w.server count w.by_server w.to_server in
       let taken = piece_taken w.by_server w.to_server piece meets.by_server is in
       let on = leads_on (serving (Means input)) steady_at (first_stage generator input) (take w.by_server w.to_server) w.server piece there meets.serves goes in
@@ -139,10 +139,10 @@ module _ (generator : TableId) (input : PairInput) where
         by_client = omega (arith, meets.by_client, grown_length w.to_client (sent_of there) grown);
       }
 
-  happens_meet : (w : World) (e : Event) (end : World) → Happens input w e end → Meets generator input w → Meets generator input end
+  happens_meet : (w : World) (e : Event) (end : World) → Happens input w e end → PartiesMeet generator input w → PartiesMeet generator input end
   happens_meet w e end (to_the_client count) meets = client_meets w count meets
   happens_meet w e end (to_the_server count there goes) meets = server_meets w count there goes meets
 
-  pub runs_meet : (events : List Event) (w end : World) → Runs input events w end → Meets generator input w → Meets generator input end
-  runs_meet [] w end same meets = subst (Meets generator input) same meets
+  pub runs_meet : (events : List Event) (w end : World) → Runs input events w end → PartiesMeet generator input w → PartiesMeet generator input end
+  runs_meet [] w end same meets = subst (PartiesMeet generator input) same meets
   runs_meet (e ∷ es) w end (mid, one, rest) meets = runs_meet es mid end rest (happens_meet w e mid one meets)

@@ -15,10 +15,10 @@ use Rattle.pgw_startup.specs.declared.authentication.Authentication.TheVariants 
 use Rattle.pgw_backend.specs.Backend.{backend_encoding}
 use Rattle.pgw_scram.specs.Answers.{unless, unless_so, first_of}
 use Rattle.pgw_scram.specs.Base64.{base64}
-use Rattle.pgw_scram.specs.Binding.{header, binding_text}
+use Rattle.pgw_scram.specs.Binding.{gs2_header, binding_text}
 use Rattle.pgw_scram.specs.Offers.{bound, is_misbound, answered_as, server_final}
 use Rattle.pgw_scram.specs.Readers.{or_grammar, client_first_parts, client_final_parts, read_client_first, read_client_final}
-use Rattle.pgw_scram.specs.Server.{offered_as, offered_with, unless_misbound, accepted_as}
+use Rattle.pgw_scram.specs.Server.{scram_offer_as, offered_with, unless_misbound, accepted_as}
 use Rattle.pgw_scram.specs.declared.messages.ClientFirst.{ClientFirst}
 use Rattle.pgw_scram.specs.declared.messages.ClientFinal.{ClientFinal}
 use Rattle.pgw_scram.specs.declared.server.ScramServerAuth.{ScramServerAuth}
@@ -51,10 +51,10 @@ unsalted server opening None stored nonce is = cc
 unsalted server opening (Some salt) stored nonce is = cc
 
 module _ (generator : TableId) (input : PairInput) where
-  opening_is : (opening : ClientFirst) → read_client_first (text generator input) ≡ Ok opening → opening.header ≡ header (bound_to input)
-  opening_is opening reads = header_read (client_login input) opening reads ∙ ap header (login_bound input)
+  opening_is : (opening : ClientFirst) → read_client_first (text generator input) ≡ Ok opening → opening.header ≡ gs2_header (bound_to input)
+  opening_is opening reads = header_read (client_login input) opening reads ∙ ap gs2_header (login_bound input)
 
-  never_declined : (r : Result ClientFirst ScramMessageFault) → read_client_first (text generator input) ≡ r → offered_as (scram_end input) r input.stored input.server_nonce ≡ Err misbound → ⊥
+  never_declined : (r : Result ClientFirst ScramMessageFault) → read_client_first (text generator input) ≡ r → scram_offer_as (scram_end input) r input.stored input.server_nonce ≡ Err misbound → ⊥
   never_declined (Err why) reads is = unread (is_utf8 (text generator input)) (client_first_parts (text generator input)) why reads is
   never_declined (Ok opening) reads is =
       let suits : is_misbound input.server_hash opening.header ≡ false = ap (is_misbound input.server_hash) (opening_is opening reads) ∙ suits_by input.client_hash input.server_hash in
@@ -89,7 +89,7 @@ module _ (generator : TableId) (input : PairInput) where
   refused_final first waiting off (Ok closing) reads is =
       let o = was_offered (scram_end input) (text generator input) input.stored input.server_nonce first waiting off in
       let given : closing.binding ≡ binding_text (bound_to input) = binding_read (client_login input) first closing reads ∙ ap binding_text (login_bound input) in
-      let due : (waiting.offer).binding ≡ base64 (bound (header (bound_to input)) input.server_hash) = o.binding ∙ ap (λ (h : List ℕ). base64 (bound h input.server_hash)) (opening_is o.opening o.reads) in
+      let due : (waiting.offer).binding ≡ base64 (bound (gs2_header (bound_to input)) input.server_hash) = o.binding ∙ ap (λ (h : List ℕ). base64 (bound h input.server_hash)) (opening_is o.opening o.reads) in
       let other = differ waiting closing (other_text (bytes_eq closing.binding (waiting.offer).binding) (bytes_eq closing.nonce (waiting.offer).nonce) waiting closing is) in
       differ_by input.client_hash input.server_hash (λ same. other (given ∙ same ∙ sym due))
 

@@ -7,8 +7,8 @@ use Rattle.pgw_frontend.specs.declared.frontend.PgWireFrontendMessage.TheVariant
 use Rattle.pgw_course.specs.Course.{Move, On, Ends, Course, Waits, Over}
 use Rattle.pgw_course.specs.Play.{Leads, waits, stops, breaks, ends, goes, Continues}
 use Rattle.pgw_backend.specs.declared.backend.PgWireBackendMessage.{PgWireBackendMessage as Backend}
-use Rattle.pgw_login.specs.Acts.{Answer, Standing, standing}
-use Rattle.pgw_server.specs.Server.{Stage, Ending, Handles, Steps, serving}
+use Rattle.pgw_login.specs.Acts.{Answer, Standing, standing_in_login}
+use Rattle.pgw_server.specs.Server.{Stage, ServerEnding, Handles, Steps, serving}
 use Rattle.pgw_server.specs.Stands.{IsAt}
 use Rattle.pgw_server.specs.Taken.{Acts}
 use Rattle.pgw_server.specs.declared.connection.ServerCore.{ServerCore}
@@ -20,16 +20,16 @@ use Rattle.pgw_pair.specs.World.{first_stage}
 use Rattle.pgw_pair.proofs.Unregistered.{leads_nowhere}
 
 module _ (means others : Acts) (are : AreActs means others) where
-  handles_as : (stage : Stage) (m : Frontend) (move : Move Stage Ending) → Handles means stage m move → Handles others stage m move
+  handles_as : (stage : Stage) (m : Frontend) (move : Move Stage ServerEnding) → Handles means stage m move → Handles others stage m move
   handles_as stage m move (to, sent, answer, out, h, put, same, calm) =
-      (to, sent, answer, out, are m (standing stage.client stage.login 0) to sent answer h, put, same, calm)
+      (to, sent, answer, out, are m (standing_in_login stage.client stage.login 0) to sent answer h, put, same, calm)
 
-  steps_as : (stage : Stage) (m : Frontend) (move : Move Stage Ending) → Steps means stage m move → Steps others stage m move
+  steps_as : (stage : Stage) (m : Frontend) (move : Move Stage ServerEnding) → Steps means stage m move → Steps others stage m move
   steps_as stage (frontend.SslNegotiation n) move h = h
   steps_as stage (frontend.CancelRequest r) move h = h
   steps_as stage m move h = handles_as stage m move h
 
-  pub leads_as : (stage : Stage) (bytes : List ℕ) (course : Course Stage Ending) → Leads (serving means) stage bytes course → Leads (serving others) stage bytes course
+  pub leads_as : (stage : Stage) (bytes : List ℕ) (course : Course Stage ServerEnding) → Leads (serving means) stage bytes course → Leads (serving others) stage bytes course
   leads_as stage bytes course (waits s bs more) = waits s bs more
   leads_as stage bytes course (stops s bs why ending bad refuses) = stops s bs why ending bad refuses
   leads_as stage bytes course (breaks s bs ending b) = breaks s bs ending b
@@ -37,13 +37,13 @@ module _ (means others : Acts) (are : AreActs means others) where
   leads_as stage bytes course (goes s next bs m len out c whole step on) =
       goes s next bs m len out c whole (steps_as s m (On next out) step) (leads_as next (drop len bs) c on)
 
-  pub continues_as : (course : Course Stage Ending) (piece : List ℕ) (there : Course Stage Ending) → Continues (serving means) course piece there → Continues (serving others) course piece there
+  pub continues_as : (course : Course Stage ServerEnding) (piece : List ℕ) (there : Course Stage ServerEnding) → Continues (serving means) course piece there → Continues (serving others) course piece there
   continues_as (Waits s out pending) piece there (c, leads, is) = (c, leads_as s (pending ++ piece) c leads, is)
   continues_as (Over e out) piece there is = is
 
 -- ---- a core that is registered nowhere
 
-nowhere_at : {H : Type 0} (input : PairInput) (core : ServerCore H) (generator : TableId) (given put : List ℕ) (course : Course Stage Ending)
+nowhere_at : {H : Type 0} (input : PairInput) (core : ServerCore H) (generator : TableId) (given put : List ℕ) (course : Course Stage ServerEnding)
     → Leads (serving (Means input)) (first_stage generator input) given course → IsAt core put course → (core.login).registered ≡ None
 nowhere_at input core generator given put (Waits s out pending) leads at =
     ap (λ (x : Stage). (x.login).registered) (sym at.1) ∙ leads_nowhere input (first_stage generator input) given (Waits s out pending) refl leads

@@ -20,7 +20,7 @@ use Rattle.pgw_types.specs.declared.scram_error.ScramClientError.TheVariants as 
 use Rattle.pgw_types.specs.declared.scram_error.ScramFault.TheVariants as scram_fault
 use Rattle.pgw_frontend.specs.Frontend.{encoding, encodings as client_encodings}
 use Rattle.pgw_frontend.specs.declared.frontend.PgWireFrontendMessage.{PgWireFrontendMessage as Frontend}
-use Rattle.pgw_hash.specs.Saslprep.{prepared}
+use Rattle.pgw_hash.specs.Saslprep.{saslprep}
 use Rattle.pgw_scram.specs.Answers.{unless_so, first_of}
 use Rattle.pgw_scram.specs.Base64.{salt_of}
 use Rattle.pgw_scram.specs.Exchange.{client_first, client_final}
@@ -116,7 +116,7 @@ module _ (generator : TableId) (input : PairInput) where
 
   pub has_memory : (e : ClientError) → ClientCause generator input e → e ≡ starved → ⊥
   has_memory _ (no_startup e bad) is = never_startup (same_err bad is)
-  has_memory _ (no_method e refused) is = by_methods (takes_method (client_input input) (methods input)) (is_utf8 input.password) (is_some (prepared input.user)) (methods input) (refused ∙ ap (λ (x : ClientError). Some x) is)
+  has_memory _ (no_method e refused) is = by_methods (takes_method (client_input input) (methods input)) (is_utf8 input.password) (is_some (saslprep input.user)) (methods input) (refused ∙ ap (λ (x : ClientError). Some x) is)
   has_memory _ (no_first e bad) is = never_first (same_err bad is)
   has_memory _ (bad_first e first offer off refused) is = by_first (client_login input).nonce (read_server_first first) (refused ∙ ap (λ (x : ClientError). Some x) is)
   has_memory _ (no_final e first offer off fine bad) is = never_final first (same_err bad is)

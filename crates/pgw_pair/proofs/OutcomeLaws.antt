@@ -3,7 +3,7 @@ use Rattle.std.proofs.Common.{◌≡◌, ℕ, ◌<◌, List, length, take, sym, 
 use Rattle.atomic_table.specs.Seated.{TableId}
 use Rattle.pgw_course.specs.Course.{Course}
 use Rattle.pgw_dialogue.specs.Answers.{answer_to, Tells}
-use Rattle.pgw_server.specs.Server.{Stage, Ending}
+use Rattle.pgw_server.specs.Server.{Stage, ServerEnding}
 use Rattle.pgw_pair.specs.declared.client_side.ClientSide.{ClientSide}
 use Rattle.pgw_pair.specs.declared.server_side.ServerSide.{ServerSide}
 use Rattle.pgw_pair.specs.declared.parties.PairInput.{PairInput}
@@ -11,14 +11,14 @@ use Rattle.pgw_pair.specs.declared.parties.PairOutcome.{PairOutcome}
 use Rattle.pgw_pair.specs.Parties.{Pairs, TwoParty, client_end, server_end}
 use Rattle.pgw_pair.specs.Sides.{AreIn, ClientAt, ServerAt}
 use Rattle.pgw_pair.specs.Sound.{IsSoundInput}
-use Rattle.pgw_pair.specs.World.{World, Runs, Serves, client_input, first_world, most}
+use Rattle.pgw_pair.specs.World.{World, Runs, PartyServes, client_input, first_world, most}
 use Rattle.pgw_pair.proofs.ClientLaws as of_client
 use Rattle.pgw_pair.proofs.ServerLaws as of_server
 use Rattle.pgw_pair.proofs.Whole.{two_parties_agree}
 
 module _ {H : Type 0} (generator : TableId) (input : PairInput) where
   pub outcome : (client : ClientSide) (server : ServerSide H) (w : World) (o : PairOutcome) → IsSoundInput input → Runs input input.schedule (first_world generator input) w → AreIn generator input client server w
-      → ((taken : List ℕ) → ClientAt input client taken → o.client ≡ client_end input taken) → ((course : Course Stage Ending) → ServerAt server course → o.server ≡ server_end course)
+      → ((taken : List ℕ) → ClientAt input client taken → o.client ≡ client_end input taken) → ((course : Course Stage ServerEnding) → ServerAt server course → o.server ≡ server_end course)
       → o.to_server ≡ (client.out).items → o.to_client ≡ (server.out).items → o.taken_by_client ≡ client.taken → o.taken_by_server ≡ server.taken → length o.to_client < most → TwoParty input o
   outcome client server w o sound ran are client_is server_is to_server to_client by_client by_server small =
       let sent : o.to_server ≡ w.to_server = to_server ∙ are.to_server in
@@ -39,7 +39,7 @@ module _ {H : Type 0} (generator : TableId) (input : PairInput) where
         wrote = to_server ∙ at.sent;
         client = client_is (take o.taken_by_client o.to_client) at;
         tells = subst (λ (l : List ℕ). Tells (client_input input) most (take o.taken_by_client o.to_client) l (answer_to (client_input input) most (take o.taken_by_client o.to_client))) (sym to_server) at.tells;
-        serves = subst (λ (l : List ℕ). Serves generator input l w.server) heard (are.meets).serves;
+        serves = subst (λ (l : List ℕ). PartyServes generator input l w.server) heard (are.meets).serves;
         served = said ∙ (are.meets).served;
         server = server_is w.server are.server_at;
         no_memory_client = λ h. of_client.never_starved input client (take o.taken_by_client o.to_client) at (sym (client_is (take o.taken_by_client o.to_client) at) ∙ h);

@@ -5,7 +5,7 @@ use Rattle.std.proofs.lemmas.List.{append-nil, drop_at}
 use Rattle.std.proofs.Common.{get_or, drop, lit<}
 use Rattle.pgw_types.specs.declared.context.ProtocolVersion.TheVariants.{PROTOCOL3_0}
 use Rattle.pgw_wire.specs.declared.framing.Framing.TheVariants.{Typed}
-use Rattle.pgw_wire.specs.Framing.{front}
+use Rattle.pgw_wire.specs.Framing.{wire_front}
 use Rattle.pgw_wire.specs.Formats.{SpellsTyped}
 use Rattle.pgw_wire.proofs.MessageLaws.{front_found}
 use Rattle.pgw_startup.specs.Password.{initial_response_of, initial_response, SpellsRaw}
@@ -24,7 +24,7 @@ use Rattle.pgw_startup.specs.declared.password.PasswordMessageFamily.{PasswordMe
 use Rattle.pgw_opening.specs.Openings.{has_code}
 use Rattle.pgw_opening.proofs.OpeningLaws.{stands}
 use Rattle.pgw_backend.specs.Backend.{backend_encoding}
-use Rattle.pgw_backend.specs.Front.{Awaits as AwaitsBackend, typed_phase, SpellsIn}
+use Rattle.pgw_backend.specs.Front.{AwaitsBackend, typed_phase, SpellsIn}
 use Rattle.pgw_backend.specs.Texts.{IsSound, Suits}
 use Rattle.pgw_backend.specs.declared.backend.PgWireBackendMessage.{PgWireBackendMessage as Backend}
 use Rattle.pgw_backend.proofs.BackendWritten.{backend_written}
@@ -39,10 +39,10 @@ use Rattle.pgw_frontend.proofs.FrontendLaws.{frontend_again}
 use Rattle.pgw_frontend.proofs.FrontendWritten.{frontend_written}
 use Rattle.pgw_course.specs.Course.{Whole}
 use Rattle.pgw_course.specs.Fronts.{IsReadAs}
-use Rattle.pgw_session.specs.Reading.{reading as reading_of_server}
+use Rattle.pgw_session.specs.Reading.{version_front as reading_of_server}
 use Rattle.pgw_session.proofs.ReadingLaws.{reads_whole}
-use Rattle.pgw_server.specs.Front.{phase, or_first, client_front, met}
-use Rattle.pgw_server.specs.Server.{Stage, bound_at, reading}
+use Rattle.pgw_server.specs.Front.{phase, or_first_message, client_front, server_front}
+use Rattle.pgw_server.specs.Server.{Stage, bound_at, stage_front}
 
 -- ---- no request for encryption begins as a startup message does
 
@@ -85,29 +85,29 @@ none_asked v m g rest small h =
 
 -- ---- what the server reads
 
-found : {M : Type 0} (g rest : List ℕ) (m : M) → met (g ++ rest) (Ok (Some (m, rest))) ≡ Whole m (length g)
+found : {M : Type 0} (g rest : List ℕ) (m : M) → server_front (g ++ rest) (Ok (Some (m, rest))) ≡ Whole m (length g)
 found g rest m = let size : length (g ++ rest) - length rest ≡ length g = omega (arith, length-append g rest) in ap (Whole m) size
 
 startup_spelled : (v : ProtocolVersion) (m : Startup) (g : List ℕ) → IsSoundFrontend (frontend.Startup m) → encoding (frontend.Startup m) ≡ Ok g → SpellsUntyped 10000 SpellsStartup m g
 unfolding SpellsFrontend
 startup_spelled v m g sound is = frontend_written v (frontend.Startup m) g sound tt is
 
-pub reads_startup : (stage : Stage) (m : Startup) (g : List ℕ) → stage.started ≡ false → IsSoundFrontend (frontend.Startup m) → m.protocol_number_minor < 2 ^ 16 → encoding (frontend.Startup m) ≡ Ok g → IsReadAs (reading stage) g (frontend.Startup m)
+pub reads_startup : (stage : Stage) (m : Startup) (g : List ℕ) → stage.started ≡ false → IsSoundFrontend (frontend.Startup m) → m.protocol_number_minor < 2 ^ 16 → encoding (frontend.Startup m) ≡ Ok g → IsReadAs (stage_front stage) g (frontend.Startup m)
 unfolding SpellsFrontend
 reads_startup stage m g new sound small is rest =
     let v = stage.client.protocol_version in
     let s = startup_spelled v m g sound is in
-    ap (λ (b : Bool). met (g ++ rest) (client_front b (bound_at stage) v (g ++ rest))) new
-    ∙ ap (λ (r : Result (Option (Frontend × List ℕ)) PgWireError). met (g ++ rest) (or_first v r)) (none_asked v m g rest small s)
-    ∙ ap (met (g ++ rest)) (frontend_again (phase false true v) (frontend.Startup m) g rest ((refl, refl), small) s)
+    ap (λ (b : Bool). server_front (g ++ rest) (client_front b (bound_at stage) v (g ++ rest))) new
+    ∙ ap (λ (r : Result (Option (Frontend × List ℕ)) PgWireError). server_front (g ++ rest) (or_first_message v r)) (none_asked v m g rest small s)
+    ∙ ap (server_front (g ++ rest)) (frontend_again (phase false true v) (frontend.Startup m) g rest ((refl, refl), small) s)
     ∙ found g rest (frontend.Startup m)
 
-pub reads_password : (stage : Stage) (m : PasswordMessageFamily) (g : List ℕ) → stage.started ≡ true → bound_at stage ≡ None → encoding (frontend.PasswordMessageFamily m) ≡ Ok g → IsReadAs (reading stage) g (as_read (frontend.PasswordMessageFamily m))
+pub reads_password : (stage : Stage) (m : PasswordMessageFamily) (g : List ℕ) → stage.started ≡ true → bound_at stage ≡ None → encoding (frontend.PasswordMessageFamily m) ≡ Ok g → IsReadAs (stage_front stage) g (as_read (frontend.PasswordMessageFamily m))
 reads_password stage m g begun free is rest =
     let v = stage.client.protocol_version in
     let s = frontend_written v (frontend.PasswordMessageFamily m) g tt tt is in
-    (λ i. met (g ++ rest) (client_front (begun i) (free i) v (g ++ rest)))
-    ∙ ap (met (g ++ rest)) (frontend_again (phase false false v) (as_read (frontend.PasswordMessageFamily m)) g rest (refl, refl) s)
+    (λ i. server_front (g ++ rest) (client_front (begun i) (free i) v (g ++ rest)))
+    ∙ ap (server_front (g ++ rest)) (frontend_again (phase false false v) (as_read (frontend.PasswordMessageFamily m)) g rest (refl, refl) s)
     ∙ found g rest (as_read (frontend.PasswordMessageFamily m))
 
 -- ---- what the client reads
@@ -127,7 +127,7 @@ pub initial_reads : (m : SASLInitialResponse) (g : List ℕ) → IsUtf8 m.auth_m
 unfolding encoding SpellsFrontend
 initial_reads m g utf8 is =
     let spelled = initial_written m g utf8 is in
-    let read : front (Typed 112) 10000 initial_response_of g ≡ Ok (Some (m, [])) = ap (front (Typed 112) 10000 initial_response_of) (sym (append-nil g)) ∙ initial_row.only m g [] spelled in
+    let read : wire_front (Typed 112) 10000 initial_response_of g ≡ Ok (Some (m, [])) = ap (wire_front (Typed 112) 10000 initial_response_of) (sym (append-nil g)) ∙ initial_row.only m g [] spelled in
     let first : get_or g 0 0 ≡ 112 = ap (λ (l : List ℕ). get_or l 0 0) spelled.2 in
     let found = front_found 112 10000 (lit< tt) initial_response_of (λ (x : SASLInitialResponse) (body : List ℕ). initial_response_of body ≡ Ok x) g m [] first (λ body x short e. e) read in
     let plain : SpellsTyped 112 10000 SpellsRaw (family.Raw (initial_response m)) g = frontend_written PROTOCOL3_0 (frontend.PasswordMessageFamily (family.SASLInitialResponse m)) g tt tt is in

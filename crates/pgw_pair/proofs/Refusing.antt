@@ -14,7 +14,7 @@ use Rattle.pgw_scram.specs.Answers.{unless, unless_so, first_of}
 use Rattle.pgw_scram.specs.Exchange.{client_first, client_final}
 use Rattle.pgw_scram.specs.Offers.{is_misbound, answered_as, server_final}
 use Rattle.pgw_scram.specs.Readers.{read_client_first, read_client_final}
-use Rattle.pgw_scram.specs.Server.{offered_as, offered_with, unless_misbound, accepted_as}
+use Rattle.pgw_scram.specs.Server.{scram_offer_as, offered_with, unless_misbound, accepted_as}
 use Rattle.pgw_scram.specs.declared.messages.ClientFirst.{ClientFirst}
 use Rattle.pgw_scram.specs.declared.messages.ClientFinal.{ClientFinal}
 use Rattle.pgw_scram.specs.declared.password.Password.{Password as Kept}
@@ -49,7 +49,7 @@ by_binding : (server : ScramServerAuth) (opening : ClientFirst) (stored : Kept) 
 by_binding server opening stored nonce why true is = known_as (of_message fault.ChannelBinding) is
 by_binding server opening stored nonce why false is = by_salt server opening stored.salt stored.password nonce why is
 
-by_first : (server : ScramServerAuth) (r : Result ClientFirst ScramMessageFault) (stored : Kept) (nonce : List ℕ) (why : PgWireError) → offered_as server r stored nonce ≡ Err why → LoginRefusal why
+by_first : (server : ScramServerAuth) (r : Result ClientFirst ScramMessageFault) (stored : Kept) (nonce : List ℕ) (why : PgWireError) → scram_offer_as server r stored nonce ≡ Err why → LoginRefusal why
 by_first server (Err f) stored nonce why is = known_as (of_message f) is
 by_first server (Ok opening) stored nonce why is = by_binding server opening stored nonce why (is_misbound server.certificate_hash opening.header) is
 

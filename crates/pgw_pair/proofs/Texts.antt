@@ -12,8 +12,8 @@ use Rattle.pgw_scram.specs.Base64.{base64, salt_of}
 use Rattle.pgw_scram.specs.Formulas.{client_key, server_key, client_proof, proof_by, signature_by}
 use Rattle.pgw_scram.specs.Offers.{bound, channel_refusal, exchanged, answer_refusal, answered_as, server_final}
 use Rattle.pgw_hash.specs.Pbkdf2.{salted_password}
-use Rattle.pgw_scram.specs.Attributes.{IsValue, behind}
-use Rattle.pgw_scram.specs.Binding.{header, binding_text}
+use Rattle.pgw_scram.specs.Attributes.{IsValue, more_attributes}
+use Rattle.pgw_scram.specs.Binding.{gs2_header, binding_text}
 use Rattle.pgw_scram.specs.Exchange.{client_first, client_first_bare, without_proof, exchanged as client_exchanged, with_salt as with_salt_of, with_parts, client_final}
 use Rattle.pgw_scram.specs.Messages.{IsClientFinal}
 use Rattle.pgw_scram.specs.Readers.{cut, behind_name, header_parts, or_grammar, bare_parts, client_first_parts, read_client_first, read_server_first, read_client_final}
@@ -21,7 +21,7 @@ use Rattle.pgw_scram.specs.declared.messages.ServerFirst.{ServerFirst}
 use Rattle.pgw_scram.proofs.AttributeLaws.{cut_of}
 use Rattle.pgw_scram.proofs.Base64Laws.{base64_utf8, base64_value}
 use Rattle.pgw_scram.proofs.ExchangeLaws.{verifier_is_read}
-use Rattle.pgw_scram.specs.Refusals.{verifier_refusal, final_refusal}
+use Rattle.pgw_scram.specs.Refusals.{verifier_refusal, scram_refusal}
 use Rattle.pgw_types.specs.declared.scram_error.ScramClientError.{ScramClientError}
 use Rattle.pgw_types.specs.declared.scram_error.ScramClientError.TheVariants.{ScramError}
 use Rattle.pgw_types.specs.declared.scram_error.ScramFault.TheVariants as scram_fault
@@ -31,7 +31,7 @@ use Rattle.pgw_session.specs.Logins.{method_of}
 use Rattle.pgw_scram.specs.declared.binding.ClientBinding.{ClientBinding}
 use Rattle.pgw_scram.specs.declared.binding.ClientBinding.TheVariants as binding
 use Rattle.pgw_scram.specs.declared.exchange.ClientLogin.{ClientLogin}
-use Rattle.pgw_scram.specs.Server.{offered, offered_as, offered_with, unless_misbound, accepted, accepted_as}
+use Rattle.pgw_scram.specs.Server.{scram_offer, scram_offer_as, offered_with, unless_misbound, accepted, accepted_as}
 use Rattle.pgw_scram.specs.declared.messages.ClientFirst.{ClientFirst}
 use Rattle.pgw_scram.specs.declared.messages.ClientFinal.{ClientFinal}
 use Rattle.pgw_scram.specs.declared.password.Password.{Password as Kept}
@@ -84,10 +84,10 @@ with_binding : (server : ScramServerAuth) (text : List ℕ) (stored : Kept) (non
 with_binding server text stored nonce first waiting opening reads None is = with_salt server text stored nonce first waiting opening reads stored.salt is
 with_binding server text stored nonce first waiting opening reads (Some e) is = absurd (no_err (sym is))
 
-pub was_offered : (server : ScramServerAuth) (text : List ℕ) (stored : Kept) (nonce first : List ℕ) (waiting : WaitingForClientFinal) → offered server text stored nonce ≡ Ok (first, waiting) → IsKept server.certificate_hash text stored first waiting
+pub was_offered : (server : ScramServerAuth) (text : List ℕ) (stored : Kept) (nonce first : List ℕ) (waiting : WaitingForClientFinal) → scram_offer server text stored nonce ≡ Ok (first, waiting) → IsKept server.certificate_hash text stored first waiting
 was_offered server text stored nonce first waiting is = elim (known (read_client_first text)) [
-  | inl k ↦ with_binding server text stored nonce first waiting k.0 k.1 (channel_refusal server.certificate_hash k.0) (sym (ap (λ (r : Result ClientFirst ScramMessageFault). offered_as server r stored nonce) k.1) ∙ is)
-  | inr k ↦ absurd (no_err (sym is ∙ ap (λ (r : Result ClientFirst ScramMessageFault). offered_as server r stored nonce) k.1))
+  | inl k ↦ with_binding server text stored nonce first waiting k.0 k.1 (channel_refusal server.certificate_hash k.0) (sym (ap (λ (r : Result ClientFirst ScramMessageFault). scram_offer_as server r stored nonce) k.1) ∙ is)
+  | inr k ↦ absurd (no_err (sym is ∙ ap (λ (r : Result ClientFirst ScramMessageFault). scram_offer_as server r stored nonce) k.1))
 ]
 
 -- ---- what is bound
@@ -95,9 +95,9 @@ was_offered server text stored nonce first waiting is = elim (known (read_client
 -- client-first is read with the header that the client wrote
 named : ClientBinding → List ℕ → Option (List ℕ × List ℕ × Option (List ℕ)) → Option ClientFirst
 named b bare None = None
-named b bare (Some names) = Some (record { header = header b; bare = bare; user = names.0; nonce = names.1 })
+named b bare (Some names) = Some (record { header = gs2_header b; bare = bare; user = names.0; nonce = names.1 })
 
-parts_are : (b : ClientBinding) (bare : List ℕ) (o : Option (List ℕ × List ℕ × Option (List ℕ))) → bare_parts bare ≡ o → client_first_parts (header b ++ bare) ≡ named b bare o
+parts_are : (b : ClientBinding) (bare : List ℕ) (o : Option (List ℕ × List ℕ × Option (List ℕ))) → bare_parts bare ≡ o → client_first_parts (gs2_header b ++ bare) ≡ named b bare o
 unfolding client_first_parts header_parts cut behind_name named
 parts_are binding.None bare None is = rw is refl
 parts_are binding.None bare (Some names) is = rw is refl
@@ -106,23 +106,23 @@ parts_are binding.NotOffered bare (Some names) is = rw is refl
 parts_are (binding.EndPoint hash) bare None is = rw is refl
 parts_are (binding.EndPoint hash) bare (Some names) is = rw is refl
 
-header_named : (b : ClientBinding) (bare : List ℕ) (o : Option (List ℕ × List ℕ × Option (List ℕ))) (opening : ClientFirst) → or_grammar (named b bare o) ≡ Ok opening → opening.header ≡ header b
+header_named : (b : ClientBinding) (bare : List ℕ) (o : Option (List ℕ × List ℕ × Option (List ℕ))) (opening : ClientFirst) → or_grammar (named b bare o) ≡ Ok opening → opening.header ≡ gs2_header b
 unfolding named
 header_named b bare None opening is = absurd cc
 header_named b bare (Some names) opening is = ap (λ (x : ClientFirst). x.header) (sym (ok_same is))
 
-header_by : (utf8 : Bool) (b : ClientBinding) (bare : List ℕ) (opening : ClientFirst) → (if utf8 then or_grammar (client_first_parts (header b ++ bare)) else Err fault.NotUtf8) ≡ Ok opening → opening.header ≡ header b
+header_by : (utf8 : Bool) (b : ClientBinding) (bare : List ℕ) (opening : ClientFirst) → (if utf8 then or_grammar (client_first_parts (gs2_header b ++ bare)) else Err fault.NotUtf8) ≡ Ok opening → opening.header ≡ gs2_header b
 header_by false b bare opening is = absurd cc
 header_by true b bare opening is = header_named b bare (bare_parts bare) opening (sym (ap or_grammar (parts_are b bare (bare_parts bare) refl)) ∙ is)
 
-pub header_read : (login : ClientLogin) (opening : ClientFirst) → read_client_first (client_first login) ≡ Ok opening → opening.header ≡ header login.binding
+pub header_read : (login : ClientLogin) (opening : ClientFirst) → read_client_first (client_first login) ≡ Ok opening → opening.header ≡ gs2_header login.binding
 unfolding client_first
 header_read login opening is =
     let bare = client_first_bare login.user login.nonce in
-    header_by (is_utf8 (header login.binding ++ bare)) login.binding bare opening is
+    header_by (is_utf8 (gs2_header login.binding ++ bare)) login.binding bare opening is
 
 -- the method of a login goes with its header
-goes_with : (b : ClientBinding) → is_misnamed (method_of b) (header b) ≡ false
+goes_with : (b : ClientBinding) → is_misnamed (method_of b) (gs2_header b) ≡ false
 goes_with binding.None = refl
 goes_with binding.NotOffered = refl
 goes_with (binding.EndPoint hash) = refl
@@ -139,7 +139,7 @@ written_read : (b : ClientBinding) (nonce proof : List ℕ) (closing : ClientFin
 unfolding without_proof
 written_read b nonce proof closing form =
     let w = form.without_proof in
-    let more : List ℕ = codes "r=" ++ (closing.nonce ++ behind w.more) in
+    let more : List ℕ = codes "r=" ++ (closing.nonce ++ more_attributes w.more) in
     let own : List ℕ = codes "r=" ++ nonce ++ codes ",p=" ++ proof in
     let text : codes "c=" ++ (binding_text b ++ 44 ∷ own) ≡ without_proof b nonce ++ codes ",p=" ++ proof = simp append_assoc in
     let all : codes "c=" ++ (binding_text b ++ 44 ∷ own) ≡ (codes "c=" ++ (closing.binding ++ 44 ∷ more)) ++ 44 ∷ (codes "p=" ++ closing.proof) =
@@ -222,7 +222,7 @@ no_mismatch true is = refl
 no_mismatch false is = absurd cc
 
 -- a client takes a verifier that it awaits alone
-pub verifier_same : (n expected : List ℕ) → final_refusal expected (codes "v=" ++ base64 n) ≡ None → expected ≡ base64 n
+pub verifier_same : (n expected : List ℕ) → scram_refusal expected (codes "v=" ++ base64 n) ≡ None → expected ≡ base64 n
 verifier_same n expected is =
     let read = verifier_is_read (base64 n) (base64_value n) (base64_utf8 n) in
     sym ((bytes_eq-Decides (base64 n) expected).0 (no_mismatch (bytes_eq (base64 n) expected) (sym (ap (verifier_refusal expected) read) ∙ is)))

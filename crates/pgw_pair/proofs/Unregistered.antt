@@ -8,23 +8,23 @@ use Rattle.pgw_backend.specs.declared.backend.PgWireBackendMessage.{PgWireBacken
 use Rattle.pgw_frontend.specs.declared.frontend.PgWireFrontendMessage.{PgWireFrontendMessage as Frontend}
 use Rattle.pgw_frontend.specs.declared.frontend.PgWireFrontendMessage.TheVariants as frontend
 use Rattle.pgw_course.specs.Course.{Move, On, Ends, Course, Waits, Over}
-use Rattle.pgw_course.specs.Play.{Leads, waits, stops, breaks, ends, goes, behind}
+use Rattle.pgw_course.specs.Play.{Leads, waits, stops, breaks, ends, goes, course_behind}
 use Rattle.pgw_registry.specs.Passes.{Known}
 use Rattle.pgw_registry.specs.declared.error.RegistryError.{RegistryError}
 use Rattle.pgw_registry.specs.declared.error.RegistryError.TheVariants as registry
-use Rattle.pgw_login.specs.Client.{Client}
-use Rattle.pgw_login.specs.Registered.{Pair}
-use Rattle.pgw_login.specs.Acts.{Standing, standing, Answer, Then, halts, goes as then_goes, Refuses, Passes, OrNoMemory, Sets, Marks, Sends, Starts, StartsFrom, StartsAt, is_initial, with_sasl}
-use Rattle.pgw_login.specs.Finish.{Draws, Enrolls, EnrollsAt, Entered, Accepts, Introduces, Readies, ready, FinishesAuthentication, Finishes}
+use Rattle.pgw_login.specs.Client.{LoginClient}
+use Rattle.pgw_login.specs.Registered.{HandlePair}
+use Rattle.pgw_login.specs.Acts.{Standing, standing_in_login, Answer, Then, halts, goes as then_goes, LoginRefuses, LoginStays, OrNoMemory, Sets, Marks, Sends, StartsLogin, StartsFrom, StartsLoginAt, is_initial, with_sasl}
+use Rattle.pgw_login.specs.Finish.{Draws, Enrolls, EnrollsAt, Entered, AcceptsLogin, Introduces, Readies, login_ready, FinishesAuthentication, Finishes}
 use Rattle.pgw_login.specs.Hearing.{heard}
-use Rattle.pgw_login.specs.Opening.{Opens, Begins, Negotiates, Settles, negotiation, Saves, told}
+use Rattle.pgw_login.specs.Opening.{Opens, BeginsLogin, Negotiates, LoginSettlesVersion, negotiation, Saves, offered_messages}
 use Rattle.pgw_login.specs.declared.handler.Heard.{Heard}
 use Rattle.pgw_login.specs.declared.handler.Heard.TheVariants as of
 use Rattle.pgw_login.specs.declared.state.LoginState.{LoginState}
 use Rattle.pgw_sasl.specs.Replies.{Reply}
-use Rattle.pgw_sasl.specs.Sasl.{Offers, SaslOn, RespondsBy, Ends as EndsSasl, told as replied}
+use Rattle.pgw_sasl.specs.Sasl.{Offers, SaslOn, RespondsBy, EndsSaslLogin as EndsSasl, sasl_messages as replied}
 use Rattle.pgw_sasl.specs.Turns.{is_finished}
-use Rattle.pgw_server.specs.Server.{Stage, Ending as ServerEnding, Handles, Steps, after, moved, serving}
+use Rattle.pgw_server.specs.Server.{Stage, ServerEnding, Handles, Steps, stage_after, answer_move, serving}
 use Rattle.pgw_pair.specs.declared.parties.PairInput.{PairInput}
 use Rattle.pgw_pair.specs.Server.{Means, methods, ScramAnswers, NoOauth, Provided, Unregistered}
 use Rattle.pgw_pair.proofs.Acts.{Act}
@@ -34,82 +34,82 @@ IsNowhere login = login.registered ≡ None
 
 -- an act of a login that is registered nowhere leaves it so
 abbrev Keeps : Act → Type 0
-Keeps act = (before after : Standing) (sent : List Backend) (answer : Answer) → act before after sent answer → IsNowhere before.login → IsNowhere after.login
+Keeps act = (before stage_after : Standing) (sent : List Backend) (answer : Answer) → act before stage_after sent answer → IsNowhere before.login → IsNowhere stage_after.login
 
-stays : {before after : Standing} → after ≡ before → IsNowhere before.login → IsNowhere after.login
+stays : {before stage_after : Standing} → stage_after ≡ before → IsNowhere before.login → IsNowhere stage_after.login
 stays same is = ap (λ (x : Standing). (x.login).registered) same ∙ is
 
-refuses_keeps : (e : PgWireError) → Keeps (Refuses e)
-refuses_keeps e before after sent answer h is = stays h.0 is
+refuses_keeps : (e : PgWireError) → Keeps (LoginRefuses e)
+refuses_keeps e before stage_after sent answer h is = stays h.0 is
 
-passes_keeps : Keeps Passes
-passes_keeps before after sent answer h is = stays h.0 is
+passes_keeps : Keeps LoginStays
+passes_keeps before stage_after sent answer h is = stays h.0 is
 
-sets_keeps : (f : Client → Client) → Keeps (Sets f)
-sets_keeps f before after sent answer h is = ap (λ (x : Standing). (x.login).registered) h.0 ∙ is
+sets_keeps : (f : LoginClient → LoginClient) → Keeps (Sets f)
+sets_keeps f before stage_after sent answer h is = ap (λ (x : Standing). (x.login).registered) h.0 ∙ is
 
 marks_keeps : (f : LoginState → LoginState) → ((s : LoginState) → (f s).registered ≡ s.registered) → Keeps (Marks f)
-marks_keeps f same before after sent answer h is = ap (λ (x : Standing). (x.login).registered) h.0 ∙ same before.login ∙ is
+marks_keeps f same before stage_after sent answer h is = ap (λ (x : Standing). (x.login).registered) h.0 ∙ same before.login ∙ is
 
 sends_keeps : (due : List Backend) → Keeps (Sends due)
-sends_keeps due before after sent (Ok done) h is = stays h.0 is
-sends_keeps due before after sent (Err e) h is = ap (λ (x : Standing). (x.login).registered) h.3 ∙ is
+sends_keeps due before stage_after sent (Ok done) h is = stays h.0 is
+sends_keeps due before stage_after sent (Err e) h is = ap (λ (x : Standing). (x.login).registered) h.3 ∙ is
 
 or_memory_keeps : (act : Act) → Keeps act → Keeps (OrNoMemory act)
-or_memory_keeps act keeps before after sent answer (inl h) is = stays h.0 is
-or_memory_keeps act keeps before after sent answer (inr h) is = keeps before after sent answer h is
+or_memory_keeps act keeps before stage_after sent answer (inl h) is = stays h.0 is
+or_memory_keeps act keeps before stage_after sent answer (inr h) is = keeps before stage_after sent answer h is
 
 then_keeps : (first next : Act) → Keeps first → Keeps next → Keeps (Then first next)
-then_keeps first next a b before after sent answer (halts x y s e h) is = a x y s (Err e) h is
-then_keeps first next a b before after sent answer (then_goes x mid y front back r h k) is = b mid y back r k (a x mid front (Ok tt) h is)
+then_keeps first next a b before stage_after sent answer (halts x y s e h) is = a x y s (Err e) h is
+then_keeps first next a b before stage_after sent answer (then_goes x mid y front back r h k) is = b mid y back r k (a x mid front (Ok tt) h is)
 
 -- ---- the startup message
 
 starts_from_keeps : (b : Bool) → Keeps (StartsFrom b)
-starts_from_keeps true before after sent answer h is = ap (λ (x : Standing). (x.login).registered) h.0 ∙ is
-starts_from_keeps false before after sent answer h is = stays h.0 is
+starts_from_keeps true before stage_after sent answer h is = ap (λ (x : Standing). (x.login).registered) h.0 ∙ is
+starts_from_keeps false before stage_after sent answer h is = stays h.0 is
 
-starts_at_keeps : (b : Bool) → Keeps (StartsAt b)
-starts_at_keeps true before after sent answer h is = stays h.0 is
-starts_at_keeps false before after sent answer h is = starts_from_keeps (is_initial (before.login).sasl) before after sent answer h is
+starts_at_keeps : (b : Bool) → Keeps (StartsLoginAt b)
+starts_at_keeps true before stage_after sent answer h is = stays h.0 is
+starts_at_keeps false before stage_after sent answer h is = starts_from_keeps (is_initial (before.login).sasl) before stage_after sent answer h is
 
-settles_keeps : (r : Result (ProtocolVersion × Option Backend) PgWireError) → Keeps (Settles r)
-settles_keeps (Err e) before after sent answer h is = stays h.0 is
-settles_keeps (Ok (version, offered)) before after sent answer h is = then_keeps (Sends (told offered)) (Sets _) (sends_keeps (told offered)) (sets_keeps _) before after sent answer h is
+settles_keeps : (r : Result (ProtocolVersion × Option Backend) PgWireError) → Keeps (LoginSettlesVersion r)
+settles_keeps (Err e) before stage_after sent answer h is = stays h.0 is
+settles_keeps (Ok (version, offered)) before stage_after sent answer h is = then_keeps (Sends (offered_messages offered)) (Sets _) (sends_keeps (offered_messages offered)) (sets_keeps _) before stage_after sent answer h is
 
 opens_keeps : (s : Startup) → Keeps (Opens s)
-opens_keeps s = then_keeps (Begins s) (Sets _)
-    (then_keeps Starts (Then (Negotiates s) (Saves s)) (λ before. starts_at_keeps (before.login).started before) (then_keeps (Negotiates s) (Saves s) (settles_keeps (negotiation s)) (or_memory_keeps (Sets _) (sets_keeps _))))
+opens_keeps s = then_keeps (BeginsLogin s) (Sets _)
+    (then_keeps StartsLogin (Then (Negotiates s) (Saves s)) (λ before. starts_at_keeps (before.login).started before) (then_keeps (Negotiates s) (Saves s) (settles_keeps (negotiation s)) (or_memory_keeps (Sets _) (sets_keeps _))))
     (sets_keeps _)
 
 -- ---- the end of a login
 
 draws_keeps : Keeps Draws
-draws_keeps before after sent (Ok done) h is = ap (λ (x : Standing). (x.login).registered) h.1.3 ∙ is
-draws_keeps before after sent (Err e) h is = ap (λ (x : Standing). (x.login).registered) h.1 ∙ is
+draws_keeps before stage_after sent (Ok done) h is = ap (λ (x : Standing). (x.login).registered) h.1.3 ∙ is
+draws_keeps before stage_after sent (Err e) h is = ap (λ (x : Standing). (x.login).registered) h.1 ∙ is
 
-entered_keeps : (got : Result (Option Pair) RegistryError) (pass : Option Known) (before after : Standing) (answer : Answer) → got ≡ Ok None → Entered got pass before after answer → IsNowhere after.login
-entered_keeps (Ok pair) pass before after answer same h = ap (λ (x : Standing). (x.login).registered) h.0 ∙ pair_is same
+entered_keeps : (got : Result (Option HandlePair) RegistryError) (pass : Option Known) (before stage_after : Standing) (answer : Answer) → got ≡ Ok None → Entered got pass before stage_after answer → IsNowhere stage_after.login
+entered_keeps (Ok pair) pass before stage_after answer same h = ap (λ (x : Standing). (x.login).registered) h.0 ∙ pair_is same
   where
-    pair_is : {p q : Option Pair} → ◌≡◌ {A = Result (Option Pair) RegistryError} (Ok p) (Ok q) → p ≡ q
+    pair_is : {p q : Option HandlePair} → ◌≡◌ {A = Result (Option HandlePair) RegistryError} (Ok p) (Ok q) → p ≡ q
     pair_is e = cc
-entered_keeps (Err registry.Gone) pass before after answer same h = absurd h
-entered_keeps (Err registry.Exhausted) pass before after answer same h = absurd cc
-entered_keeps (Err registry.OutOfMemory) pass before after answer same h = absurd cc
+entered_keeps (Err registry.Gone) pass before stage_after answer same h = absurd h
+entered_keeps (Err registry.Exhausted) pass before stage_after answer same h = absurd cc
+entered_keeps (Err registry.OutOfMemory) pass before stage_after answer same h = absurd cc
 
 enrolls_keeps : (b : Bool) → Keeps (EnrollsAt b Unregistered)
-enrolls_keeps true before after sent answer h is = stays h.0 is
-enrolls_keeps false before after sent answer (none, (pass, got, how, entered)) is = entered_keeps got pass before after answer how.1 entered
+enrolls_keeps true before stage_after sent answer h is = stays h.0 is
+enrolls_keeps false before stage_after sent answer (none, (pass, got, how, entered)) is = entered_keeps got pass before stage_after answer how.1 entered
 
-accepts_keeps : Keeps (Accepts Unregistered)
+accepts_keeps : Keeps (AcceptsLogin Unregistered)
 accepts_keeps = then_keeps Draws (Enrolls Unregistered) draws_keeps (λ before. enrolls_keeps (is_some (before.login).registered) before)
 
 introduces_keeps : Keeps (Introduces Provided)
-introduces_keeps before after sent answer (inl h) is = stays h.0 is
-introduces_keeps before after sent answer (inr (parameters, given, h)) is = sends_keeps _ before after sent answer h is
+introduces_keeps before stage_after sent answer (inl h) is = stays h.0 is
+introduces_keeps before stage_after sent answer (inr (parameters, given, h)) is = sends_keeps _ before stage_after sent answer h is
 
 finishes_keeps : Keeps (Finishes Provided Unregistered)
-finishes_keeps = then_keeps (Accepts Unregistered) _ accepts_keeps (then_keeps (FinishesAuthentication Provided) (Marks _) (then_keeps (Introduces Provided) (Readies ready) introduces_keeps (then_keeps (Sends (ready ∷ [])) (Sets _) (sends_keeps (ready ∷ [])) (sets_keeps _))) (marks_keeps _ (λ s. refl)))
+finishes_keeps = then_keeps (AcceptsLogin Unregistered) _ accepts_keeps (then_keeps (FinishesAuthentication Provided) (Marks _) (then_keeps (Introduces Provided) (Readies login_ready) introduces_keeps (then_keeps (Sends (login_ready ∷ [])) (Sets _) (sends_keeps (login_ready ∷ [])) (sets_keeps _))) (marks_keeps _ (λ s. refl)))
 
 -- ---- a password message
 
@@ -128,8 +128,8 @@ module _ (input : PairInput) where
   hears_keeps of.Other = passes_keeps
 
   means_keeps : (m : Frontend) → Keeps (Means input m)
-  means_keeps m before after sent (Ok done) h is = hears_keeps (heard m) before after sent (Ok done) h is
-  means_keeps m before after sent (Err e) h is = ap (λ (x : Standing). (x.login).registered) h.2 ∙ hears_keeps (heard m) before h.0 sent (Err e) h.1 is
+  means_keeps m before stage_after sent (Ok done) h is = hears_keeps (heard m) before stage_after sent (Ok done) h is
+  means_keeps m before stage_after sent (Err e) h is = ap (λ (x : Standing). (x.login).registered) h.2 ∙ hears_keeps (heard m) before h.0 sent (Err e) h.1 is
 
   -- ---- a core
 
@@ -141,13 +141,13 @@ module _ (input : PairInput) where
   move_nowhere (On stage out) = IsNowhere stage.login
   move_nowhere (Ends ending out) = IsNowhere (ending.stage).login
 
-  moved_nowhere : (answer : Answer) (to : Standing) (stage : Stage) (out : List ℕ) → IsNowhere to.login → move_nowhere (moved answer to stage out)
+  moved_nowhere : (answer : Answer) (to : Standing) (stage : Stage) (out : List ℕ) → IsNowhere to.login → move_nowhere (answer_move answer to stage out)
   unfolding move_nowhere
   moved_nowhere (Ok done) to stage out is = is
   moved_nowhere (Err e) to stage out is = is
 
   handled_nowhere : (stage : Stage) (m : Frontend) (move : Move Stage ServerEnding) → Handles (Means input) stage m move → IsNowhere stage.login → move_nowhere move
-  handled_nowhere stage m move (to, sent, answer, out, h, put, same, calm) is = subst move_nowhere (sym same) (moved_nowhere answer to stage out (means_keeps m (standing stage.client stage.login 0) to sent answer h is))
+  handled_nowhere stage m move (to, sent, answer, out, h, put, same, calm) is = subst move_nowhere (sym same) (moved_nowhere answer to stage out (means_keeps m (standing_in_login stage.client stage.login 0) to sent answer h is))
 
   step_nowhere : (stage : Stage) (m : Frontend) (move : Move Stage ServerEnding) → Steps (Means input) stage m move → IsNowhere stage.login → move_nowhere move
   unfolding move_nowhere
@@ -155,7 +155,7 @@ module _ (input : PairInput) where
   step_nowhere stage (frontend.CancelRequest r) move h is = subst move_nowhere (sym h) is
   step_nowhere stage m move h is = handled_nowhere stage m move h is
 
-  behind_nowhere : (out : List ℕ) (c : Course Stage ServerEnding) → IsNowhereAt c → IsNowhereAt (behind out c)
+  behind_nowhere : (out : List ℕ) (c : Course Stage ServerEnding) → IsNowhereAt c → IsNowhereAt (course_behind out c)
   behind_nowhere out (Waits s o p) is = is
   behind_nowhere out (Over e o) is = is
 

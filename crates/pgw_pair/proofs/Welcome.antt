@@ -5,24 +5,24 @@ use Rattle.pgw_types.specs.declared.error.PgWireError.{PgWireError}
 use Rattle.pgw_types.specs.declared.context.ProtocolVersion.{ProtocolVersion}
 use Rattle.pgw_types.specs.declared.context.ProtocolVersion.TheVariants.{PROTOCOL3_0}
 use Rattle.pgw_backend.specs.Backend.{backend_encoding}
-use Rattle.pgw_backend.specs.Front.{Awaits as AwaitsBackend, typed_phase}
+use Rattle.pgw_backend.specs.Front.{AwaitsBackend, typed_phase}
 use Rattle.pgw_backend.specs.Texts.{IsSound, Suits}
 use Rattle.pgw_backend.specs.declared.backend.PgWireBackendMessage.{PgWireBackendMessage as Backend}
 use Rattle.pgw_course.specs.Course.{On, Ends, Course, Waits, Over}
-use Rattle.pgw_course.specs.Play.{behind}
+use Rattle.pgw_course.specs.Play.{course_behind}
 use Rattle.pgw_course.specs.Fronts.{IsReadAs}
 use Rattle.pgw_session.specs.declared.stage.Stage.TheVariants.{Admitted}
 use Rattle.pgw_session.specs.declared.standing.Standing.{Standing as Told}
 use Rattle.pgw_session.specs.Events.{Event as Said, Got}
 use Rattle.pgw_session.specs.Machine.{Complete, moves_by}
-use Rattle.pgw_session.specs.Reading.{reading as reading_of_server}
+use Rattle.pgw_session.specs.Reading.{version_front as reading_of_server}
 use Rattle.pgw_session.specs.Segments.{is_news}
 use Rattle.pgw_session.specs.Standings.{first_standing, standing_by, standing_at, standing_of}
 use Rattle.pgw_session.specs.Table.{news_or, by_welcome}
 use Rattle.pgw_session.specs.Talk.{Talk, Ending, between, talk_book, heard_of}
 use Rattle.pgw_config.specs.declared.config.Config.{Config}
-use Rattle.pgw_server.specs.Server.{encodings}
-use Rattle.pgw_login.specs.Finish.{ready}
+use Rattle.pgw_server.specs.Server.{server_encodings}
+use Rattle.pgw_login.specs.Finish.{login_ready}
 use Rattle.pgw_login.specs.Sending.{and_encoding}
 use Rattle.pgw_wire.specs.Reading.{◌>>=◌}
 use Rattle.pgw_pair.specs.declared.parties.PairInput.{PairInput}
@@ -62,7 +62,7 @@ told_from old acc new (m ∷ ms) e = elim (known (backend_encoding m)) [
       absurd cc
 ]
 
-pub first_put : (m : Backend) (ms : List Backend) (out : List ℕ) → encodings (m ∷ ms) ≡ Ok out → (g : List ℕ) × (rest : List ℕ) × (backend_encoding m ≡ Ok g) × (encodings ms ≡ Ok rest) × (out ≡ g ++ rest)
+pub first_put : (m : Backend) (ms : List Backend) (out : List ℕ) → server_encodings (m ∷ ms) ≡ Ok out → (g : List ℕ) × (rest : List ℕ) × (backend_encoding m ≡ Ok g) × (server_encodings ms ≡ Ok rest) × (out ≡ g ++ rest)
 first_put m ms out is = elim (known (backend_encoding m)) [
   | inl k ↦
       let rest : fold and_encoding (Ok k.0) ms ≡ Ok out = sym (ap (λ (s : Result (List ℕ) PgWireError). fold and_encoding s ms) (one_more [] k.0 m k.1)) ∙ is in
@@ -75,7 +75,7 @@ first_put m ms out is = elim (known (backend_encoding m)) [
 ]
 
 -- and the other way
-onward : (a : List ℕ) (ms : List Backend) (rest : List ℕ) → encodings ms ≡ Ok rest → fold and_encoding (Ok a) ms ≡ Ok (a ++ rest)
+onward : (a : List ℕ) (ms : List Backend) (rest : List ℕ) → server_encodings ms ≡ Ok rest → fold and_encoding (Ok a) ms ≡ Ok (a ++ rest)
 onward a [] rest h = ap (λ (l : List ℕ). Ok l) (sym (append-nil a) ∙ ap (λ (l : List ℕ). a ++ l) (ok_is [] rest h))
 onward a (m ∷ ms) rest h =
     let p = first_put m ms rest h in
@@ -85,14 +85,14 @@ fold_join : (r : Result (List ℕ) PgWireError) (xs ys : List Backend) → fold 
 fold_join r [] ys = refl
 fold_join r (x ∷ xs) ys = fold_join (and_encoding r x) xs ys
 
-pub puts_join : (xs ys : List Backend) (a b : List ℕ) → encodings xs ≡ Ok a → encodings ys ≡ Ok b → encodings (xs ++ ys) ≡ Ok (a ++ b)
+pub puts_join : (xs ys : List Backend) (a b : List ℕ) → server_encodings xs ≡ Ok a → server_encodings ys ≡ Ok b → server_encodings (xs ++ ys) ≡ Ok (a ++ b)
 puts_join xs ys a b x y = fold_join (Ok []) xs ys ∙ ap (λ (s : Result (List ℕ) PgWireError). fold and_encoding s ys) x ∙ onward a ys b y
 
-pub puts_one : (m : Backend) (g : List ℕ) → backend_encoding m ≡ Ok g → encodings (m ∷ []) ≡ Ok g
+pub puts_one : (m : Backend) (g : List ℕ) → backend_encoding m ≡ Ok g → server_encodings (m ∷ []) ≡ Ok g
 puts_one m g is = one_more [] g m is
 
 -- some messages and then others: their encodings are those of the first and of the others
-pub parts_put : (xs ys : List Backend) (out : List ℕ) → encodings (xs ++ ys) ≡ Ok out → (a : List ℕ) × (b : List ℕ) × (encodings xs ≡ Ok a) × (encodings ys ≡ Ok b) × (out ≡ a ++ b)
+pub parts_put : (xs ys : List Backend) (out : List ℕ) → server_encodings (xs ++ ys) ≡ Ok out → (a : List ℕ) × (b : List ℕ) × (server_encodings xs ≡ Ok a) × (server_encodings ys ≡ Ok b) × (out ≡ a ++ b)
 parts_put [] ys out is = ([], out, refl, is, refl)
 parts_put (x ∷ xs) ys out is =
     let p = first_put x (xs ++ ys) out is in
@@ -124,7 +124,7 @@ pub first_on : (config : Config) (es : List Said) (m : Backend) → Greets m →
 unfolding standing_of
 first_on config es m greets is = ap (λ (s : Told). s.version) (last_at (first_standing config) es (Got m)) ∙ greets.steady (standing_of config es) ∙ is
 
-behind_none : {S R : Type 0} (c : Course S R) → behind [] c ≡ c
+behind_none : {S R : Type 0} (c : Course S R) → course_behind [] c ≡ c
 behind_none (Waits state sent pending) = refl
 behind_none (Over ending sent) = refl
 
@@ -157,7 +157,7 @@ module _ (input : PairInput) where
       (subst (λ (k : ℕ). LeadsClient input (admitted (es ++ map Got (m ∷ ms))) (take k rest) d) left
       (subst (λ (l : List Said). LeadsClient input (admitted l) (take (count - length g - length others) rest) d) (append_assoc es (Got m ∷ []) (map Got ms)) leads)))
 
-  pub greets : (ms : List Backend) (es : List Said) (out : List ℕ) (count : ℕ) (rest bytes : List ℕ) (c : Course Talk Ending) → IsAtFirst (given input).config es → AreGreetings ms → encodings ms ≡ Ok out → bytes ≡ take count (out ++ rest) → LeadsClient input (admitted es) bytes c → Greeted es ms out count rest c
+  pub greets : (ms : List Backend) (es : List Said) (out : List ℕ) (count : ℕ) (rest bytes : List ℕ) (c : Course Talk Ending) → IsAtFirst (given input).config es → AreGreetings ms → server_encodings ms ≡ Ok out → bytes ≡ take count (out ++ rest) → LeadsClient input (admitted es) bytes c → Greeted es ms out count rest c
   greets [] es out count rest bytes c first all enc are leads =
       let none : [] ≡ out = ok_is [] out enc in
       let same : bytes ≡ take (count - length out) rest = are ∙ ap (λ (l : List ℕ). take count (l ++ rest)) (sym none) ∙ ap (λ k. take k rest) (omega (arith, ap length none)) in
@@ -176,15 +176,15 @@ module _ (input : PairInput) where
 
   -- ---- ReadyForQuery
 
-  ready_step : (es : List Said) → (rules input).step (admitted es) ready ≡ Ends (over_by (between ((es ++ Got ready ∷ []) ∷ [])) Complete) []
+  ready_step : (es : List Said) → (rules input).step (admitted es) login_ready ≡ Ends (over_by (between ((es ++ Got login_ready ∷ []) ∷ [])) Complete) []
   ready_step es = refl
 
   pub data Ready (es : List Said) (g : List ℕ) (count : ℕ) (c : Course Talk Ending) : Type 0 where
     waits_ready : count < length g → c ≡ Waits (admitted es) [] (take count g) → Ready es g count c
-    is_ready : length g ≤ count → c ≡ Over (over_by (between ((es ++ Got ready ∷ []) ∷ [])) Complete) [] → Ready es g count c
+    is_ready : length g ≤ count → c ≡ Over (over_by (between ((es ++ Got login_ready ∷ []) ∷ [])) Complete) [] → Ready es g count c
 
-  pub takes_ready : (es : List Said) (g : List ℕ) (count : ℕ) (rest bytes : List ℕ) (c : Course Talk Ending) → IsAtFirst (given input).config es → backend_encoding ready ≡ Ok g → bytes ≡ take count (g ++ rest) → LeadsClient input (admitted es) bytes c → Ready es g count c
+  pub takes_ready : (es : List Said) (g : List ℕ) (count : ℕ) (rest bytes : List ℕ) (c : Course Talk Ending) → IsAtFirst (given input).config es → backend_encoding login_ready ≡ Ok g → bytes ≡ take count (g ++ rest) → LeadsClient input (admitted es) bytes c → Ready es g count c
   takes_ready es g count rest bytes c first enc are leads =
-      let ending : Ending = over_by (between ((es ++ Got ready ∷ []) ∷ [])) Complete in
-      let d = does input (admitted es) ready g count rest bytes c (Ends ending []) (ready_step es) (reads_here es ready g first tt tt (refl, refl) enc) are leads in
+      let ending : Ending = over_by (between ((es ++ Got login_ready ∷ []) ∷ [])) Complete in
+      let d = does input (admitted es) login_ready g count rest bytes c (Ends ending []) (ready_step es) (reads_here es login_ready g first tt tt (refl, refl) enc) are leads in
       elim (does_end input (admitted es) g count rest (Ends ending []) c ending [] refl d) [ inl s ↦ waits_ready s.0 s.1 | inr o ↦ is_ready o.0 o.1 ]

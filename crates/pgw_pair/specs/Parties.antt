@@ -26,18 +26,18 @@ use Rattle.pgw_frontend.specs.declared.frontend.PgWireFrontendMessage.{
   PgWireFrontendMessage as Frontend,
 }
 use Rattle.pgw_frontend.specs.declared.frontend.PgWireFrontendMessage.TheVariants as frontend
-use Rattle.pgw_hash.specs.Saslprep.{prepared}
+use Rattle.pgw_hash.specs.Saslprep.{saslprep}
 use Rattle.pgw_hash.specs.Pbkdf2.{salted_password}
 use Rattle.pgw_scram.specs.Attributes.{IsValue}
 use Rattle.pgw_scram.specs.Base64.{base64}
-use Rattle.pgw_scram.specs.Binding.{header, binding_text}
+use Rattle.pgw_scram.specs.Binding.{gs2_header, binding_text}
 use Rattle.pgw_scram.specs.declared.binding.ClientBinding.{ClientBinding}
 use Rattle.pgw_scram.specs.declared.binding.ClientBinding.TheVariants as binding
 use Rattle.pgw_scram.specs.Exchange.{client_first, client_final, signature}
 use Rattle.pgw_scram.specs.Formulas.{auth_message, client_proof, server_signature}
 use Rattle.pgw_scram.specs.Readers.{read_client_first, read_client_final}
 use Rattle.pgw_scram.specs.Offers.{server_first, whole_nonce}
-use Rattle.pgw_scram.specs.Server.{offered, accepted}
+use Rattle.pgw_scram.specs.Server.{scram_offer, accepted}
 use Rattle.pgw_scram.specs.declared.server.ScramServerAuthWaitingForClientFinal.{
   ScramServerAuthWaitingForClientFinal as WaitingForClientFinal,
 }
@@ -49,8 +49,8 @@ use Rattle.pgw_course.specs.Fronts.{Deed, deeds_in}
 use Rattle.pgw_login.specs.Acts.{Standing, Answer}
 use Rattle.pgw_login.specs.declared.client_info.PgWireConnectionState.{PgWireConnectionState}
 use Rattle.pgw_login.specs.declared.client_info.PgWireConnectionState.TheVariants.{ReadyForQuery}
-use Rattle.pgw_server.specs.Server.{Stage, Cause, Ending as ServerEnding, Refused as IsRefused}
-use Rattle.pgw_server.specs.Server.{Asked, Steps, encodings, serving}
+use Rattle.pgw_server.specs.Server.{Stage, Cause, ServerEnding, Refused as IsRefused}
+use Rattle.pgw_server.specs.Server.{Asked, Steps, server_encodings, serving}
 use Rattle.pgw_session.specs.Events.{Event as Said, Sent, Got, sents}
 use Rattle.pgw_session.specs.Segments.{startup_message}
 use Rattle.pgw_session.specs.Standings.{standing_of}
@@ -69,7 +69,7 @@ use Rattle.pgw_pair.specs.declared.parties.ClientEnd.TheVariants as of_client
 use Rattle.pgw_pair.specs.declared.parties.ServerEnd.{ServerEnd}
 use Rattle.pgw_pair.specs.declared.parties.ServerEnd.TheVariants as of_server
 use Rattle.pgw_pair.specs.Server.{methods, scram_end, Means}
-use Rattle.pgw_pair.specs.World.{World, first_world, first_stage, Runs, Serves, most, talk}
+use Rattle.pgw_pair.specs.World.{World, first_world, first_stage, Runs, PartyServes, most, talk}
 use Rattle.pgw_pair.specs.World.{client_config, client_input, client_login}
 
 abbrev pub IsFrontOf : {A : Type 0} → List A → List A → Type 0
@@ -102,12 +102,12 @@ client_by told (Ok phase.Done) = of_client.Ready (information_of told)
 client_by told (Err e) = of_client.Refused e
 
 -- what the client was told by these bytes, and its end
-abbrev pub told_by : PairInput → List ℕ → Told
-told_by input taken = standing_of (client_config input) (events_in (talk input taken))
+abbrev pub party_told_by : PairInput → List ℕ → Told
+party_told_by input taken = standing_of (client_config input) (events_in (talk input taken))
 
 abbrev pub client_end : PairInput → List ℕ → ClientEnd
 client_end input taken =
-    client_by (told_by input taken) (answer_to (client_input input) most taken)
+    client_by (party_told_by input taken) (answer_to (client_input input) most taken)
 
 abbrev pub server_in : PgWireConnectionState → ServerEnd
 server_in ReadyForQuery = of_server.Finished
@@ -124,33 +124,33 @@ server_end (Over ending out) = server_over ending.cause
 
 -- ---- what a server took and said on its way to a place
 
-abbrev pub Act : Type 1
-Act = Frontend → Standing → Standing → List Backend → Answer → Type 0
+abbrev pub PartyAct : Type 1
+PartyAct = Frontend → Standing → Standing → List Backend → Answer → Type 0
 
 -- what it said to a message; that no encryption is to be had is no message
-abbrev pub said_to : (means : Act) (stage : Stage) (m : Frontend) (move : Move Stage ServerEnding)
+abbrev pub party_reply : (means : PartyAct) (stage : Stage) (m : Frontend) (move : Move Stage ServerEnding)
     → Steps means stage m move → List Backend
-said_to means stage (frontend.SslNegotiation m) move step = []
-said_to means stage (frontend.CancelRequest m) move step = []
-said_to means stage (frontend.Startup m) move step = step.1
-said_to means stage (frontend.PasswordMessageFamily m) move step = step.1
-said_to means stage (frontend.PortalSuspended m) move step = step.1
-said_to means stage (frontend.Query m) move step = step.1
-said_to means stage (frontend.Parse m) move step = step.1
-said_to means stage (frontend.Bind m) move step = step.1
-said_to means stage (frontend.Close m) move step = step.1
-said_to means stage (frontend.Describe m) move step = step.1
-said_to means stage (frontend.Execute m) move step = step.1
-said_to means stage (frontend.Flush m) move step = step.1
-said_to means stage (frontend.Sync m) move step = step.1
-said_to means stage (frontend.Terminate m) move step = step.1
-said_to means stage (frontend.CopyData m) move step = step.1
-said_to means stage (frontend.CopyDone m) move step = step.1
-said_to means stage (frontend.CopyFail m) move step = step.1
+party_reply means stage (frontend.SslNegotiation m) move step = []
+party_reply means stage (frontend.CancelRequest m) move step = []
+party_reply means stage (frontend.Startup m) move step = step.1
+party_reply means stage (frontend.PasswordMessageFamily m) move step = step.1
+party_reply means stage (frontend.PortalSuspended m) move step = step.1
+party_reply means stage (frontend.Query m) move step = step.1
+party_reply means stage (frontend.Parse m) move step = step.1
+party_reply means stage (frontend.Bind m) move step = step.1
+party_reply means stage (frontend.Close m) move step = step.1
+party_reply means stage (frontend.Describe m) move step = step.1
+party_reply means stage (frontend.Execute m) move step = step.1
+party_reply means stage (frontend.Flush m) move step = step.1
+party_reply means stage (frontend.Sync m) move step = step.1
+party_reply means stage (frontend.Terminate m) move step = step.1
+party_reply means stage (frontend.CopyData m) move step = step.1
+party_reply means stage (frontend.CopyDone m) move step = step.1
+party_reply means stage (frontend.CopyFail m) move step = step.1
 
-abbrev pub said_by : (means : Act) → List (Deed (serving means)) → List Backend
-said_by means [] = []
-said_by means (d ∷ ds) = said_to means d.state d.message d.move d.step ++ said_by means ds
+abbrev pub party_messages : (means : PartyAct) → List (Deed (serving means)) → List Backend
+party_messages means [] = []
+party_messages means (d ∷ ds) = party_reply means d.state d.message d.move d.step ++ party_messages means ds
 
 -- the messages taken, that which ended it too
 abbrev pub heard_by : {S R M E : Type 0} (play : Play S R M E) → List (Deed play) → List M
@@ -179,7 +179,7 @@ abbrev pub raw : List ℕ → Frontend
 raw body = frontend.PasswordMessageFamily (family.Raw body)
 
 -- the texts exchanged: the messages that a finished server took, and what it offered
-pub record Exchanged (input : PairInput) (heard : List Frontend) (said : List Backend)
+pub record PartyTexts (input : PairInput) (heard : List Frontend) (said : List Backend)
     : Type 0 where
   pub startup : Startup
   pub first_body : List ℕ
@@ -199,35 +199,35 @@ pub record Exchanged (input : PairInput) (heard : List Frontend) (said : List Ba
   pub opens : read_client_first first ≡ Ok opening
   pub closes : read_client_final final ≡ Ok closing
   -- the header and the text of what is bound
-  pub header_is : opening.header ≡ header (bound_to input)
+  pub header_is : opening.header ≡ gs2_header (bound_to input)
   pub binding_is : closing.binding ≡ binding_text (bound_to input)
 
 -- AuthMessage of RFC 5802: the texts that both ends prove themselves over
 abbrev pub auth_text : {input : PairInput} {heard : List Frontend} {said : List Backend}
-    → Exchanged input heard said → List ℕ
+    → PartyTexts input heard said → List ℕ
 auth_text x = auth_message (x.opening).bare x.offer (x.closing).without_proof
 
 -- what its proof is to be, by the stored password
 abbrev pub proof_due : {input : PairInput} {heard : List Frontend} {said : List Backend}
-    → Exchanged input heard said → List ℕ
+    → PartyTexts input heard said → List ℕ
 proof_due {input = input} x =
     base64 (client_proof (input.stored).password (auth_text x))
 
 -- the server's proof, by the same password over the same texts
 abbrev pub verifier_due : {input : PairInput} {heard : List Frontend} {said : List Backend}
-    → Exchanged input heard said → List ℕ
+    → PartyTexts input heard said → List ℕ
 verifier_due {input = input} x =
     base64 (server_signature (input.stored).password (auth_text x))
 
 -- what the server said first behind client-final is server-final with it
 abbrev pub SaysVerifier : {input : PairInput} {heard : List Frontend} {said : List Backend}
-    → Exchanged input heard said → Type 0
+    → PartyTexts input heard said → Type 0
 SaysVerifier x = (more : List Backend)
     × (x.later ≡ backend.Authentication (auth.SASLFinal (codes "v=" ++ verifier_due x)) ∷ more)
 
 -- client-final binds to this hash of the server's certificate (RFC 5929, section 4)
 abbrev pub IsBoundTo : List ℕ → {input : PairInput} {heard : List Frontend} {said : List Backend}
-    → Exchanged input heard said → Type 0
+    → PartyTexts input heard said → Type 0
 IsBoundTo hash x = (x.closing).binding ≡ base64 (codes "p=tls-server-end-point,," ++ hash)
 
 -- ---- why the server refuses
@@ -235,7 +235,7 @@ IsBoundTo hash x = (x.closing).binding ≡ base64 (codes "p=tls-server-end-point
 -- what it makes of client-first: its offer, and what it keeps; or a refusal
 abbrev pub offer_made : PairInput → Result (List ℕ × WaitingForClientFinal) PgWireError
 offer_made input =
-    offered (scram_end input) (client_first (client_login input)) input.stored input.server_nonce
+    scram_offer (scram_end input) (client_first (client_login input)) input.stored input.server_nonce
 
 -- client-first is refused, or the offer has no encoding, or client-final is refused
 pub data ServerCause (input : PairInput) : PgWireError → Type 0 where
@@ -273,7 +273,7 @@ pub record ShareAPassword (input : PairInput) : Type 0 where
   pub user : List ℕ
   pub salt : List ℕ
   pub password_utf8 : is_utf8 input.password ≡ true
-  pub is_prepared : prepared input.user ≡ Some user
+  pub is_prepared : saslprep input.user ≡ Some user
   pub user_value : IsValue user
   pub has_salt : (input.stored).salt ≡ Some salt
   pub is_salted : (input.stored).password ≡ salted_password input.password salt input.count
@@ -281,10 +281,10 @@ pub record ShareAPassword (input : PairInput) : Type 0 where
   pub client_first : IsWritten (first_message (client_login input))
   pub client_final : IsWritten (final_message (client_login input) (offer_by input salt))
   pub server_first : (g : List ℕ)
-      × (encodings (backend.Authentication (auth.SASLContinue (offer_by input salt)) ∷ []) ≡ Ok g)
+      × (server_encodings (backend.Authentication (auth.SASLContinue (offer_by input salt)) ∷ []) ≡ Ok g)
 
-abbrev pub AreHonest : PairInput → Type 0
-AreHonest input = ShareAPassword input × (HaveDifferentHashes input → ⊥)
+abbrev pub AreHonestParties : PairInput → Type 0
+AreHonestParties input = ShareAPassword input × (HaveDifferentHashes input → ⊥)
 
 -- ---- the clauses
 
@@ -318,7 +318,7 @@ pub record Pairs (input : PairInput) (o : PairOutcome) : Type 0 where
   pub client : o.client ≡ client_end input (take o.taken_by_client o.to_client)
   pub tells : Tells (client_input input) most (take o.taken_by_client o.to_client) o.to_server
       (answer_to (client_input input) most (take o.taken_by_client o.to_client))
-  pub serves : Serves generator input (take o.taken_by_server o.to_server) world.server
+  pub serves : PartyServes generator input (take o.taken_by_server o.to_server) world.server
   pub served : o.to_client ≡ sent_of world.server
   pub server : o.server ≡ server_end world.server
   pub no_memory_client : (o.client ≡ of_client.Refused client_error.OutOfMemory) → ⊥
@@ -327,37 +327,37 @@ pub record Pairs (input : PairInput) (o : PairOutcome) : Type 0 where
 -- the steps of the server, and the messages that it took and said in them
 module _ (generator : TableId) (input : PairInput) where
   abbrev pub deeds : (taken : List ℕ) (server : Course Stage ServerEnding)
-      → Serves generator input taken server → List (Deed (serving (Means input)))
+      → PartyServes generator input taken server → List (Deed (serving (Means input)))
   deeds = deeds_in (serving (Means input)) (first_stage generator input)
 
   abbrev pub heard_in : (taken : List ℕ) (server : Course Stage ServerEnding)
-      → Serves generator input taken server → List Frontend
+      → PartyServes generator input taken server → List Frontend
   heard_in taken server serves = heard_by (serving (Means input)) (deeds taken server serves)
 
   abbrev pub said_in : (taken : List ℕ) (server : Course Stage ServerEnding)
-      → Serves generator input taken server → List Backend
-  said_in taken server serves = said_by (Means input) (deeds taken server serves)
+      → PartyServes generator input taken server → List Backend
+  said_in taken server serves = party_messages (Means input) (deeds taken server serves)
 
-pub record Agree (input : PairInput) (o : PairOutcome)
+pub record PartiesAgree (input : PairInput) (o : PairOutcome)
     (events : List Said) (heard : List Frontend) (said : List Backend) : Type 0 where
   -- each end got a front of what the other sent
   pub sent : EncodesSent events o.to_server
-  pub spoke : encodings said ≡ Ok o.to_client
+  pub spoke : server_encodings said ≡ Ok o.to_client
   pub got_by_server : IsFrontOf heard (map as_read (sents events))
   pub got_by_client : IsFrontOf (gots events) said
   -- a ready client: each end proved itself, and the client awaited just this verifier
   pub ready : (information : ServerInformation) → o.client ≡ of_client.Ready information
       → (o.server ≡ of_server.Finished)
       × (information ≡ information_of (standing_of (client_config input) (map Got said)))
-      × (x : Exchanged input heard said) × ((x.closing).proof ≡ proof_due x) × SaysVerifier x
+      × (x : PartyTexts input heard said) × ((x.closing).proof ≡ proof_due x) × SaysVerifier x
       × (signature (client_login input) x.offer ≡ verifier_due x)
   -- a finished server: the client proved itself, and was sent the verifier
   pub finished : o.server ≡ of_server.Finished
-      → (x : Exchanged input heard said) × ((x.closing).proof ≡ proof_due x) × SaysVerifier x
+      → (x : PartyTexts input heard said) × ((x.closing).proof ≡ proof_due x) × SaysVerifier x
   -- one that has a hash, as the client does: these are equal, and the login is bound to it
   pub bound : (hash own : List ℕ) → input.client_hash ≡ Some hash → input.server_hash ≡ Some own
       → o.server ≡ of_server.Finished
-      → (hash ≡ own) × ((x : Exchanged input heard said) × IsBoundTo own x)
+      → (hash ≡ own) × ((x : PartyTexts input heard said) × IsBoundTo own x)
   -- it refuses what is bound for another hash alone
   pub misbound : o.server ≡ of_server.Refused (InvalidScramMessage fault.ChannelBinding)
       → HaveDifferentHashes input
@@ -367,11 +367,11 @@ pub record Agree (input : PairInput) (o : PairOutcome)
   pub cause : (why : PgWireError) → o.server ≡ of_server.Refused why → ServerCause input why
   -- a proof that is another
   pub password : (user : List ℕ) → o.server ≡ of_server.Refused (InvalidPassword user)
-      → (x : Exchanged input heard said) × ((x.closing).proof ≢ proof_due x)
+      → (x : PartyTexts input heard said) × ((x.closing).proof ≢ proof_due x)
   -- honest parties
-  pub honest : AreHonest input
+  pub honest : AreHonestParties input
       → (is_refused_client o.client → ⊥) × (is_refused_server o.server → ⊥)
-  pub all_taken : AreHonest input → HasTakenAll o
+  pub all_taken : AreHonestParties input → HasTakenAll o
       → ((information : ServerInformation) × (o.client ≡ of_client.Ready information))
       × (o.server ≡ of_server.Finished)
   -- honest but for different hashes: the server refuses, once it has the client's
@@ -382,6 +382,6 @@ pub record Agree (input : PairInput) (o : PairOutcome)
 abbrev pub TwoParty : PairInput → PairOutcome → Type 0
 TwoParty input o =
     (p : Pairs input o)
-    × Agree input o (events_in (talk input (take o.taken_by_client o.to_client)))
+    × PartiesAgree input o (events_in (talk input (take o.taken_by_client o.to_client)))
     (heard_in p.generator input (take o.taken_by_server o.to_server) p.world.server p.serves)
     (said_in p.generator input (take o.taken_by_server o.to_server) p.world.server p.serves)

@@ -15,9 +15,9 @@ use Rattle.pgw_scram.specs.declared.password.Password.{Password as Kept}
 use Rattle.pgw_scram.specs.declared.server.ScramServerAuth.{ScramServerAuth}
 use Rattle.pgw_registry.specs.Passes.{Known}
 use Rattle.pgw_registry.specs.declared.error.RegistryError.{RegistryError}
-use Rattle.pgw_login.specs.Client.{Client}
+use Rattle.pgw_login.specs.Client.{LoginClient}
 use Rattle.pgw_login.specs.Login.{Login}
-use Rattle.pgw_login.specs.Registered.{Pair, NotRegistered}
+use Rattle.pgw_login.specs.Registered.{HandlePair, NotRegistered}
 use Rattle.pgw_login.specs.Acts.{Standing, Answer}
 use Rattle.pgw_login.specs.Provider.{default_provider, default_parameters}
 use Rattle.pgw_login.specs.declared.state.SASLState.{SASLState}
@@ -28,8 +28,8 @@ use Rattle.pgw_sasl.specs.Sasl.{SaslMeans}
 use Rattle.pgw_pair.specs.declared.parties.PairInput.{PairInput}
 
 -- the source of passwords answers what is stored, for every login
-abbrev pub Answered : Kept → Login → Result Kept PgWireError → Type 0
-Answered stored login given = (given ≡ Ok stored) ⊎ (given ≡ Err OutOfMemory)
+abbrev pub AnswersStored : Kept → Login → Result Kept PgWireError → Type 0
+AnswersStored stored login given = (given ≡ Ok stored) ⊎ (given ≡ Err OutOfMemory)
 
 -- its end of SCRAM: so many rounds, and the hash of its certificate where it has one
 abbrev pub scram_end : PairInput → ScramServerAuth
@@ -39,18 +39,18 @@ abbrev pub ScramAnswers : PairInput → Login → PasswordMessageFamily → List
     → Type 0
 ScramAnswers input login message nonce state reply =
     (replied : Result (Authentication × SASLState) PgWireError)
-    × ScramReplies (Answered input.stored) (scram_end input) login message nonce state replied
+    × ScramReplies (AnswersStored input.stored) (scram_end input) login message nonce state replied
     × (reply ≡ and_some replied)
 
 -- and no other method
 abbrev pub NoOauth : Login → PasswordMessageFamily → List ℕ → SASLState → Reply → Type 0
 NoOauth login message nonce state reply = RefusesMethod (codes "OAUTHBEARER") reply
 
-abbrev pub Provided : Client → Option Held → Type 0
+abbrev pub Provided : LoginClient → Option Held → Type 0
 Provided c told = told ≡ Some (default_parameters default_provider c)
 
 abbrev pub Unregistered : Option Known → ℤ → SecretKey → Option Known
-    → Result (Option Pair) RegistryError → Type 0
+    → Result (Option HandlePair) RegistryError → Type 0
 Unregistered before pid key after answer = NotRegistered before after answer
 
 -- what it offers; to bind the login too, just where it has a certificate's hash

@@ -14,8 +14,8 @@ use Rattle.pgw_backend.specs.declared.client_error.PgWireClientError.TheVariants
 use Rattle.pgw_course.specs.Course.{Course, sent_of}
 use Rattle.pgw_course.specs.Play.{Continues}
 use Rattle.pgw_login.specs.Acts.{Standing, Answer}
-use Rattle.pgw_server.specs.Server.{Stage, Ending, serving}
-use Rattle.pgw_server.specs.Stands.{IsAt, Stands as CoreStands, answer_at}
+use Rattle.pgw_server.specs.Server.{Stage, ServerEnding, serving}
+use Rattle.pgw_server.specs.Stands.{IsAt, ServerStands as CoreStands, server_answer_at}
 use Rattle.pgw_server.specs.Taken.{Acts}
 use Rattle.pgw_server.specs.declared.connection.ServerCore.{ServerCore}
 use Rattle.pgw_server.specs.declared.connection.ServerPhase.{ServerPhase}
@@ -33,7 +33,7 @@ use Rattle.pgw_pair.specs.declared.parties.ServerEnd.{ServerEnd}
 use Rattle.pgw_pair.specs.declared.parties.ServerEnd.TheVariants as of_server
 use Rattle.pgw_pair.specs.declared.client_side.ClientSide.{ClientSide}
 use Rattle.pgw_pair.specs.declared.server_side.ServerSide.{ServerSide}
-use Rattle.pgw_pair.specs.World.{World, client_input, handed, Meets, most, next, talk, unless_over}
+use Rattle.pgw_pair.specs.World.{World, client_input, handed, PartiesMeet, most, party_bytes, talk, unless_over}
 
 -- ---- what a server does with a message
 
@@ -50,24 +50,24 @@ IsGoing (Ok d) phase = IsBehind d (Ok phase)
 IsGoing (Err e) phase = Unit {0}
 
 -- it stands for the bytes taken and put out, or these tell why it refused
-abbrev pub Keeps : PairInput → Result Dialogue ClientError → DialoguePhase → (taken put : List ℕ)
+abbrev pub PartyStands : PairInput → Result Dialogue ClientError → DialoguePhase → (taken put : List ℕ)
     → Type 0
-Keeps input (Ok d) phase taken put = Stands (client_input input) most d taken put
+PartyStands input (Ok d) phase taken put = Stands (client_input input) most d taken put
     × (answer_to (client_input input) most taken ≡ Ok phase)
-Keeps input (Err e) phase taken put =
+PartyStands input (Err e) phase taken put =
     (answer_to (client_input input) most taken ≡ Err e) × (e ≢ client.OutOfMemory)
 
 pub record ClientAt (input : PairInput) (side : ClientSide) (taken : List ℕ) : Type 0 where
   pub sent : (side.out).items ≡ sent_of (talk input taken)
   pub tells : Tells (client_input input) most taken (side.out).items
       (answer_to (client_input input) most taken)
-  pub keeps : Keeps input side.dialogue side.phase taken (side.out).items
+  pub keeps : PartyStands input side.dialogue side.phase taken (side.out).items
 
 -- what it did with the next bytes of these
 pub record ClientTook (input : PairInput) (old new : ClientSide) (bytes : List ℕ) (count : ℕ)
     : Type 0 where
   pub taken : new.taken ≡ old.taken + length (handed
-      (answer_to (client_input input) most (take old.taken bytes)) (next count old.taken bytes))
+      (answer_to (client_input input) most (take old.taken bytes)) (party_bytes count old.taken bytes))
   pub is_at : ClientAt input new (take new.taken bytes)
 
 -- ---- the server
@@ -81,10 +81,10 @@ IsFrom means begin core =
 abbrev pub StaysFrom : {H : Type 0} → Acts → (old new : ServerCore H) → Type 0
 StaysFrom means old new = (begin : Stage) → IsFrom means begin old → IsFrom means begin new
 
-pub record ServerAt {H : Type 0} (side : ServerSide H) (course : Course Stage Ending) : Type 0
+pub record ServerAt {H : Type 0} (side : ServerSide H) (course : Course Stage ServerEnding) : Type 0
   where
     pub is_at : IsAt side.core (side.out).items course
-    pub answer : side.answer ≡ answer_at course
+    pub answer : side.answer ≡ server_answer_at course
     pub ample : side.answer ≢ Err OutOfMemory
 
 -- where it is by its last answer
@@ -96,18 +96,18 @@ end_in (Err e) = of_server.Refused e
 
 -- the next of these bytes lead it there
 pub record ServerTook {H : Type 0} (means : Acts) (old new : ServerSide H) (bytes : List ℕ)
-    (count : ℕ) (course : Course Stage Ending) : Type 0 where
-  pub there : Course Stage Ending
-  pub goes : Continues (serving means) course (unless_over course (next count old.taken bytes))
+    (count : ℕ) (course : Course Stage ServerEnding) : Type 0 where
+  pub there : Course Stage ServerEnding
+  pub goes : Continues (serving means) course (unless_over course (party_bytes count old.taken bytes))
       there
-  pub taken : new.taken ≡ old.taken + length (unless_over course (next count old.taken bytes))
+  pub taken : new.taken ≡ old.taken + length (unless_over course (party_bytes count old.taken bytes))
   pub is_at : ServerAt new there
 
 -- ---- both
 
 pub record AreIn {H : Type 0} (generator : TableId) (input : PairInput) (client : ClientSide)
     (server : ServerSide H) (w : World) : Type 0 where
-  pub meets : Meets generator input w
+  pub meets : PartiesMeet generator input w
   pub to_server : (client.out).items ≡ w.to_server
   pub to_client : (server.out).items ≡ w.to_client
   pub by_client : client.taken ≡ w.by_client

@@ -12,13 +12,13 @@ use Rattle.pgw_course.specs.Course.{Course, Waits, Over, sent_of}
 use Rattle.pgw_course.specs.Play.{Leads, Continues}
 use Rattle.pgw_registry.specs.Generator.{unused}
 use Rattle.pgw_registry.specs.Seats.{Numbers}
-use Rattle.pgw_login.specs.Client.{Client}
+use Rattle.pgw_login.specs.Client.{LoginClient}
 use Rattle.pgw_login.specs.declared.client_info.PgWireConnectionState.TheVariants.{
   AwaitingSslRequest,
 }
 use Rattle.pgw_login.specs.declared.state.LoginState.{LoginState}
 use Rattle.pgw_login.specs.declared.state.SASLState.TheVariants.{Initial}
-use Rattle.pgw_server.specs.Server.{Stage, Ending as ServerEnding, begins, serving}
+use Rattle.pgw_server.specs.Server.{Stage, ServerEnding, begins, serving}
 use Rattle.pgw_scram.specs.declared.exchange.ClientLogin.{ClientLogin}
 use Rattle.pgw_session.specs.Input.{Input}
 use Rattle.pgw_session.specs.Logins.{scram_login}
@@ -60,7 +60,7 @@ talk input given = conversation (client_input input) (taken_of most given)
 
 -- ---- the server
 
-abbrev pub unknown : Client
+abbrev pub unknown : LoginClient
 unknown = record {
   host = [];
   is_secure = false;
@@ -73,8 +73,8 @@ unknown = record {
 }
 
 -- a login that has not begun, by this seat
-abbrev pub login_by : Numbers → PairInput → LoginState
-login_by seat input = record {
+abbrev pub party_login : Numbers → PairInput → LoginState
+party_login seat input = record {
   nonce = input.server_nonce;
   words = input.words;
   seat = seat;
@@ -87,14 +87,14 @@ login_by seat input = record {
 
 -- a login at the first seat of this generator
 abbrev pub first_login : TableId → PairInput → LoginState
-first_login generator input = login_by (unused generator 100000) input
+first_login generator input = party_login (unused generator 100000) input
 
 abbrev pub first_stage : TableId → PairInput → Stage
 first_stage generator input = begins unknown (first_login generator input)
 
 -- the bytes lead it there
-abbrev pub Serves : TableId → PairInput → List ℕ → Course Stage ServerEnding → Type 0
-Serves generator input = Leads (serving (Means input)) (first_stage generator input)
+abbrev pub PartyServes : TableId → PairInput → List ℕ → Course Stage ServerEnding → Type 0
+PartyServes generator input = Leads (serving (Means input)) (first_stage generator input)
 
 -- ---- the world
 
@@ -116,8 +116,8 @@ first_world generator input = record {
 }
 
 -- the next bytes not yet taken, or all that there are
-abbrev pub next : ℕ → ℕ → List ℕ → List ℕ
-next count from bytes = take count (drop from bytes)
+abbrev pub party_bytes : ℕ → ℕ → List ℕ → List ℕ
+party_bytes count from bytes = take count (drop from bytes)
 
 -- an end that has refused is handed nothing
 abbrev pub handed : {A E : Type 0} → Result A E → List ℕ → List ℕ
@@ -132,10 +132,10 @@ unless_over (Over ending out) piece = []
 abbrev pub to_client_next : PairInput → World → ℕ → List ℕ
 to_client_next input w count =
     handed (answer_to (client_input input) most (take w.by_client w.to_client))
-    (next count w.by_client w.to_client)
+    (party_bytes count w.by_client w.to_client)
 
 abbrev pub to_server_next : World → ℕ → List ℕ
-to_server_next w count = unless_over w.server (next count w.by_server w.to_server)
+to_server_next w count = unless_over w.server (party_bytes count w.by_server w.to_server)
 
 -- how many the client has taken then
 abbrev pub taken_then : PairInput → World → ℕ → ℕ
@@ -170,9 +170,9 @@ Runs input (e ∷ es) w end = (mid : World) × Happens input w e mid × Runs inp
 
 -- Each end is a function, or a relation, of the bytes that it has taken, and these are a front of
 -- what the other wrote.
-pub record Meets (generator : TableId) (input : PairInput) (w : World) : Type 0 where
+pub record PartiesMeet (generator : TableId) (input : PairInput) (w : World) : Type 0 where
   pub wrote : w.to_server ≡ sent_of (talk input (take w.by_client w.to_client))
-  pub serves : Serves generator input (take w.by_server w.to_server) w.server
+  pub serves : PartyServes generator input (take w.by_server w.to_server) w.server
   pub served : w.to_client ≡ sent_of w.server
   pub by_server : w.by_server ≤ length w.to_server
   pub by_client : w.by_client ≤ length w.to_client

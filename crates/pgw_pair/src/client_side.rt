@@ -6,7 +6,7 @@ ghost use Rattle.pgw_dialogue.specs.Dialogue.{IsBehind};
 ghost use Rattle.pgw_pair.specs.World.{client_config};
 ghost use Rattle.pgw_pair.specs.declared.parties.PairInput.{PairInput as TheInput};
 ghost use Rattle.pgw_pair.specs.Parties.{client_end};
-ghost use Rattle.pgw_pair.specs.Sides.{IsGoing, Keeps, ClientAt, ClientTook};
+ghost use Rattle.pgw_pair.specs.Sides.{IsGoing, PartyStands, ClientAt, ClientTook};
 
 use crate::parties::{ClientEnd, PairInput};
 use crate::piece::next;
@@ -136,7 +136,7 @@ fn lacks_memory<T>(answer: &PgWireClientResult<T>) -> bool
 fn end_of(dialogue: Dialogue<'_>, phase: DialoguePhase) -> ClientEnd
     requires { IsBehind dialogue (Ok phase) }
     ensures { (input : TheInput) (taken put : List ℕ)
-        → Keeps input (Ok dialogue.entry) phase taken put → result ≡ client_end input taken }
+        → PartyStands input (Ok dialogue.entry) phase taken put → result ≡ client_end input taken }
 {
     match phase {
         DialoguePhase::Waiting => {

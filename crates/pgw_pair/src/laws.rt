@@ -8,10 +8,10 @@ ghost use Rattle.pgw_course.specs.declared.event.Event.{Event as TheEvent};
 ghost use Rattle.pgw_backend.specs.declared.backend.PgWireBackendMessage.TheVariants as backend;
 ghost use Rattle.pgw_frontend.specs.Frontend.{encodings as client_encodings};
 ghost use Rattle.pgw_hash.specs.Pbkdf2.{salted_password};
-ghost use Rattle.pgw_hash.specs.Saslprep.{prepared};
+ghost use Rattle.pgw_hash.specs.Saslprep.{saslprep};
 ghost use Rattle.pgw_scram.specs.Attributes.{IsValue};
 ghost use Rattle.pgw_scram.specs.declared.binding.ClientBinding.TheVariants as binding;
-ghost use Rattle.pgw_server.specs.Server.{encodings};
+ghost use Rattle.pgw_server.specs.Server.{server_encodings};
 ghost use Rattle.pgw_session.specs.Logins.{first_message, final_message};
 ghost use Rattle.pgw_session.specs.Segments.{startup_message};
 ghost use Rattle.pgw_startup.specs.declared.authentication.Authentication.TheVariants as auth;
@@ -22,13 +22,13 @@ ghost use Rattle.pgw_pair.specs.declared.parties.ServerEnd.TheVariants as of_ser
 ghost use Rattle.pgw_pair.specs.Parties.{Pairs, TwoParty, HaveDifferentHashes, LoginRefusal};
 ghost use Rattle.pgw_pair.specs.Parties.{bound_to, IsWritten, ShareAPassword, offer_by};
 ghost use Rattle.pgw_pair.specs.Sound.{IsSoundInput};
-ghost use Rattle.pgw_pair.specs.World.{World, first_world, Runs, Meets, most};
+ghost use Rattle.pgw_pair.specs.World.{World, first_world, Runs, PartiesMeet, most};
 ghost use Rattle.pgw_pair.specs.World.{client_input, client_login};
 
 /// In each world to which events lead, each end is where the bytes lead that it took.
 pub fn events_keep_the_world()
     ensures { (generator : TableId) (input : TheInput) (events : List TheEvent) (end : World) →
-        Runs input events (first_world generator input) end → Meets generator input end }
+        Runs input events (first_world generator input) end → PartiesMeet generator input end }
 {}
 
 /// In each world to which a schedule leads, both agree: on messages, on their ends, on what is
@@ -58,7 +58,7 @@ pub fn sizes_suffice()
         IsWritten (startup_message (client_input input)) }
     // Its prepared form, in client-first, whatever the login is bound to.
     ensures client_first { (input : TheInput) (user : List ℕ) → IsSoundInput input →
-        prepared input.user ≡ Some user → length user ≤ 9920 →
+        saslprep input.user ≡ Some user → length user ≤ 9920 →
         IsWritten (first_message (client_login input)) }
     // A hash, where the login is bound to one.
     ensures client_final { (input : TheInput) (salt : List ℕ) → IsSoundInput input →
@@ -67,11 +67,11 @@ pub fn sizes_suffice()
         IsWritten (final_message (client_login input) (offer_by input salt)) }
     // A salt, in the offer.
     ensures server_first { (input : TheInput) (salt : List ℕ) → IsSoundInput input →
-        length salt ≤ 22443 → (g : List ℕ) × (encodings
+        length salt ≤ 22443 → (g : List ℕ) × (server_encodings
         (backend.Authentication (auth.SASLContinue (offer_by input salt)) ∷ []) ≡ Ok g) }
     // So these share a password.
     ensures share { (input : TheInput) (user salt : List ℕ) → IsSoundInput input →
-        is_utf8 input.password ≡ true → prepared input.user ≡ Some user → IsValue user →
+        is_utf8 input.password ≡ true → saslprep input.user ≡ Some user → IsValue user →
         (input.stored).salt ≡ Some salt →
         (input.stored).password ≡ salted_password input.password salt input.count →
         has_zero input.user ≡ false → length input.user ≤ 9985 → length user ≤ 9920 →

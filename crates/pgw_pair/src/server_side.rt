@@ -5,7 +5,7 @@ ghost use Rattle.pgw_types.specs.declared.error.PgWireError.TheVariants as why;
 ghost use Rattle.pgw_registry.specs.Generator.{unused};
 ghost use Rattle.pgw_course.specs.Course.{Course, Waits};
 ghost use Rattle.pgw_login.specs.declared.state.LoginState.{LoginState as TheState};
-ghost use Rattle.pgw_server.specs.Server.{Stage, Ending};
+ghost use Rattle.pgw_server.specs.Server.{Stage, ServerEnding};
 ghost use Rattle.pgw_server.specs.Steps.{is_end};
 ghost use Rattle.pgw_pair.specs.Parties.{server_end};
 ghost use Rattle.pgw_pair.specs.Server.{scram_end};
@@ -37,9 +37,9 @@ pub struct StoredPassword {
 }
 
 impl AuthSource for StoredPassword {
-    ghost use Rattle.pgw_pair.specs.Server.{Answered};
+    ghost use Rattle.pgw_pair.specs.Server.{AnswersStored};
 
-    ghost answers = { λ s. Answered s.stored };
+    ghost answers = { λ s. AnswersStored s.stored };
 
     fn get_password(&self, _alloc: Global, _login: &LoginInfo<'_>) -> PgWireResult<Password> {
         match self.stored.duplicate() {
@@ -105,7 +105,7 @@ impl<H: StartupHandler> ServerSide<H> {
         ensures fits { H.fits self.new.core.handler self.new.core.login }
         ensures kept { self.new.core.handler ≡ self.old.core.handler }
         ensures from { StaysFrom (H.means self.old.core.handler) self.old.core self.new.core }
-        ensures took { (course : Course Stage Ending) → ServerAt self.old course
+        ensures took { (course : Course Stage ServerEnding) → ServerAt self.old course
             → OnOk result (ServerTook (H.means self.old.core.handler) self.old self.new
             bytes.now count course) }
     {
@@ -126,7 +126,7 @@ impl<H: StartupHandler + Drop> ServerSide<H> {
     pub fn end(self) -> (ServerEnd, BytesMut)
         requires { self.core.login.registered ≡ None }
         ensures wrote { result.1 ≡ self.out }
-        ensures is { (course : Course Stage Ending) → ServerAt self course
+        ensures is { (course : Course Stage ServerEnding) → ServerAt self course
             → result.0 ≡ server_end course }
     {
         let ServerSide {

@@ -4,7 +4,7 @@ ghost use Rattle.std.specs.Option.{option_copied};
 ghost use Rattle.base64.specs.GeneralPurpose.{IsBytes};
 ghost use Rattle.pgw_types.specs.declared.context.ProtocolVersion.TheVariants.{PROTOCOL3_0};
 ghost use Rattle.pgw_wire.specs.Keys.{IsKey};
-ghost use Rattle.pgw_registry.specs.Key.{key_of};
+ghost use Rattle.pgw_registry.specs.Key.{process_key};
 ghost use Rattle.pgw_pair.specs.Sound.{IsSoundInput};
 
 use crate::parties::PairInput;
@@ -40,7 +40,7 @@ fn is_hash(hash: &Option<Octets>)
 
 // Four of the words make a number of 32 bits.
 fn is_key(words: &[u8; 32])
-    ensures { IsKey (key_of PROTOCOL3_0 words.now) }
+    ensures { IsKey (process_key PROTOCOL3_0 words.now) }
 {
     let first = [words[0], words[1], words[2], words[3]];
     let _key = i32::from_be_bytes(first);

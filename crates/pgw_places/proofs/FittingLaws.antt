@@ -9,13 +9,13 @@ use Rattle.pgw_default_handlers.specs.Simple.{QueryMeans}
 use Rattle.pgw_connection.specs.State.{ClientState}
 use Rattle.pgw_connection.specs.Querying.{Queries}
 use Rattle.pgw_places.specs.Targets.{question}
-use Rattle.pgw_places.specs.Fitting.{Asks}
+use Rattle.pgw_places.specs.Fitting.{AsksPlace}
 
 -- a new handler asks
 pub asks : {X : Type 0} (foretells : Type 0) (left : X → Option (List ℕ)) (tape : X → Tape) (faults : X → ℕ) (handler :
     DefaultSimpleQueryHandler) (before after : ClientState X) (answer : Result (List Response) ClientError)
     → handler ≡ record { tally = no_tally }
     → Queries foretells left tape faults QueryMeans handler question before after answer
-    → Asks foretells left tape faults before after answer
+    → AsksPlace foretells left tape faults before after answer
 asks foretells left tape faults handler before after answer is q = subst (λ (h : DefaultSimpleQueryHandler).
     Queries foretells left tape faults QueryMeans h question before after answer) is q

@@ -13,7 +13,7 @@ use Rattle.pgw_places.specs.declared.places.Place.{Place}
 use Rattle.pgw_places.specs.declared.places.NoSession.{NoSession}
 use Rattle.pgw_places.specs.Targets.{wanted_of}
 use Rattle.pgw_places.specs.Telling.{Telling}
-use Rattle.pgw_places.specs.Places.{ConnectsAt, LogsIn, Keeps, unfit, Tries, login_by, no_limit}
+use Rattle.pgw_places.specs.Places.{ConnectsAt, LogsInAtPlace, KeepsAtPlace, unfit, Tries, login_by, no_limit}
 
 module _ {Y X : Type 0} (t : Telling Y X) where
   -- a connect with what a place names
@@ -21,14 +21,14 @@ module _ {Y X : Type 0} (t : Telling Y X) where
       (ClientState X) ClientError) → config ≡ place.config → handler ≡ login_by place.nonce
       → Connects t.foretells t.offers t.dials t.failed t.left t.tape t.faults exchanges StartupMeans handler config
       no_limit old new result
-      → LogsIn t place old new result
+      → LogsInAtPlace t place old new result
   logs_in place config handler old new (Ok c) is by k = rw (sym is, sym by) k
   logs_in place config handler old new (Err e) is by k = inl (rw (sym is, sym by) k)
 
   -- what became of a client that was connected
   pub kept : (place : Place) (first : ClientState X) (old mid new : Y) (result : Result (ClientState X)
       (Option NoSession)) → ConnectsAt t place old mid (Ok first)
-      → Keeps t (wanted_of place.config.target_session_attrs) first mid new result
+      → KeepsAtPlace t (wanted_of place.config.target_session_attrs) first mid new result
       → Tries t place old new result
   kept place first old mid new (Ok c) login keeps = record { first = first; mid = mid; login = login; keeps = keeps }
   kept place first old mid new (Err ended) login keeps = unfit first mid ended login keeps

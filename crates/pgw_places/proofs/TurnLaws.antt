@@ -7,7 +7,7 @@ use Rattle.pgw_backend.specs.declared.client_error.PgWireClientError.{PgWireClie
 use Rattle.pgw_config.specs.Address.{address_of}
 use Rattle.pgw_config.specs.declared.config.Config.{Config}
 use Rattle.pgw_link.specs.Dials.{DialTape}
-use Rattle.pgw_handlers.specs.Handling.{Standing, Answer}
+use Rattle.pgw_handlers.specs.Handling.{HandlerView, CallAnswer}
 use Rattle.pgw_handlers.specs.declared.client_info.ServerInformation.{ServerInformation}
 use Rattle.pgw_connection.specs.State.{ClientState}
 use Rattle.pgw_connection.specs.Connecting.{NoLink, ClosedAgain}
@@ -15,8 +15,8 @@ use Rattle.pgw_connection.specs.Talk.{Hearing}
 use Rattle.pgw_places.specs.declared.places.Place.{Place}
 use Rattle.pgw_places.specs.declared.places.NoSession.{NoSession}
 use Rattle.pgw_places.specs.Telling.{Telling}
-use Rattle.pgw_places.specs.Places.{InTurn, none, passed, dialled, DialsInTurn, ConnectsAt, LogsIn, IsClosed}
-use Rattle.pgw_places.specs.Places.{LetsIn, Passes, refused, unfit, TriesAll, no_more, next, stopped, let_in}
+use Rattle.pgw_places.specs.Places.{InTurn, none, passed, dialled, DialsInTurn, ConnectsAt, LogsInAtPlace, IsClosed}
+use Rattle.pgw_places.specs.Places.{PlaceLetsIn, PassesPlace, refused, unfit, TriesAll, no_more, next, stopped, let_in}
 
 untried : (places : List Place) → InTurn places []
 untried [] = none
@@ -42,7 +42,7 @@ dialled_at place to made old new leads is = record {
 
 -- at an address there was no link, or one over which the login failed
 not_connected : {S : Type 0} {foretells : Type 0}
-    {opens : Standing S → Standing S → Answer ServerInformation
+    {opens : HandlerView S → HandlerView S → CallAnswer ServerInformation
     → Type 0} {M : Hearing S ServerInformation} {handler : S}
     {config : Config} {limit : ℕ} {was is : Option (List (List ℕ))} {before now : ℕ} {e : ClientError}
     (place : Place) (to : Address) (old new : DialTape) → address_of place.config ≡ Ok to
@@ -91,19 +91,19 @@ module _ {Y X : Type 0} (t : Telling Y X) where
     dialled = closed.1.shut.dialled ∙ d.dialled;
   }
 
-  login_dials : (place : Place) (old new : Y) (e : ClientError) → LogsIn {X = X} t place old new (Err e)
+  login_dials : (place : Place) (old new : Y) (e : ClientError) → LogsInAtPlace {X = X} t place old new (Err e)
       → DialsInTurn (place ∷ []) (t.dials old) (t.dials new)
   login_dials place old new e (inl k) = one_dial place old new (Err e) k
   login_dials place old new e (inr starved) = no_dial (place ∷ []) (t.dials old) (t.dials new) (ap (λ (d : Y).
       (t.dials d).dialled) starved.1)
 
-  passes_dials : (place : Place) (old new : Y) (how : Option NoSession) → Passes {X = X} t place old new how
+  passes_dials : (place : Place) (old new : Y) (how : Option NoSession) → PassesPlace {X = X} t place old new how
       → DialsInTurn (place ∷ []) (t.dials old) (t.dials new)
   passes_dials place old new _ (refused e k) = login_dials place old new e k
   passes_dials place old new _ (unfit first mid e login keeps) =
       then_closed place keeps.1 old mid new (one_dial place old mid (Ok first) login) keeps.4
 
-  lets_in_dials : (place : Place) (old new : Y) (c : ClientState X) → LetsIn t place old new c
+  lets_in_dials : (place : Place) (old new : Y) (c : ClientState X) → PlaceLetsIn t place old new c
       → DialsInTurn (place ∷ []) (t.dials old) (t.dials new)
   lets_in_dials place old new c l = rw l.keeps.0 (one_dial place old l.mid (Ok l.first) l.login)
 

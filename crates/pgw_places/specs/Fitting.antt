@@ -12,9 +12,9 @@ use Rattle.pgw_places.specs.declared.targets.Fit.TheVariants as fit
 use Rattle.pgw_places.specs.Targets.{question, fit_of}
 
 -- the question was asked as a simple query
-abbrev pub Asks : {X : Type 0} → Type 0 → (X → Option (List ℕ)) → (X → Tape) → (X → ℕ) →
+abbrev pub AsksPlace : {X : Type 0} → Type 0 → (X → Option (List ℕ)) → (X → Tape) → (X → ℕ) →
     ClientState X → ClientState X → Result (List Response) ClientError → Type 0
-Asks foretells left tape faults before after answer =
+AsksPlace foretells left tape faults before after answer =
     Queries foretells left tape faults QueryMeans (record { tally = no_tally }) question
     before after answer
 
@@ -25,4 +25,4 @@ FitsBy foretells left tape faults None before after how =
     (after ≡ before) × (how ≡ fit.Fits)
 FitsBy foretells left tape faults (Some read_only) before after how =
     (answer : Result (List Response) ClientError)
-    × Asks foretells left tape faults before after answer × (how ≡ fit_of read_only answer)
+    × AsksPlace foretells left tape faults before after answer × (how ≡ fit_of read_only answer)

@@ -10,13 +10,13 @@ use Rattle.pgw_places.specs.declared.notes.LoginKind.{LoginKind}
 use Rattle.pgw_places.specs.declared.notes.LoginKind.TheVariants as kind
 
 -- a method is among those that a server offers
-abbrev pub offers : List (List ℕ) → List ℕ → Bool
-offers methods name = list_any (λ method. pointwise nat_eq method name) methods
+abbrev pub place_offers : List (List ℕ) → List ℕ → Bool
+place_offers methods name = list_any (λ method. pointwise nat_eq method name) methods
 
-unfoldable pub kind_of : List (List ℕ) → LoginKind
-kind_of methods =
-    if offers methods (codes "SCRAM-SHA-256-PLUS") then kind.ScramSha256Plus
-    else if offers methods (codes "SCRAM-SHA-256") then kind.ScramSha256
+unfoldable pub login_kind : List (List ℕ) → LoginKind
+login_kind methods =
+    if place_offers methods (codes "SCRAM-SHA-256-PLUS") then kind.ScramSha256Plus
+    else if place_offers methods (codes "SCRAM-SHA-256") then kind.ScramSha256
     else kind.Other
 
 -- AuthenticationOk with no request before is trust
@@ -25,7 +25,7 @@ kind_after was authentication.Ok = Some (unwrap_or was kind.Trust)
 kind_after was authentication.CleartextPassword = Some kind.CleartextPassword
 kind_after was authentication.KerberosV5 = Some kind.Other
 kind_after was (authentication.MD5Password salt) = Some kind.Md5Password
-kind_after was (authentication.SASL methods) = Some (kind_of methods)
+kind_after was (authentication.SASL methods) = Some (login_kind methods)
 kind_after was (authentication.SASLContinue first) = was
 kind_after was (authentication.SASLFinal last) = was
 

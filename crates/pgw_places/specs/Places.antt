@@ -44,11 +44,11 @@ pub record DialsInTurn (places : List Place) (old new : DialTape) : Type 0 where
 
 -- why there is no session behind an error, or none yet: the next place is tried where no link was
 -- made, or it failed or ended
-abbrev pub ended_by : ClientError → Option NoSession
-ended_by client.OutOfMemory = Some why.Memory
-ended_by client.IoError = None
-ended_by client.UnexpectedEOF = None
-ended_by e = Some why.Refused
+abbrev pub no_session_of : ClientError → Option NoSession
+no_session_of client.OutOfMemory = Some why.Memory
+no_session_of client.IoError = None
+no_session_of client.UnexpectedEOF = None
+no_session_of e = Some why.Refused
 
 -- and behind a server that will not do
 abbrev pub EndsUnfit : Fit → Option NoSession → Type 0
@@ -77,10 +77,10 @@ ConnectsAt t place old new result =
     (login_by place.nonce) place.config no_limit old new result
 
 -- the same; or memory was wanting before it
-abbrev pub LogsIn : {Y X : Type 0} → Telling Y X → Place → Y → Y →
+abbrev pub LogsInAtPlace : {Y X : Type 0} → Telling Y X → Place → Y → Y →
     Result (ClientState X) ClientError → Type 0
-LogsIn t place old new (Ok c) = ConnectsAt t place old new (Ok c)
-LogsIn t place old new (Err e) =
+LogsInAtPlace t place old new (Ok c) = ConnectsAt t place old new (Ok c)
+LogsInAtPlace t place old new (Err e) =
     ConnectsAt t place old new (Err e) ⊎ ((e ≡ client.OutOfMemory) × (new ≡ old))
 
 -- a client's server will do, or not, as a question left the client
@@ -95,34 +95,34 @@ IsClosed t c old new = (result : Result (Unit {0}) ClientError)
     (t.failed old) (t.failed new) result
 
 -- A client is kept whose server will do, as the question left it; and any other is closed.
-abbrev pub Keeps : {Y X : Type 0} → Telling Y X → Option Bool → ClientState X → Y → Y →
+abbrev pub KeepsAtPlace : {Y X : Type 0} → Telling Y X → Option Bool → ClientState X → Y → Y →
     Result (ClientState X) (Option NoSession) → Type 0
-Keeps t wanted first old new (Ok c) = (new ≡ old) × Looks t wanted first c fit.Fits
-Keeps {X = X} t wanted first old new (Err ended) = (how : Fit) × (last : ClientState X)
+KeepsAtPlace t wanted first old new (Ok c) = (new ≡ old) × Looks t wanted first c fit.Fits
+KeepsAtPlace {X = X} t wanted first old new (Err ended) = (how : Fit) × (last : ClientState X)
     × Looks t wanted first last how × EndsUnfit how ended × IsClosed t last old new
 
 -- A place let a client in: its login ended well, and its server will do.
-pub record LetsIn {Y X : Type 0} (t : Telling Y X) (place : Place) (old new : Y)
+pub record PlaceLetsIn {Y X : Type 0} (t : Telling Y X) (place : Place) (old new : Y)
     (c : ClientState X) : Type 0 where
   pub first : ClientState X
   pub mid : Y
   pub login : ConnectsAt t place old mid (Ok first)
-  pub keeps : Keeps t (wanted_of place.config.target_session_attrs) first mid new (Ok c)
+  pub keeps : KeepsAtPlace t (wanted_of place.config.target_session_attrs) first mid new (Ok c)
 
 -- A place let none in: there was no login, or its server will not do.
-pub data Passes {Y X : Type 0} (t : Telling Y X) (place : Place) (old new : Y)
+pub data PassesPlace {Y X : Type 0} (t : Telling Y X) (place : Place) (old new : Y)
     : Option NoSession → Type 0 where
-  refused : (e : ClientError) → LogsIn {X = X} t place old new (Err e)
-      → Passes t place old new (ended_by e)
+  refused : (e : ClientError) → LogsInAtPlace {X = X} t place old new (Err e)
+      → PassesPlace t place old new (no_session_of e)
   unfit : (first : ClientState X) (mid : Y) (ended : Option NoSession)
       → ConnectsAt t place old mid (Ok first)
-      → Keeps t (wanted_of place.config.target_session_attrs) first mid new (Err ended)
-      → Passes t place old new ended
+      → KeepsAtPlace t (wanted_of place.config.target_session_attrs) first mid new (Err ended)
+      → PassesPlace t place old new ended
 
 abbrev pub Tries : {Y X : Type 0} → Telling Y X → Place → Y → Y →
     Result (ClientState X) (Option NoSession) → Type 0
-Tries t place old new (Ok c) = LetsIn t place old new c
-Tries t place old new (Err ended) = Passes t place old new ended
+Tries t place old new (Ok c) = PlaceLetsIn t place old new c
+Tries t place old new (Err ended) = PassesPlace t place old new ended
 
 -- ---- places
 
@@ -132,9 +132,9 @@ pub data TriesAll {Y X : Type 0} (t : Telling Y X)
     : List Place → Y → Y → Result (ClientState X) NoSession → Type 0 where
   no_more : (d : Y) → TriesAll t [] d d (Err why.Refused)
   next : (place : Place) (places : List Place) (old mid new : Y)
-      (result : Result (ClientState X) NoSession) → Passes t place old mid None
+      (result : Result (ClientState X) NoSession) → PassesPlace t place old mid None
       → TriesAll t places mid new result → TriesAll t (place ∷ places) old new result
   stopped : (place : Place) (places : List Place) (old new : Y) (why : NoSession)
-      → Passes t place old new (Some why) → TriesAll t (place ∷ places) old new (Err why)
+      → PassesPlace t place old new (Some why) → TriesAll t (place ∷ places) old new (Err why)
   let_in : (place : Place) (places : List Place) (old new : Y) (c : ClientState X)
-      → LetsIn t place old new c → TriesAll t (place ∷ places) old new (Ok c)
+      → PlaceLetsIn t place old new c → TriesAll t (place ∷ places) old new (Ok c)

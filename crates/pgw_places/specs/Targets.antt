@@ -23,8 +23,8 @@ abbrev pub question : List ℕ
 question = codes "SHOW transaction_read_only"
 
 -- a row of one value says it: four bytes of length, and `on` or `off`
-unfoldable pub told_by : List ℕ → Option Bool
-told_by row =
+unfoldable pub target_setting : List ℕ → Option Bool
+target_setting row =
     if pointwise nat_eq row (0 ∷ 0 ∷ 0 ∷ 2 ∷ 111 ∷ 110 ∷ []) then Some true
     else if pointwise nat_eq row (0 ∷ 0 ∷ 0 ∷ 3 ∷ 111 ∷ 102 ∷ 102 ∷ []) then Some false
     else None
@@ -32,26 +32,26 @@ told_by row =
 -- the first row of a result
 abbrev pub told_in_rows : List DataRow → Option Bool
 told_in_rows [] = None
-told_in_rows (row ∷ more) = told_by row.payload
+told_in_rows (row ∷ more) = target_setting row.payload
 
 abbrev pub told_in : Response → Option Bool
 told_in (response.Query tag fields rows) = told_in_rows rows
 told_in other = None
 
 -- the first response
-abbrev pub told_of : List Response → Option Bool
-told_of [] = None
-told_of (r ∷ more) = told_in r
+abbrev pub target_told : List Response → Option Bool
+target_told [] = None
+target_told (r ∷ more) = told_in r
 
-abbrev pub fit_by : Bool → Option Bool → Fit
-fit_by read_only None = fit.Unfit
-fit_by true (Some true) = fit.Fits
-fit_by true (Some false) = fit.Unfit
-fit_by false (Some true) = fit.Unfit
-fit_by false (Some false) = fit.Fits
+abbrev pub target_fit : Bool → Option Bool → Fit
+target_fit read_only None = fit.Unfit
+target_fit true (Some true) = fit.Fits
+target_fit true (Some false) = fit.Unfit
+target_fit false (Some true) = fit.Unfit
+target_fit false (Some false) = fit.Fits
 
 -- a server that answers an error, or none, will not do
 abbrev pub fit_of : Bool → Result (List Response) ClientError → Fit
-fit_of read_only (Ok responses) = fit_by read_only (told_of responses)
+fit_of read_only (Ok responses) = target_fit read_only (target_told responses)
 fit_of read_only (Err client.OutOfMemory) = fit.Starved
 fit_of read_only (Err e) = fit.Unfit

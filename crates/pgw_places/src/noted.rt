@@ -46,7 +46,7 @@ impl<'a, T: Clock> NotedStartupHandler<'a, T> {
 
 impl<'a, T: Clock> StartupHandler for NotedStartupHandler<'a, T> {
     ghost use Rattle.std.specs.Prelude.{Ok, Err};
-    ghost use Rattle.pgw_default_handlers.specs.Startup.{StartupMeans, exchanges, keeps_parameters, misplaces_notifications, passes_notices, settles_version};
+    ghost use Rattle.pgw_default_handlers.specs.Startup.{StartupMeans, exchanges, keeps_in_startup, misplaces_notifications, passes_notices, settles_version};
 
     ghost means = { StartupMeans };
 
@@ -54,7 +54,7 @@ impl<'a, T: Clock> StartupHandler for NotedStartupHandler<'a, T> {
 
     ghost settles = { settles_version };
 
-    ghost keeps = { keeps_parameters };
+    ghost keeps = { keeps_in_startup };
 
     ghost passes = { passes_notices };
 

@@ -1,6 +1,6 @@
 //! What is noted of a login.
 ghost use Rattle.std.specs.Prelude.{◌≡◌, ◌||◌, false, None, Some};
-ghost use Rattle.pgw_places.specs.Notes.{is_final as ends_sasl, kind_after as heard_after, kind_of as kind_for, offers};
+ghost use Rattle.pgw_places.specs.Notes.{is_final as ends_sasl, kind_after as heard_after, login_kind as kind_for, place_offers};
 
 use pgw_startup::authentication::Authentication;
 use pgw_types::text::Text;
@@ -47,13 +47,13 @@ pub struct LoginNotes {
 
 // Whether a method is among those that a server offers.
 fn is_offered(methods: &[Text], name: &str) -> bool
-    ensures { result ≡ offers methods.now name.now }
+    ensures { result ≡ place_offers methods.now name.now }
 {
     methods.iter().any(|method| method.as_str() == name)
 }
 
 // The login of a server that offers these methods.
-#[tactic(auto, unfolding(crate::specs::Notes::kind_of))]
+#[tactic(auto, unfolding(crate::specs::Notes::login_kind))]
 fn kind_of(methods: &[Text]) -> LoginKind
     ensures { result ≡ kind_for methods.now }
 {

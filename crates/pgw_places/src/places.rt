@@ -1,6 +1,6 @@
 //! Connecting to the first of some places that lets a client in.
 ghost use Rattle.std.specs.Prelude.{◌≡◌};
-ghost use Rattle.pgw_places.specs.Places.{DialsInTurn, IsClosed, Keeps, LogsIn, Tries, TriesAll, ended_by as ends};
+ghost use Rattle.pgw_places.specs.Places.{DialsInTurn, IsClosed, KeepsAtPlace, LogsInAtPlace, Tries, TriesAll, no_session_of as ends};
 ghost use Rattle.pgw_places.specs.Telling.{telling};
 
 use crate::noted::NotedStartupHandler;
@@ -42,7 +42,7 @@ fn log_in<D: Dialer, T: Clock>(
     clock: &mut T,
     notes: &mut LoginNotes,
 ) -> PgWireClientResult<PgWireClient<D::Link>>
-    ensures { LogsIn (telling D.foretells D.offers D.tape D.faults
+    ensures { LogsInAtPlace (telling D.foretells D.offers D.tape D.faults
         D.Link.foretells D.Link.left D.Link.tape D.Link.faults)
         place.now dialer.old dialer.new result }
 {
@@ -89,7 +89,7 @@ fn keep<D: Dialer, E: Sink>(
     dialer: &mut D,
     errors: &mut E,
 ) -> Result<PgWireClient<D::Link>, Option<NoSession>>
-    ensures { Keeps (telling D.foretells D.offers D.tape D.faults
+    ensures { KeepsAtPlace (telling D.foretells D.offers D.tape D.faults
         D.Link.foretells D.Link.left D.Link.tape D.Link.faults)
         wanted client dialer.old dialer.new result }
 {

@@ -1,7 +1,7 @@
 //! Whether a server is as a configuration wants it.
 ghost use Rattle.std.specs.Prelude.{◌≡◌};
-ghost use Rattle.pgw_places.specs.Targets.{fit_by as fit_for, fit_of as fit_behind, told_by as told_by_row, told_in as told_in_response, told_in_rows as told_in_all, told_of as told_in_responses, wanted_of as wanted_by};
-ghost use Rattle.pgw_places.specs.Fitting.{Asks, FitsBy};
+ghost use Rattle.pgw_places.specs.Targets.{target_fit as fit_for, fit_of as fit_behind, target_setting as told_by_row, told_in as told_in_response, told_in_rows as told_in_all, target_told as told_in_responses, wanted_of as wanted_by};
+ghost use Rattle.pgw_places.specs.Fitting.{AsksPlace, FitsBy};
 
 use pgw_backend::client_error::{PgWireClientError, PgWireClientResult};
 use pgw_config::config::TargetSessionAttrs;
@@ -42,7 +42,7 @@ pub fn wanted_of(target: TargetSessionAttrs) -> Option<bool>
 }
 
 // What a row says.
-#[tactic(auto, unfolding(crate::specs::Targets::told_by))]
+#[tactic(auto, unfolding(crate::specs::Targets::target_setting))]
 fn told_by(row: &[u8]) -> Option<bool>
     ensures { result ≡ told_by_row row.now }
 {
@@ -104,7 +104,7 @@ fn fit_of(read_only: bool, answer: PgWireClientResult<Listed<Response>>) -> Fit
 
 // Asks a server whether it is read-only.
 fn ask<L: Link>(alloc: Global, client: &mut PgWireClient<L>) -> PgWireClientResult<Listed<Response>>
-    ensures { Asks L.foretells L.left L.tape L.faults client.old client.new result }
+    ensures { AsksPlace L.foretells L.left L.tape L.faults client.old client.new result }
 {
     let handler = DefaultSimpleQueryHandler::new(alloc);
     client.simple_query(alloc, handler, QUESTION)

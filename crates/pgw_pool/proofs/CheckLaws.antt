@@ -9,12 +9,12 @@ use Rattle.pgw_session.specs.declared.types.Response.{Response}
 use Rattle.pgw_session.specs.declared.types.Response.TheVariants.{EmptyQuery, Query, Execution}
 use Rattle.pgw_session.specs.declared.types.Answer.TheVariants as answer
 use Rattle.pgw_session.specs.Events.{Event}
-use Rattle.pgw_connection.specs.Line.{Moved, IsFlushed}
+use Rattle.pgw_connection.specs.Line.{MovesLine, IsFlushed}
 use Rattle.pgw_calls.specs.Turns.{IsAnswered}
-use Rattle.pgw_calls.specs.Stands.{Made, made, Stands, OneMore, StandsBehind}
-use Rattle.pgw_pool.specs.Histories.{History, checked, View, check, lent_as, with_check, made_over, IsChecked, IsCheckedIn, BeginsIdle, StandsBy, IsIdle, IsLent, AreIdle}
-use Rattle.pgw_pool.specs.Lending.{IsCut}
-use Rattle.pgw_pool.specs.Returning.{cause_of, IsAskedIn, EndsBy, FailsBy, IsFailed}
+use Rattle.pgw_calls.specs.Stands.{Made, made_call, StandsForCalls, OneMore, StandsBehind}
+use Rattle.pgw_pool.specs.Histories.{History, checked, View, check, lent_as, with_check, made_over, IsChecked, IsCheckedIn, BeginsIdle, StandsBy, IsIdleInPool, IsLent, AreIdle}
+use Rattle.pgw_pool.specs.Lending.{IsCutLease}
+use Rattle.pgw_pool.specs.Returning.{cause_of, IsAskedIn, LeaseEndsBy, FailsBy, IsFailed}
 use Rattle.pgw_pool.specs.declared.returned.DropCause.{DropCause}
 use Rattle.pgw_pool.specs.declared.returned.DropCause.TheVariants as cause
 use Rattle.pgw_pool.specs.declared.checking.Unfit.{Unfit}
@@ -74,15 +74,15 @@ fit_is (Err e) status broken is = absurd (cc)
 
 -- ---- it is lent
 
-module _ (low now : ℕ) (h : History) (old last : View) (is : IsIdle low h old) (above : low < now) where
+module _ (low now : ℕ) (h : History) (old last : View) (is : IsIdleInPool low h old) (above : low < now) where
   abbrev Lent : Type 0
   Lent = (es : List Event) × IsLent (with_check h es) (lent_as now) last × BeginsIdle (with_check h es).over
 
-  stands_checked : (es : List Event) → StandsBy h (made_over h.over ++ made check es ∷ []) last → StandsBy (with_check h es) (made_over (with_check h es).over ++ []) last
+  stands_checked : (es : List Event) → StandsBy h (made_over h.over ++ made_call check es ∷ []) last → StandsBy (with_check h es) (made_over (with_check h es).over ++ []) last
   stands_checked es stands =
       subst (λ (ts : List Made). StandsBy h ts last) (sym (append-nil (made_over (h.over ++ checked es ∷ [])) ∙ made_more h.over (checked es))) stands
 
-  lent_by : (es : List Event) → IsChecked es → StandsBy h (made_over h.over ++ made check es ∷ []) last → last.broken ≡ false → IsFlushed last.line → Lent
+  lent_by : (es : List Event) → IsChecked es → StandsBy h (made_over h.over ++ made_call check es ∷ []) last → last.broken ≡ false → IsFlushed last.line → Lent
   lent_by es fit stands usable flushed =
       let resets = resets_more h.over (checked es) is.resets fit in (
         es,
@@ -98,12 +98,12 @@ module _ (low now : ℕ) (h : History) (old last : View) (is : IsIdle low h old)
         begins_idle (h.over ++ checked es ∷ []) resets,
       )
 
-  behind : (broken : Bool) → last.broken ≡ broken → last.client.transaction_status ≡ Idle → (taken sent : List ℕ) → Moved old.line last.line taken sent → (broken ≡ false → IsFlushed last.line)
+  behind : (broken : Bool) → last.broken ≡ broken → last.client.transaction_status ≡ Idle → (taken sent : List ℕ) → MovesLine old.line last.line taken sent → (broken ≡ false → IsFlushed last.line)
       → StandsBehind answer.Responses h.config h.nonce (made_over h.over) check (old.line.tape.took ++ taken) (old.line.tape.wrote ++ sent) last.client last.line.buffer (Ok (EmptyQuery ∷ [])) broken → Lent
   behind true known idle taken sent moved flushed b = absurd b
   behind false known idle taken sent moved flushed one =
       let es = one.0 in
-      let stands = over_link (λ (read wrote : List ℕ). Stands h.config h.nonce (made_over h.over ++ made check es ∷ []) read wrote last.client last.line.buffer) old.line last.line taken sent moved one.2 in
+      let stands = over_link (λ (read wrote : List ℕ). StandsForCalls h.config h.nonce (made_over h.over ++ made_call check es ∷ []) read wrote last.client last.line.buffer) old.line last.line taken sent moved one.2 in
       let r = simple_ends _ es (one.1).0 in
       let told = status_known h (made_over h.over) check es r.0 r.1 last stands r.2 in
       lent_by es (one.1, (r.0, r.1, r.2, sym told ∙ idle)) stands known (flushed refl)
@@ -119,7 +119,7 @@ module _ (low now : ℕ) (h : History) (old last : View) (is : IsIdle low h old)
 -- ---- it is not fit
 
 -- an idle session has no lease, whatever its next number is
-unlent_cut : (n : ℕ) (h : History) (v : View) (e : ClientError) → IsCut h (lent_as n) check e v → IsCut h (lent_as 0) check e v
+unlent_cut : (n : ℕ) (h : History) (v : View) (e : ClientError) → IsCutLease h (lent_as n) check e v → IsCutLease h (lent_as 0) check e v
 unlent_cut n h v e is = record { stands = is.stands; wants = is.wants; broken = is.broken; resets = is.resets }
 
 unlent_fails : (n : ℕ) (h : History) (v : View) (broken : Bool) (e : ClientError) → FailsBy check h (lent_as n) v broken e → FailsBy check h (lent_as 0) v broken e
@@ -134,7 +134,7 @@ failed_unfit n h (cause.Failed client.OutOfMemory) v is = absurd is
 failed_unfit n h (cause.Failed e) v is = unlent_fails n h v v.broken e is
 failed_unfit n h cause.OutOfMemory v is = unlent_cut n h v client.OutOfMemory is
 
-module _ (low : ℕ) (h : History) (old last : View) (is : IsIdle low h old) where
+module _ (low : ℕ) (h : History) (old last : View) (is : IsIdleInPool low h old) where
   lease : IsLent h (lent_as (low + 1)) old
   lease = lent_again low (low + 1) h old (omega arith) is
 
@@ -142,11 +142,11 @@ module _ (low : ℕ) (h : History) (old last : View) (is : IsIdle low h old) whe
   AnsweredBy property taken sent =
       OneMore h.config h.nonce (made_over h.over ++ []) check property (old.line.tape.took ++ taken) (old.line.tape.wrote ++ sent) last.client last.line.buffer
 
-  ends_in : (property : List Event → Type 0) (taken sent : List ℕ) → Moved old.line last.line taken sent → AnsweredBy property taken sent → EndsBy check h (lent_as 0) property last
+  ends_in : (property : List Event → Type 0) (taken sent : List ℕ) → MovesLine old.line last.line taken sent → AnsweredBy property taken sent → LeaseEndsBy check h (lent_as 0) property last
   ends_in property taken sent moved one = ends_by check check_encoded h (lent_as (low + 1)) old last lease property taken sent moved one
 
   -- the status behind it
-  checked_in : (rs : List Response) (taken sent : List ℕ) → rs ≡ EmptyQuery ∷ [] → Moved old.line last.line taken sent
+  checked_in : (rs : List Response) (taken sent : List ℕ) → rs ≡ EmptyQuery ∷ [] → MovesLine old.line last.line taken sent
       → AnsweredBy (IsAnswered check (answer.Responses rs)) taken sent → AnsweredBy (IsCheckedIn last.client.transaction_status) taken sent
   checked_in rs taken sent empty moved one =
       let es = one.0 in
@@ -155,7 +155,7 @@ module _ (low : ℕ) (h : History) (old last : View) (is : IsIdle low h old) whe
       let told = status_known h (made_over h.over ++ []) check es r.0 r.1 last stands r.2 in
       (es, (subst (λ (l : List Response). IsAnswered check (answer.Responses l) es) empty one.1, (r.0, r.1, r.2, sym told)), one.2)
 
-  by_status : (status : TransactionStatus) (why : Unfit) → Err why ≡ fit_by_status status → (taken sent : List ℕ) → Moved old.line last.line taken sent
+  by_status : (status : TransactionStatus) (why : Unfit) → Err why ≡ fit_by_status status → (taken sent : List ℕ) → MovesLine old.line last.line taken sent
       → AnsweredBy (IsCheckedIn status) taken sent → IsUnfit h why last
   by_status Idle why by taken sent moved one = absurd (cc)
   by_status Transaction why by taken sent moved one =
@@ -166,14 +166,14 @@ module _ (low : ℕ) (h : History) (old last : View) (is : IsIdle low h old) whe
       subst (λ (w : Unfit). IsUnfit h w last) (sym same) (ends_in (IsCheckedIn Error) taken sent moved one, λ idle. cc)
 
   by_responses : (rs : List Response) (empty : Bool) → is_empty_query rs ≡ empty → (why : Unfit) → Err why ≡ (if empty then fit_by_status last.client.transaction_status else Err (Answered rs))
-      → (taken sent : List ℕ) → Moved old.line last.line taken sent → AnsweredBy (IsAnswered check (answer.Responses rs)) taken sent → IsUnfit h why last
+      → (taken sent : List ℕ) → MovesLine old.line last.line taken sent → AnsweredBy (IsAnswered check (answer.Responses rs)) taken sent → IsUnfit h why last
   by_responses rs true empty why by taken sent moved one =
       by_status last.client.transaction_status why by taken sent moved (checked_in rs taken sent (empty_is rs empty) moved one)
   by_responses rs false empty why by taken sent moved one =
       let same : why ≡ Answered rs = cc in
       subst (λ (w : Unfit). IsUnfit h w last) (sym same) (ends_in (IsAnswered check (answer.Responses rs)) taken sent moved one, empty)
 
-  by_answer : (a : Result (List Response) ClientError) (broken : Bool) → last.broken ≡ broken → (taken sent : List ℕ) → Moved old.line last.line taken sent
+  by_answer : (a : Result (List Response) ClientError) (broken : Bool) → last.broken ≡ broken → (taken sent : List ℕ) → MovesLine old.line last.line taken sent
       → StandsBehind answer.Responses h.config h.nonce (made_over h.over ++ []) check (old.line.tape.took ++ taken) (old.line.tape.wrote ++ sent) last.client last.line.buffer a broken
       → Came check check_encoded h (lent_as (low + 1)) old last lease a broken → (why : Unfit) → Err why ≡ fit_by a last.client.transaction_status broken → IsUnfit h why last
   by_answer (Ok rs) true known taken sent moved behind came why by = absurd behind

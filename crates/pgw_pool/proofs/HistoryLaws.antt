@@ -17,10 +17,10 @@ use Rattle.pgw_session.specs.Standings.{first_standing, standing_at}
 use Rattle.pgw_session.specs.Requests.{role, sends_of}
 use Rattle.pgw_session.specs.Segments.{IsEnd, IsRequestSegment}
 use Rattle.pgw_handlers.specs.Client.{Client}
-use Rattle.pgw_connection.specs.Line.{Line, Moved, IsFlushed}
+use Rattle.pgw_connection.specs.Line.{Line, MovesLine, IsFlushed}
 use Rattle.pgw_calls.specs.Turns.{knowing}
-use Rattle.pgw_calls.specs.Stands.{Made, made, events_of}
-use Rattle.pgw_pool.specs.Histories.{Lent, Over, ended, checked, History, lent_as, with_lease, reset, made_in, made_over, IsOver, EndsIn, IsReset, AreReset, BeginsIdle, Ascend, View, StandsBy, IsIdle, AreIdle, IsLent}
+use Rattle.pgw_calls.specs.Stands.{Made, made_call, events_of}
+use Rattle.pgw_pool.specs.Histories.{Lent, Over, ended, checked, History, lent_as, with_lease, reset, made_in, made_over, IsOver, EndsInStatus, IsReset, AreReset, BeginsIdle, LeasesAscend, View, StandsBy, IsIdleInPool, AreIdle, IsLent}
 use Rattle.pgw_pool.specs.Lending.{LendsFirst}
 
 -- ---- lists
@@ -30,17 +30,17 @@ mapped_behind f xs now x is = ap (map f) is ∙ map-append f xs (x ∷ [])
 
 -- ---- numbers
 
-pub ascend_later : (low high later : ℕ) (os : List Over) → high ≤ later → Ascend low os high → Ascend low os later
+pub ascend_later : (low high later : ℕ) (os : List Over) → high ≤ later → LeasesAscend low os high → LeasesAscend low os later
 ascend_later low high later [] le a = omega arith
 ascend_later low high later (ended l es ∷ os) le a = (a.0, ascend_later l.number high later os le a.1)
 ascend_later low high later (checked es ∷ os) le a = ascend_later low high later os le a
 
-pub ascend_more : (low high : ℕ) (os : List Over) (l : Lent) (es : List Event) → high < l.number → Ascend low os high → Ascend low (os ++ ended l es ∷ []) l.number
+pub ascend_more : (low high : ℕ) (os : List Over) (l : Lent) (es : List Event) → high < l.number → LeasesAscend low os high → LeasesAscend low (os ++ ended l es ∷ []) l.number
 ascend_more low high [] l es above a = (omega arith, omega arith)
 ascend_more low high (ended x fs ∷ os) l es above a = (a.0, ascend_more x.number high os l es above a.1)
 ascend_more low high (checked fs ∷ os) l es above a = ascend_more low high os l es above a
 
-pub ascend_check : (low high : ℕ) (os : List Over) (es : List Event) → Ascend low os high → Ascend low (os ++ checked es ∷ []) high
+pub ascend_check : (low high : ℕ) (os : List Over) (es : List Event) → LeasesAscend low os high → LeasesAscend low (os ++ checked es ∷ []) high
 ascend_check low high [] es a = a
 ascend_check low high (ended x fs ∷ os) es a = (a.0, ascend_check x.number high os es a.1)
 ascend_check low high (checked fs ∷ os) es a = ascend_check low high os es a
@@ -64,18 +64,18 @@ events_last ts t = events_append ts (t ∷ []) ∙ ap (λ (l : List Event). even
 
 -- ---- the last message
 
-ends_behind : (status : TransactionStatus) (before es : List Event) → EndsIn status es → EndsIn status (before ++ es)
+ends_behind : (status : TransactionStatus) (before es : List Event) → EndsInStatus status es → EndsInStatus status (before ++ es)
 ends_behind status before es e =
     (before ++ e.0, e.1, ap (λ (l : List Event). before ++ l) e.2 ∙ sym (append_assoc before e.0 (Got (backend.ReadyForQuery e.1) ∷ [])), e.3)
 
-ends_one : (o : Over) → IsOver o → EndsIn Idle (events_of (made_in o))
-ends_one (ended l es) is = subst (EndsIn Idle) (sym (events_last l.made (made reset es))) (ends_behind Idle (events_of l.made) es is.2)
-ends_one (checked es) is = subst (EndsIn Idle) (sym (append-nil es)) is.1
+ends_one : (o : Over) → IsOver o → EndsInStatus Idle (events_of (made_in o))
+ends_one (ended l es) is = subst (EndsInStatus Idle) (sym (events_last l.made (made_call reset es))) (ends_behind Idle (events_of l.made) es is.2)
+ends_one (checked es) is = subst (EndsInStatus Idle) (sym (append-nil es)) is.1
 
-ends_over : (o : Over) (os : List Over) → AreReset (o ∷ os) → EndsIn Idle (events_of (made_over (o ∷ os)))
-ends_over o [] are = subst (λ (ts : List Made). EndsIn Idle (events_of ts)) (sym (append-nil (made_in o))) (ends_one o are.0)
+ends_over : (o : Over) (os : List Over) → AreReset (o ∷ os) → EndsInStatus Idle (events_of (made_over (o ∷ os)))
+ends_over o [] are = subst (λ (ts : List Made). EndsInStatus Idle (events_of ts)) (sym (append-nil (made_in o))) (ends_one o are.0)
 ends_over o (p ∷ os) are =
-    subst (EndsIn Idle) (sym (events_append (made_in o) (made_over (p ∷ os))))
+    subst (EndsInStatus Idle) (sym (events_append (made_in o) (made_over (p ∷ os))))
     (ends_behind Idle (events_of (made_in o)) (events_of (made_over (p ∷ os))) (ends_over p os are.1))
 
 pub begins_idle : (os : List Over) → AreReset os → BeginsIdle os
@@ -109,10 +109,10 @@ simple_ends query es s =
 status_told : (config : Config) (s : Standing) (before : List Event) (m : ReadyForQuery) → (knowing config (fold standing_at s (before ++ Got (backend.ReadyForQuery m) ∷ []))).transaction_status ≡ m.status
 status_told config s before m = ap (λ (r : Standing). r.status) (fold-append standing_at s before (Got (backend.ReadyForQuery m) ∷ []))
 
-pub status_known : (h : History) (ts : List Made) (q : Request) (es front : List Event) (m : ReadyForQuery) (v : View) → StandsBy h (ts ++ made q es ∷ []) v → es ≡ front ++ Got (backend.ReadyForQuery m) ∷ [] → v.client.transaction_status ≡ m.status
+pub status_known : (h : History) (ts : List Made) (q : Request) (es front : List Event) (m : ReadyForQuery) (v : View) → StandsBy h (ts ++ made_call q es ∷ []) v → es ≡ front ++ Got (backend.ReadyForQuery m) ∷ [] → v.client.transaction_status ≡ m.status
 status_known h ts q es front m v stands is =
-    let said : stands.startup ++ events_of (ts ++ made q es ∷ []) ≡ (stands.startup ++ (events_of ts ++ front)) ++ Got (backend.ReadyForQuery m) ∷ [] =
-    ap (λ (l : List Event). stands.startup ++ l) (events_last ts (made q es) ∙ ap (λ (l : List Event). events_of ts ++ l) is ∙ sym (append_assoc (events_of ts) front (Got (backend.ReadyForQuery m) ∷ [])))
+    let said : stands.startup ++ events_of (ts ++ made_call q es ∷ []) ≡ (stands.startup ++ (events_of ts ++ front)) ++ Got (backend.ReadyForQuery m) ∷ [] =
+    ap (λ (l : List Event). stands.startup ++ l) (events_last ts (made_call q es) ∙ ap (λ (l : List Event). events_of ts ++ l) is ∙ sym (append_assoc (events_of ts) front (Got (backend.ReadyForQuery m) ∷ [])))
     ∙ sym (append_assoc stands.startup (events_of ts ++ front) (Got (backend.ReadyForQuery m) ∷ [])) in
     ap (λ (c : Client). c.transaction_status) stands.exchanged.knows
     ∙ ap (λ (l : List Event). (knowing h.config (fold standing_at (first_standing h.config) l)).transaction_status) said
@@ -135,14 +135,14 @@ idle_later lent later (h ∷ hs) (v ∷ vs) le are = (
 idle_later lent later [] (v ∷ vs) le are = absurd are
 idle_later lent later (h ∷ hs) [] le are = absurd are
 
-pub idle_more : (lent : ℕ) (hs : List History) (h : History) (vs : List View) (v : View) → AreIdle lent hs vs → IsIdle lent h v → AreIdle lent (hs ++ h ∷ []) (vs ++ v ∷ [])
+pub idle_more : (lent : ℕ) (hs : List History) (h : History) (vs : List View) (v : View) → AreIdle lent hs vs → IsIdleInPool lent h v → AreIdle lent (hs ++ h ∷ []) (vs ++ v ∷ [])
 idle_more lent [] h [] v are is = (is, tt)
 idle_more lent (x ∷ hs) h (w ∷ vs) v are is = (are.0, idle_more lent hs h vs v are.1 is)
 idle_more lent [] h (w ∷ vs) v are is = absurd are
 idle_more lent (x ∷ hs) h [] v are is = absurd are
 
 -- a session more of which none was lent
-pub idle_one_more : (low now : ℕ) (hs : List History) (h : History) (vs all : List View) (v : View) → now ≡ low → all ≡ vs ++ v ∷ [] → AreIdle low hs vs → IsIdle 0 h v → AreIdle now (hs ++ h ∷ []) all
+pub idle_one_more : (low now : ℕ) (hs : List History) (h : History) (vs all : List View) (v : View) → now ≡ low → all ≡ vs ++ v ∷ [] → AreIdle low hs vs → IsIdleInPool 0 h v → AreIdle now (hs ++ h ∷ []) all
 idle_one_more low now hs h vs all v same grown are is =
     let last = idle_later 0 low (h ∷ []) (v ∷ []) (omega arith) (is, tt) in
     subst (λ n. AreIdle n (hs ++ h ∷ []) all) (sym same) (subst (AreIdle low (hs ++ h ∷ [])) (sym grown) (idle_more low hs h vs v are last.0))
@@ -150,7 +150,7 @@ idle_one_more low now hs h vs all v same grown are is =
 -- ---- a lease begins and ends
 
 -- an idle session that is lent, where nothing was asked in its lease yet
-pub lent_again : (low now : ℕ) (h : History) (v : View) → low < now → IsIdle low h v → IsLent h (lent_as now) v
+pub lent_again : (low now : ℕ) (h : History) (v : View) → low < now → IsIdleInPool low h v → IsLent h (lent_as now) v
 lent_again low now h v above is = record {
   stands = subst (λ (ts : List Made). StandsBy h ts v) (sym (append-nil (made_over h.over))) is.stands;
   resets = is.resets;
@@ -174,9 +174,9 @@ lends_first lent now number hs idle rest v first counted numbered are =
     first_lent lent now number hs v rest counted numbered (subst (AreIdle lent hs) first are)
 
 -- behind a reset the session is idle again
-pub lease_ends : (lent : ℕ) (h : History) (l : Lent) (es : List Event) (old last : View) → IsLent h l old → l.number ≤ lent → StandsBy h ((made_over h.over ++ l.made) ++ made reset es ∷ []) last → IsReset es → last.broken ≡ false → IsFlushed last.line → IsIdle lent (with_lease h l es) last
+pub lease_ends : (lent : ℕ) (h : History) (l : Lent) (es : List Event) (old last : View) → IsLent h l old → l.number ≤ lent → StandsBy h ((made_over h.over ++ l.made) ++ made_call reset es ∷ []) last → IsReset es → last.broken ≡ false → IsFlushed last.line → IsIdleInPool lent (with_lease h l es) last
 lease_ends lent h l es old last lease own stands is usable flushed = record {
-  stands = subst (λ (ts : List Made). StandsBy h ts last) (append_assoc (made_over h.over) l.made (made reset es ∷ []) ∙ sym (made_more h.over (ended l es))) stands;
+  stands = subst (λ (ts : List Made). StandsBy h ts last) (append_assoc (made_over h.over) l.made (made_call reset es ∷ []) ∙ sym (made_more h.over (ended l es))) stands;
   resets = resets_more h.over (ended l es) lease.resets is;
   ascend = ascend_later 0 l.number lent (h.over ++ ended l es ∷ []) own (ascend_more 0 lease.last h.over l es lease.above lease.ascend);
   usable = usable;
@@ -185,6 +185,6 @@ lease_ends lent h l es old last lease own stands is usable flushed = record {
 
 -- ---- what a link tells
 
-pub over_link : (P : List ℕ → List ℕ → Type 0) (old now : Line) (taken sent : List ℕ) → Moved old now taken sent → P (old.tape.took ++ taken) (old.tape.wrote ++ sent) → P now.tape.took now.tape.wrote
+pub over_link : (P : List ℕ → List ℕ → Type 0) (old now : Line) (taken sent : List ℕ) → MovesLine old now taken sent → P (old.tape.took ++ taken) (old.tape.wrote ++ sent) → P now.tape.took now.tape.wrote
 over_link P old now taken sent moved p =
     subst (λ (l : List ℕ). P l now.tape.wrote) (sym moved.took) (subst (λ (l : List ℕ). P (old.tape.took ++ taken) l) (sym moved.wrote) p)

@@ -1,7 +1,7 @@
 -- How many leases sessions have had.
 use Rattle.std.proofs.Common.{◌≡◌, ◌<◌, ℕ, ◌+◌, ◌-◌, ◌^◌, min, List, [], ◌∷◌, ◌++◌, length, take, get_or, map, replicate, arith, refl, sym, ◌∙◌, ap, length-append}
 use Rattle.std.proofs.lemmas.List.{take_more, map-append, replicate_more}
-use Rattle.pgw_types.specs.Counts.{counted}
+use Rattle.pgw_types.specs.Counts.{next_count}
 use Rattle.pgw_config.specs.declared.config.Config.{Config}
 use Rattle.pgw_session.specs.Events.{Event}
 use Rattle.pgw_pool.specs.declared.returned.Returned.{Returned}
@@ -29,10 +29,10 @@ leases_checked (checked fs ∷ os) es = leases_checked os es
 saturates : (k most : ℕ) → min (min k most + 1) most ≡ min (k + 1) most
 saturates k most = omega arith
 
-one_more : (h : History) (n leases : ℕ) → n ≡ leases_had h → leases ≡ counted n
+one_more : (h : History) (n leases : ℕ) → n ≡ leases_had h → leases ≡ next_count n
     → leases ≡ leases_with_this h
 one_more h n leases had one =
-    let next = ap (λ (k : ℕ). counted k) had in
+    let next = ap (λ (k : ℕ). next_count k) had in
     one ∙ next ∙ saturates (leases_over h.over) (2 ^ 64 - 1)
 
 -- behind a lease that is over
@@ -76,7 +76,7 @@ pub lends_fit_counted : (hs : List History) (counts now : List ℕ) (leases : �
 lends_fit_counted [] counts now leases one are = lends_counted [] counts now leases one are
 lends_fit_counted (h ∷ hs) counts now leases one are =
     let lent = lends_counted (h ∷ hs) counts now leases one are in
-    (λ es. lent.0 ∙ sym (ap (λ (k : ℕ). counted k) (leases_checked h.over es)), lent.1)
+    (λ es. lent.0 ∙ sym (ap (λ (k : ℕ). next_count k) (leases_checked h.over es)), lent.1)
 
 -- ---- none is lent
 

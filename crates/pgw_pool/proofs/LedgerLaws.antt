@@ -11,10 +11,10 @@ use Rattle.pgw_pool.specs.declared.returned.Returned.TheVariants.{Kept, Dropped}
 use Rattle.pgw_pool.specs.declared.returned.DropCause.{DropCause}
 use Rattle.pgw_pool.specs.declared.checking.Unfit.{Unfit}
 use Rattle.pgw_pool.specs.Histories.{History, Lent, View, new_history, lent_as, with_request, with_lease, with_check, Over, ended, checked, IsOver, IsReset, IsChecked, AreReset, AreIdle}
-use Rattle.pgw_pool.specs.Lending.{LendsFirst, IsCut, Ran}
+use Rattle.pgw_pool.specs.Lending.{LendsFirst, IsCutLease, LeaseRan}
 use Rattle.pgw_pool.specs.Returning.{GivesBack, GivenBack}
-use Rattle.pgw_pool.specs.Stocks.{Out, leased, Stock, stock, Runs, Step, lends, runs, gives_back, lends_fit, drops_unfit, refills, retires, Steps, no_step, step_more}
-use Rattle.pgw_pool.specs.Ledgers.{Loan, loan_with, loan, cut_loan, unlent, Ledger, ledger, StandsAs, DropsBy, IsLoan, AreLoans, AreApart, IsLedger, Call, lent, asked, given, lent_fit, unfit, retired, call_of, calls_of, Adds, answered, passed, refused, wanted, cuts, stays_cut, Entry, is_lent, is_asked, is_kept, is_dropped, is_lent_fit, is_unfit, is_refilled, is_retired, Entries, no_entry, entry_more}
+use Rattle.pgw_pool.specs.Stocks.{Out, leased, Stock, stock, LeaseRuns, StockStep, lends, runs, gives_back, lends_fit, drops_unfit, refills, retires, StockSteps, no_step, step_more}
+use Rattle.pgw_pool.specs.Ledgers.{Loan, loan_with, loan, cut_loan, unlent, Ledger, ledger, LeaseStandsAs, DropsBy, IsLoan, AreLoans, AreApart, IsLedger, LedgerCall, lent, asked, given, lent_fit, unfit, retired, call_of, calls_of, AddsToLease, answered, passed, refused, wanted, cuts, stays_cut, LedgerEntry, is_lent, is_asked, is_kept, is_dropped, is_lent_fit, is_unfit, is_refilled, is_retired, Entries, no_entry, entry_more}
 use Rattle.pgw_pool.specs.Checking.{ChecksFirst, LendsChecked}
 use Rattle.pgw_pool.proofs.HistoryLaws.{lends_first, idle_one_more}
 use Rattle.pgw_pool.proofs.CheckLaws.{lends_checked, unfit_of}
@@ -81,8 +81,8 @@ found n (x ∷ xs) (p ∷ left) o right are =
 
 -- ---- what one call does
 
-abbrev pub Goes : Call → Ledger → Stock → Type 0
-Goes call a t = (b : Ledger) × Entry call a b × IsLedger b t
+abbrev pub Goes : LedgerCall → Ledger → Stock → Type 0
+Goes call a t = (b : Ledger) × LedgerEntry call a b × IsLedger b t
 
 lent_goes : (before now number : ℕ) (hs : List History) (rest : List View) (v : View) (out : List Loan) (os : List Out) (gone : List Loan) → now ≡ before + 1 → number ≡ now → LendsFirst hs now rest number v → AreLoans before out os → AreApart 0 os
     → Goes (lent number) (ledger hs out gone) (stock now rest (os ++ leased number v ∷ []))
@@ -99,9 +99,9 @@ lent_goes before now number (h ∷ hs) rest v out os gone counted numbered first
     )
 
 abbrev pub Grown : ℕ → ℕ → Request → Result Answer ClientError → Loan → View → Type 0
-Grown n number q result x new = (more : Loan) × Adds q x result more × IsLoan n more (leased number new)
+Grown n number q result x new = (more : Loan) × AddsToLease q x result more × IsLoan n more (leased number new)
 
-ran_grown : (n number : ℕ) (h : History) (l : Lent) (q : Request) (new : View) (broken : Bool) (result : Result Answer ClientError) → l.number ≡ number → number ≤ n → Ran h l q new broken result → Grown n number q result (loan h l) new
+ran_grown : (n number : ℕ) (h : History) (l : Lent) (q : Request) (new : View) (broken : Bool) (result : Result Answer ClientError) → l.number ≡ number → number ≤ n → LeaseRan h l q new broken result → Grown n number q result (loan h l) new
 ran_grown n number h l q new false (Ok a) same own r = (loan h (with_request l q r.0), answered h l a r.0 r.1, record { number = same; own = own; stands = r.2 })
 ran_grown n number h l q new false (Err (client.UnexpectedMessage m)) same own r = (loan h (with_request l q r.0), passed h l m r.0 r.1, record { number = same; own = own; stands = r.2 })
 ran_grown n number h l q new false (Err (client.PgWireError why)) same own r = (loan h l, refused h l why, record { number = same; own = own; stands = r })
@@ -110,13 +110,13 @@ ran_grown n number h l q new true (Err e) same own r = (cut_loan h l q e, cuts h
 ran_grown n number h l q new true (Ok a) same own r = absurd r
 ran_grown n number h l q new false (Err e) same own r = absurd r
 
-grown : (n number : ℕ) (h : History) (l : Lent) (cut : Option (Request × ClientError)) (q : Request) (old new : View) (result : Result Answer ClientError) → Runs q old new result → l.number ≡ number → number ≤ n → StandsAs h l cut old → Grown n number q result (loan_with h l cut) new
+grown : (n number : ℕ) (h : History) (l : Lent) (cut : Option (Request × ClientError)) (q : Request) (old new : View) (result : Result Answer ClientError) → LeaseRuns q old new result → l.number ≡ number → number ≤ n → LeaseStandsAs h l cut old → Grown n number q result (loan_with h l cut) new
 grown n number h l None q old new result r same own lease = ran_grown n number h l q new new.broken result same own (ran h l q old new lease result new.broken refl (r.asks lease.usable))
 grown n number h l (Some c) q old new result r same own cut =
     let left = r.broken cut.broken in
     let x = loan_with h l (Some c) in
-    let still : IsLoan n x (leased number new) = record { number = same; own = own; stands = subst (λ (v : View). IsCut h l c.0 c.1 v) (sym left.1) cut } in
-    (x, subst (λ (y : Result Answer ClientError). Adds q x y x) (sym left.0) (stays_cut h l c), still)
+    let still : IsLoan n x (leased number new) = record { number = same; own = own; stands = subst (λ (v : View). IsCutLease h l c.0 c.1 v) (sym left.1) cut } in
+    (x, subst (λ (y : Result Answer ClientError). AddsToLease q x y x) (sym left.0) (stays_cut h l c), still)
 
 -- ---- a lease that is given back
 
@@ -139,7 +139,7 @@ ends_by : (n : ℕ) (hs : List History) (h : History) (l : Lent) (now : List Vie
 ends_by n hs h l now Kept g = idle_again h l g.0 (reset_last h.over (ended l g.0) (idle_last n hs (with_lease h l g.0) now g.1)) g.1
 ends_by n hs h l now (Dropped why) g = let_go (loan h l) why g.1 g.0
 
-ended_as : (n : ℕ) (hs : List History) (idle now : List View) (h : History) (l : Lent) (cut : Option (Request × ClientError)) (old : View) (result : Returned) → GivesBack old idle now result → AreIdle n hs idle → l.number ≤ n → StandsAs h l cut old
+ended_as : (n : ℕ) (hs : List History) (idle now : List View) (h : History) (l : Lent) (cut : Option (Request × ClientError)) (old : View) (result : Returned) → GivesBack old idle now result → AreIdle n hs idle → l.number ≤ n → LeaseStandsAs h l cut old
     → Ends n hs now (loan_with h l cut) result
 ended_as n hs idle now h l None old result g are own lease = ends_by n hs h l now result (given_back n hs h l old idle now result g are lease own)
 ended_as n hs idle now h l (Some c) old result g are own cut =
@@ -151,12 +151,12 @@ gone_on : (n number : ℕ) (hs : List History) (now : List View) (x : Loan) (bef
     → Ends n hs now x result → Goes (given number result) (ledger hs (before ++ x ∷ behind) lost) (stock n now (left ++ right))
 gone_on n number hs now x before behind lost left right Kept same first last apart (idle_again h l es is are) = (
   ledger (hs ++ with_lease h l es ∷ []) (before ++ behind) lost,
-  subst (λ k. Entry (given k Kept) (ledger hs (before ++ loan h l ∷ behind) lost) (ledger (hs ++ with_lease h l es ∷ []) (before ++ behind) lost)) same (is_kept h l es hs before behind lost is),
+  subst (λ k. LedgerEntry (given k Kept) (ledger hs (before ++ loan h l ∷ behind) lost) (ledger (hs ++ with_lease h l es ∷ []) (before ++ behind) lost)) same (is_kept h l es hs before behind lost is),
   record { idle = are; out = loans_append n before behind left right first last; apart = apart },
 )
 gone_on n number hs now x before behind lost left right (Dropped why) same first last apart (let_go y z by are) = (
   ledger hs (before ++ behind) (lost ++ x ∷ []),
-  subst (λ k. Entry (given k (Dropped why)) (ledger hs (before ++ x ∷ behind) lost) (ledger hs (before ++ behind) (lost ++ x ∷ []))) same (is_dropped x why hs before behind lost by),
+  subst (λ k. LedgerEntry (given k (Dropped why)) (ledger hs (before ++ x ∷ behind) lost) (ledger hs (before ++ behind) (lost ++ x ∷ []))) same (is_dropped x why hs before behind lost by),
   record { idle = are; out = loans_append n before behind left right first last; apart = apart },
 )
 
@@ -194,7 +194,7 @@ unfit_goes n (h ∷ hs) idle rest last why out os gone c are loans apart = (
 
 -- ---- calls
 
-one_entry : (s t : Stock) (step : Step s t) (a : Ledger) → IsLedger a s → Goes (call_of s t step) a t
+one_entry : (s t : Stock) (step : StockStep s t) (a : Ledger) → IsLedger a s → Goes (call_of s t step) a t
 one_entry s t (lends before now number idle rest v out l) a is =
     lent_goes before now number a.idle rest v a.out out a.dropped l.counted l.numbered (lends_first before now number a.idle idle rest v l.first l.counted l.numbered is.idle) is.out is.apart
 one_entry s t (runs n number idle left right q old new result r) a is =
@@ -202,10 +202,10 @@ one_entry s t (runs n number idle left right q old new result r) a is =
     let at = f.at in
     let g : Grown n number q result at new = grown n number at.history at.lease at.cut q old new result r f.is.number f.is.own f.is.stands in
     let b = ledger a.idle (f.before ++ g.0 ∷ f.behind) a.dropped in
-    let entry : Entry (asked number q result) (ledger a.idle (f.before ++ f.at ∷ f.behind) a.dropped) b =
-    subst (λ k. Entry (asked k q result) (ledger a.idle (f.before ++ f.at ∷ f.behind) a.dropped) b) f.is.number (is_asked f.at g.0 q result a.idle f.before f.behind a.dropped g.1) in (
+    let entry : LedgerEntry (asked number q result) (ledger a.idle (f.before ++ f.at ∷ f.behind) a.dropped) b =
+    subst (λ k. LedgerEntry (asked k q result) (ledger a.idle (f.before ++ f.at ∷ f.behind) a.dropped) b) f.is.number (is_asked f.at g.0 q result a.idle f.before f.behind a.dropped g.1) in (
       b,
-      subst (λ (xs : List Loan). Entry (asked number q result) (ledger a.idle xs a.dropped) b) (sym f.are) entry,
+      subst (λ (xs : List Loan). LedgerEntry (asked number q result) (ledger a.idle xs a.dropped) b) (sym f.are) entry,
       record { idle = is.idle; out = loans_append n f.before (g.0 ∷ f.behind) left (leased number new ∷ right) f.first (g.2, f.last); apart = apart_same 0 number left old new right is.apart },
     )
 one_entry s t (gives_back n number idle now left right old result g) a is =
@@ -228,10 +228,10 @@ one_entry s t (refills n idle now out config nonce v fresh grown) a is = (
 one_entry s t (retires n number idle left right old) a is =
     let f = found n a.out left (leased number old) right is.out in
     let b = ledger a.idle (f.before ++ f.behind) (a.dropped ++ f.at ∷ []) in
-    let entry : Entry (retired number) (ledger a.idle (f.before ++ f.at ∷ f.behind) a.dropped) b =
-    subst (λ k. Entry (retired k) (ledger a.idle (f.before ++ f.at ∷ f.behind) a.dropped) b) f.is.number (is_retired f.at a.idle f.before f.behind a.dropped) in (
+    let entry : LedgerEntry (retired number) (ledger a.idle (f.before ++ f.at ∷ f.behind) a.dropped) b =
+    subst (λ k. LedgerEntry (retired k) (ledger a.idle (f.before ++ f.at ∷ f.behind) a.dropped) b) f.is.number (is_retired f.at a.idle f.before f.behind a.dropped) in (
       b,
-      subst (λ (xs : List Loan). Entry (retired number) (ledger a.idle xs a.dropped) b) (sym f.are) entry,
+      subst (λ (xs : List Loan). LedgerEntry (retired number) (ledger a.idle xs a.dropped) b) (sym f.are) entry,
       record {
         idle = is.idle;
         out = loans_append n f.before f.behind left right f.first f.last;
@@ -239,7 +239,7 @@ one_entry s t (retires n number idle left right old) a is =
       },
     )
 
-pub any_entries : (s t : Stock) (steps : Steps s t) (a : Ledger) → IsLedger a s → (b : Ledger) × Entries (calls_of s t steps) a b × IsLedger b t
+pub any_entries : (s t : Stock) (steps : StockSteps s t) (a : Ledger) → IsLedger a s → (b : Ledger) × Entries (calls_of s t steps) a b × IsLedger b t
 any_entries s t (no_step x) a is = (a, no_entry a, is)
 any_entries s t (step_more x y z steps step) a is =
     let first = any_entries x y steps a is in
@@ -248,7 +248,7 @@ any_entries s t (step_more x y z steps step) a is =
 
 -- ---- the dropped ones
 
-dropped_one : (call : Call) (a b : Ledger) → Entry call a b → (more : List Loan) × (b.dropped ≡ a.dropped ++ more)
+dropped_one : (call : LedgerCall) (a b : Ledger) → LedgerEntry call a b → (more : List Loan) × (b.dropped ≡ a.dropped ++ more)
 dropped_one call a b (is_lent number h idle out dropped begins) = ([], sym (append-nil dropped))
 dropped_one call a b (is_asked x more q result idle left right dropped adds) = ([], sym (append-nil dropped))
 dropped_one call a b (is_kept h l es idle left right dropped is) = ([], sym (append-nil dropped))
@@ -258,7 +258,7 @@ dropped_one call a b (is_unfit h why idle out dropped last is) = (unlent h ∷ [
 dropped_one call a b (is_refilled config nonce idle out dropped) = ([], sym (append-nil dropped))
 dropped_one call a b (is_retired x idle left right dropped) = (x ∷ [], refl)
 
-pub dropped_stay : (calls : List Call) (a b : Ledger) → Entries calls a b → (more : List Loan) × (b.dropped ≡ a.dropped ++ more)
+pub dropped_stay : (calls : List LedgerCall) (a b : Ledger) → Entries calls a b → (more : List Loan) × (b.dropped ≡ a.dropped ++ more)
 dropped_stay calls a b (no_entry x) = ([], sym (append-nil x.dropped))
 dropped_stay calls a b (entry_more before call x y z entries entry) =
     let first = dropped_stay before x y entries in

@@ -14,16 +14,16 @@ use Rattle.pgw_frontend.specs.Frontend.{encoding, encodings}
 use Rattle.pgw_session.specs.declared.types.Request.{Request}
 use Rattle.pgw_session.specs.Requests.{sends_of}
 use Rattle.pgw_handlers.specs.Client.{Client}
-use Rattle.pgw_connection.specs.Line.{Moved, Pause, IsFlushed, Foretold}
+use Rattle.pgw_connection.specs.Line.{MovesLine, Pause, IsFlushed, Foretold}
 use Rattle.pgw_calls.specs.Turns.{IsAnswered, IsPassedSegment}
-use Rattle.pgw_calls.specs.Calls.{IsRefused, Comes}
-use Rattle.pgw_calls.specs.Stands.{Made, made, Stands, OneMore, StandsBehind}
+use Rattle.pgw_calls.specs.Calls.{IsRefusedCall, Comes}
+use Rattle.pgw_calls.specs.Stands.{Made, made_call, StandsForCalls, OneMore, StandsBehind}
 use Rattle.pgw_pool.specs.declared.returned.Returned.{Returned}
 use Rattle.pgw_pool.specs.declared.returned.Returned.TheVariants.{Kept, Dropped}
 use Rattle.pgw_pool.specs.declared.returned.DropCause.{DropCause}
 use Rattle.pgw_pool.specs.declared.returned.DropCause.TheVariants as cause
 use Rattle.pgw_pool.specs.Histories.{Lent, History, reset, check, with_lease, made_over, IsResetIn, View, StandsBy, AreIdle, IsLent}
-use Rattle.pgw_pool.specs.Returning.{cause_of, kept_by, returned_by, IsAsked, idle_behind, lefts_behind, GivesBack, GivesForetold, EndsBy, FailsBy, IsFailed, IsDropped, GivenBack, DropsFrom}
+use Rattle.pgw_pool.specs.Returning.{cause_of, kept_by, returned_by, IsAsked, idle_behind, lefts_behind, GivesBack, GivesForetold, LeaseEndsBy, FailsBy, IsFailed, IsDropped, GivenBack, DropsFrom}
 use Rattle.pgw_pool.proofs.HistoryLaws.{simple_ends, status_known, idle_more, lease_ends, over_link}
 use Rattle.pgw_pool.proofs.RunLaws.{cuts}
 
@@ -40,7 +40,7 @@ pub check_encoded : HasEncoding (encodings (sends_of check))
 unfolding encoding encoded text refused_if
 check_encoded = tt
 
-never_refused : (q : Request) → HasEncoding (encodings (sends_of q)) → (c : Client) (bytes sent : List ℕ) (why : PgWireError) (info : Client) (rest : List ℕ) → IsRefused q c bytes sent why info rest → ⊥
+never_refused : (q : Request) → HasEncoding (encodings (sends_of q)) → (c : Client) (bytes sent : List ℕ) (why : PgWireError) (info : Client) (rest : List ℕ) → IsRefusedCall q c bytes sent why info rest → ⊥
 never_refused q encoded c bytes sent why info rest is = subst HasEncoding is.0 encoded
 
 -- what becomes of a session by its answer
@@ -52,23 +52,23 @@ is_returned old last a status broken result asked told known is =
 
 module _ (q : Request) (encoded : HasEncoding (encodings (sends_of q))) (h : History) (l : Lent) (old last : View) (lease : IsLent h l old) where
   -- over the link
-  pub stands_more : (es : List Event) (taken sent : List ℕ) → Moved old.line last.line taken sent
-      → Stands h.config h.nonce ((made_over h.over ++ l.made) ++ made q es ∷ []) (old.line.tape.took ++ taken) (old.line.tape.wrote ++ sent) last.client last.line.buffer
-      → StandsBy h ((made_over h.over ++ l.made) ++ made q es ∷ []) last
+  pub stands_more : (es : List Event) (taken sent : List ℕ) → MovesLine old.line last.line taken sent
+      → StandsForCalls h.config h.nonce ((made_over h.over ++ l.made) ++ made_call q es ∷ []) (old.line.tape.took ++ taken) (old.line.tape.wrote ++ sent) last.client last.line.buffer
+      → StandsBy h ((made_over h.over ++ l.made) ++ made_call q es ∷ []) last
   stands_more es taken sent moved stands =
-      over_link (λ (read wrote : List ℕ). Stands h.config h.nonce ((made_over h.over ++ l.made) ++ made q es ∷ []) read wrote last.client last.line.buffer) old.line last.line taken sent moved stands
+      over_link (λ (read wrote : List ℕ). StandsForCalls h.config h.nonce ((made_over h.over ++ l.made) ++ made_call q es ∷ []) read wrote last.client last.line.buffer) old.line last.line taken sent moved stands
 
-  pub ends_by : (property : List Event → Type 0) (taken sent : List ℕ) → Moved old.line last.line taken sent
-      → OneMore h.config h.nonce (made_over h.over ++ l.made) q property (old.line.tape.took ++ taken) (old.line.tape.wrote ++ sent) last.client last.line.buffer → EndsBy q h l property last
+  pub ends_by : (property : List Event → Type 0) (taken sent : List ℕ) → MovesLine old.line last.line taken sent
+      → OneMore h.config h.nonce (made_over h.over ++ l.made) q property (old.line.tape.took ++ taken) (old.line.tape.wrote ++ sent) last.client last.line.buffer → LeaseEndsBy q h l property last
   ends_by property taken sent moved one =
-      (one.0, one.1, subst (λ (ts : List Made). StandsBy h ts last) (append_assoc (made_over h.over) l.made (made q one.0 ∷ [])) (stands_more one.0 taken sent moved one.2))
+      (one.0, one.1, subst (λ (ts : List Made). StandsBy h ts last) (append_assoc (made_over h.over) l.made (made_call q one.0 ∷ [])) (stands_more one.0 taken sent moved one.2))
 
   abbrev pub Came : Result (List Response) ClientError → Bool → Type 0
-  Came a broken = (more put : List ℕ) × Moved old.line last.line more put
+  Came a broken = (more put : List ℕ) × MovesLine old.line last.line more put
       × Comes answer.Responses (Pause old.line last.line) q old.client (old.line.buffer ++ more) put last.client last.line.buffer a broken
 
   -- by the error of the query
-  pub fails_by : (e : ClientError) (broken : Bool) → last.broken ≡ broken → (taken sent : List ℕ) → Moved old.line last.line taken sent
+  pub fails_by : (e : ClientError) (broken : Bool) → last.broken ≡ broken → (taken sent : List ℕ) → MovesLine old.line last.line taken sent
       → StandsBehind answer.Responses h.config h.nonce (made_over h.over ++ l.made) q (old.line.tape.took ++ taken) (old.line.tape.wrote ++ sent) last.client last.line.buffer (Err e) broken
       → Came (Err e) broken → IsFailed q h l (cause_of e broken) last
   fails_by client.OutOfMemory true is taken sent moved behind came = cuts h l q old last lease (List Response) client.OutOfMemory taken sent moved is behind came.0 came.1 came.2 came.3
@@ -90,7 +90,7 @@ failed_drops h l cause.OutOfMemory v is = is
 
 module _ (lent : ℕ) (hs : List History) (h : History) (l : Lent) (old : View) (idle : List View) (are : AreIdle lent hs idle) (lease : IsLent h l old) (own : l.number ≤ lent) (last : View) where
   -- by the responses of the reset, and the status behind it
-  reset_in : (rs : List Response) (taken sent : List ℕ) → Moved old.line last.line taken sent
+  reset_in : (rs : List Response) (taken sent : List ℕ) → MovesLine old.line last.line taken sent
       → OneMore h.config h.nonce (made_over h.over ++ l.made) reset (IsAnswered reset (answer.Responses rs)) (old.line.tape.took ++ taken) (old.line.tape.wrote ++ sent) last.client last.line.buffer
       → OneMore h.config h.nonce (made_over h.over ++ l.made) reset (IsResetIn last.client.transaction_status) (old.line.tape.took ++ taken) (old.line.tape.wrote ++ sent) last.client last.line.buffer
   reset_in rs taken sent moved one =
@@ -104,21 +104,21 @@ module _ (lent : ℕ) (hs : List History) (h : History) (l : Lent) (old : View) 
   Becomes Kept = (es : List Event) × AreIdle lent (hs ++ with_lease h l es ∷ []) (idle ++ last ∷ [])
   Becomes (Dropped why) = IsDropped h l why last
 
-  kept_idle : (taken sent : List ℕ) → Moved old.line last.line taken sent → last.broken ≡ false → IsFlushed last.line
+  kept_idle : (taken sent : List ℕ) → MovesLine old.line last.line taken sent → last.broken ≡ false → IsFlushed last.line
       → OneMore h.config h.nonce (made_over h.over ++ l.made) reset (IsResetIn Idle) (old.line.tape.took ++ taken) (old.line.tape.wrote ++ sent) last.client last.line.buffer
       → Becomes Kept
   kept_idle taken sent moved usable flushed one =
       let es = one.0 in
       (es, idle_more lent hs (with_lease h l es) idle last are (lease_ends lent h l es old last lease own (stands_more reset reset_encoded h l old last lease es taken sent moved one.2) one.1 usable flushed))
 
-  by_status : (status : TransactionStatus) (taken sent : List ℕ) → Moved old.line last.line taken sent → last.broken ≡ false → IsFlushed last.line
+  by_status : (status : TransactionStatus) (taken sent : List ℕ) → MovesLine old.line last.line taken sent → last.broken ≡ false → IsFlushed last.line
       → OneMore h.config h.nonce (made_over h.over ++ l.made) reset (IsResetIn status) (old.line.tape.took ++ taken) (old.line.tape.wrote ++ sent) last.client last.line.buffer
       → Becomes (kept_by status)
   by_status Idle taken sent moved usable flushed one = kept_idle taken sent moved usable flushed one
   by_status Transaction taken sent moved usable flushed one = (ends_by reset reset_encoded h l old last lease (IsResetIn Transaction) taken sent moved one, λ same. cc)
   by_status Error taken sent moved usable flushed one = (ends_by reset reset_encoded h l old last lease (IsResetIn Error) taken sent moved one, λ same. cc)
 
-  by_answer : (a : Result (List Response) ClientError) (broken : Bool) → last.broken ≡ broken → (taken sent : List ℕ) → Moved old.line last.line taken sent → (broken ≡ false → IsFlushed last.line)
+  by_answer : (a : Result (List Response) ClientError) (broken : Bool) → last.broken ≡ broken → (taken sent : List ℕ) → MovesLine old.line last.line taken sent → (broken ≡ false → IsFlushed last.line)
       → StandsBehind answer.Responses h.config h.nonce (made_over h.over ++ l.made) reset (old.line.tape.took ++ taken) (old.line.tape.wrote ++ sent) last.client last.line.buffer a broken
       → Came reset reset_encoded h l old last lease a broken → Becomes (returned_by a last.client.transaction_status broken)
   by_answer (Ok rs) true is taken sent moved flushed behind came = absurd behind
@@ -137,7 +137,7 @@ module _ (lent : ℕ) (hs : List History) (h : History) (l : Lent) (old : View) 
   given_as Kept b = b
   given_as (Dropped why) b = (are, (last, b))
 
-  dropped_as : (result : Returned) → Becomes result → (taken sent : List ℕ) → Moved old.line last.line taken sent → DropsFrom h l old result
+  dropped_as : (result : Returned) → Becomes result → (taken sent : List ℕ) → MovesLine old.line last.line taken sent → DropsFrom h l old result
   dropped_as Kept b taken sent moved = tt
   dropped_as (Dropped why) b taken sent moved = (last, b, (taken, sent, moved))
 

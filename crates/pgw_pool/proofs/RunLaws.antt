@@ -6,24 +6,24 @@ use Rattle.pgw_session.specs.declared.types.Request.{Request}
 use Rattle.pgw_session.specs.declared.types.Answer.{Answer}
 use Rattle.pgw_session.specs.Events.{Event}
 use Rattle.pgw_handlers.specs.Client.{Client}
-use Rattle.pgw_connection.specs.Line.{Line, Moved, IsFlushed, Pause}
+use Rattle.pgw_connection.specs.Line.{Line, MovesLine, IsFlushed, Pause}
 use Rattle.pgw_calls.specs.Turns.{IsAnswered}
-use Rattle.pgw_calls.specs.Calls.{Breaks}
-use Rattle.pgw_calls.specs.Stands.{Made, made, Stands, OneMore, BrokenBehind, StandsBehind}
-use Rattle.pgw_ask.specs.Asking.{same, IsReason, Fails, failed, wants, Asks}
+use Rattle.pgw_calls.specs.Calls.{BreaksClient}
+use Rattle.pgw_calls.specs.Stands.{Made, made_call, StandsForCalls, OneMore, BrokenBehind, StandsBehind}
+use Rattle.pgw_ask.specs.Asking.{same, IsReason, FailsToAsk, failed, wants, Asks}
 use Rattle.pgw_pool.specs.Histories.{Lent, History, with_request, made_over, View, StandsBy, IsLent}
-use Rattle.pgw_pool.specs.Lending.{MakesOne, IsStarvedIn, IsCut, Ran}
+use Rattle.pgw_pool.specs.Lending.{MakesOne, IsStarvedIn, IsCutLease, LeaseRan}
 use Rattle.pgw_pool.proofs.HistoryLaws.{over_link}
 
 module _ (h : History) (l : Lent) (q : Request) (old now : View) (lease : IsLent h l old) where
   -- one request more
-  makes_one : (property : List Event → Type 0) (taken sent : List ℕ) → Moved old.line now.line taken sent → now.broken ≡ false → IsFlushed now.line
+  makes_one : (property : List Event → Type 0) (taken sent : List ℕ) → MovesLine old.line now.line taken sent → now.broken ≡ false → IsFlushed now.line
       → OneMore h.config h.nonce (made_over h.over ++ l.made) q property (old.line.tape.took ++ taken) (old.line.tape.wrote ++ sent) now.client now.line.buffer → MakesOne h l q property now
   makes_one property taken sent moved usable flushed one =
       let es = one.0 in
-      let stands = over_link (λ (read wrote : List ℕ). Stands h.config h.nonce ((made_over h.over ++ l.made) ++ made q es ∷ []) read wrote now.client now.line.buffer) old.line now.line taken sent moved one.2 in
+      let stands = over_link (λ (read wrote : List ℕ). StandsForCalls h.config h.nonce ((made_over h.over ++ l.made) ++ made_call q es ∷ []) read wrote now.client now.line.buffer) old.line now.line taken sent moved one.2 in
       let is : IsLent h (with_request l q es) now = record {
-        stands = subst (λ (ts : List Made). StandsBy h ts now) (append_assoc (made_over h.over) l.made (made q es ∷ [])) stands;
+        stands = subst (λ (ts : List Made). StandsBy h ts now) (append_assoc (made_over h.over) l.made (made_call q es ∷ [])) stands;
         resets = lease.resets;
         last = lease.last;
         ascend = lease.ascend;
@@ -49,12 +49,12 @@ module _ (h : History) (l : Lent) (q : Request) (old now : View) (lease : IsLent
   unchanged : now.client ≡ old.client → now.line ≡ old.line → now.broken ≡ false → IsLent h l now
   unchanged client line usable =
       makes_none usable (subst IsFlushed (sym line) lease.flushed)
-      (subst (λ (c : Client). Stands h.config h.nonce (made_over h.over ++ l.made) now.line.tape.took now.line.tape.wrote c now.line.buffer) (sym client)
-      (subst (λ (x : Line). Stands h.config h.nonce (made_over h.over ++ l.made) x.tape.took x.tape.wrote old.client x.buffer) (sym line) lease.stands))
+      (subst (λ (c : Client). StandsForCalls h.config h.nonce (made_over h.over ++ l.made) now.line.tape.took now.line.tape.wrote c now.line.buffer) (sym client)
+      (subst (λ (x : Line). StandsForCalls h.config h.nonce (made_over h.over ++ l.made) x.tape.took x.tape.wrote old.client x.buffer) (sym line) lease.stands))
 
   -- memory was wanting
-  starves : (A : Type 0) (e : ClientError) (taken sent : List ℕ) → Moved old.line now.line taken sent
-      → Breaks {A = A} (Pause old.line now.line) q old.client (old.line.buffer ++ taken) sent now.client now.line.buffer (Err e)
+  starves : (A : Type 0) (e : ClientError) (taken sent : List ℕ) → MovesLine old.line now.line taken sent
+      → BreaksClient {A = A} (Pause old.line now.line) q old.client (old.line.buffer ++ taken) sent now.client now.line.buffer (Err e)
       → e ≡ client.OutOfMemory → IsStarvedIn h (made_over h.over ++ l.made) q now
   starves A e taken sent moved breaks is = record {
     read = old.line.tape.took;
@@ -66,14 +66,14 @@ module _ (h : History) (l : Lent) (q : Request) (old now : View) (lease : IsLent
     sent = sent;
     took = moved.took;
     put = moved.wrote;
-    starved = subst (λ (x : ClientError). Breaks {A = A} (Pause old.line now.line) q old.client (old.line.buffer ++ taken) sent now.client now.line.buffer (Err x)) is breaks;
+    starved = subst (λ (x : ClientError). BreaksClient {A = A} (Pause old.line now.line) q old.client (old.line.buffer ++ taken) sent now.client now.line.buffer (Err x)) is breaks;
   }
 
   -- an error left the session unusable
-  pub cuts : (A : Type 0) (e : ClientError) (taken sent : List ℕ) → Moved old.line now.line taken sent → now.broken ≡ true
+  pub cuts : (A : Type 0) (e : ClientError) (taken sent : List ℕ) → MovesLine old.line now.line taken sent → now.broken ≡ true
       → BrokenBehind h.config h.nonce (made_over h.over ++ l.made) q (old.line.tape.took ++ taken) (old.line.tape.wrote ++ sent) now.client now.line.buffer e
-      → (more put : List ℕ) → Moved old.line now.line more put
-      → Breaks {A = A} (Pause old.line now.line) q old.client (old.line.buffer ++ more) put now.client now.line.buffer (Err e) → IsCut h l q e now
+      → (more put : List ℕ) → MovesLine old.line now.line more put
+      → BreaksClient {A = A} (Pause old.line now.line) q old.client (old.line.buffer ++ more) put now.client now.line.buffer (Err e) → IsCutLease h l q e now
   cuts A e taken sent moved broken behind more put went breaks = record {
     stands = over_link (λ (read wrote : List ℕ). BrokenBehind h.config h.nonce (made_over h.over ++ l.made) q read wrote now.client now.line.buffer e) old.line now.line taken sent moved behind;
     wants = starves A e more put went breaks;
@@ -81,24 +81,24 @@ module _ (h : History) (l : Lent) (q : Request) (old now : View) (lease : IsLent
     resets = lease.resets;
   }
 
-  ran_error : (e : ClientError) (broken : Bool) → now.broken ≡ broken → IsReason q old.client old.line now.client now.line broken e → (taken sent : List ℕ) → Moved old.line now.line taken sent → (broken ≡ false → IsFlushed now.line)
+  ran_error : (e : ClientError) (broken : Bool) → now.broken ≡ broken → IsReason q old.client old.line now.client now.line broken e → (taken sent : List ℕ) → MovesLine old.line now.line taken sent → (broken ≡ false → IsFlushed now.line)
       → StandsBehind same h.config h.nonce (made_over h.over ++ l.made) q (old.line.tape.took ++ taken) (old.line.tape.wrote ++ sent) now.client now.line.buffer (Err e) broken
-      → Ran h l q now broken (Err e)
+      → LeaseRan h l q now broken (Err e)
   ran_error e true is r taken sent moved flushed behind = cuts Answer e taken sent moved is behind r.taken r.sent r.moved r.comes
   ran_error (client.RemoteError e) false is r taken sent moved flushed behind = absurd (let none = r.no_answer in cc)
   ran_error (client.UnexpectedMessage m) false is r taken sent moved flushed behind = makes_one _ taken sent moved is (flushed refl) behind
   ran_error (client.PgWireError why) false is r taken sent moved flushed behind =
-      makes_none is (flushed refl) (over_link (λ (read wrote : List ℕ). Stands h.config h.nonce (made_over h.over ++ l.made) read wrote now.client now.line.buffer) old.line now.line taken sent moved behind)
+      makes_none is (flushed refl) (over_link (λ (read wrote : List ℕ). StandsForCalls h.config h.nonce (made_over h.over ++ l.made) read wrote now.client now.line.buffer) old.line now.line taken sent moved behind)
   ran_error e false is r taken sent moved flushed behind = absurd behind
 
-  ran_failed : (e : ClientError) (broken : Bool) → now.broken ≡ broken → Fails q old.client old.line now.client now.line broken e → Ran h l q now broken (Err e)
+  ran_failed : (e : ClientError) (broken : Bool) → now.broken ≡ broken → FailsToAsk q old.client old.line now.client now.line broken e → LeaseRan h l q now broken (Err e)
   ran_failed e broken is (failed x f) =
       let s = f.stands h.config h.nonce (made_over h.over ++ l.made) old.line.tape.took old.line.tape.wrote lease.stands in
       ran_error x broken is f.reason s.0 s.1 s.2 s.3 s.4
   ran_failed e true is (wants name there client line usable) = absurd (cc)
   ran_failed e false is (wants name there client line usable) = unchanged client line is
 
-  pub ran : (result : Result Answer ClientError) (broken : Bool) → now.broken ≡ broken → Asks q old.client old.line now.client now.line broken result → Ran h l q now broken result
+  pub ran : (result : Result Answer ClientError) (broken : Bool) → now.broken ≡ broken → Asks q old.client old.line now.client now.line broken result → LeaseRan h l q now broken result
   ran (Ok a) true is asks = absurd (let never = asks.1 in cc)
   ran (Ok a) false is asks =
       let s = asks.0 h.config h.nonce (made_over h.over ++ l.made) old.line.tape.took old.line.tape.wrote lease.stands in

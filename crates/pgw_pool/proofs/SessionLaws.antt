@@ -4,12 +4,12 @@ use Rattle.std.proofs.lemmas.List.{append-nil}
 use Rattle.pgw_config.specs.declared.config.Config.{Config}
 use Rattle.pgw_session.specs.declared.types.Request.{Request}
 use Rattle.pgw_session.specs.Input.{input_with}
-use Rattle.pgw_session.specs.Events.{Event, joined}
+use Rattle.pgw_session.specs.Events.{Event, all_events}
 use Rattle.pgw_session.specs.Standings.{first_standing}
 use Rattle.pgw_session.specs.Transcript.{IsTranscript, SpellsGot, EncodesSent}
 use Rattle.pgw_handlers.specs.Client.{Client}
-use Rattle.pgw_calls.specs.Stands.{Made, made, Stands, requests_of, segments_of, AreAnswered, IsSession}
-use Rattle.pgw_pool.specs.Histories.{Lent, Over, ended, checked, History, reset, made_in, made_over, IsOver, AreReset, View, StandsBy, IsIdle, IsLent}
+use Rattle.pgw_calls.specs.Stands.{Made, made_call, StandsForCalls, requests_of, segments_of, AreAnswered, IsSession}
+use Rattle.pgw_pool.specs.Histories.{Lent, Over, ended, checked, History, reset, made_in, made_over, IsOver, AreReset, View, StandsBy, IsIdleInPool, IsLent}
 use Rattle.pgw_pool.specs.Sessions.{requests_in, requests_over, segments_in, segments_over, IsAllAnswered, AreAllAnswered, IsMadeOf}
 
 requests_append : (ts us : List Made) → requests_of (ts ++ us) ≡ requests_of ts ++ requests_of us
@@ -21,11 +21,11 @@ segments_append [] us = refl
 segments_append (t ∷ ts) us = ap (λ (l : List (List Event)). t.events ∷ l) (segments_append ts us)
 
 requests_one : (o : Over) → requests_of (made_in o) ≡ requests_in o
-requests_one (ended l es) = requests_append l.made (made reset es ∷ [])
+requests_one (ended l es) = requests_append l.made (made_call reset es ∷ [])
 requests_one (checked es) = refl
 
 segments_one : (o : Over) → segments_of (made_in o) ≡ segments_in o
-segments_one (ended l es) = segments_append l.made (made reset es ∷ [])
+segments_one (ended l es) = segments_append l.made (made_call reset es ∷ [])
 segments_one (checked es) = refl
 
 requests_are : (os : List Over) (ts : List Made) → requests_of (made_over os ++ ts) ≡ requests_over os ++ requests_of ts
@@ -51,7 +51,7 @@ answered_append [] us a b = b
 answered_append (t ∷ ts) us a b = (a.0, answered_append ts us a.1 b)
 
 answered_one : (o : Over) → IsOver o → IsAllAnswered o → AreAnswered (made_in o)
-answered_one (ended l es) is own = answered_append l.made (made reset es ∷ []) own ((is.1).0, tt)
+answered_one (ended l es) is own = answered_append l.made (made_call reset es ∷ []) own ((is.1).0, tt)
 answered_one (checked es) is own = ((is.0).0, tt)
 
 answered_over : (os : List Over) → AreReset os → AreAllAnswered os → AreAnswered (made_over os)
@@ -60,7 +60,7 @@ answered_over (o ∷ os) are all = answered_append (made_in o) (made_over os) (a
 
 -- the law on clients
 abbrev pub Wholes : Type 0
-Wholes = (config : Config) (nonce : List ℕ) (ts : List Made) (read wrote : List ℕ) (c : Client) (buffer : List ℕ) → Stands config nonce ts read wrote c buffer → AreAnswered ts → IsSession config nonce ts read wrote c buffer
+Wholes = (config : Config) (nonce : List ℕ) (ts : List Made) (read wrote : List ℕ) (c : Client) (buffer : List ℕ) → StandsForCalls config nonce ts read wrote c buffer → AreAnswered ts → IsSession config nonce ts read wrote c buffer
 
 pub made_of : Wholes → (h : History) (ts : List Made) (v : View) → StandsBy h (made_over h.over ++ ts) v → AreReset h.over → AreAllAnswered h.over → AreAnswered ts → IsMadeOf h ts v
 made_of law h ts v stands are all answered =
@@ -72,11 +72,11 @@ made_of law h ts v stands are all answered =
           (subst (λ (l : List (List Event)). IsTranscript (input_with h.config (requests_of (made_over h.over ++ ts)) h.nonce) (s.startup ∷ l)) segments s.transcript);
       spelled = s.spelled;
       begins = s.begins;
-      got = subst (λ (l : List (List Event)). SpellsGot (first_standing h.config) (joined (s.startup ∷ l)) s.spelled) segments s.got;
-      put = subst (λ (l : List (List Event)). EncodesSent (joined (s.startup ∷ l)) v.line.tape.wrote) segments s.put;
+      got = subst (λ (l : List (List Event)). SpellsGot (first_standing h.config) (all_events (s.startup ∷ l)) s.spelled) segments s.got;
+      put = subst (λ (l : List (List Event)). EncodesSent (all_events (s.startup ∷ l)) v.line.tape.wrote) segments s.put;
     }
 
-pub idle_made_of : Wholes → (lent : ℕ) (h : History) (v : View) → IsIdle lent h v → AreAllAnswered h.over → IsMadeOf h [] v
+pub idle_made_of : Wholes → (lent : ℕ) (h : History) (v : View) → IsIdleInPool lent h v → AreAllAnswered h.over → IsMadeOf h [] v
 idle_made_of law lent h v is all =
     made_of law h [] v (subst (λ (ts : List Made). StandsBy h ts v) (sym (append-nil (made_over h.over))) is.stands) is.resets all tt
 

@@ -15,12 +15,12 @@ use Rattle.pgw_default_handlers.specs.declared.startup.DefaultStartupHandler.{De
 use Rattle.pgw_default_handlers.specs.Startup.{StartupMeans, exchanges}
 use Rattle.pgw_connection.specs.Talk.{end}
 use Rattle.pgw_connection.specs.Desk.{first_client, with_information}
-use Rattle.pgw_connection.specs.Line.{Line, Moved, IsFlushed, Foretold, IsWithin}
-use Rattle.pgw_connection.specs.Calls.{Call}
+use Rattle.pgw_connection.specs.Line.{Line, MovesLine, IsFlushed, Foretold, IsWithin}
+use Rattle.pgw_connection.specs.Calls.{LineCall}
 use Rattle.pgw_connection.specs.Connecting.{new_line, Connected, NotConnected}
-use Rattle.pgw_calls.specs.Stands.{Stands}
-use Rattle.pgw_pool.specs.Histories.{History, View, new_history, IsIdle, AreIdle}
-use Rattle.pgw_pool.specs.Starting.{new_histories, handler_with, Dials, Connects, ConnectAll, no_login, login_more, ConnectForetold, nothing_offered, offer_more, NotConnects, WantsAt, NotStarted}
+use Rattle.pgw_calls.specs.Stands.{StandsForCalls}
+use Rattle.pgw_pool.specs.Histories.{History, View, new_history, IsIdleInPool, AreIdle}
+use Rattle.pgw_pool.specs.Starting.{new_histories, handler_with, Dials, PoolConnects, ConnectAll, no_login, login_more, ConnectForetold, nothing_offered, offer_more, NotConnects, WantsAt, NotStarted}
 use Rattle.pgw_pool.proofs.HistoryLaws.{idle_more}
 
 -- ---- one login
@@ -36,10 +36,10 @@ within_limit read most limit within is = (is, (omega (arith, within, is)))
 -- the law on logins
 abbrev pub Begins : Type 0
 Begins = (config : Config) (h : DefaultStartupHandler) (old now : Line) (told : Client) (information : ServerInformation) → old.buffer ≡ []
-    → Call (λ before after answer. StartupMeans before startup after answer) (HeardAtStartup exchanges StartupMeans) (λ e. false) h (first_client config) old now (end (Ok information) told false now.buffer)
-    → (read wrote : List ℕ) × Moved old now read wrote × IsFlushed now × Stands config h.nonce [] read wrote (with_information information told) now.buffer
+    → LineCall (λ before after answer. StartupMeans before startup after answer) (HeardAtStartup exchanges StartupMeans) (λ e. false) h (first_client config) old now (end (Ok information) told false now.buffer)
+    → (read wrote : List ℕ) × MovesLine old now read wrote × IsFlushed now × StandsForCalls config h.nonce [] read wrote (with_information information told) now.buffer
 
-pub begun : Begins → (config : Config) (limit : ℕ) (nonce : List ℕ) (old new : Dials) (v : View) → Connects config limit nonce old new v → v.broken ≡ false → IsIdle 0 (new_history config nonce) v
+pub begun : Begins → (config : Config) (limit : ℕ) (nonce : List ℕ) (old new : Dials) (v : View) → PoolConnects config limit nonce old new v → v.broken ≡ false → IsIdleInPool 0 (new_history config nonce) v
 begun law config limit nonce old new v c usable =
     let at = (c.1).2 in
     let i = at.logs_in in
@@ -48,9 +48,9 @@ begun law config limit nonce old new v c usable =
     let took : v.line.tape.took ≡ s.0 = s.2.took ∙ ap (λ (t : Tape). t.took ++ s.0) fresh in
     let wrote : v.line.tape.wrote ≡ s.1 = s.2.wrote ∙ ap (λ (t : Tape). t.wrote ++ s.1) fresh in
     record {
-      stands = subst (λ (x : Client). Stands config nonce [] v.line.tape.took v.line.tape.wrote x v.line.buffer) (sym i.3)
-          (subst (λ (l : List ℕ). Stands config nonce [] l v.line.tape.wrote (with_information i.0 i.1) v.line.buffer) (sym took)
-          (subst (λ (l : List ℕ). Stands config nonce [] s.0 l (with_information i.0 i.1) v.line.buffer) (sym wrote) s.4));
+      stands = subst (λ (x : Client). StandsForCalls config nonce [] v.line.tape.took v.line.tape.wrote x v.line.buffer) (sym i.3)
+          (subst (λ (l : List ℕ). StandsForCalls config nonce [] l v.line.tape.wrote (with_information i.0 i.1) v.line.buffer) (sym took)
+          (subst (λ (l : List ℕ). StandsForCalls config nonce [] s.0 l (with_information i.0 i.1) v.line.buffer) (sym wrote) s.4));
       resets = tt;
       ascend = (omega arith);
       usable = usable;
@@ -59,9 +59,9 @@ begun law config limit nonce old new v c usable =
 
 -- the login by a copy of the configuration, and by a handler that was made with the nonce
 pub connects_as : (config copy : Config) (h : DefaultStartupHandler) (limit : ℕ) (nonce : List ℕ) (old new : Dials) (v : View) → copy ≡ config → h ≡ handler_with nonce
-    → IsWithin limit v.line → Connected (λ before after answer. StartupMeans before startup after answer) (HeardAtStartup exchanges StartupMeans) h copy limit old.tape new.tape v.client v.line → Connects config limit nonce old new v
+    → IsWithin limit v.line → Connected (λ before after answer. StartupMeans before startup after answer) (HeardAtStartup exchanges StartupMeans) h copy limit old.tape new.tape v.client v.line → PoolConnects config limit nonce old new v
 connects_as config copy h limit nonce old new v same made within c =
-    subst (λ (x : Config). Connects x limit nonce old new v) same
+    subst (λ (x : Config). PoolConnects x limit nonce old new v) same
     (within, subst (λ (x : DefaultStartupHandler). Connected (λ before after answer. StartupMeans before startup after answer) (HeardAtStartup exchanges StartupMeans) x copy limit old.tape new.tape v.client v.line) made c)
 
 same_dialer : {Same : Type 0} (foretells : Type 0) (config : Config) (h : DefaultStartupHandler) (limit : ℕ) (old new : Dials) (e : ClientError) → (Same → new ≡ old)
@@ -106,7 +106,7 @@ next_taken : (ns : List (List ℕ)) (i : ℕ) (n : List ℕ) → i < length ns �
 next_taken ns i n there is = take_more ns i [] there ∙ ap (λ (x : List ℕ). take i ns ++ x ∷ []) (sym is)
 
 pub idle_next : (config : Config) (ns : List (List ℕ)) (i : ℕ) (n : List ℕ) (vs now : List View) (v : View) → i < length ns → n ≡ get_or ns i [] → now ≡ vs ++ v ∷ []
-    → AreIdle 0 (new_histories config (take i ns)) vs → IsIdle 0 (new_history config n) v → AreIdle 0 (new_histories config (take (i + 1) ns)) now
+    → AreIdle 0 (new_histories config (take i ns)) vs → IsIdleInPool 0 (new_history config n) v → AreIdle 0 (new_histories config (take (i + 1) ns)) now
 idle_next config ns i n vs now v there is grown are idle =
     let hs : new_histories config (take (i + 1) ns) ≡ new_histories config (take i ns) ++ new_history config n ∷ [] =
     ap (new_histories config) (next_taken ns i n there is) ∙ map-append (new_history config) (take i ns) (n ∷ []) in
@@ -114,14 +114,14 @@ idle_next config ns i n vs now v there is grown are idle =
     (subst (λ (l : List History). AreIdle 0 l (vs ++ v ∷ [])) (sym hs) (idle_more 0 (new_histories config (take i ns)) (new_history config n) vs v are idle))
 
 pub connected_next : (config : Config) (limit : ℕ) (ns : List (List ℕ)) (i : ℕ) (n : List ℕ) (old mid new : Dials) (vs now : List View) (v : View) → i < length ns → n ≡ get_or ns i [] → now ≡ vs ++ v ∷ []
-    → ConnectAll config limit old (take i ns) mid vs → Connects config limit n mid new v → ConnectAll config limit old (take (i + 1) ns) new now
+    → ConnectAll config limit old (take i ns) mid vs → PoolConnects config limit n mid new v → ConnectAll config limit old (take (i + 1) ns) new now
 connected_next config limit ns i n old mid new vs now v there is grown all one =
     subst (λ (l : List View). ConnectAll config limit old (take (i + 1) ns) new l) (sym grown)
     (subst (λ (l : List (List ℕ)). ConnectAll config limit old l new (vs ++ v ∷ [])) (sym (next_taken ns i n there is)) (login_more (take i ns) n mid new vs v all one))
 
 pub foretold_next : (config : Config) (limit : ℕ) (ns : List (List ℕ)) (i : ℕ) (n : List ℕ) (old mid new : Dials) (lefts lefts_now : List (Option (List ℕ))) (left : Option (List ℕ)) (vs now : List View) (v : View)
     → i < length ns → n ≡ get_or ns i [] → lefts_now ≡ lefts ++ left ∷ [] → now ≡ vs ++ v ∷ []
-    → ConnectForetold config limit old (take i ns) mid lefts vs → Connects config limit n mid new v → (offer : Option (List ℕ)) × MakesNext mid.offers new.offers offer × Foretold offer left new_tape v.line.tape → mid.faults ≤ new.faults → ConnectForetold config limit old (take (i + 1) ns) new lefts_now now
+    → ConnectForetold config limit old (take i ns) mid lefts vs → PoolConnects config limit n mid new v → (offer : Option (List ℕ)) × MakesNext mid.offers new.offers offer × Foretold offer left new_tape v.line.tape → mid.faults ≤ new.faults → ConnectForetold config limit old (take (i + 1) ns) new lefts_now now
 foretold_next config limit ns i n old mid new lefts lefts_now left vs now v there is more grown all one foretold later =
     subst (ConnectForetold config limit old (take (i + 1) ns) new lefts_now) (sym grown)
     (subst (λ (l : List (Option (List ℕ))). ConnectForetold config limit old (take (i + 1) ns) new l (vs ++ v ∷ [])) (sym more)

@@ -7,11 +7,11 @@ use Rattle.pgw_session.specs.declared.types.Answer.{Answer}
 use Rattle.pgw_pool.specs.declared.returned.Returned.{Returned}
 use Rattle.pgw_pool.specs.declared.returned.Returned.TheVariants.{Kept, Dropped}
 use Rattle.pgw_pool.specs.Histories.{History, Lent, View, new_history, lent_as, with_request, with_lease, with_check, IsLent, AreIdle}
-use Rattle.pgw_pool.specs.Lending.{IsCut, Ran, LendsFirst}
+use Rattle.pgw_pool.specs.Lending.{IsCutLease, LeaseRan, LendsFirst}
 use Rattle.pgw_pool.specs.declared.returned.DropCause.{DropCause}
 use Rattle.pgw_pool.specs.declared.returned.DropCause.TheVariants as cause
 use Rattle.pgw_pool.specs.Returning.{cause_of, returned_by, idle_behind, GivesBack, GivenBack}
-use Rattle.pgw_pool.specs.Stocks.{Out, leased, Stock, stock, Runs, Step, lends, runs, gives_back, lends_fit, drops_unfit, refills, retires, Steps, no_step, step_more, IsOut, AreOut, IsInOrder}
+use Rattle.pgw_pool.specs.Stocks.{Out, leased, Stock, stock, LeaseRuns, StockStep, lends, runs, gives_back, lends_fit, drops_unfit, refills, retires, StockSteps, no_step, step_more, IsOut, AreOut, IsStockInOrder}
 use Rattle.pgw_pool.specs.Checking.{LendsChecked}
 use Rattle.pgw_pool.proofs.HistoryLaws.{lends_first, idle_one_more}
 use Rattle.pgw_pool.proofs.CheckLaws.{lends_checked}
@@ -47,7 +47,7 @@ out_behind lent (o ∷ before) behind are = out_behind lent before behind are.1
 
 -- ---- lend
 
-lent_in_order : (lent now number : ℕ) (hs : List History) (rest : List View) (v : View) (out : List Out) → now ≡ lent + 1 → number ≡ now → LendsFirst hs now rest number v → AreOut lent out → IsInOrder (stock now rest (out ++ leased number v ∷ []))
+lent_in_order : (lent now number : ℕ) (hs : List History) (rest : List View) (v : View) (out : List Out) → now ≡ lent + 1 → number ≡ now → LendsFirst hs now rest number v → AreOut lent out → IsStockInOrder (stock now rest (out ++ leased number v ∷ []))
 lent_in_order lent now number [] rest v out counted numbered first are = absurd first
 lent_in_order lent now number (h ∷ hs) rest v out counted numbered first are =
     let last : IsOut now (leased number v) = record { history = h; lease = lent_as number; number = refl; own = (omega arith); stands = inl first.0 } in
@@ -61,7 +61,7 @@ lent_in_order lent now number (h ∷ hs) rest v out counted numbered first are =
 
 fit_in_order : (lent now number : ℕ) (hs : List History) (rest : List View) (v : View) (out : List Out)
     → now ≡ lent + 1 → number ≡ now → LendsChecked hs now rest number v → AreOut lent out
-    → IsInOrder (stock now rest (out ++ leased number v ∷ []))
+    → IsStockInOrder (stock now rest (out ++ leased number v ∷ []))
 fit_in_order lent now number [] rest v out counted numbered first are = absurd first
 fit_in_order lent now number (h ∷ hs) rest v out counted numbered first are =
     let last : IsOut now (leased number v) = record {
@@ -78,13 +78,13 @@ fit_in_order lent now number (h ∷ hs) rest v out counted numbered first are =
     }
 
 rest_in_order : (lent : ℕ) (hs : List History) (v : View) (rest : List View) (out : List Out)
-    → AreIdle lent hs (v ∷ rest) → AreOut lent out → IsInOrder (stock lent rest out)
+    → AreIdle lent hs (v ∷ rest) → AreOut lent out → IsStockInOrder (stock lent rest out)
 rest_in_order lent [] v rest out are leases = absurd are
 rest_in_order lent (h ∷ hs) v rest out are leases = record { histories = hs; idle = are.1; out = leases }
 
 -- ---- run
 
-ran_out : (lent : ℕ) (h : History) (l : Lent) (q : Request) (number : ℕ) (new : View) (broken : Bool) (result : Result Answer ClientError) → l.number ≡ number → number ≤ lent → Ran h l q new broken result → IsOut lent (leased number new)
+ran_out : (lent : ℕ) (h : History) (l : Lent) (q : Request) (number : ℕ) (new : View) (broken : Bool) (result : Result Answer ClientError) → l.number ≡ number → number ≤ lent → LeaseRan h l q new broken result → IsOut lent (leased number new)
 ran_out lent h l q number new false (Ok a) same own r = record { history = h; lease = with_request l q r.0; number = same; own = own; stands = inl r.2 }
 ran_out lent h l q number new false (Err (client.UnexpectedMessage m)) same own r = record { history = h; lease = with_request l q r.0; number = same; own = own; stands = inl r.2 }
 ran_out lent h l q number new false (Err (client.PgWireError why)) same own r = record { history = h; lease = l; number = same; own = own; stands = inl r }
@@ -93,13 +93,13 @@ ran_out lent h l q number new true (Err e) same own r = record { history = h; le
 ran_out lent h l q number new true (Ok a) same own r = absurd r
 ran_out lent h l q number new false (Err e) same own r = absurd r
 
-run_out : (lent number : ℕ) (q : Request) (old new : View) (result : Result Answer ClientError) → Runs q old new result → (h : History) (l : Lent) → l.number ≡ number → number ≤ lent
-    → IsLent h l old ⊎ ((p : Request) × (e : ClientError) × IsCut h l p e old) → IsOut lent (leased number new)
+run_out : (lent number : ℕ) (q : Request) (old new : View) (result : Result Answer ClientError) → LeaseRuns q old new result → (h : History) (l : Lent) → l.number ≡ number → number ≤ lent
+    → IsLent h l old ⊎ ((p : Request) × (e : ClientError) × IsCutLease h l p e old) → IsOut lent (leased number new)
 run_out lent number q old new result r h l same own (inl lease) =
     ran_out lent h l q number new new.broken result same own (ran h l q old new lease result new.broken refl (r.asks lease.usable))
 run_out lent number q old new result r h l same own (inr cut) =
     let left = (r.broken cut.2.broken).1 in
-    record { history = h; lease = l; number = same; own = own; stands = inr (cut.0, cut.1, subst (λ (v : View). IsCut h l cut.0 cut.1 v) (sym left) cut.2) }
+    record { history = h; lease = l; number = same; own = own; stands = inr (cut.0, cut.1, subst (λ (v : View). IsCutLease h l cut.0 cut.1 v) (sym left) cut.2) }
 
 -- ---- give back
 
@@ -115,7 +115,7 @@ cut_result old idle now result g broken =
     (cause_of client.Broken (g.0).broken, is, g.4 ∙ ap (idle_behind idle g.0) is, refl)
 
 give_idle : (lent number : ℕ) (hs : List History) (idle now : List View) (old : View) (result : Returned) → GivesBack old idle now result → AreIdle lent hs idle → (h : History) (l : Lent) → l.number ≡ number → number ≤ lent
-    → IsLent h l old ⊎ ((p : Request) × (e : ClientError) × IsCut h l p e old) → (more : List History) × AreIdle lent more now
+    → IsLent h l old ⊎ ((p : Request) × (e : ClientError) × IsCutLease h l p e old) → (more : List History) × AreIdle lent more now
 give_idle lent number hs idle now old result g are h l same own (inl lease) =
     given_idle lent hs h l now result (given_back lent hs h l old idle now result g are lease (subst (λ n. n ≤ lent) (sym same) own))
 give_idle lent number hs idle now old result g are h l same own (inr cut) =
@@ -123,7 +123,7 @@ give_idle lent number hs idle now old result g are h l same own (inr cut) =
 
 -- ---- calls
 
-one_step : (s t : Stock) → Step s t → IsInOrder s → IsInOrder t
+one_step : (s t : Stock) → StockStep s t → IsStockInOrder s → IsStockInOrder t
 one_step s t (lends lent now number idle rest v out l) is =
     lent_in_order lent now number is.histories rest v out l.counted l.numbered (lends_first lent now number is.histories idle rest v l.first l.counted l.numbered is.idle) is.out
 one_step s t (runs lent number idle before behind q old new result r) is =
@@ -163,6 +163,6 @@ one_step s t (retires lent number idle before behind old) is =
       out = out_append lent before behind (out_before lent before (leased number old ∷ behind) is.out) at.1;
     }
 
-pub any_steps : (s t : Stock) → Steps s t → IsInOrder s → IsInOrder t
+pub any_steps : (s t : Stock) → StockSteps s t → IsStockInOrder s → IsStockInOrder t
 any_steps s t (no_step x) is = is
 any_steps s t (step_more x y z steps step) is = one_step y z step (any_steps x y steps is)

@@ -1,6 +1,6 @@
 -- Sessions that are checked before they are lent.
 use Rattle.std.specs.Prelude.{◌≡◌, ◌≢◌, ℕ, ◌+◌, Bool, true, false, List, [], ◌∷◌, Option, Result, Ok, Err, if◌then◌else◌}
-use Rattle.pgw_types.specs.Counts.{counted}
+use Rattle.pgw_types.specs.Counts.{next_count}
 use Rattle.pgw_query.specs.declared.response.TransactionStatus.{TransactionStatus}
 use Rattle.pgw_query.specs.declared.response.TransactionStatus.TheVariants.{Idle}
 use Rattle.pgw_backend.specs.declared.client_error.PgWireClientError.{PgWireClientError as ClientError}
@@ -17,7 +17,7 @@ use Rattle.pgw_pool.specs.declared.checking.CheckError.TheVariants as refusal
 use Rattle.pgw_calls.specs.Turns.{IsAnswered}
 use Rattle.pgw_pool.specs.Histories.{History, View, check, lent_as, with_check, IsCheckedIn, BeginsIdle, IsLent, AreIdle}
 use Rattle.pgw_pool.specs.Lending.{most_leases}
-use Rattle.pgw_pool.specs.Returning.{cause_of, IsAskedIn, EndsBy, IsFailed}
+use Rattle.pgw_pool.specs.Returning.{cause_of, IsAskedIn, LeaseEndsBy, IsFailed}
 
 -- a session is fit where the check is answered by one empty query, and the status behind it is Idle
 abbrev pub is_empty_query : List Response → Bool
@@ -78,7 +78,7 @@ LendsNoneFit idle was lent now dropped refusal.Exhausted =
     (idle ≢ []) × (lent ≡ most_leases) × (now ≡ idle) × (dropped ≡ was)
 LendsNoneFit idle was lent now dropped (refusal.Unfit why) =
     (lent ≢ most_leases) × ((last : View) × ChecksFirst idle now last (Err why))
-    × (dropped ≡ counted was)
+    × (dropped ≡ next_count was)
 
 -- what the links have to come then
 abbrev pub NoneForetold : Type 0 → List View → List (Option (List ℕ)) → List View →
@@ -99,10 +99,10 @@ LendsChecked (h ∷ hs) lent rest number v =
 -- empty query; or so, with a transaction open behind it; or the check failed.
 abbrev pub IsUnfit : History → Unfit → View → Type 0
 IsUnfit h (Answered rs) v =
-    EndsBy check h (lent_as 0) (IsAnswered check (answer.Responses rs)) v
+    LeaseEndsBy check h (lent_as 0) (IsAnswered check (answer.Responses rs)) v
     × (is_empty_query rs ≡ false)
 IsUnfit h (Dropped (cause.Status status)) v =
-    EndsBy check h (lent_as 0) (IsCheckedIn status) v × (status ≢ Idle)
+    LeaseEndsBy check h (lent_as 0) (IsCheckedIn status) v × (status ≢ Idle)
 IsUnfit h (Dropped why) v = IsFailed check h (lent_as 0) why v
 
 -- the others stay idle where the first is dropped, which is not fit; and else all do

@@ -5,18 +5,18 @@ use Rattle.pgw_link.specs.Dials.{DialTape}
 use Rattle.pgw_connection.specs.Closing.{Closed}
 use Rattle.pgw_pool.specs.Histories.{View}
 
-abbrev pub first_error : Result (Unit {0}) ClientError → Result (Unit {0}) ClientError →
+abbrev pub first_pool_error : Result (Unit {0}) ClientError → Result (Unit {0}) ClientError →
     Result (Unit {0}) ClientError
-first_error (Ok done) result = result
-first_error (Err e) result = Err e
+first_pool_error (Ok done) result = result
+first_pool_error (Err e) result = Err e
 
 -- Of these sessions some were closed, from the front on, by which the dialer came to tell this: leave
 -- was taken of each by its client's own close. These are left.
-pub data Closes (idle : List View) (old : DialTape) (before : ℕ)
+pub data ClosesIdleSessions (idle : List View) (old : DialTape) (before : ℕ)
     : List View → DialTape → ℕ → Result (Unit {0}) ClientError → Type 0 where
-  none_closed : Closes idle old before idle old before (Ok tt)
+  none_closed : ClosesIdleSessions idle old before idle old before (Ok tt)
   one_closed : (v : View) (rest : List View) (mid new : DialTape) (count now : ℕ)
       (so_far result : Result (Unit {0}) ClientError) →
-      Closes idle old before (v ∷ rest) mid count so_far →
+      ClosesIdleSessions idle old before (v ∷ rest) mid count so_far →
       Closed v.broken v.line.tape v.line.faults mid new count now result →
-      Closes idle old before rest new now (first_error so_far result)
+      ClosesIdleSessions idle old before rest new now (first_pool_error so_far result)

@@ -1,6 +1,6 @@
 -- How a lease ends, by how many its session has had.
 use Rattle.std.specs.Prelude.{ℕ, Result}
-use Rattle.pgw_types.specs.Counts.{counted}
+use Rattle.pgw_types.specs.Counts.{next_count}
 use Rattle.pgw_backend.specs.declared.client_error.PgWireClientError.{PgWireClientError as ClientError}
 use Rattle.pgw_pool.specs.declared.returned.Returned.{Returned}
 use Rattle.pgw_pool.specs.declared.ending.LeaseEnd.{LeaseEnd}
@@ -20,4 +20,4 @@ IfRetired (ends.Retired left) P = P left
 -- how many sessions were dropped then
 abbrev pub dropped_by_end : ℕ → LeaseEnd → ℕ
 dropped_by_end dropped (ends.GivenBack returned) = dropped_behind dropped returned
-dropped_by_end dropped (ends.Retired left) = counted dropped
+dropped_by_end dropped (ends.Retired left) = next_count dropped

@@ -14,7 +14,7 @@ use Rattle.pgw_session.specs.Events.{Event, Got}
 use Rattle.pgw_handlers.specs.Client.{Client}
 use Rattle.pgw_connection.specs.Line.{Line, IsFlushed}
 use Rattle.pgw_calls.specs.Turns.{IsAnswered}
-use Rattle.pgw_calls.specs.Stands.{Made, made, events_of, Stands}
+use Rattle.pgw_calls.specs.Stands.{Made, made_call, events_of, StandsForCalls}
 
 -- ---- leases
 
@@ -45,7 +45,7 @@ lent_as number = record { number = number; made = [] }
 
 -- the lease with one request more
 abbrev pub with_request : Lent → Request → List Event → Lent
-with_request l q es = record { number = l.number; made = l.made ++ made q es ∷ [] }
+with_request l q es = record { number = l.number; made = l.made ++ made_call q es ∷ [] }
 
 -- the session with one more lease that is over
 abbrev pub with_lease : History → Lent → List Event → History
@@ -75,23 +75,23 @@ check = request.Simple (codes "")
 
 -- those of each lease, and a reset behind them; and those of the checks
 abbrev pub made_in : Over → List Made
-made_in (ended l es) = l.made ++ made reset es ∷ []
-made_in (checked es) = made check es ∷ []
+made_in (ended l es) = l.made ++ made_call reset es ∷ []
+made_in (checked es) = made_call check es ∷ []
 
 abbrev pub made_over : List Over → List Made
 made_over [] = []
 made_over (o ∷ os) = made_in o ++ made_over os
 
 -- the last message that was got is ReadyForQuery, of this status
-abbrev pub EndsIn : TransactionStatus → List Event → Type 0
-EndsIn status es =
+abbrev pub EndsInStatus : TransactionStatus → List Event → Type 0
+EndsInStatus status es =
     (front : List Event) × (m : ReadyForQuery) × (es ≡ front ++ Got (backend.ReadyForQuery m) ∷ [])
     × (m.status ≡ status)
 
 -- a reset was answered by responses, and this was the status behind it
 abbrev pub IsResetIn : TransactionStatus → List Event → Type 0
 IsResetIn status es =
-    (rs : List Response) × IsAnswered reset (answer.Responses rs) es × EndsIn status es
+    (rs : List Response) × IsAnswered reset (answer.Responses rs) es × EndsInStatus status es
 
 abbrev pub IsReset : List Event → Type 0
 IsReset es = IsResetIn Idle es
@@ -99,7 +99,7 @@ IsReset es = IsResetIn Idle es
 -- a check was answered by one empty query, and this was the status behind it
 abbrev pub IsCheckedIn : TransactionStatus → List Event → Type 0
 IsCheckedIn status es =
-    IsAnswered check (answer.Responses (EmptyQuery ∷ [])) es × EndsIn status es
+    IsAnswered check (answer.Responses (EmptyQuery ∷ [])) es × EndsInStatus status es
 
 abbrev pub IsChecked : List Event → Type 0
 IsChecked es = IsCheckedIn Idle es
@@ -115,13 +115,13 @@ AreReset (o ∷ os) = IsOver o × AreReset os
 -- the next lease begins with status Idle, unless nothing was done before it
 abbrev pub BeginsIdle : List Over → Type 0
 BeginsIdle [] = Unit {0}
-BeginsIdle (o ∷ os) = EndsIn Idle (events_of (made_over (o ∷ os)))
+BeginsIdle (o ∷ os) = EndsInStatus Idle (events_of (made_over (o ∷ os)))
 
 -- the leases' numbers ascend: the first is above `low`, and none is above `high`
-abbrev pub Ascend : ℕ → List Over → ℕ → Type 0
-Ascend low [] high = low ≤ high
-Ascend low (ended l es ∷ os) high = (low < l.number) × Ascend l.number os high
-Ascend low (checked es ∷ os) high = Ascend low os high
+abbrev pub LeasesAscend : ℕ → List Over → ℕ → Type 0
+LeasesAscend low [] high = low ≤ high
+LeasesAscend low (ended l es ∷ os) high = (low < l.number) × LeasesAscend l.number os high
+LeasesAscend low (checked es ∷ os) high = LeasesAscend low os high
 
 -- ---- sessions
 
@@ -135,20 +135,20 @@ pub record View : Type 0 where
 -- the session's login and these requests were made, over all the bytes that its link gave and took
 abbrev pub StandsBy : History → List Made → View → Type 0
 StandsBy h ts v =
-    Stands h.config h.nonce ts v.line.tape.took v.line.tape.wrote v.client v.line.buffer
+    StandsForCalls h.config h.nonce ts v.line.tape.took v.line.tape.wrote v.client v.line.buffer
 
 -- An idle session of a pool that has lent so many leases: each of its own is over.
-pub record IsIdle (lent : ℕ) (h : History) (v : View) : Type 0 where
+pub record IsIdleInPool (lent : ℕ) (h : History) (v : View) : Type 0 where
   pub stands : StandsBy h (made_over h.over) v
   pub resets : AreReset h.over
-  pub ascend : Ascend 0 h.over lent
+  pub ascend : LeasesAscend 0 h.over lent
   pub usable : v.broken ≡ false
   pub flushed : IsFlushed v.line
 
 -- the idle sessions, in order
 abbrev pub AreIdle : ℕ → List History → List View → Type 0
 AreIdle lent [] [] = Unit {0}
-AreIdle lent (h ∷ hs) (v ∷ vs) = IsIdle lent h v × AreIdle lent hs vs
+AreIdle lent (h ∷ hs) (v ∷ vs) = IsIdleInPool lent h v × AreIdle lent hs vs
 AreIdle lent hs vs = ⊥
 
 -- A session that is lent: its leases before this one are over, and have lower numbers.
@@ -156,7 +156,7 @@ pub record IsLent (h : History) (l : Lent) (v : View) : Type 0 where
   pub stands : StandsBy h (made_over h.over ++ l.made) v
   pub resets : AreReset h.over
   pub last : ℕ
-  pub ascend : Ascend 0 h.over last
+  pub ascend : LeasesAscend 0 h.over last
   pub above : last < l.number
   pub usable : v.broken ≡ false
   pub flushed : IsFlushed v.line

@@ -1,6 +1,6 @@
 -- How many leases the sessions of a pool have had.
 use Rattle.std.specs.Prelude.{◌≡◌, ℕ, ◌+◌, ◌-◌, ◌^◌, min, List, [], ◌∷◌, ◌++◌, map}
-use Rattle.pgw_types.specs.Counts.{counted}
+use Rattle.pgw_types.specs.Counts.{next_count}
 use Rattle.pgw_session.specs.Events.{Event}
 use Rattle.pgw_pool.specs.declared.returned.Returned.{Returned}
 use Rattle.pgw_pool.specs.declared.returned.Returned.TheVariants.{Kept, Dropped}
@@ -22,7 +22,7 @@ leases_had h = min (leases_over h.over) (2 ^ 64 - 1)
 
 -- that of one that is lent, with this lease
 abbrev pub leases_with_this : History → ℕ
-leases_with_this h = counted (leases_over h.over)
+leases_with_this h = next_count (leases_over h.over)
 
 -- each idle session's count is that of its history
 abbrev pub AreCounted : List History → List ℕ → Type 0
@@ -32,7 +32,7 @@ AreCounted hs counts = counts ≡ map leases_had hs
 
 -- The first session is lent, and has had one lease more. The counts of the others stay.
 abbrev pub LendsOne : List ℕ → List ℕ → ℕ → Type 0
-LendsOne counts now leases = (n : ℕ) × (counts ≡ n ∷ now) × (leases ≡ counted n)
+LendsOne counts now leases = (n : ℕ) × (counts ≡ n ∷ now) × (leases ≡ next_count n)
 
 -- by what was done over these sessions
 abbrev pub LendsCounted : List History → List ℕ → ℕ → Type 0

@@ -7,8 +7,8 @@ use Rattle.pgw_session.specs.declared.types.Answer.{Answer}
 use Rattle.pgw_session.specs.Events.{Event}
 use Rattle.pgw_handlers.specs.Client.{Client}
 use Rattle.pgw_calls.specs.Turns.{IsAnswered, IsPassedSegment}
-use Rattle.pgw_calls.specs.Calls.{IsStarved}
-use Rattle.pgw_calls.specs.Stands.{Made, Stands, BrokenBehind}
+use Rattle.pgw_calls.specs.Calls.{IsStarvedCall}
+use Rattle.pgw_calls.specs.Stands.{Made, StandsForCalls, BrokenBehind}
 use Rattle.pgw_pool.specs.declared.pool.LendError.{LendError}
 use Rattle.pgw_pool.specs.declared.pool.LendError.TheVariants.{Empty, Exhausted}
 use Rattle.pgw_pool.specs.Histories.{History, Lent, View, lent_as, with_request, made_over, BeginsIdle, AreReset, IsLent, AreIdle}
@@ -51,16 +51,16 @@ pub record IsStarvedIn (h : History) (ts : List Made) (q : Request) (v : View) :
   pub wrote : List ℕ
   pub client : Client
   pub buffer : List ℕ
-  pub stands : Stands h.config h.nonce ts read wrote client buffer
+  pub stands : StandsForCalls h.config h.nonce ts read wrote client buffer
   pub taken : List ℕ
   pub sent : List ℕ
   pub took : v.line.tape.took ≡ read ++ taken
   pub put : v.line.tape.wrote ≡ wrote ++ sent
-  pub starved : IsStarved q sent
+  pub starved : IsStarvedCall q sent
 
 -- An error left the session unusable as this was asked: the requests before it were made, and of
 -- its own segment a front; or memory was wanting in it.
-pub record IsCut (h : History) (l : Lent) (q : Request) (e : ClientError) (v : View) : Type 0 where
+pub record IsCutLease (h : History) (l : Lent) (q : Request) (e : ClientError) (v : View) : Type 0 where
   pub stands : BrokenBehind h.config h.nonce (made_over h.over ++ l.made) q
       v.line.tape.took v.line.tape.wrote v.client v.line.buffer e
   pub wants : e ≡ client.OutOfMemory → IsStarvedIn h (made_over h.over ++ l.made) q v
@@ -70,10 +70,10 @@ pub record IsCut (h : History) (l : Lent) (q : Request) (e : ClientError) (v : V
 -- What a lease stands for behind a request: for that too, and the answer is its own segment's; or
 -- for one that was passed over; or for none more where it has no encoding, or memory was wanting
 -- for the name that its answer tells; or it is cut.
-abbrev pub Ran : History → Lent → Request → View → Bool → Result Answer ClientError → Type 0
-Ran h l q v false (Ok a) = MakesOne h l q (IsAnswered q a) v
-Ran h l q v false (Err (client.UnexpectedMessage m)) = MakesOne h l q (IsPassedSegment q m) v
-Ran h l q v false (Err (client.PgWireError why)) = IsLent h l v
-Ran h l q v false (Err client.OutOfMemory) = IsLent h l v
-Ran h l q v true (Err e) = IsCut h l q e v
-Ran h l q v broken result = ⊥
+abbrev pub LeaseRan : History → Lent → Request → View → Bool → Result Answer ClientError → Type 0
+LeaseRan h l q v false (Ok a) = MakesOne h l q (IsAnswered q a) v
+LeaseRan h l q v false (Err (client.UnexpectedMessage m)) = MakesOne h l q (IsPassedSegment q m) v
+LeaseRan h l q v false (Err (client.PgWireError why)) = IsLent h l v
+LeaseRan h l q v false (Err client.OutOfMemory) = IsLent h l v
+LeaseRan h l q v true (Err e) = IsCutLease h l q e v
+LeaseRan h l q v broken result = ⊥

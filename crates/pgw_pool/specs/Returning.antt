@@ -4,25 +4,25 @@ use Rattle.pgw_query.specs.declared.response.TransactionStatus.{TransactionStatu
 use Rattle.pgw_query.specs.declared.response.TransactionStatus.TheVariants.{Idle}
 use Rattle.pgw_backend.specs.declared.client_error.PgWireClientError.{PgWireClientError as ClientError}
 use Rattle.pgw_backend.specs.declared.client_error.PgWireClientError.TheVariants as client
-use Rattle.pgw_types.specs.Counts.{counted}
+use Rattle.pgw_types.specs.Counts.{next_count}
 use Rattle.pgw_config.specs.declared.config.Config.{Config}
 use Rattle.pgw_session.specs.declared.types.Request.{Request}
 use Rattle.pgw_session.specs.declared.types.Response.{Response}
 use Rattle.pgw_session.specs.declared.types.Answer.TheVariants as answer
 use Rattle.pgw_session.specs.Events.{Event}
 use Rattle.pgw_handlers.specs.Handling.{HasCause}
-use Rattle.pgw_connection.specs.Line.{Moved, Pause, IsFlushed, EndedWell, Halts, AtEnd, Foretold, StaysWithin}
+use Rattle.pgw_connection.specs.Line.{MovesLine, Pause, IsFlushed, EndedWell, Halts, AtEnd, Foretold, StaysWithin}
 use Rattle.pgw_connection.specs.Talk.{passes}
 use Rattle.pgw_connection.specs.Calls.{IsHalted}
 use Rattle.pgw_calls.specs.Turns.{IsAnswered, IsPassedSegment}
 use Rattle.pgw_calls.specs.Calls.{Comes}
-use Rattle.pgw_calls.specs.Stands.{Made, made, Stands, StandsBehind}
+use Rattle.pgw_calls.specs.Stands.{Made, made_call, StandsForCalls, StandsBehind}
 use Rattle.pgw_pool.specs.declared.returned.Returned.{Returned}
 use Rattle.pgw_pool.specs.declared.returned.Returned.TheVariants.{Kept, Dropped}
 use Rattle.pgw_pool.specs.declared.returned.DropCause.{DropCause}
 use Rattle.pgw_pool.specs.declared.returned.DropCause.TheVariants as cause
 use Rattle.pgw_pool.specs.Histories.{History, Lent, View, reset, with_lease, made_over, IsResetIn, StandsBy, AreIdle}
-use Rattle.pgw_pool.specs.Lending.{IsCut}
+use Rattle.pgw_pool.specs.Lending.{IsCutLease}
 
 -- ---- by the answer of the reset
 
@@ -47,13 +47,13 @@ pub record IsAskedIn (q : Request) (old now : View) (a : Result (List Response) 
   -- one that an earlier error left unusable is asked nothing
   pub broken : old.broken ≡ true → (a ≡ Err client.Broken) × (now ≡ old)
   -- else the answer is its own segment's, or the error has its reason
-  pub comes : old.broken ≡ false → (taken sent : List ℕ) × Moved old.line now.line taken sent
+  pub comes : old.broken ≡ false → (taken sent : List ℕ) × MovesLine old.line now.line taken sent
       × Comes answer.Responses (Pause old.line now.line) q old.client
       (old.line.buffer ++ taken) sent now.client now.line.buffer a now.broken
   -- and whatever the session stood for, it stands for the query besides
   pub stands : old.broken ≡ false → (config : Config) (nonce : List ℕ) (ts : List Made)
-      (read wrote : List ℕ) → Stands config nonce ts read wrote old.client old.line.buffer →
-      (taken sent : List ℕ) × Moved old.line now.line taken sent
+      (read wrote : List ℕ) → StandsForCalls config nonce ts read wrote old.client old.line.buffer →
+      (taken sent : List ℕ) × MovesLine old.line now.line taken sent
       × (now.broken ≡ false → IsFlushed now.line)
       × StandsBehind answer.Responses config nonce ts q (read ++ taken) (wrote ++ sent)
       now.client now.line.buffer a now.broken
@@ -87,7 +87,7 @@ GivesBack old idle now result =
 -- how many sessions were dropped then
 abbrev pub dropped_behind : ℕ → Returned → ℕ
 dropped_behind dropped Kept = dropped
-dropped_behind dropped (Dropped why) = counted dropped
+dropped_behind dropped (Dropped why) = next_count dropped
 
 -- what the links of the idle sessions have to come then
 abbrev pub lefts_behind : List (Option (List ℕ)) → Option (List ℕ) → Returned →
@@ -112,31 +112,31 @@ pub record GivesForetold (was : Option (List ℕ)) (old : View) (idle now : List
 -- ---- by what was done over the session
 
 -- this query was made behind the lease, whose events are so
-abbrev pub EndsBy : Request → History → Lent → (List Event → Type 0) → View → Type 0
-EndsBy q h l property v =
+abbrev pub LeaseEndsBy : Request → History → Lent → (List Event → Type 0) → View → Type 0
+LeaseEndsBy q h l property v =
     (es : List Event) × property es
-    × StandsBy h (made_over h.over ++ (l.made ++ made q es ∷ [])) v
+    × StandsBy h (made_over h.over ++ (l.made ++ made_call q es ∷ [])) v
 
 -- The query came to this error: a message without place, behind which the others were passed over;
 -- or one that left the session unusable.
 abbrev pub FailsBy : Request → History → Lent → View → Bool → ClientError → Type 0
-FailsBy q h l v false (client.UnexpectedMessage m) = EndsBy q h l (IsPassedSegment q m) v
-FailsBy q h l v true e = IsCut h l q e v
+FailsBy q h l v false (client.UnexpectedMessage m) = LeaseEndsBy q h l (IsPassedSegment q m) v
+FailsBy q h l v true e = IsCutLease h l q e v
 FailsBy q h l v broken e = ⊥
 
 -- What a session stands for that is dropped by an error of the query. Want of memory is a cause of its
 -- own.
 abbrev pub IsFailed : Request → History → Lent → DropCause → View → Type 0
-IsFailed q h l (cause.Refused e) v = EndsBy q h l (IsAnswered q (answer.Remote e)) v
+IsFailed q h l (cause.Refused e) v = LeaseEndsBy q h l (IsAnswered q (answer.Remote e)) v
 IsFailed q h l (cause.Failed client.OutOfMemory) v = ⊥
 IsFailed q h l (cause.Failed e) v = FailsBy q h l v v.broken e
-IsFailed q h l cause.OutOfMemory v = IsCut h l q client.OutOfMemory v
+IsFailed q h l cause.OutOfMemory v = IsCutLease h l q client.OutOfMemory v
 IsFailed q h l (cause.Status status) v = ⊥
 
 -- What a session stands for that is dropped by this cause: a transaction was open behind its reset, or
 -- the reset failed.
 abbrev pub IsDropped : History → Lent → DropCause → View → Type 0
-IsDropped h l (cause.Status status) v = EndsBy reset h l (IsResetIn status) v × (status ≢ Idle)
+IsDropped h l (cause.Status status) v = LeaseEndsBy reset h l (IsResetIn status) v × (status ≢ Idle)
 IsDropped h l why v = IsFailed reset h l why v
 
 -- The lease is over: its session is idle behind these; or they alone are, and it is dropped.
@@ -152,4 +152,4 @@ abbrev pub DropsFrom : History → Lent → View → Returned → Type 0
 DropsFrom h l old Kept = Unit {0}
 DropsFrom h l old (Dropped why) =
     (last : View) × IsDropped h l why last
-    × ((taken sent : List ℕ) × Moved old.line last.line taken sent)
+    × ((taken sent : List ℕ) × MovesLine old.line last.line taken sent)

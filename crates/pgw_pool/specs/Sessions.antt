@@ -2,7 +2,7 @@
 use Rattle.std.specs.Prelude.{◌≡◌, ℕ, List, [], ◌∷◌, ◌++◌}
 use Rattle.pgw_session.specs.declared.types.Request.{Request}
 use Rattle.pgw_session.specs.Input.{input_with}
-use Rattle.pgw_session.specs.Events.{Event, joined}
+use Rattle.pgw_session.specs.Events.{Event, all_events}
 use Rattle.pgw_session.specs.Standings.{first_standing}
 use Rattle.pgw_session.specs.Transcript.{IsTranscript, SpellsGot, EncodesSent}
 use Rattle.pgw_calls.specs.Stands.{Made, requests_of, segments_of, AreAnswered}
@@ -46,6 +46,6 @@ pub record IsMadeOf (h : History) (ts : List Made) (v : View) : Type 0 where
   pub spelled : List ℕ
   pub begins : v.line.tape.took ≡ spelled ++ v.line.buffer
   pub got : SpellsGot (first_standing h.config)
-      (joined (startup ∷ (segments_over h.over ++ segments_of ts))) spelled
-  pub put : EncodesSent (joined (startup ∷ (segments_over h.over ++ segments_of ts)))
+      (all_events (startup ∷ (segments_over h.over ++ segments_of ts))) spelled
+  pub put : EncodesSent (all_events (startup ∷ (segments_over h.over ++ segments_of ts)))
       v.line.tape.wrote

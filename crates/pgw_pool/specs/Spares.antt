@@ -6,7 +6,7 @@ use Rattle.pgw_pool.specs.declared.spare.Spare.{Spare}
 use Rattle.pgw_pool.specs.declared.returned.Returned.{Returned}
 use Rattle.pgw_pool.specs.declared.returned.Returned.TheVariants.{Kept, Dropped}
 use Rattle.pgw_pool.specs.declared.returned.DropCause.{DropCause}
-use Rattle.pgw_pool.specs.Histories.{History, Lent, View, with_lease, IsIdle}
+use Rattle.pgw_pool.specs.Histories.{History, Lent, View, with_lease, IsIdleInPool}
 use Rattle.pgw_pool.specs.Views.{view_of, left_in}
 
 -- the number of its last lease
@@ -43,4 +43,4 @@ returned_as (Err why) = Dropped why
 
 -- its last lease was this one, and a reset was made behind it
 abbrev pub IsSpared : History → Lent → View → Type 0
-IsSpared h l v = (es : List Event) × IsIdle l.number (with_lease h l es) v
+IsSpared h l v = (es : List Event) × IsIdleInPool l.number (with_lease h l es) v

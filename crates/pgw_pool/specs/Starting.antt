@@ -12,7 +12,7 @@ use Rattle.pgw_session.specs.declared.stage.Stage.TheVariants.{Starting}
 use Rattle.pgw_default_handlers.specs.Startup.{StartupMeans, exchanges}
 use Rattle.pgw_connection.specs.Line.{Foretold, IsWithin}
 use Rattle.pgw_connection.specs.Connecting.{Connected, NotConnected}
-use Rattle.pgw_pool.specs.Histories.{History, View, new_history, IsIdle}
+use Rattle.pgw_pool.specs.Histories.{History, View, new_history, IsIdleInPool}
 
 -- a session for each nonce, of which none was lent
 abbrev pub new_histories : Config → List (List ℕ) → List History
@@ -37,8 +37,8 @@ abbrev pub dials : DialTape → Option (List (List ℕ)) → ℕ → Dials
 dials tape offers faults = record { tape = tape; offers = offers; faults = faults }
 
 -- a login by this nonce, over a link that was dialled, and of which no more is read than the limit
-abbrev pub Connects : Config → ℕ → List ℕ → Dials → Dials → View → Type 0
-Connects config limit nonce old new v =
+abbrev pub PoolConnects : Config → ℕ → List ℕ → Dials → Dials → View → Type 0
+PoolConnects config limit nonce old new v =
     IsWithin limit v.line × Connected (λ before after answer. StartupMeans before startup after answer)
     (HeardAtStartup exchanges StartupMeans) (handler_with nonce) config limit old.tape new.tape
     v.client v.line
@@ -49,7 +49,7 @@ pub data ConnectAll (config : Config) (limit : ℕ) (old : Dials)
   no_login : ConnectAll config limit old [] old []
   login_more : (nonces : List (List ℕ)) (nonce : List ℕ) (mid new : Dials) (vs : List View)
       (v : View) →
-      ConnectAll config limit old nonces mid vs → Connects config limit nonce mid new v →
+      ConnectAll config limit old nonces mid vs → PoolConnects config limit nonce mid new v →
       ConnectAll config limit old (nonces ++ nonce ∷ []) new (vs ++ v ∷ [])
 
 -- The same by a dialer that knows its offers: each login is over the next of its links, its bytes are
@@ -61,7 +61,7 @@ pub data ConnectForetold (config : Config) (limit : ℕ) (old : Dials)
   offer_more : (nonces : List (List ℕ)) (nonce : List ℕ) (mid new : Dials)
       (lefts : List (Option (List ℕ))) (offer left : Option (List ℕ)) (vs : List View) (v : View) →
       ConnectForetold config limit old nonces mid lefts vs →
-      Connects config limit nonce mid new v → MakesNext mid.offers new.offers offer →
+      PoolConnects config limit nonce mid new v → MakesNext mid.offers new.offers offer →
       Foretold offer left new_tape v.line.tape → mid.faults ≤ new.faults →
       ConnectForetold config limit old (nonces ++ nonce ∷ []) new
       (lefts ++ left ∷ []) (vs ++ v ∷ [])
@@ -77,7 +77,7 @@ NotConnects foretells config limit nonce old new e =
 -- A session by this nonce, of which none was lent, is idle behind all others.
 abbrev pub Refills : Config → ℕ → List ℕ → Dials → Dials → List View → List View → Type 0
 Refills config limit nonce old new idle now =
-    (v : View) × Connects config limit nonce old new v × IsIdle 0 (new_history config nonce) v
+    (v : View) × PoolConnects config limit nonce old new v × IsIdleInPool 0 (new_history config nonce) v
     × (now ≡ idle ++ v ∷ [])
 
 -- The same by a dialer that knows its offers.
@@ -85,7 +85,7 @@ pub record RefillsForetold (config : Config) (limit : ℕ) (nonce : List ℕ) (o
     (idle now : List View) (lefts left_now : List (Option (List ℕ))) : Type 0 where
   pub last : View
   pub left : Option (List ℕ)
-  pub connects : Connects config limit nonce old new last
+  pub connects : PoolConnects config limit nonce old new last
   pub offer : Option (List ℕ)
   pub made : MakesNext old.offers new.offers offer
   pub foretold : Foretold offer left new_tape last.line.tape
@@ -93,7 +93,7 @@ pub record RefillsForetold (config : Config) (limit : ℕ) (nonce : List ℕ) (o
   pub lefts_now : left_now ≡ lefts ++ left ∷ []
 
 -- The logins by the first nonces were made, and the next one was refused so.
-pub record StopsAt (foretells : Type 0) (config : Config) (limit : ℕ) (nonces : List (List ℕ))
+pub record PoolStopsAtLogin (foretells : Type 0) (config : Config) (limit : ℕ) (nonces : List (List ℕ))
     (old new : Dials) (e : ClientError) : Type 0 where
   pub done : List (List ℕ)
   pub next : List ℕ
@@ -125,5 +125,5 @@ pub record WantsAt (foretells : Type 0) (config : Config) (limit : ℕ) (nonces 
 -- why no pool was started: that; or memory was wanting between logins
 abbrev pub NotStarted : Type 0 → Config → ℕ → List (List ℕ) → Dials → Dials → ClientError → Type 0
 NotStarted foretells config limit nonces old new e =
-    StopsAt foretells config limit nonces old new e
+    PoolStopsAtLogin foretells config limit nonces old new e
     ⊎ ((e ≡ client.OutOfMemory) × WantsAt foretells config limit nonces old new)

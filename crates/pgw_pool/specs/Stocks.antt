@@ -7,8 +7,8 @@ use Rattle.pgw_session.specs.declared.types.Answer.{Answer}
 use Rattle.pgw_ask.specs.Asking.{Asks}
 use Rattle.pgw_pool.specs.declared.returned.Returned.{Returned}
 use Rattle.pgw_config.specs.declared.config.Config.{Config}
-use Rattle.pgw_pool.specs.Histories.{History, Lent, View, new_history, IsIdle, IsLent, AreIdle}
-use Rattle.pgw_pool.specs.Lending.{Lends, IsCut}
+use Rattle.pgw_pool.specs.Histories.{History, Lent, View, new_history, IsIdleInPool, IsLent, AreIdle}
+use Rattle.pgw_pool.specs.Lending.{Lends, IsCutLease}
 use Rattle.pgw_pool.specs.Returning.{GivesBack}
 use Rattle.pgw_pool.specs.declared.checking.Unfit.{Unfit}
 use Rattle.pgw_pool.specs.Checking.{ChecksFirst, LendsFit}
@@ -33,40 +33,40 @@ stock lent idle out = record { lent = lent; idle = idle; out = out }
 -- ---- calls
 
 -- what `run` promises of a lease
-pub record Runs (q : Request) (old new : View) (result : Result Answer ClientError) : Type 0 where
+pub record LeaseRuns (q : Request) (old new : View) (result : Result Answer ClientError) : Type 0 where
   pub broken : old.broken ≡ true → (result ≡ Err client.Broken) × (new ≡ old)
   pub asks : old.broken ≡ false →
       Asks q old.client old.line new.client new.line new.broken result
 
 -- one call: of the pool, or of a lease that is out
-pub data Step : Stock → Stock → Type 0 where
+pub data StockStep : Stock → Stock → Type 0 where
   lends : (lent now number : ℕ) (idle rest : List View) (v : View) (out : List Out) →
       Lends idle lent rest now number v →
-      Step (stock lent idle out) (stock now rest (out ++ leased number v ∷ []))
+      StockStep (stock lent idle out) (stock now rest (out ++ leased number v ∷ []))
   runs : (lent number : ℕ) (idle : List View) (before behind : List Out) (q : Request)
-      (old new : View) (result : Result Answer ClientError) → Runs q old new result →
-      Step (stock lent idle (before ++ leased number old ∷ behind))
+      (old new : View) (result : Result Answer ClientError) → LeaseRuns q old new result →
+      StockStep (stock lent idle (before ++ leased number old ∷ behind))
       (stock lent idle (before ++ leased number new ∷ behind))
   gives_back : (lent number : ℕ) (idle now : List View) (before behind : List Out) (old : View)
       (result : Returned) → GivesBack old idle now result →
-      Step (stock lent idle (before ++ leased number old ∷ behind))
+      StockStep (stock lent idle (before ++ leased number old ∷ behind))
       (stock lent now (before ++ behind))
   lends_fit : (lent now number : ℕ) (idle rest : List View) (v : View) (out : List Out) →
       LendsFit idle lent rest now number v →
-      Step (stock lent idle out) (stock now rest (out ++ leased number v ∷ []))
+      StockStep (stock lent idle out) (stock now rest (out ++ leased number v ∷ []))
   drops_unfit : (lent : ℕ) (idle rest : List View) (last : View) (why : Unfit) (out : List Out) →
-      ChecksFirst idle rest last (Err why) → Step (stock lent idle out) (stock lent rest out)
+      ChecksFirst idle rest last (Err why) → StockStep (stock lent idle out) (stock lent rest out)
   refills : (lent : ℕ) (idle now : List View) (out : List Out) (config : Config) (nonce : List ℕ)
-      (v : View) → IsIdle 0 (new_history config nonce) v → now ≡ idle ++ v ∷ [] →
-      Step (stock lent idle out) (stock lent now out)
+      (v : View) → IsIdleInPool 0 (new_history config nonce) v → now ≡ idle ++ v ∷ [] →
+      StockStep (stock lent idle out) (stock lent now out)
   retires : (lent number : ℕ) (idle : List View) (before behind : List Out) (old : View) →
-      Step (stock lent idle (before ++ leased number old ∷ behind))
+      StockStep (stock lent idle (before ++ leased number old ∷ behind))
       (stock lent idle (before ++ behind))
 
 -- any list of calls
-pub data Steps : Stock → Stock → Type 0 where
-  no_step : (s : Stock) → Steps s s
-  step_more : (s t u : Stock) → Steps s t → Step t u → Steps s u
+pub data StockSteps : Stock → Stock → Type 0 where
+  no_step : (s : Stock) → StockSteps s s
+  step_more : (s t u : Stock) → StockSteps s t → StockStep t u → StockSteps s u
 
 -- ---- what they come to
 
@@ -77,14 +77,14 @@ pub record IsOut (lent : ℕ) (o : Out) : Type 0 where
   pub number : lease.number ≡ o.number
   pub own : o.number ≤ lent
   pub stands : IsLent history lease o.view
-      ⊎ ((q : Request) × (e : ClientError) × IsCut history lease q e o.view)
+      ⊎ ((q : Request) × (e : ClientError) × IsCutLease history lease q e o.view)
 
 abbrev pub AreOut : ℕ → List Out → Type 0
 AreOut lent [] = Unit {0}
 AreOut lent (o ∷ out) = IsOut lent o × AreOut lent out
 
 -- each idle session has its history, and so has each that is out
-pub record IsInOrder (s : Stock) : Type 0 where
+pub record IsStockInOrder (s : Stock) : Type 0 where
   pub histories : List History
   pub idle : AreIdle s.lent histories s.idle
   pub out : AreOut s.lent s.out

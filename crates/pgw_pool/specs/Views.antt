@@ -31,13 +31,13 @@ abbrev pub session_left : {X : Type 0} → (X → Option (List ℕ)) → Session
 session_left left s = left_in left s.client
 
 -- how many leases it has had
-abbrev pub count_of : {X : Type 0} → Session X → ℕ
-count_of s = s.leases
+abbrev pub lease_count : {X : Type 0} → Session X → ℕ
+lease_count s = s.leases
 
 -- ---- a lease
 
-abbrev pub number_of : {X : Type 0} → Lease X → ℕ
-number_of lease = lease.number
+abbrev pub lease_number : {X : Type 0} → Lease X → ℕ
+lease_number lease = lease.number
 
 -- how many leases its session has had, this one included
 abbrev pub leases_of : {X : Type 0} → Lease X → ℕ
@@ -66,7 +66,7 @@ lefts_in left pool = map (session_left left) (pool.idle).items
 
 -- how many leases each of them has had
 abbrev pub counts_in : {X : Type 0} {L : Link.Ghosts X} → Pool X L → List ℕ
-counts_in pool = map count_of (pool.idle).items
+counts_in pool = map lease_count (pool.idle).items
 
 -- how many leases it has lent
 abbrev pub lent_by : {X : Type 0} {L : Link.Ghosts X} → Pool X L → ℕ

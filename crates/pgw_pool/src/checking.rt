@@ -114,7 +114,7 @@ fn look_at<L: Link>(alloc: Global, client: &mut PgWireClient<L>) -> Result<(), U
 impl<L: Link> Pool<L> {
     ghost use Rattle.std.specs.Prelude.{Ok};
     ghost use Rattle.pgw_pool.specs.Histories.{History, AreIdle};
-    ghost use Rattle.pgw_pool.specs.Views.{idle_in, lefts_in, counts_in, left_of, lent_by, out_by, connected_by, dropped_by, room_of, reserved_in, number_of, leases_of, lease_view};
+    ghost use Rattle.pgw_pool.specs.Views.{idle_in, lefts_in, counts_in, left_of, lent_by, out_by, connected_by, dropped_by, room_of, reserved_in, lease_number, leases_of, lease_view};
     ghost use Rattle.pgw_pool.specs.Leases.{AreCounted, LendsOne, LendsFitCounted, LeavesCounts, StayCounted};
     ghost use Rattle.pgw_pool.specs.Checking.{ChecksForetold, LendsFit, LendsNoneFit, NoneForetold, LendsChecked, StayChecked};
 
@@ -130,7 +130,7 @@ impl<L: Link> Pool<L> {
         ensures lent { IfOk result (λ lease. LendsFit
             (idle_in L.tape L.faults self.old) (lent_by self.old)
             (idle_in L.tape L.faults self.new) (lent_by self.new)
-            (number_of lease) (lease_view L.tape L.faults lease)) }
+            (lease_number lease) (lease_view L.tape L.faults lease)) }
         // What each link has to come stays with its session; and of one that knows that, the check
         // took its front.
         ensures foretold { IfOk result (λ lease. ChecksForetold L.foretells
@@ -145,7 +145,7 @@ impl<L: Link> Pool<L> {
             AreIdle (lent_by self.old) hs (idle_in L.tape L.faults self.old) →
             IfOk result (λ lease. LendsChecked hs
             (lent_by self.new) (idle_in L.tape L.faults self.new)
-            (number_of lease) (lease_view L.tape L.faults lease)) }
+            (lease_number lease) (lease_view L.tape L.faults lease)) }
         // It has had one lease more, and the others as many as before.
         ensures had { IfOk result (λ lease.
             LendsOne (counts_in self.old) (counts_in self.new) (leases_of lease)) }

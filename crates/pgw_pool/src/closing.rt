@@ -1,9 +1,9 @@
 //! The end of a pool, and of a session that is not to be kept.
 ghost use Rattle.std.specs.Prelude.{◌≡◌, [], ◌+◌, ◌-◌, ◌≤◌, length, false};
-ghost use Rattle.pgw_types.specs.Counts.{counted};
+ghost use Rattle.pgw_types.specs.Counts.{next_count};
 ghost use Rattle.pgw_handlers.specs.Handling.{HasCause};
 ghost use Rattle.pgw_connection.specs.Closing.{Closed};
-ghost use Rattle.pgw_pool.specs.Closing.{first_error};
+ghost use Rattle.pgw_pool.specs.Closing.{first_pool_error};
 
 use crate::lease::Lease;
 use crate::pool::Pool;
@@ -14,7 +14,7 @@ fn first_error(
     first: PgWireClientResult<()>,
     next: PgWireClientResult<()>,
 ) -> PgWireClientResult<()>
-    ensures { result ≡ first_error first next }
+    ensures { result ≡ first_pool_error first next }
 {
     match first {
         Ok(()) => next,
@@ -27,13 +27,13 @@ fn first_error(
 
 impl<L: Link> Pool<L> {
     ghost use Rattle.pgw_pool.specs.Views.{idle_in, lefts_in, counts_in, lent_by, out_by, dropped_by, connected_by, room_of, reserved_in, lease_view};
-    ghost use Rattle.pgw_pool.specs.Closing.{Closes};
+    ghost use Rattle.pgw_pool.specs.Closing.{ClosesIdleSessions};
 
     /// Ends the pool: takes leave of the server on each idle session, the longest idle one first, and
     /// gives its link back to the dialer, which closes it in each case. The first error is told. It
     /// takes no memory.
     pub fn close<D: Dialer<Link = L>>(self, dialer: &mut D) -> PgWireClientResult<()>
-        ensures closed { Closes (idle_in L.tape L.faults self)
+        ensures closed { ClosesIdleSessions (idle_in L.tape L.faults self)
             (D.tape dialer.old) (D.faults dialer.old) []
             (D.tape dialer.new) (D.faults dialer.new) result }
         // The links that the dialer makes next are those that they were.
@@ -71,7 +71,7 @@ impl<L: Link> Pool<L> {
         ensures reserved { reserved_in self.new ≡ reserved_in self.old }
         ensures lent { lent_by self.new ≡ lent_by self.old }
         ensures out { out_by self.new ≡ out_by self.old - 1 }
-        ensures dropped { dropped_by self.new ≡ counted (dropped_by self.old) }
+        ensures dropped { dropped_by self.new ≡ next_count (dropped_by self.old) }
         ensures connected { connected_by self.new ≡ connected_by self.old }
         // The idle sessions are those that were idle before, so this one is never lent again.
         ensures idle { idle_in L.tape L.faults self.new ≡ idle_in L.tape L.faults self.old }

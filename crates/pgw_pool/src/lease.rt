@@ -5,7 +5,7 @@ ghost use Rattle.pgw_handlers.specs.Handling.{HasCause};
 ghost use Rattle.pgw_connection.specs.State.{link_of};
 ghost use Rattle.pgw_connection.specs.Canceling.{IsTokenOf};
 ghost use Rattle.pgw_connection.specs.Connecting.{LacksAddress};
-ghost use Rattle.pgw_ask.specs.Asking.{Asks, Ended};
+ghost use Rattle.pgw_ask.specs.Asking.{Asks, EndsRequest};
 
 use pgw_ask::ask;
 use pgw_client::{Answer, Link, PgWireClientResult, Request};
@@ -22,12 +22,12 @@ pub struct Lease<L: Link> {
 impl<L: Link> Lease<L> {
     ghost use Rattle.pgw_pool.specs.Histories.{History, Lent, IsLent};
     ghost use Rattle.pgw_connection.specs.Line.{Foretold, StaysWithin};
-    ghost use Rattle.pgw_pool.specs.Views.{number_of, leases_of, client_in, left_of, lease_view};
-    ghost use Rattle.pgw_pool.specs.Lending.{Ran};
+    ghost use Rattle.pgw_pool.specs.Views.{lease_number, leases_of, client_in, left_of, lease_view};
+    ghost use Rattle.pgw_pool.specs.Lending.{LeaseRan};
 
     /// The first lease of a pool has number 1.
     pub fn number(&self) -> u64
-        ensures { result ≡ number_of self.now }
+        ensures { result ≡ lease_number self.now }
     {
         self.number
     }
@@ -61,7 +61,7 @@ impl<L: Link> Lease<L> {
     /// Asks a request by the default handlers, and gives its answer. The server's error is an answer,
     /// where the session can go on behind it.
     pub fn run(&mut self, alloc: Global, request: &Request) -> PgWireClientResult<Answer>
-        ensures number { number_of self.new ≡ number_of self.old }
+        ensures number { lease_number self.new ≡ lease_number self.old }
         ensures had { leases_of self.new ≡ leases_of self.old }
         // A session that an earlier error left unusable is asked nothing.
         ensures broken { (lease_view L.tape L.faults self.old).broken ≡ true →
@@ -69,7 +69,7 @@ impl<L: Link> Lease<L> {
         // Whatever was done over the session, this request is made besides, and the answer is that of
         // its own segment; an error tells how far it was made.
         ensures ran { (h : History) (l : Lent) → IsLent h l (lease_view L.tape L.faults self.old) →
-            Ran h l request.now (lease_view L.tape L.faults self.new)
+            LeaseRan h l request.now (lease_view L.tape L.faults self.new)
             (lease_view L.tape L.faults self.new).broken result }
         // The same by the client's own call, with the reason of each error.
         ensures asks { let old = lease_view L.tape L.faults self.old in
@@ -81,7 +81,7 @@ impl<L: Link> Lease<L> {
         ensures ended { let old = lease_view L.tape L.faults self.old in
             let new = lease_view L.tape L.faults self.new in
             old.broken ≡ false →
-            Ended request.now old.line new.client new.line new.broken result }
+            EndsRequest request.now old.line new.client new.line new.broken result }
         ensures cause { let old = lease_view L.tape L.faults self.old in
             let new = lease_view L.tape L.faults self.new in
             HasCause old.line.faults new.line.faults old.broken result }

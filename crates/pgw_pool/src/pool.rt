@@ -38,7 +38,7 @@ pub enum LendError {
 
 impl<L: Link> Pool<L> {
     ghost use Rattle.pgw_pool.specs.Histories.{History, Lent, IsLent, AreIdle};
-    ghost use Rattle.pgw_pool.specs.Views.{view_of, left_in, idle_in, lefts_in, counts_in, lent_by, out_by, dropped_by, connected_by, room_of, reserved_in, number_of, leases_of, left_of, lease_view};
+    ghost use Rattle.pgw_pool.specs.Views.{view_of, left_in, idle_in, lefts_in, counts_in, lent_by, out_by, dropped_by, connected_by, room_of, reserved_in, lease_number, leases_of, left_of, lease_view};
     ghost use Rattle.pgw_pool.specs.Leases.{leases_with_this, AreCounted, LendsOne, LendsCounted, counts_behind, BackCounted};
     ghost use Rattle.pgw_pool.specs.Lending.{most_leases, Lends, LendsNone, LendsFirst};
     ghost use Rattle.pgw_pool.specs.Returning.{GivesBack, GivesForetold, GivenBack, DropsFrom, dropped_behind};
@@ -174,7 +174,7 @@ impl<L: Link> Pool<L> {
         ensures lent { IfOk result (λ lease. Lends
             (idle_in L.tape L.faults self.old) (lent_by self.old)
             (idle_in L.tape L.faults self.new) (lent_by self.new)
-            (number_of lease) (lease_view L.tape L.faults lease)) }
+            (lease_number lease) (lease_view L.tape L.faults lease)) }
         ensures counts { OnOk result (length (idle_in L.tape L.faults self.old)
             ≡ length (idle_in L.tape L.faults self.new) + 1) }
         // So the pool has room for it again.
@@ -185,7 +185,7 @@ impl<L: Link> Pool<L> {
             AreIdle (lent_by self.old) hs (idle_in L.tape L.faults self.old) →
             IfOk result (λ lease. LendsFirst hs
             (lent_by self.new) (idle_in L.tape L.faults self.new)
-            (number_of lease) (lease_view L.tape L.faults lease)) }
+            (lease_number lease) (lease_view L.tape L.faults lease)) }
         // It has had one lease more, and the others as many as before.
         ensures had { IfOk result (λ lease.
             LendsOne (counts_in self.old) (counts_in self.new) (leases_of lease)) }

@@ -1,7 +1,7 @@
 //! Sessions in place of those that were dropped.
 ghost use Rattle.std.specs.Prelude.{◌≡◌, ◌⊎◌, ◌<◌, ◌++◌, ◌∷◌, [], ℕ, List, Option, length, ◌+◌, false, IfErr, OnOk, OnErr};
 ghost use Rattle.pgw_backend.specs.declared.client_error.PgWireClientError.TheVariants as failure;
-ghost use Rattle.pgw_types.specs.Counts.{counted};
+ghost use Rattle.pgw_types.specs.Counts.{next_count};
 ghost use Rattle.pgw_handlers.specs.Handling.{HasCause};
 
 use crate::pool::Pool;
@@ -32,7 +32,7 @@ impl<L: Link> Pool<L> {
         ensures lent { lent_by self.new ≡ lent_by self.old }
         ensures out { out_by self.new ≡ out_by self.old }
         ensures dropped { dropped_by self.new ≡ dropped_by self.old }
-        ensures connected { OnOk result (connected_by self.new ≡ counted (connected_by self.old)) }
+        ensures connected { OnOk result (connected_by self.new ≡ next_count (connected_by self.old)) }
         ensures refills { OnOk result (Refills config.now limit nonce
             (dials (D.tape dialer.old) (D.offers dialer.old) (D.faults dialer.old))
             (dials (D.tape dialer.new) (D.offers dialer.new) (D.faults dialer.new))

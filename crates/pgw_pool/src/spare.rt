@@ -1,7 +1,7 @@
 //! A session that no pool holds, and that may be put into one.
 ghost use Rattle.std.specs.Prelude.{◌≡◌, ◌≢◌, ◌⊎◌, ◌<◌, ◌≤◌, ◌+◌, ◌-◌, ◌++◌, ◌∷◌, [], ℕ, List, Option, length, false, IfOk, IfErr};
 ghost use Rattle.pgw_backend.specs.declared.client_error.PgWireClientError.TheVariants as failure;
-ghost use Rattle.pgw_types.specs.Counts.{counted};
+ghost use Rattle.pgw_types.specs.Counts.{next_count};
 ghost use Rattle.pgw_handlers.specs.Handling.{HasCause};
 ghost use Rattle.pgw_link.specs.Tape.{new_tape};
 ghost use Rattle.pgw_link.specs.Dials.{MakesNext};
@@ -25,8 +25,8 @@ pub struct Spare<L: Link> {
 }
 
 impl<L: Link> Spare<L> {
-    ghost use Rattle.pgw_pool.specs.Histories.{IsIdle, new_history};
-    ghost use Rattle.pgw_pool.specs.Starting.{dials, Connects, NotConnects};
+    ghost use Rattle.pgw_pool.specs.Histories.{IsIdleInPool, new_history};
+    ghost use Rattle.pgw_pool.specs.Starting.{dials, PoolConnects, NotConnects};
     ghost use Rattle.pgw_pool.specs.Spares.{last_lease, spare_leases, spare_view, spare_left};
 
     /// Connects a session, with one dial at most. The nonce is to be random and used for no other.
@@ -40,8 +40,8 @@ impl<L: Link> Spare<L> {
         ensures number { IfOk result (λ s. last_lease s ≡ 0) }
         ensures had { IfOk result (λ s. spare_leases s ≡ 0) }
         ensures idle { IfOk result (λ s.
-            IsIdle 0 (new_history config.now nonce) (spare_view L.tape L.faults s)) }
-        ensures connected { IfOk result (λ s. Connects config.now limit nonce
+            IsIdleInPool 0 (new_history config.now nonce) (spare_view L.tape L.faults s)) }
+        ensures connected { IfOk result (λ s. PoolConnects config.now limit nonce
             (dials (D.tape dialer.old) (D.offers dialer.old) (D.faults dialer.old))
             (dials (D.tape dialer.new) (D.offers dialer.new) (D.faults dialer.new))
             (spare_view L.tape L.faults s)) }
@@ -80,9 +80,9 @@ impl<L: Link> Spare<L> {
 }
 
 impl<L: Link> Lease<L> {
-    ghost use Rattle.pgw_pool.specs.Histories.{History, Lent, IsLent, IsIdle, with_lease};
+    ghost use Rattle.pgw_pool.specs.Histories.{History, Lent, IsLent, IsIdleInPool, with_lease};
     ghost use Rattle.pgw_session.specs.Events.{Event};
-    ghost use Rattle.pgw_pool.specs.Views.{number_of, leases_of, left_of, lease_view};
+    ghost use Rattle.pgw_pool.specs.Views.{lease_number, leases_of, left_of, lease_view};
     ghost use Rattle.pgw_pool.specs.Leases.{leases_had, leases_with_this};
     ghost use Rattle.pgw_pool.specs.Returning.{GivesBack, GivesForetold, DropsFrom};
     ghost use Rattle.pgw_pool.specs.Spares.{last_lease, spare_leases, spare_view, spares_in, lefts_of, returned_as, IsSpared};
@@ -91,7 +91,7 @@ impl<L: Link> Lease<L> {
     /// and no transaction is open behind it, the session may be put into a pool. Else it is dropped
     /// with its link.
     pub fn reset(self, alloc: Global) -> Result<Spare<L>, DropCause>
-        ensures number { IfOk result (λ s. last_lease s ≡ number_of self) }
+        ensures number { IfOk result (λ s. last_lease s ≡ lease_number self) }
         ensures had { IfOk result (λ s. spare_leases s ≡ leases_of self) }
         // As `Pool::give_back` keeps or drops it.
         ensures gives_back { GivesBack (lease_view L.tape L.faults self) []
@@ -130,7 +130,7 @@ impl<L: Link> Lease<L> {
 }
 
 impl<L: Link> Pool<L> {
-    ghost use Rattle.pgw_pool.specs.Histories.{History, IsIdle, AreIdle};
+    ghost use Rattle.pgw_pool.specs.Histories.{History, IsIdleInPool, AreIdle};
     ghost use Rattle.pgw_pool.specs.Views.{idle_in, lefts_in, counts_in, lent_by, out_by, dropped_by, connected_by, room_of, reserved_in};
     ghost use Rattle.pgw_pool.specs.Leases.{leases_had, AreCounted};
     ghost use Rattle.pgw_pool.specs.Spares.{last_lease, spare_leases, spare_left, spare_view};
@@ -154,7 +154,7 @@ impl<L: Link> Pool<L> {
         ensures lent { lent_by self.new ≡ lent_by self.old }
         ensures dropped { dropped_by self.new ≡ dropped_by self.old }
         ensures new { last_lease spare ≡ 0 → (out_by self.new ≡ out_by self.old)
-            × (connected_by self.new ≡ counted (connected_by self.old)) }
+            × (connected_by self.new ≡ next_count (connected_by self.old)) }
         ensures back { last_lease spare ≢ 0 → (out_by self.new ≡ out_by self.old - 1)
             × (connected_by self.new ≡ connected_by self.old) }
         ensures idle { idle_in L.tape L.faults self.new
@@ -166,7 +166,7 @@ impl<L: Link> Pool<L> {
         // Where its last lease is one of this pool's, the pool stands for its history too.
         ensures stands { (hs : List History) (h : History) →
             AreIdle (lent_by self.old) hs (idle_in L.tape L.faults self.old) →
-            IsIdle (last_lease spare) h (spare_view L.tape L.faults spare) →
+            IsIdleInPool (last_lease spare) h (spare_view L.tape L.faults spare) →
             last_lease spare ≤ lent_by self.old →
             AreIdle (lent_by self.new) (hs ++ h ∷ []) (idle_in L.tape L.faults self.new) }
         // Its leases are counted with it.
@@ -195,7 +195,7 @@ impl<L: Link> Pool<L> {
         ensures reserved { reserved_in self.new ≡ reserved_in self.old }
         ensures lent { lent_by self.new ≡ lent_by self.old }
         ensures out { out_by self.new ≡ out_by self.old - 1 }
-        ensures dropped { dropped_by self.new ≡ counted (dropped_by self.old) }
+        ensures dropped { dropped_by self.new ≡ next_count (dropped_by self.old) }
         ensures connected { connected_by self.new ≡ connected_by self.old }
         ensures idle { idle_in L.tape L.faults self.new ≡ idle_in L.tape L.faults self.old }
         ensures lefts { lefts_in L.left self.new ≡ lefts_in L.left self.old }

@@ -5,9 +5,9 @@ ghost use Rattle.pgw_link.specs.Dials.{MakesNext};
 ghost use Rattle.pgw_connection.specs.Line.{Foretold};
 ghost use Rattle.pgw_backend.specs.declared.client_error.PgWireClientError.TheVariants as failure;
 ghost use Rattle.pgw_handlers.specs.Handling.{HasCause};
-ghost use Rattle.pgw_pool.specs.Histories.{IsIdle, new_history};
+ghost use Rattle.pgw_pool.specs.Histories.{IsIdleInPool, new_history};
 ghost use Rattle.pgw_pool.specs.Views.{view_of, left_in};
-ghost use Rattle.pgw_pool.specs.Starting.{dials, Connects, NotConnects};
+ghost use Rattle.pgw_pool.specs.Starting.{dials, PoolConnects, NotConnects};
 
 use pgw_calls::laws::logins_begin_a_client;
 use pgw_client::{Config, Dialer, Link, PgWireClientError, PgWireClientResult};
@@ -25,8 +25,8 @@ pub(crate) fn log_in<L: Link, D: Dialer<Link = L>>(
     dialer: &mut D,
 ) -> PgWireClientResult<PgWireClient<L>>
     ensures idle { IfOk result (λ client.
-        IsIdle 0 (new_history config.now nonce) (view_of L.tape L.faults client)) }
-    ensures connects { IfOk result (λ client. Connects config.now limit nonce
+        IsIdleInPool 0 (new_history config.now nonce) (view_of L.tape L.faults client)) }
+    ensures connects { IfOk result (λ client. PoolConnects config.now limit nonce
         (dials (D.tape dialer.old) (D.offers dialer.old) (D.faults dialer.old))
         (dials (D.tape dialer.new) (D.offers dialer.new) (D.faults dialer.new))
         (view_of L.tape L.faults client)) }

@@ -13,7 +13,7 @@ use Rattle.pgw_link.specs.MemoryDials.{offers_of}
 use Rattle.pgw_link.specs.declared.memory.MemoryLink.{MemoryLink}
 use Rattle.pgw_pool.specs.Histories.{View}
 use Rattle.pgw_pool.specs.Starting.{Dials, dials, ConnectAll, ConnectForetold, NotStarted, no_login, login_more}
-use Rattle.pgw_pool_script.specs.Outcome.{new_dialer, Started, Unstarted}
+use Rattle.pgw_pool_script.specs.Outcome.{new_dialer, StartsPool, Unstarted}
 
 -- each login gives one session
 pub one_each : (config : Config) (limit : ℕ) (old new : Dials) (nonces : List (List ℕ)) (vs : List View) → ConnectAll config limit old nonces new vs → length vs ≡ length nonces
@@ -27,7 +27,7 @@ pub dialer_is : (tape : DialTape) (faults : ℕ) (links given : List MemoryLink)
 dialer_is tape faults links given fresh calm are = rw (fresh, calm, are) refl
 
 pub started : {T : Type 0} (r : Result T ClientError) (idle : T → List View) (lefts : T → List (Option (List ℕ))) (config : Config) (limit : ℕ) (nonces servers : List (List ℕ)) (old new : Dials) → old ≡ new_dialer servers
-    → IfOk r (λ x. ConnectForetold config limit old nonces new (lefts x) (idle x)) → IfOk r (λ x. Started config limit nonces servers (idle x) (lefts x))
+    → IfOk r (λ x. ConnectForetold config limit old nonces new (lefts x) (idle x)) → IfOk r (λ x. StartsPool config limit nonces servers (idle x) (lefts x))
 started (Ok x) idle lefts config limit nonces servers old new is connects = (new, subst (λ d. ConnectForetold config limit d nonces new (lefts x) (idle x)) is connects)
 started (Err e) idle lefts config limit nonces servers old new is connects = tt
 

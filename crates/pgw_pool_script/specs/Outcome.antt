@@ -15,28 +15,28 @@ use Rattle.pgw_script.specs.PoolScript.{lines_before_calls}
 use Rattle.pgw_pool_script.specs.declared.run.PoolOutcome.{PoolOutcome}
 use Rattle.pgw_pool_script.specs.declared.run.PoolOutcome.TheVariants as outcome
 use Rattle.pgw_pool_script.specs.Lines.{wants_memory}
-use Rattle.pgw_pool_script.specs.Standing.{Standing, standing, Calls, AllBack, NamesNone}
+use Rattle.pgw_pool_script.specs.Standing.{PoolStanding, standing_in_pool, Calls, AllBack, NamesNone}
 
 -- ---- the calls
 
 -- the first calls were made, and the next one names a lease that is not out; its line has this number
-pub record StopsAt (first : Standing) (calls : List PoolCall) (line n : ℕ) : Type 0 where
+pub record StopsAtPoolCall (first : PoolStanding) (calls : List PoolCall) (line n : ℕ) : Type 0 where
   pub done : List PoolCall
   pub next : PoolCall
   pub behind : List PoolCall
   pub cut : calls ≡ done ++ next ∷ behind
   pub text : List ℕ
-  pub there : Standing
+  pub there : PoolStanding
   pub made : Calls first done text there
   pub names : NamesNone next there.out
   pub number : n ≡ line + length done + 1
 
 -- all calls were made, and the leases that were out then were given back; or there is such a line
-abbrev pub ComesTo : Standing → List PoolCall → (line : ℕ) → PoolOutcome → Type 0
-ComesTo first calls line (outcome.Told text) =
-    (there last : Standing) × Calls first calls text.items there × AllBack there last
-ComesTo first calls line (outcome.NotOut n) = StopsAt first calls line n
-ComesTo first calls line (outcome.Refused e) = ⊥
+abbrev pub PoolComesTo : PoolStanding → List PoolCall → (line : ℕ) → PoolOutcome → Type 0
+PoolComesTo first calls line (outcome.Told text) =
+    (there last : PoolStanding) × Calls first calls text.items there × AllBack there last
+PoolComesTo first calls line (outcome.NotOut n) = StopsAtPoolCall first calls line n
+PoolComesTo first calls line (outcome.Refused e) = ⊥
 
 -- ---- the pool
 
@@ -50,9 +50,9 @@ new_dialer servers = dials new_dials (Some servers) 0
 
 -- A pool was started over these links, each session over its own server's: these are its sessions, and what their links
 -- still have to come.
-abbrev pub Started : Config → (limit : ℕ) → (nonces servers : List (List ℕ)) → List View →
+abbrev pub StartsPool : Config → (limit : ℕ) → (nonces servers : List (List ℕ)) → List View →
     List (Option (List ℕ)) → Type 0
-Started config limit nonces servers idle lefts =
+StartsPool config limit nonces servers idle lefts =
     (after : Dials) × ConnectForetold config limit (new_dialer servers) nonces after lefts idle
 
 -- none was, for this reason
@@ -61,16 +61,16 @@ Unstarted config limit nonces servers e =
     (after : Dials) × NotStarted (Unit {0}) config limit nonces (new_dialer servers) after e
 
 -- a pool was started with this configuration, and the calls come to this
-abbrev pub Runs : PoolScript → Config → PoolOutcome → Type 0
-Runs s config o =
+abbrev pub RunsPoolScript : PoolScript → Config → PoolOutcome → Type 0
+RunsPoolScript s config o =
     (idle : List View) × (lefts : List (Option (List ℕ)))
-    × Started config s.limit (nonces_of s) s.servers idle lefts
-    × ComesTo (standing 0 idle lefts []) s.calls (lines_before_calls s) o
+    × StartsPool config s.limit (nonces_of s) s.servers idle lefts
+    × PoolComesTo (standing_in_pool 0 idle lefts []) s.calls (lines_before_calls s) o
 
 abbrev pub ComesOf : PoolScript → Config → PoolOutcome → Type 0
 ComesOf s config (outcome.Refused e) =
     Unstarted config s.limit (nonces_of s) s.servers e × (wants_memory e ≡ false)
-ComesOf s config o = Runs s config o
+ComesOf s config o = RunsPoolScript s config o
 
 -- what the connection text gives: a configuration to start by; or a refusal, which is not want of memory
 abbrev pub ComesBy : PoolScript → Result Config ConfigError → PoolOutcome → Type 0

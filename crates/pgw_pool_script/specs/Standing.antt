@@ -1,7 +1,7 @@
 -- A pool with its leases that are out, and what is printed of each call of a script.
 use Rattle.std.specs.Prelude.{◌≡◌, ◌≢◌, ℕ, true, false, List, [], ◌∷◌, ◌++◌, Option, Result, Ok, Err}
 use Rattle.std.specs.List.{All}
-use Rattle.pgw_types.specs.Counts.{counted}
+use Rattle.pgw_types.specs.Counts.{next_count}
 use Rattle.pgw_backend.specs.declared.client_error.PgWireClientError.{PgWireClientError as ClientError}
 use Rattle.pgw_backend.specs.declared.client_error.PgWireClientError.TheVariants as client
 use Rattle.pgw_session.specs.declared.types.Request.{Request}
@@ -20,32 +20,32 @@ use Rattle.pgw_printing.specs.SessionText.{error_line}
 use Rattle.pgw_pool_script.specs.Lines.{lease_line, none_line, returned_line, wants_memory, was_wanting}
 
 -- a lease that is out: its number, its session, what its link still has to come, and how many requests were answered in it
-pub record Place : Type 0 where
+pub record ScriptLease : Type 0 where
   pub number : ℕ
   pub view : View
   pub left : Option (List ℕ)
   pub answers : ℕ
 
-abbrev pub place : ℕ → View → Option (List ℕ) → ℕ → Place
-place number view left answers =
+abbrev pub lease_place : ℕ → View → Option (List ℕ) → ℕ → ScriptLease
+lease_place number view left answers =
     record { number = number; view = view; left = left; answers = answers }
 
 -- how many leases the pool has lent, its idle sessions and what their links still have to come, and its leases that are
 -- out, in the order that they were lent
-pub record Standing : Type 0 where
+pub record PoolStanding : Type 0 where
   pub lent : ℕ
   pub idle : List View
   pub lefts : List (Option (List ℕ))
-  pub out : List Place
+  pub out : List ScriptLease
 
-abbrev pub standing : ℕ → List View → List (Option (List ℕ)) → List Place → Standing
-standing lent idle lefts out = record { lent = lent; idle = idle; lefts = lefts; out = out }
+abbrev pub standing_in_pool : ℕ → List View → List (Option (List ℕ)) → List ScriptLease → PoolStanding
+standing_in_pool lent idle lefts out = record { lent = lent; idle = idle; lefts = lefts; out = out }
 
 -- ---- a request in a lease
 
 -- What a lease promises of it: over a session that can be used, its answer or its error has its reason; what its link gave
 -- for it is the front of what that had to come; and no more is read than the script's limit.
-pub record Runs (q : Request) (old new : View) (was is : Option (List ℕ))
+pub record RunsScriptLease (q : Request) (old new : View) (was is : Option (List ℕ))
     (result : Result Answer ClientError) : Type 0 where
   pub broken : old.broken ≡ true → (result ≡ Err client.Broken) × (new ≡ old)
   pub asks : old.broken ≡ false →
@@ -54,59 +54,59 @@ pub record Runs (q : Request) (old new : View) (was is : Option (List ℕ))
   pub within : StaysWithin old.line new.line
 
 -- the answers of a lease are numbered from 1, and an error has no number
-pub data Tells (q : Request) : Place → Place → List ℕ → Type 0 where
+pub data TellsPoolLines (q : Request) : ScriptLease → ScriptLease → List ℕ → Type 0 where
   answered : (number n : ℕ) (old new : View) (was is : Option (List ℕ)) (a : Answer) →
-      Runs q old new was is (Ok a) →
-      Tells q (place number old was n) (place number new is (counted n))
-      (answer_lines (counted n) a)
+      RunsScriptLease q old new was is (Ok a) →
+      TellsPoolLines q (lease_place number old was n) (lease_place number new is (next_count n))
+      (answer_lines (next_count n) a)
   refused : (number n : ℕ) (old new : View) (was is : Option (List ℕ)) (e : ClientError) →
-      Runs q old new was is (Err e) → wants_memory e ≡ false →
-      Tells q (place number old was n) (place number new is n) (error_line e)
+      RunsScriptLease q old new was is (Err e) → wants_memory e ≡ false →
+      TellsPoolLines q (lease_place number old was n) (lease_place number new is n) (error_line e)
 
 -- ---- the calls of a script
 
 -- one call, and what is printed of it
-pub data Called : Standing → PoolCall → List ℕ → Standing → Type 0 where
+pub data PrintsPoolCall : PoolStanding → PoolCall → List ℕ → PoolStanding → Type 0 where
   lends : (lent now number : ℕ) (idle rest : List View) (v : View) (left : Option (List ℕ))
-      (lefts : List (Option (List ℕ))) (out : List Place) → Lends idle lent rest now number v →
-      Called (standing lent idle (left ∷ lefts) out) call.Lend (lease_line number)
-      (standing now rest lefts (out ++ place number v left 0 ∷ []))
-  lends_none : (lent : ℕ) (idle : List View) (lefts : List (Option (List ℕ))) (out : List Place)
+      (lefts : List (Option (List ℕ))) (out : List ScriptLease) → Lends idle lent rest now number v →
+      PrintsPoolCall (standing_in_pool lent idle (left ∷ lefts) out) call.Lend (lease_line number)
+      (standing_in_pool now rest lefts (out ++ lease_place number v left 0 ∷ []))
+  lends_none : (lent : ℕ) (idle : List View) (lefts : List (Option (List ℕ))) (out : List ScriptLease)
       (e : LendError) → LendsNone idle lent e →
-      Called (standing lent idle lefts out) call.Lend (none_line e) (standing lent idle lefts out)
-  runs : (lent : ℕ) (idle : List View) (lefts : List (Option (List ℕ))) (before behind : List Place)
-      (old new : Place) (q : Request) (line : List ℕ) → Tells q old new line →
-      Called (standing lent idle lefts (before ++ old ∷ behind)) (call.Run old.number q) line
-      (standing lent idle lefts (before ++ new ∷ behind))
+      PrintsPoolCall (standing_in_pool lent idle lefts out) call.Lend (none_line e) (standing_in_pool lent idle lefts out)
+  runs : (lent : ℕ) (idle : List View) (lefts : List (Option (List ℕ))) (before behind : List ScriptLease)
+      (old new : ScriptLease) (q : Request) (line : List ℕ) → TellsPoolLines q old new line →
+      PrintsPoolCall (standing_in_pool lent idle lefts (before ++ old ∷ behind)) (call.Run old.number q) line
+      (standing_in_pool lent idle lefts (before ++ new ∷ behind))
   gives_back : (lent : ℕ) (idle now : List View) (lefts left_now : List (Option (List ℕ)))
-      (before behind : List Place) (old : Place) (result : Returned) →
+      (before behind : List ScriptLease) (old : ScriptLease) (result : Returned) →
       GivesForetold old.left old.view idle now lefts left_now result →
       was_wanting result ≡ false →
-      Called (standing lent idle lefts (before ++ old ∷ behind)) (call.Back old.number)
-      (returned_line result) (standing lent now left_now (before ++ behind))
+      PrintsPoolCall (standing_in_pool lent idle lefts (before ++ old ∷ behind)) (call.Back old.number)
+      (returned_line result) (standing_in_pool lent now left_now (before ++ behind))
 
 -- a list of calls, and all that is printed of them
-pub data Calls : Standing → List PoolCall → List ℕ → Standing → Type 0 where
-  no_call : (s : Standing) → Calls s [] [] s
-  call_more : (s t u : Standing) (cs : List PoolCall) (c : PoolCall) (text line : List ℕ) →
-      Calls s cs text t → Called t c line u → Calls s (cs ++ c ∷ []) (text ++ line) u
+pub data Calls : PoolStanding → List PoolCall → List ℕ → PoolStanding → Type 0 where
+  no_call : (s : PoolStanding) → Calls s [] [] s
+  call_more : (s t u : PoolStanding) (cs : List PoolCall) (c : PoolCall) (text line : List ℕ) →
+      Calls s cs text t → PrintsPoolCall t c line u → Calls s (cs ++ c ∷ []) (text ++ line) u
 
 -- at the end the leases that are out are given back, in the order that they were lent, which is that of their numbers
-pub data AllBack : Standing → Standing → Type 0 where
+pub data AllBack : PoolStanding → PoolStanding → Type 0 where
   none_out : (lent : ℕ) (idle : List View) (lefts : List (Option (List ℕ))) →
-      AllBack (standing lent idle lefts []) (standing lent idle lefts [])
+      AllBack (standing_in_pool lent idle lefts []) (standing_in_pool lent idle lefts [])
   back_first : (lent : ℕ) (idle now : List View) (lefts left_now : List (Option (List ℕ)))
-      (old : Place) (out : List Place) (result : Returned) (last : Standing) →
+      (old : ScriptLease) (out : List ScriptLease) (result : Returned) (last : PoolStanding) →
       GivesForetold old.left old.view idle now lefts left_now result →
-      AllBack (standing lent now left_now out) last →
-      AllBack (standing lent idle lefts (old ∷ out)) last
+      AllBack (standing_in_pool lent now left_now out) last →
+      AllBack (standing_in_pool lent idle lefts (old ∷ out)) last
 
 -- no lease with this number is out
-abbrev pub IsNotOut : ℕ → List Place → Type 0
+abbrev pub IsNotOut : ℕ → List ScriptLease → Type 0
 IsNotOut number out = All (λ p. p.number ≢ number) out
 
 -- the call names a lease that is not out
-abbrev pub NamesNone : PoolCall → List Place → Type 0
+abbrev pub NamesNone : PoolCall → List ScriptLease → Type 0
 NamesNone call.Lend out = ⊥
 NamesNone (call.Run number q) out = IsNotOut number out
 NamesNone (call.Back number) out = IsNotOut number out

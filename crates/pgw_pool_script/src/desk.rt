@@ -5,7 +5,7 @@ ghost use Rattle.pgw_printing.specs.AnswerLines.{answer_lines};
 ghost use Rattle.pgw_printing.specs.SessionText.{error_line};
 ghost use Rattle.pgw_pool_script.specs.Lines.{lease_line, none_line, cause_name, returned_line, wants_memory as wants, was_wanting as wanting};
 ghost use Rattle.pgw_pool_script.specs.Standing.{AllBack, IsNotOut};
-ghost use Rattle.pgw_pool_script.specs.Views.{place_of as place_for, standing_of, HasRoom, PrintsRun, Prints};
+ghost use Rattle.pgw_pool_script.specs.Views.{seat_place as place_for, pool_standing, HasRoom, PrintsRun, PrintsCall};
 
 use pgw_client::{Answer, MemoryLink, OutOfMemory, PgWireClientError, Request};
 use pgw_pool::{DropCause, Lease, LendError, Pool, Returned};
@@ -126,8 +126,8 @@ fn lend(
 ) -> Result<(), OutOfMemory>
     requires { HasRoom pool.old out.old.items }
     ensures room { HasRoom pool.new out.new.items }
-    ensures called { OnOk result (Prints true (standing_of pool.old out.old.items) call.Lend
-        (standing_of pool.new out.new.items) text.old.items text.new.items) }
+    ensures called { OnOk result (PrintsCall true (pool_standing pool.old out.old.items) call.Lend
+        (pool_standing pool.new out.new.items) text.old.items text.new.items) }
 {
     out.reserve(1)?;
     match pool.lend() {
@@ -182,8 +182,8 @@ fn run_in(
 ) -> Result<bool, OutOfMemory>
     requires { HasRoom pool.now out.old.items }
     ensures room { HasRoom pool.now out.new.items }
-    ensures called { IfOk result (λ known. Prints known (standing_of pool.now out.old.items)
-        (call.Run number request.now) (standing_of pool.now out.new.items)
+    ensures called { IfOk result (λ known. PrintsCall known (pool_standing pool.now out.old.items)
+        (call.Run number request.now) (pool_standing pool.now out.new.items)
         text.old.items text.new.items) }
 {
     match place_of(out.as_slice(), number) {
@@ -204,8 +204,8 @@ fn give_back(
 ) -> Result<bool, OutOfMemory>
     requires { HasRoom pool.old out.old.items }
     ensures room { HasRoom pool.new out.new.items }
-    ensures called { IfOk result (λ known. Prints known (standing_of pool.old out.old.items)
-        (call.Back number) (standing_of pool.new out.new.items)
+    ensures called { IfOk result (λ known. PrintsCall known (pool_standing pool.old out.old.items)
+        (call.Back number) (pool_standing pool.new out.new.items)
         text.old.items text.new.items) }
 {
     match place_of(out.as_slice(), number) {
@@ -234,8 +234,8 @@ pub fn make_call(
 ) -> Result<bool, OutOfMemory>
     requires { HasRoom pool.old out.old.items }
     ensures room { HasRoom pool.new out.new.items }
-    ensures called { IfOk result (λ known. Prints known (standing_of pool.old out.old.items)
-        call.now (standing_of pool.new out.new.items) text.old.items text.new.items) }
+    ensures called { IfOk result (λ known. PrintsCall known (pool_standing pool.old out.old.items)
+        call.now (pool_standing pool.new out.new.items) text.old.items text.new.items) }
 {
     match call {
         PoolCall::Lend => {
@@ -250,7 +250,7 @@ pub fn make_call(
 /// Gives all leases back, in the order that they were lent. It answers whether memory was wanting.
 pub fn give_all_back(alloc: Global, pool: &mut Pool<MemoryLink>, mut out: Vec<Seat>) -> bool
     requires { HasRoom pool.old out.items }
-    ensures { AllBack (standing_of pool.old out.items) (standing_of pool.new []) }
+    ensures { AllBack (pool_standing pool.old out.items) (pool_standing pool.new []) }
 {
     let mut wanting = false;
     while out.len() > 0 {

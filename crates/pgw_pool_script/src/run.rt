@@ -1,8 +1,8 @@
 //! What a pool script comes to.
 ghost use Rattle.std.specs.Prelude.{◌≡◌, ◌<◌, ◌+◌, ◌^◌, [], length, IfOk, OnOk, IfSome, MatchOption, false, Some, None, Ok, Err};
-ghost use Rattle.pgw_pool_script.specs.Outcome.{ComesTo, ComesBy, RunsPool};
+ghost use Rattle.pgw_pool_script.specs.Outcome.{PoolComesTo, ComesBy, RunsPool};
 ghost use Rattle.pgw_pool_script.specs.Lines.{wants_memory as wants};
-ghost use Rattle.pgw_pool_script.specs.Views.{standing_of, HasRoom, MadeUpTo};
+ghost use Rattle.pgw_pool_script.specs.Views.{pool_standing, HasRoom, MadeUpTo};
 
 use crate::desk::{Seat, give_all_back, make_call, wants_memory};
 use crate::start::start;
@@ -32,8 +32,8 @@ fn make_calls(
 ) -> Result<Option<usize>, OutOfMemory>
     requires { HasRoom pool.old out.old.items }
     ensures room { HasRoom pool.new out.new.items }
-    ensures made { IfOk result (MadeUpTo (standing_of pool.old out.old.items) calls.now
-        (standing_of pool.new out.new.items) text.old.items text.new.items) }
+    ensures made { IfOk result (MadeUpTo (pool_standing pool.old out.old.items) calls.now
+        (pool_standing pool.new out.new.items) text.old.items text.new.items) }
 {
     for at in 0..calls.len() {
         if !make_call(alloc, pool, out, &calls[at], text)? {
@@ -67,7 +67,7 @@ fn run_calls(
 ) -> Result<PoolOutcome, OutOfMemory>
     requires room { HasRoom pool [] }
     requires lines { lines + length calls.now < 2 ^ 64 }
-    ensures { IfOk result (ComesTo (standing_of pool []) calls.now lines) }
+    ensures { IfOk result (PoolComesTo (pool_standing pool []) calls.now lines) }
 {
     let mut out = Vec::new(alloc);
     let mut text = Vec::new(alloc);

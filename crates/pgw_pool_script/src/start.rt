@@ -3,7 +3,7 @@ ghost use Rattle.std.specs.Prelude.{◌≡◌, ◌<◌, [], length, map, replica
 ghost use Rattle.pgw_link.specs.MemoryLinks.{IsUnused};
 ghost use Rattle.pgw_link.specs.Memory.{memory_tape, memory_left, faults_of};
 ghost use Rattle.pgw_pool.specs.Views.{idle_in, lefts_in, lent_by};
-ghost use Rattle.pgw_pool_script.specs.Outcome.{Started, Unstarted};
+ghost use Rattle.pgw_pool_script.specs.Outcome.{StartsPool, Unstarted};
 ghost use Rattle.pgw_pool_script.specs.Views.{HasRoom, to_come};
 
 use pgw_client::{
@@ -55,7 +55,7 @@ fn start_with(
     links: Listed<MemoryLink>,
 ) -> PgWireClientResult<Pool<MemoryLink>>
     requires { All IsUnused links }
-    ensures started { IfOk result (λ pool. Started config.now limit nonces.now
+    ensures started { IfOk result (λ pool. StartsPool config.now limit nonces.now
         (map memory_left links) (idle_in memory_tape faults_of pool) (lefts_in to_come pool)) }
     ensures none { IfOk result (λ pool. lent_by pool ≡ 0) }
     ensures room { IfOk result (λ pool. HasRoom pool []) }
@@ -77,7 +77,7 @@ pub fn start(
     cut: usize,
 ) -> PgWireClientResult<Pool<MemoryLink>>
     requires { 0 < cut }
-    ensures started { IfOk result (λ pool. Started config.now limit
+    ensures started { IfOk result (λ pool. StartsPool config.now limit
         (replicate (length servers.now) nonce) servers.now (idle_in memory_tape faults_of pool)
         (lefts_in to_come pool)) }
     ensures none { IfOk result (λ pool. lent_by pool ≡ 0) }

@@ -23,8 +23,8 @@ rows_text oid None = []
 rows_text None (Some rows) = codes " " ++ decimal rows
 rows_text (Some oid) (Some rows) = codes " " ++ decimal oid ++ codes " " ++ decimal rows
 
-unfoldable pub tag_text : Tag → List ℕ
-tag_text t = t.command ++ rows_text t.oid t.rows
+unfoldable pub printed_tag : Tag → List ℕ
+printed_tag t = t.command ++ rows_text t.oid t.rows
 
 -- a type's object identifier (pg_type)
 unfoldable pub type_number : PgType → ℕ
@@ -55,8 +55,8 @@ row_line r = codes "row " ++ signed_decimal r.field_count ++ codes " " ++ in_hex
 -- empty; done "TAG"; or rows "TAG" with a line for each column and each row
 unfoldable pub response_lines : Response → List ℕ
 response_lines response.EmptyQuery = codes "empty\n"
-response_lines (response.Execution tag) = codes "done " ++ quoted (tag_text tag) ++ line_end
-response_lines (response.Query tag fields rows) = codes "rows " ++ quoted (tag_text tag) ++ line_end ++ flat_map field_line fields ++ flat_map row_line rows
+response_lines (response.Execution tag) = codes "done " ++ quoted (printed_tag tag) ++ line_end
+response_lines (response.Query tag fields rows) = codes "rows " ++ quoted (printed_tag tag) ++ line_end ++ flat_map field_line fields ++ flat_map row_line rows
 
 -- item CODE "TEXT"
 unfoldable pub item_line : ℕ × List ℕ → List ℕ

@@ -3,7 +3,7 @@ ghost use Rattle.std.specs.Prelude.{◌≡◌, ◌++◌, ◌∷◌, [], OnOk, co
 ghost use Rattle.std.specs.List.{flat_map};
 ghost use Rattle.pgw_query.specs.Runs.{lent_row};
 ghost use Rattle.pgw_printing.specs.Pieces.{line_end, quoted, quoted_byte};
-ghost use Rattle.pgw_printing.specs.AnswerLines.{rows_text, tag_text, type_number, format_number, field_line, row_line, response_lines, item_line, name_text, oid_text, oids_text, rows_lines, executed_lines, told_lines, answer_lines, numbered};
+ghost use Rattle.pgw_printing.specs.AnswerLines.{rows_text, printed_tag, type_number, format_number, field_line, row_line, response_lines, item_line, name_text, oid_text, oids_text, rows_lines, executed_lines, told_lines, answer_lines, numbered};
 
 use crate::pieces::{put, put_decimal, put_hex, put_quoted, put_quoted_bytes, put_signed};
 use itoa::Buffer;
@@ -100,9 +100,9 @@ fn put_quoted_rows(
     }
 }
 
-#[tactic(auto, unfolding(crate::specs::AnswerLines::tag_text, crate::specs::Pieces::quoted), using(crate::proofs::PieceLaws::quoted_behind))]
+#[tactic(auto, unfolding(crate::specs::AnswerLines::printed_tag, crate::specs::Pieces::quoted), using(crate::proofs::PieceLaws::quoted_behind))]
 fn put_quoted_tag(out: &mut Vec<u8>, tag: &Tag) -> Result<(), OutOfMemory>
-    ensures { OnOk result (out.new.items ≡ out.old.items ++ quoted (tag_text tag.now)) }
+    ensures { OnOk result (out.new.items ≡ out.old.items ++ quoted (printed_tag tag.now)) }
 {
     put(out, b"\"")?;
     put_quoted_bytes(out, tag.command.as_str().as_bytes())?;

@@ -2,13 +2,13 @@
 use Rattle.std.proofs.Common.{◌≡◌, ◌≤◌, ℕ, ◌+◌, List, [], ◌∷◌, ◌++◌, length, map, take, drop, get_or, Option, Some, None, codes, refl, sym, ap, ◌∙◌, arith}
 use Rattle.std.specs.Option.{IfSome}
 use Rattle.pgw_session.specs.declared.types.Request.{Request}
-use Rattle.pgw_script.specs.Line.{number_in}
+use Rattle.pgw_script.specs.Line.{script_number}
 use Rattle.pgw_prog.specs.declared.command.Command.{Command}
 use Rattle.pgw_prog.specs.declared.command.Command.TheVariants as command
-use Rattle.pgw_prog.specs.Command.{command_for, connect_for, passfile_for, queries_of, IsSession}
+use Rattle.pgw_prog.specs.Command.{command_for, connect_for, passfile_for, queries_of, IsSessionCommand}
 
 -- they are a session's, where the third is a number
-pub limit_is : {A : Type 0} (f : A → List ℕ) (ws : List A) (w l : A) (r : Option ℕ) → 4 ≤ length ws → w ≡ get_or ws 0 w → l ≡ get_or ws 2 l → f w ≡ codes "connect" → r ≡ number_in (f l) → IfSome r (IsSession (map f ws))
+pub limit_is : {A : Type 0} (f : A → List ℕ) (ws : List A) (w l : A) (r : Option ℕ) → 4 ≤ length ws → w ≡ get_or ws 0 w → l ≡ get_or ws 2 l → f w ≡ codes "connect" → r ≡ script_number (f l) → IfSome r (IsSessionCommand (map f ws))
 limit_is f [] w l r long here there named read = absurd (omega (arith, long))
 limit_is f (a ∷ []) w l r long here there named read = absurd (omega (arith, long))
 limit_is f (a ∷ b ∷ []) w l r long here there named read = absurd (omega (arith, long))
@@ -20,11 +20,11 @@ limit_is f (a ∷ b ∷ d ∷ e ∷ more) w l (Some n) long here there named rea
   query = f e;
   more = map f more;
   are = ap (λ (x : List ℕ). x ∷ f b ∷ f d ∷ f e ∷ map f more) (ap f (sym here) ∙ named);
-  within = ap (λ (x : _). number_in (f x)) (sym there) ∙ sym read;
+  within = ap (λ (x : _). script_number (f x)) (sym there) ∙ sym read;
 }
 
 -- they ask for it, however many queries there are
-connects : (text number query : List ℕ) (more : List (List ℕ)) (limit : ℕ) → number_in number ≡ Some limit
+connects : (text number query : List ℕ) (more : List (List ℕ)) (limit : ℕ) → script_number number ≡ Some limit
     → command_for (codes "connect" ∷ text ∷ number ∷ query ∷ more) ≡ command.Connect (record { text = text; limit = limit; requests = queries_of (query ∷ more) })
 unfolding command_for connect_for passfile_for
 connects text number query [] limit within = rw within refl
@@ -32,7 +32,7 @@ connects text number query (one ∷ []) limit within = rw within refl
 connects text number query (one ∷ two ∷ more) limit within = rw within refl
 
 -- the first three were taken from them, and the others are the queries
-pub session_is : {A : Type 0} (f : A → List ℕ) (ws w1 w2 w3 : List A) (t : A) (shown : List ℕ) (limit : ℕ) (list : List Request) → IsSession (map f ws) limit
+pub session_is : {A : Type 0} (f : A → List ℕ) (ws w1 w2 w3 : List A) (t : A) (shown : List ℕ) (limit : ℕ) (list : List Request) → IsSessionCommand (map f ws) limit
     → w1 ≡ take 0 ws ++ drop (0 + 1) ws → t ≡ get_or w1 0 t → w2 ≡ take 0 w1 ++ drop (0 + 1) w1 → w3 ≡ take 0 w2 ++ drop (0 + 1) w2 → shown ≡ f t → list ≡ queries_of (map f w3)
     → command.Connect (record { text = shown; limit = limit; requests = list }) ≡ command_for (map f ws)
 session_is f [] w1 w2 w3 t shown limit list is first here second third text all = absurd (let are = is.are in cc)

@@ -5,7 +5,7 @@ use Rattle.std.proofs.lemmas.List.{length-append}
 use Rattle.std.specs.Result.{IfOk, OnOk, IsErrOf}
 use Rattle.pgw_link.specs.Tape.{Tape, MovedBy, new_tape}
 use Rattle.pgw_link.specs.Foresight.{Foreseen}
-use Rattle.pgw_link.specs.Calls.{is_reached, number_of}
+use Rattle.pgw_link.specs.Calls.{is_reached, call_number}
 use Rattle.pgw_link.specs.Memory.{Making}
 use Rattle.pgw_types.specs.declared.memory.OutOfMemory.{OutOfMemory}
 use Rattle.pgw_types.specs.declared.config_error.ConfigError.{ConfigError}
@@ -14,27 +14,27 @@ use Rattle.pgw_backend.specs.ClientError.{of_config}
 use Rattle.pgw_backend.specs.declared.client_error.PgWireClientError.{PgWireClientError}
 use Rattle.pgw_backend.specs.declared.client_error.PgWireClientError.TheVariants as client
 use Rattle.pgw_config.specs.declared.config.Config.{Config}
-use Rattle.pgw_config.specs.Answers.{Answers}
+use Rattle.pgw_config.specs.Answers.{IsConfigAnswer}
 use Rattle.pgw_config.specs.Parse.{HasOutcome, IsParsed}
 use Rattle.pgw_session.specs.declared.types.SessionReport.{SessionReport}
 use Rattle.pgw_session.specs.Demands.{refused_config}
 use Rattle.pgw_session.specs.Events.{Event}
 use Rattle.pgw_session.specs.Input.{Input}
 use Rattle.pgw_session.specs.Transcript.{Completed, Completes, report_of}
-use Rattle.pgw_client.specs.Session.{Reports}
+use Rattle.pgw_client.specs.Session.{AnswersReport}
 use Rattle.pgw_prog.specs.declared.printed.Printed.{Printed}
 use Rattle.pgw_course.specs.Course.{Over}
 use Rattle.pgw_session.specs.Talk.{conversation, whole_talk}
 use Rattle.pgw_session.proofs.Whole.{conversation_completes}
 use Rattle.pgw_script.specs.declared.script.Script.{Script}
-use Rattle.pgw_prog.specs.Held.{Session, PrintsSession, Says, PrintsOutcome, Holds, NamesCall, IsNear, memory_span, status_of}
+use Rattle.pgw_prog.specs.Held.{MemorySession, PrintsSession, Says, PrintsOutcome, Holds, NamesCall, IsNear, memory_span, exit_status}
 use Rattle.pgw_client.specs.OverLink.{LinkSpan, OverLink}
 use Rattle.pgw_printing.specs.SessionText.{session_text}
 use Rattle.pgw_prog.proofs.OverLaws.{from_fresh}
 
 -- which calls failed, of those made by then
 abbrev pub FailsBy : Making → Tape → ℕ → Type 0
-FailsBy made after faults = nat_lt 0 faults ≡ (is_reached made.reads (number_of after.reads) || is_reached made.writes (number_of after.writes))
+FailsBy made after faults = nat_lt 0 faults ≡ (is_reached made.reads (call_number after.reads) || is_reached made.writes (call_number after.writes))
 
 -- a listed call that was made is among as many calls, or more
 named_by : (n : ℕ) (ns : List ℕ) (made most : ℕ) (b : Bool) → (nat_lt 0 n && nat_le n made) ≡ b → made ≤ most → (is_reached ns made ≡ true → NamesCall ns most) → (b || is_reached ns made) ≡ true → NamesCall (n ∷ ns) most
@@ -47,10 +47,10 @@ pub named : (ns : List ℕ) (made most : ℕ) → made ≤ most → is_reached n
 named [] made most le h = cc
 named (n ∷ ns) made most le h = named_by n ns made most (nat_lt 0 n && nat_le n made) refl le (named ns made most le) h
 
-near : (made : Making) (after : Tape) (reads writes : Bool) → is_reached made.reads (number_of after.reads) ≡ reads → is_reached made.writes (number_of after.writes) ≡ writes
+near : (made : Making) (after : Tape) (reads writes : Bool) → is_reached made.reads (call_number after.reads) ≡ reads → is_reached made.writes (call_number after.writes) ≡ writes
     → after.reads ≤ length after.took + 1 → after.writes ≤ length after.wrote + 1 → (reads || writes) ≡ true → IsNear made after.took after.wrote
-near made after true writes is_read is_written few_reads few_writes h = inl (named made.reads (number_of after.reads) (length after.took + 1) (omega (arith, few_reads)) is_read)
-near made after false true is_read is_written few_reads few_writes h = inr (named made.writes (number_of after.writes) (length after.wrote + 1) (omega (arith, few_writes)) is_written)
+near made after true writes is_read is_written few_reads few_writes h = inl (named made.reads (call_number after.reads) (length after.took + 1) (omega (arith, few_reads)) is_read)
+near made after false true is_read is_written few_reads few_writes h = inr (named made.writes (call_number after.writes) (length after.wrote + 1) (omega (arith, few_writes)) is_written)
 near made after false false is_read is_written few_reads few_writes h = cc
 
 -- what is said of a session over a link that was new
@@ -64,7 +64,7 @@ from_new input limit made link left outcome fresh was is none over =
 
 module _ (input : Input) (limit : ℕ) (made : Making) (after : Tape) (left : List ℕ) (outcome : Result SessionReport PgWireClientError) where
   pub session_of : (now : ℕ) → OverLink input limit (Unit {0}) (memory_span made after left now) outcome → FailsBy made after now → length made.server ≤ length left + made.cut * after.reads → length after.wrote ≤ made.cut * after.writes
-      → Session input limit made after left now outcome
+      → MemorySession input limit made after left now outcome
   session_of now over fails taken_in sent_in =
       let paced = over.paced in
       let pace = paced.4 in
@@ -79,14 +79,14 @@ module _ (input : Input) (limit : ℕ) (made : Making) (after : Tape) (left : Li
         io_near = λ e.
             let failed = over.cause.io e in
             let some : nat_lt 0 now ≡ true = grind (arith, nat_tests, failed) in
-            near made after (is_reached made.reads (number_of after.reads)) (is_reached made.writes (number_of after.writes)) refl refl (omega (arith, pace.reads, took)) (omega (arith, pace.writes, wrote)) (sym fails ∙ some);
+            near made after (is_reached made.reads (call_number after.reads)) (is_reached made.writes (call_number after.writes)) refl refl (omega (arith, pace.reads, took)) (omega (arith, pace.writes, wrote)) (sym fails ∙ some);
         no_io = λ reads writes e. let failed = over.cause.io e in
             let some : nat_lt 0 now ≡ false = fails ∙ rw (reads, writes) refl in
             absurd (grind (arith, nat_tests, some, failed));
       }
 
   pub printed : (faults : ℕ) → OverLink input limit (Unit {0}) (memory_span made after left faults) outcome → (r : Result Printed OutOfMemory)
-      → IfOk r (λ p. p.text.items ≡ session_text after.wrote outcome) → IfOk r (λ p. p.status ≡ status_of outcome) → OnOk r (IsErrOf outcome client.OutOfMemory → ⊥) → OnOk r (FailsBy made after faults)
+      → IfOk r (λ p. p.text.items ≡ session_text after.wrote outcome) → IfOk r (λ p. p.status ≡ exit_status outcome) → OnOk r (IsErrOf outcome client.OutOfMemory → ⊥) → OnOk r (FailsBy made after faults)
       → OnOk r (length made.server ≤ length left + made.cut * after.reads) → OnOk r (length after.wrote ≤ made.cut * after.writes) → IfOk r (PrintsSession input limit made)
   printed faults over (Ok p) text status memory fails taken_in sent_in =
       record { after = after; left = left; faults = faults; outcome = outcome; session = session_of faults over fails taken_in sent_in; memory = memory; text = text; status = status }
@@ -103,8 +103,8 @@ same_sent input limit segments left taken more sent report are d c =
     cc
 
 completed_by : (input : Input) (limit : ℕ) (segments : List (List Event)) (server left : List ℕ) (after : Tape) (text : List ℕ) (status : ℕ) (outcome : Result SessionReport PgWireClientError) → Foreseen (Some server) (Some left) new_tape after
-    → (c : Completes input limit server segments) → IfOk outcome (λ report. MovedBy new_tape after (λ taken sent. Completed input taken sent report)) → Reports (report_of input segments) outcome
-    → (IsErrOf outcome client.OutOfMemory → ⊥) → text ≡ session_text after.wrote outcome → status ≡ status_of outcome → (text ≡ session_text c.sent (Ok (report_of input segments))) × (status ≡ 0)
+    → (c : Completes input limit server segments) → IfOk outcome (λ report. MovedBy new_tape after (λ taken sent. Completed input taken sent report)) → AnswersReport (report_of input segments) outcome
+    → (IsErrOf outcome client.OutOfMemory → ⊥) → text ≡ session_text after.wrote outcome → status ≡ exit_status outcome → (text ≡ session_text c.sent (Ok (report_of input segments))) × (status ≡ 0)
 completed_by input limit segments server left after text status (Ok report) known c completed reports memory is ends =
     let all : server ≡ completed.0 ++ left = known.consumes ∙ ap (λ (t : List ℕ). t ++ left) (sym known.took ∙ completed.2) in
     let wrote : after.wrote ≡ c.sent = completed.3 ∙ same_sent input limit segments server completed.0 left completed.1 report all completed.4 c in
@@ -121,12 +121,12 @@ completed_text_printed input limit made p segments clear reads writes c prints =
     (s.over.reports tt clear made.server refl segments c (λ rose. absurd (grind (arith, nat_tests, none, rose)))) prints.memory prints.text prints.status
 
 -- what is printed of a connection text that was read, and of one that was refused
-pub held : (s : Script) (config : Config) (r : Result Printed OutOfMemory) → HasOutcome s.config (Ok config) → ((other : Result Config ConfigError) → HasOutcome s.config other → Answers (Ok config) other)
+pub held : (s : Script) (config : Config) (r : Result Printed OutOfMemory) → HasOutcome s.config (Ok config) → ((other : Result Config ConfigError) → HasOutcome s.config other → IsConfigAnswer (Ok config) other)
     → IfOk r (PrintsOutcome s (Ok config)) → IfOk r (Holds s)
 held s config (Ok p) has only prints = record { outcome = Ok config; has = has; only = only; prints = prints }
 held s config (Err e) has only prints = tt
 
-pub refused : (s : Script) (why : ConfigError) (e : PgWireClientError) (r : Result Printed OutOfMemory) → e ≡ of_config why → IsParsed s.config (Err why) → ((other : Result Config ConfigError) → HasOutcome s.config other → Answers (Err why) other)
+pub refused : (s : Script) (why : ConfigError) (e : PgWireClientError) (r : Result Printed OutOfMemory) → e ≡ of_config why → IsParsed s.config (Err why) → ((other : Result Config ConfigError) → HasOutcome s.config other → IsConfigAnswer (Err why) other)
     → OnOk r (e ≢ client.OutOfMemory) → IfOk r (λ p. Says p (session_text [] (Err e)) 1) → IfOk r (Holds s)
 refused s why e (Ok p) same parsed only memory says =
     let other : why ≢ config_error.OutOfMemory = λ short. memory (same ∙ ap of_config short) in

@@ -8,7 +8,7 @@ use Rattle.pgw_script.specs.Grammar.{IsScriptIn}
 use Rattle.pgw_script.proofs.GrammarLaws.{scripts, faults, same_script, no_fault}
 use Rattle.pgw_prog.specs.declared.printed.Printed.{Printed}
 use Rattle.pgw_prog.specs.declared.program.ScriptKind.{ScriptKind}
-use Rattle.pgw_prog.specs.Program.{AnswersText, AnswersScript, Gives, SaysLine}
+use Rattle.pgw_prog.specs.Program.{AnswersText, AnswersScript, ScriptPrints, SaysLine}
 use Rattle.pgw_prog.specs.Transfer.{SourceSpan, TookWhole}
 use Rattle.pgw_prog.proofs.TransferLaws.{whole_short}
 
@@ -28,8 +28,8 @@ module _ {L P S : Type 0} (form : Form L P S) (prints : S → Printed → Type 0
   text_prints text script p is (inr (n, fault, says)) = absurd (no_fault form text script n is fault)
 
   -- so does a source that gave that text whole
-  pub script_prints : (kind : ScriptKind) → ((text : List ℕ) (p : Printed) → Gives kind text p → AnswersText form prints text p) → (source : SourceSpan) (text : List ℕ) (script : S) (p : Printed) → TookWhole source.old source.new text → IsScriptIn form text script → AnswersScript kind source p → prints script p
+  pub script_prints : (kind : ScriptKind) → ((text : List ℕ) (p : Printed) → ScriptPrints kind text p → AnswersText form prints text p) → (source : SourceSpan) (text : List ℕ) (script : S) (p : Printed) → TookWhole source.old source.new text → IsScriptIn form text script → AnswersScript kind source p → prints script p
   script_prints kind gives source text script p whole is (inl long) = absurd (whole_short source.old source.new text whole long.0)
   script_prints kind gives source text script p whole is (inr (other, read, answers)) =
       let same : other ≡ text = append_cancel_left source.old.took other text (sym read.took ∙ whole.took) in
-      text_prints text script p is (gives text p (subst (λ (t : List ℕ). Gives kind t p) same answers))
+      text_prints text script p is (gives text p (subst (λ (t : List ℕ). ScriptPrints kind t p) same answers))

@@ -12,10 +12,10 @@ use Rattle.pgw_session.specs.Demands.{refused_config}
 use Rattle.pgw_session.specs.Input.{Input}
 use Rattle.pgw_session.specs.Talk.{conversation}
 use Rattle.pgw_session.proofs.FailureLaws.{told as bytes_told}
-use Rattle.pgw_client.specs.Session.{ErrorCause, Tells}
+use Rattle.pgw_client.specs.Session.{ErrorCause, TellsSession}
 use Rattle.pgw_client.specs.SessionSteps.{failed, memory}
 use Rattle.pgw_client.proofs.RefusedLaws.{refused_paced}
-use Rattle.pgw_dialogue.specs.Demands.{Refuses}
+use Rattle.pgw_dialogue.specs.Demands.{RefusesKey}
 use Rattle.pgw_client.specs.OverLink.{LinkSpan, OverLink}
 
 -- what is known to come by fewer facts is said of fewer links
@@ -54,7 +54,7 @@ still tape left faults = record { old = tape; new = tape; was = left; is = left;
 abbrev pub wanting : Result SessionReport PgWireClientError
 wanting = Err client.OutOfMemory
 
-nothing_refused : (o : Option (List ℕ)) (tape : Tape) → o ≡ None → IfSome o (λ key. Refuses key wanting × (tape ≡ tape))
+nothing_refused : (o : Option (List ℕ)) (tape : Tape) → o ≡ None → IfSome o (λ key. RefusesKey key wanting × (tape ≡ tape))
 nothing_refused None tape clear = tt
 nothing_refused (Some key) tape clear = cc
 
@@ -69,7 +69,7 @@ nothing_held input limit foretells tape left faults clear = record {
   failing = λ more. absurd (omega (arith, more));
   completed = tt;
   causes = nothing_moved tape (λ taken sent. ErrorCause input limit tape tape taken sent client.OutOfMemory) tt;
-  told = λ c. nothing_moved tape (Tells input wanting) (sent_of (conversation input []), bytes_told input [], tt);
+  told = λ c. nothing_moved tape (TellsSession input wanting) (sent_of (conversation input []), bytes_told input [], tt);
   paced = refused_paced limit tape;
   lockstep = inl refl;
   flushed = λ c other. inl (refl, refl);

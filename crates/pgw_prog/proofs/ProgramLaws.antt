@@ -15,15 +15,15 @@ use Rattle.pgw_backend.specs.ClientError.{of_config}
 use Rattle.pgw_backend.specs.declared.client_error.PgWireClientError.TheVariants as client
 use Rattle.pgw_config.specs.declared.config.Config.{Config}
 use Rattle.pgw_printing.specs.SessionText.{session_text}
-use Rattle.pgw_prog.specs.Held.{PrintsSession, PrintsOutcome, Holds, CanComplete, NamesCall, IsNear, FailsNear, input_of, making_of, completed_text}
+use Rattle.pgw_prog.specs.Held.{PrintsSession, PrintsOutcome, Holds, CanComplete, NamesCall, IsNear, FailsNear, script_input, script_making, completed_text}
 use Rattle.pgw_prog.specs.declared.command.Command.{Command}
 use Rattle.pgw_prog.specs.declared.command.Command.TheVariants as kind
 use Rattle.pgw_prog.specs.declared.program.ScriptKind.TheVariants as scripts_of
 use Rattle.pgw_prog.specs.Command.{reads_source}
 use Rattle.pgw_prog.specs.declared.program.Stop.TheVariants as stop
 use Rattle.pgw_prog.specs.Connected.{DialSpan, LeavesDialer}
-use Rattle.pgw_prog.specs.Transfer.{SourceSpan, SinkSpan, TookFront, TookWhole, WroteWhole, WroteFront}
-use Rattle.pgw_prog.specs.Program.{Answers, AnswersScript, Completing, CountsStop, ListsFailure, Ran}
+use Rattle.pgw_prog.specs.Transfer.{SourceSpan, SinkSpan, TookFront, TookWhole, WroteWhole, WroteSinkFront}
+use Rattle.pgw_prog.specs.Program.{PrintsCommand, AnswersScript, Completing, CountsStop, ListsFailure, ProgramRan}
 use Rattle.pgw_prog.proofs.ConnectLaws.{report_written, io_written}
 use Rattle.pgw_prog.proofs.GenLaws.{generates}
 use Rattle.pgw_prog.proofs.KindLaws.{script_prints}
@@ -39,8 +39,8 @@ use Rattle.pgw_prog.proofs.HeldLaws.{completed_text_printed}
 outcome_completes : (s : Script) (segments : List (List Event)) (can : CanComplete s segments) (p : Printed) (outcome : Result Config ConfigError) → Ok can.config ≡ outcome → PrintsOutcome s outcome p → (p.text.items ≡ completed_text s segments can) × (p.status ≡ 0)
 outcome_completes s segments can p (Ok config) same prints =
     let is : config ≡ can.config = cc in
-    let prints_it = subst (λ (c : Config). PrintsSession (input_of s c) s.limit (making_of s) p) is prints in
-    completed_text_printed (input_of s can.config) s.limit (making_of s) p segments can.clear can.no_reads can.no_writes can.completes prints_it
+    let prints_it = subst (λ (c : Config). PrintsSession (script_input s c) s.limit (script_making s) p) is prints in
+    completed_text_printed (script_input s can.config) s.limit (script_making s) p segments can.clear can.no_reads can.no_writes can.completes prints_it
 outcome_completes s segments can p (Err e) same prints = cc
 
 pub completes : (source : SourceSpan) (text : List ℕ) (script : Script) (segments : List (List Event)) (c : Completing text script segments) (p : Printed) → TookWhole source.old source.new text → AnswersScript scripts_of.Session source p
@@ -64,7 +64,7 @@ held_listed s sent p (Ok config) h is =
     let known = h.session.over.foreseen tt in
     let all : s.server ≡ h.after.took ++ h.left = known.consumes ∙ ap (λ (t : List ℕ). t ++ h.left) (sym known.took) in
     let sizes = ap length all ∙ length-append h.after.took h.left in
-    near_whole (making_of s) h.after.took s.server h.after.wrote sent (omega (arith, sizes)) told.0 (h.session.io_near told.1)
+    near_whole (script_making s) h.after.took s.server h.after.wrote sent (omega (arith, sizes)) told.0 (h.session.io_near told.1)
 held_listed s sent p (Err e) h is =
     let told = io_text [] sent (Err (of_config e)) (sym (h.1).0 ∙ is) in
     let both = told.1 in
@@ -94,8 +94,8 @@ leaves_same nonce (kind.Passfile asked) dialer same = same
 leaves_same nonce kind.Usage dialer same = same
 
 module _ (help version nonce words : List ℕ) (command : Command) (source : SourceSpan) (sink : SinkSpan) (dialer : DialSpan) where
-  answers_at : (k : Command) (p : Printed) → command ≡ k → Answers help version nonce words source dialer command p → Answers help version nonce words source dialer k p
-  answers_at k p is answers = subst (λ (c : Command). Answers help version nonce words source dialer c p) is answers
+  answers_at : (k : Command) (p : Printed) → command ≡ k → PrintsCommand help version nonce words source dialer command p → PrintsCommand help version nonce words source dialer k p
+  answers_at k p is answers = subst (λ (c : Command). PrintsCommand help version nonce words source dialer c p) is answers
 
   -- a command of this kind reads nothing
   unread_by : (k : Command) → command ≡ k → reads_source k ≡ false → reads_source command ≡ true → ⊥
@@ -104,8 +104,8 @@ module _ (help version nonce words : List ℕ) (command : Command) (source : Sou
       cc
 
   -- the whole text was written
-  pub ran_written : (p : Printed) → Answers help version nonce words source dialer command p → source.now ≡ source.before → TookFront source → (reads_source command ≡ false → source.same) → dialer.before ≤ dialer.now → LeavesDialer nonce command dialer
-      → WroteWhole sink.old sink.new p.text.items → sink.now ≡ sink.before → Ran help version nonce words command source sink dialer p.status
+  pub ran_written : (p : Printed) → PrintsCommand help version nonce words source dialer command p → source.now ≡ source.before → TookFront source → (reads_source command ≡ false → source.same) → dialer.before ≤ dialer.now → LeavesDialer nonce command dialer
+      → WroteWhole sink.old sink.new p.text.items → sink.now ≡ sink.before → ProgramRan help version nonce words command source sink dialer p.status
   ran_written p answers read took unread later leaves whole quiet = record {
     status_in = omega (arith, p.bound);
     prints = λ low. record { printed = p; answers = answers; wrote = whole.wrote; ends = refl };
@@ -133,8 +133,8 @@ module _ (help version nonce words : List ℕ) (command : Command) (source : Sou
   }
 
   -- a write failed
-  pub ran_unwritten : (p : Printed) → Answers help version nonce words source dialer command p → source.now ≡ source.before → TookFront source → (reads_source command ≡ false → source.same) → dialer.before ≤ dialer.now → LeavesDialer nonce command dialer
-      → WroteFront sink.old sink.new p.text.items → Rose sink.before sink.now → Ran help version nonce words command source sink dialer 3
+  pub ran_unwritten : (p : Printed) → PrintsCommand help version nonce words source dialer command p → source.now ≡ source.before → TookFront source → (reads_source command ≡ false → source.same) → dialer.before ≤ dialer.now → LeavesDialer nonce command dialer
+      → WroteSinkFront sink.old sink.new p.text.items → Rose sink.before sink.now → ProgramRan help version nonce words command source sink dialer 3
   ran_unwritten p answers read took unread later leaves front rose = record {
     status_in = omega arith;
     prints = λ low. absurd (omega (arith, low));
@@ -161,7 +161,7 @@ module _ (help version nonce words : List ℕ) (command : Command) (source : Sou
 
   -- nothing was written, since a read of the source failed
   pub ran_unread : reads_source command ≡ true → CountsStop stop.Source source → TookFront source → (reads_source command ≡ false → source.same) → dialer.before ≤ dialer.now → LeavesDialer nonce command dialer
-      → sink.same → sink.new ≡ sink.old → sink.now ≡ sink.before → Ran help version nonce words command source sink dialer 3
+      → sink.same → sink.new ≡ sink.old → sink.now ≡ sink.before → ProgramRan help version nonce words command source sink dialer 3
   ran_unread script stopped took unread later leaves same kept quiet =
       let wrote : sink.new.wrote ≡ sink.old.wrote = ap (λ (t : SinkTape). t.wrote) kept in
       let writes : sink.new.writes ≡ sink.old.writes = ap (λ (t : SinkTape). t.writes) kept in
@@ -191,7 +191,7 @@ module _ (help version nonce words : List ℕ) (command : Command) (source : Sou
 
   -- or since memory ran out
   pub ran_short : source.now ≡ source.before → TookFront source → (reads_source command ≡ false → source.same) → dialer.before ≤ dialer.now → LeavesDialer nonce command dialer
-      → sink.same → sink.new ≡ sink.old → sink.now ≡ sink.before → Ran help version nonce words command source sink dialer 4
+      → sink.same → sink.new ≡ sink.old → sink.now ≡ sink.before → ProgramRan help version nonce words command source sink dialer 4
   ran_short read took unread later leaves same kept quiet =
       let wrote : sink.new.wrote ≡ sink.old.wrote = ap (λ (t : SinkTape). t.wrote) kept in
       let writes : sink.new.writes ≡ sink.old.writes = ap (λ (t : SinkTape). t.writes) kept in

@@ -23,8 +23,8 @@ use Rattle.pgw_session.specs.declared.types.Request.TheVariants as request
 use Rattle.pgw_session.specs.declared.types.Response.{Response}
 use Rattle.pgw_session.specs.declared.types.Response.TheVariants as response
 use Rattle.pgw_session.specs.declared.types.SessionReport.{SessionReport}
-use Rattle.pgw_session.specs.Answers.{answer_of, answer_with, answers_of, no_tally, noted, noted_unless, response_of, result_of, tally_after, tally_at, tally_of, with_end, with_row}
-use Rattle.pgw_session.specs.Events.{Event, Sent, Got, joined}
+use Rattle.pgw_session.specs.Answers.{answer_of, answer_with, answers_of, no_tally, tally_with, noted_unless, response_of, result_of, tally_after, tally_at, tally_of, with_end, with_row}
+use Rattle.pgw_session.specs.Events.{Event, Sent, Got, all_events}
 use Rattle.pgw_session.specs.Input.{Input}
 use Rattle.pgw_session.specs.Standings.{first_standing, standing_by}
 use Rattle.pgw_session.specs.Transcript.{Completed, SpellsGot, report_of}
@@ -98,7 +98,7 @@ few_by all now a r o e f g = omega (arith, e, f, g)
 empty_few : (all now a o : ℕ) → all ≡ now + o → now ≡ a + 0 → all ≤ (a + o) + 1
 empty_few all now a o e f = omega (arith, e, f)
 
-noted_few : (t : Tally) (m : Backend) → held_rows (noted t m) ≤ held_rows t + 1
+noted_few : (t : Tally) (m : Backend) → held_rows (tally_with t m) ≤ held_rows t + 1
 noted_few t (backend.RowDescription m) = opened_few (given t.responses) (open_rows t.opened)
 noted_few t (backend.DataRow m) = row_few t.opened t m refl
 noted_few t (backend.CommandComplete m) = few_by _ _ (given t.responses) _ (open_rows t.opened)
@@ -128,17 +128,17 @@ answer_few : (q : Request) (es : List Event) → length (answer_rows (answer_of 
 unfolding tally_of
 answer_few q es = let t = tally_few no_tally es in let w = with_few (fold tally_at no_tally es).remote q (fold tally_at no_tally es) in omega arith
 
-answers_few : (qs : List Request) (segments : List (List Event)) → length (flat_map answer_rows (answers_of qs segments)) ≤ gots (joined segments)
+answers_few : (qs : List Request) (segments : List (List Event)) → length (flat_map answer_rows (answers_of qs segments)) ≤ gots (all_events segments)
 answers_few [] [] = least 0
 answers_few (q ∷ qs) [] = least 0
-answers_few [] (es ∷ segments) = least (gots (es ++ joined segments))
+answers_few [] (es ∷ segments) = least (gots (es ++ all_events segments))
 answers_few (q ∷ qs) (es ∷ segments) =
     let r = answers_few qs segments in let a = answer_few q es in
-    let l = length-append (answer_rows (answer_of q es)) (flat_map answer_rows (answers_of qs segments)) in let g = gots_append es (joined segments) in omega arith
+    let l = length-append (answer_rows (answer_of q es)) (flat_map answer_rows (answers_of qs segments)) in let g = gots_append es (all_events segments) in omega arith
 
-later_few : (segments : List (List Event)) → gots (joined (drop 1 segments)) ≤ gots (joined segments)
+later_few : (segments : List (List Event)) → gots (all_events (drop 1 segments)) ≤ gots (all_events segments)
 later_few [] = least 0
-later_few (es ∷ segments) = let g = gots_append es (joined segments) in omega arith
+later_few (es ∷ segments) = let g = gots_append es (all_events segments) in omega arith
 
 -- ---- of the bytes
 
@@ -157,7 +157,7 @@ unfolding report_of
 rows_few input taken sent report c =
     let reported = ap (λ (r : SessionReport). length (report_rows r)) c.reported in
     let rows = answers_few input.requests (drop 1 c.segments) in let later = later_few c.segments in
-    let got = got_few (first_standing input.config) (joined c.segments) c.spelled c.got in
+    let got = got_few (first_standing input.config) (all_events c.segments) c.spelled c.got in
     let all = ap length c.begins ∙ length-append c.spelled c.rest in omega arith
 
 -- so there are not too many to be counted

@@ -3,7 +3,7 @@ use Rattle.std.proofs.Common.{◌≡◌, ◌<◌, ◌≤◌, ℕ, ◌+◌, ◌-�
 use Rattle.std.proofs.lemmas.List.{append-nil, append_cancel_left, length-append, nil_from_length, take_all}
 use Rattle.std.proofs.Math.Seq.{take-add}
 use Rattle.std.specs.Io.KnownBytes.{Consumes, IsAtEnd, Keeps}
-use Rattle.pgw_link.specs.Stream.{SourceTape, SinkTape, Drew, NotDrawn, Poured}
+use Rattle.pgw_link.specs.Stream.{SourceTape, SinkTape, DrewSource, NotDrawn, Poured}
 use Rattle.pgw_prog.specs.Transfer.{SourceSpan, TookFront, TookWhole, TookTooMany}
 
 -- the first bytes, and then some of the range behind them
@@ -47,7 +47,7 @@ pub record Drawn (old new : SourceTape) (was is : Option (List ℕ)) (text : Lis
 pub none_drawn : (tape : SourceTape) (left : Option (List ℕ)) → Drawn tape tape left left []
 none_drawn tape left = record { took = sym (append-nil tape.took); ended = refl; reads = omega arith; foreseen = consumes_none left }
 
-pub drawn_on : (old mid new : SourceTape) (was left is : Option (List ℕ)) (text piece : List ℕ) → Drawn old mid was left text → 0 < length piece → Drew mid new piece → Consumes left is piece
+pub drawn_on : (old mid new : SourceTape) (was left is : Option (List ℕ)) (text piece : List ℕ) → Drawn old mid was left text → 0 < length piece → DrewSource mid new piece → Consumes left is piece
     → Drawn old new was is (text ++ piece)
 drawn_on old mid new was left is text piece d some drew known = record {
   took = drew.took ∙ ap (λ (t : List ℕ). t ++ piece) d.took ∙ append_assoc old.took text piece;
@@ -71,7 +71,7 @@ failed_front s mid left text d failed kept = record {
 }
 
 -- or answered the end
-pub ended_front : (s : SourceSpan) (mid : SourceTape) (left : Option (List ℕ)) (text piece : List ℕ) → Drawn s.old mid s.was left text → Drew mid s.new piece → length piece ≡ 0 → Consumes left s.is piece → IsAtEnd s.is → TookFront s
+pub ended_front : (s : SourceSpan) (mid : SourceTape) (left : Option (List ℕ)) (text piece : List ℕ) → Drawn s.old mid s.was left text → DrewSource mid s.new piece → length piece ≡ 0 → Consumes left s.is piece → IsAtEnd s.is → TookFront s
 ended_front s mid left text piece d drew none known at_end = record {
   taken = text ++ piece;
   took = drew.took ∙ ap (λ (t : List ℕ). t ++ piece) d.took ∙ append_assoc s.old.took text piece;
@@ -80,7 +80,7 @@ ended_front s mid left text piece d drew none known at_end = record {
   at_end = λ more. at_end;
 }
 
-pub ended_whole : (old mid new : SourceTape) (was left : Option (List ℕ)) (text piece : List ℕ) → Drawn old mid was left text → Drew mid new piece → length piece ≡ 0 → length text ≤ 16777216 → TookWhole old new text
+pub ended_whole : (old mid new : SourceTape) (was left : Option (List ℕ)) (text piece : List ℕ) → Drawn old mid was left text → DrewSource mid new piece → length piece ≡ 0 → length text ≤ 16777216 → TookWhole old new text
 ended_whole old mid new was left text piece d drew none short =
     let empty : piece ≡ [] = nil_from_length piece none in
     record {

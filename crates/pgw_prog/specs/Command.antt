@@ -5,7 +5,7 @@ use Rattle.pgw_prog.specs.declared.command.Command.{Command}
 use Rattle.pgw_prog.specs.declared.command.Command.TheVariants as command
 use Rattle.pgw_session.specs.declared.types.Request.{Request}
 use Rattle.pgw_session.specs.declared.types.Request.TheVariants as request
-use Rattle.pgw_script.specs.Line.{number_in}
+use Rattle.pgw_script.specs.Line.{script_number}
 
 abbrev pub command_named : List ℕ → Command
 command_named word =
@@ -28,7 +28,7 @@ connect_with text queries (Some limit) = command.Connect (record { text = text; 
 
 -- connect TEXT LIMIT QUERY, with one or more queries
 unfoldable pub connect_for : List ℕ → List ℕ → List ℕ → List (List ℕ) → Command
-connect_for word text limit queries = if pointwise nat_eq word (codes "connect") then connect_with text queries (number_in limit) else command.Usage
+connect_for word text limit queries = if pointwise nat_eq word (codes "connect") then connect_with text queries (script_number limit) else command.Usage
 
 -- a number, where it is one up to this
 abbrev pub within : ℕ → Option ℕ → Option ℕ
@@ -36,7 +36,7 @@ within most None = None
 within most (Some n) = if nat_le n most then Some n else None
 
 unfoldable pub up_to : ℕ → List ℕ → Option ℕ
-up_to most word = within most (number_in word)
+up_to most word = within most (script_number word)
 
 -- a session of so many rows that follow from a number
 abbrev pub gen_with : Option ℕ → Option ℕ → Command
@@ -85,13 +85,13 @@ command_for (word ∷ text ∷ limit ∷ one ∷ two ∷ three ∷ more) =
     connect_for word text limit (one ∷ two ∷ three ∷ more)
 
 -- the words ask for a session with a server and this limit, with one query or more
-pub record IsSession (words : List (List ℕ)) (limit : ℕ) : Type 0 where
+pub record IsSessionCommand (words : List (List ℕ)) (limit : ℕ) : Type 0 where
   pub text : List ℕ
   pub number : List ℕ
   pub query : List ℕ
   pub more : List (List ℕ)
   pub are : words ≡ codes "connect" ∷ text ∷ number ∷ query ∷ more
-  pub within : number_in number ≡ Some limit
+  pub within : script_number number ≡ Some limit
 
 -- whether a command reads standard input
 abbrev pub reads_source : Command → Bool
@@ -103,6 +103,6 @@ reads_source (command.Passfile asked) = true
 reads_source _ = false
 
 -- the count of a secret is 1 or more
-abbrev pub IsSound : Command → Type 0
-IsSound (command.Secret asked) = 1 ≤ asked.count
-IsSound _ = Unit {0}
+abbrev pub IsSoundCommand : Command → Type 0
+IsSoundCommand (command.Secret asked) = 1 ≤ asked.count
+IsSoundCommand _ = Unit {0}

@@ -21,7 +21,7 @@ use Rattle.pgw_prog.specs.declared.command.Command.{Command}
 use Rattle.pgw_prog.specs.declared.command.Command.TheVariants as command
 use Rattle.pgw_prog.specs.declared.command.Connection.{Connection}
 use Rattle.pgw_prog.specs.declared.printed.Printed.{Printed}
-use Rattle.pgw_prog.specs.Held.{Says, status_of}
+use Rattle.pgw_prog.specs.Held.{Says, exit_status}
 use Rattle.pgw_client.specs.OverLink.{OverLink}
 use Rattle.pgw_printing.specs.SessionText.{report_lines, error_line, result_text}
 
@@ -32,8 +32,8 @@ input_for asked nonce config = input_with config asked.requests nonce
 -- ---- the dialer
 
 -- the connection text is a configuration, which leads to this address
-abbrev pub LeadsTo : Connection → Config → Address → Type 0
-LeadsTo asked config address = HasOutcome asked.text (Ok config) × (address_of config ≡ Ok address)
+abbrev pub TextLeadsTo : Connection → Config → Address → Type 0
+TextLeadsTo asked config address = HasOutcome asked.text (Ok config) × (address_of config ≡ Ok address)
 
 -- the bytes that the next of these links has to come
 abbrev pub next_offer : Option (List (List ℕ)) → Option (List ℕ)
@@ -66,7 +66,7 @@ dial_span tape foretells offers faults old new =
     }
 
 -- one link was dialled, and closed, when it told this
-pub record DialledOnce (to : Address) (old new : DialTape) (after : Tape) : Type 0 where
+pub record DialsAndShuts (to : Address) (old new : DialTape) (after : Tape) : Type 0 where
   pub dialled : new.dialled ≡ old.dialled ++ (to, true) ∷ []
   pub shut : new.shut ≡ old.shut ++ after ∷ []
 
@@ -86,10 +86,10 @@ pub record FoundNoLink (to : Address) (dialer : DialSpan)
 
 -- A session was held over a new link of the dialer, which was closed: what the link told then, and how often it had failed.
 -- Where a call of it failed, the dialer's count rose.
-pub record HeldSession (input : Input) (limit : ℕ) (to : Address) (dialer : DialSpan)
+pub record HoldsDialerSession (input : Input) (limit : ℕ) (to : Address) (dialer : DialSpan)
     (outcome : Result SessionReport PgWireClientError) : Type 0 where
   pub after : Tape
-  pub once : DialledOnce to dialer.old dialer.new after
+  pub once : DialsAndShuts to dialer.old dialer.new after
   pub faults : ℕ
   pub counts : CountsClose dialer.before dialer.now faults
   pub was : Option (List ℕ)
@@ -99,8 +99,8 @@ pub record HeldSession (input : Input) (limit : ℕ) (to : Address) (dialer : Di
       (record { old = new_tape; new = after; was = was; is = is; before = 0; now = faults }) outcome
 
 -- one of the two
-abbrev pub Talked : Input → ℕ → Address → DialSpan → Result SessionReport PgWireClientError → Type 0
-Talked input limit to dialer outcome = FoundNoLink to dialer outcome ⊎ HeldSession input limit to dialer outcome
+abbrev pub IsDialOutcome : Input → ℕ → Address → DialSpan → Result SessionReport PgWireClientError → Type 0
+IsDialOutcome input limit to dialer outcome = FoundNoLink to dialer outcome ⊎ HoldsDialerSession input limit to dialer outcome
 
 -- ---- the dialer, whatever is printed
 
@@ -108,7 +108,7 @@ Talked input limit to dialer outcome = FoundNoLink to dialer outcome ⊎ HeldSes
 abbrev pub UsedOnce : List ℕ → Connection → Config → Address → DialSpan → Type 0
 UsedOnce nonce asked config to dialer =
     (outcome : Result SessionReport PgWireClientError)
-    × Talked (input_for asked nonce config) asked.limit to dialer outcome
+    × IsDialOutcome (input_for asked nonce config) asked.limit to dialer outcome
 
 -- it is as it was, or it was used once, at the address of the configuration
 abbrev pub LeavesFor : List ℕ → Connection → Config → DialSpan → Type 0
@@ -120,7 +120,7 @@ LeavesFor nonce asked config dialer =
 abbrev pub LeavesDialer : List ℕ → Command → DialSpan → Type 0
 LeavesDialer nonce (command.Connect asked) dialer =
     dialer.same
-    ⊎ ((config : Config) × (to : Address) × LeadsTo asked config to
+    ⊎ ((config : Config) × (to : Address) × TextLeadsTo asked config to
     × UsedOnce nonce asked config to dialer)
 LeavesDialer nonce _ dialer = dialer.same
 
@@ -133,22 +133,22 @@ PrintsRefusal e p = (e ≢ config_error.OutOfMemory) × Says p (error_line (of_c
 -- the answer, for which memory sufficed
 pub record PrintsTalk (input : Input) (limit : ℕ) (to : Address) (dialer : DialSpan) (p : Printed) : Type 0 where
   pub outcome : Result SessionReport PgWireClientError
-  pub talked : Talked input limit to dialer outcome
+  pub talked : IsDialOutcome input limit to dialer outcome
   pub memory : IsErrOf outcome client.OutOfMemory → ⊥
-  pub says : Says p (result_text outcome) (status_of outcome)
+  pub says : Says p (result_text outcome) (exit_status outcome)
 
 -- what is printed at the address, or of the refusal that there is none
-abbrev pub PrintsAt : List ℕ → DialSpan → Connection → Config → Result Address ConfigError → Printed → Type 0
-PrintsAt nonce dialer asked config (Ok address) p = PrintsTalk (input_for asked nonce config) asked.limit address dialer p
-PrintsAt nonce dialer asked config (Err e) p = PrintsRefusal e p
+abbrev pub PrintsAtAddress : List ℕ → DialSpan → Connection → Config → Result Address ConfigError → Printed → Type 0
+PrintsAtAddress nonce dialer asked config (Ok address) p = PrintsTalk (input_for asked nonce config) asked.limit address dialer p
+PrintsAtAddress nonce dialer asked config (Err e) p = PrintsRefusal e p
 
 -- what is printed where the connection text has this outcome
 abbrev pub PrintsBy : List ℕ → DialSpan → Connection → Result Config ConfigError → Printed → Type 0
-PrintsBy nonce dialer asked (Ok config) p = PrintsAt nonce dialer asked config (address_of config) p
+PrintsBy nonce dialer asked (Ok config) p = PrintsAtAddress nonce dialer asked config (address_of config) p
 PrintsBy nonce dialer asked (Err e) p = PrintsRefusal e p
 
 -- what is printed is what the one outcome of the connection text gives
-pub record Connects (nonce : List ℕ) (dialer : DialSpan) (asked : Connection) (p : Printed) : Type 0 where
+pub record PrintsConnection (nonce : List ℕ) (dialer : DialSpan) (asked : Connection) (p : Printed) : Type 0 where
   pub outcome : Result Config ConfigError
   pub has : HasOutcome asked.text outcome
   pub only : (other : Result Config ConfigError) → HasOutcome asked.text other → other ≡ outcome
@@ -161,7 +161,7 @@ pub record Connects (nonce : List ℕ) (dialer : DialSpan) (asked : Connection) 
 pub record CanConnect (asked : Connection) (nonce offer : List ℕ) (segments : List (List Event)) : Type 0 where
   pub config : Config
   pub address : Address
-  pub leads : LeadsTo asked config address
+  pub leads : TextLeadsTo asked config address
   pub clear : refused_config config ≡ None
   pub completes : Completes (input_for asked nonce config) asked.limit offer segments
 

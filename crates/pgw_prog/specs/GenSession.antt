@@ -8,20 +8,20 @@ use Rattle.pgw_gen.specs.Summary.{gen_input, summary_of}
 use Rattle.pgw_client.specs.OverLink.{LinkSpan, OverLink}
 
 -- the answer of a session told shortly: the summary of its report, or its error
-abbrev pub Told : Result SessionReport ClientError → Result GenSummary ClientError → Type 0
-Told (Ok report) (Ok summary) = summary ≡ summary_of report
-Told (Ok report) (Err e) = ⊥
-Told (Err e) (Ok summary) = ⊥
-Told (Err e) (Err f) = f ≡ e
+abbrev pub TellsSummary : Result SessionReport ClientError → Result GenSummary ClientError → Type 0
+TellsSummary (Ok report) (Ok summary) = summary ≡ summary_of report
+TellsSummary (Ok report) (Err e) = ⊥
+TellsSummary (Err e) (Ok summary) = ⊥
+TellsSummary (Err e) (Err f) = f ≡ e
 
 -- the session of the user gen with its one query was held, and its answer is told shortly
 pub record OverLinkShortly (nonce : List ℕ) (limit : ℕ) (foretells : Type 0) (link : LinkSpan)
     (result : Result GenSummary ClientError) : Type 0 where
   pub outcome : Result SessionReport ClientError
   pub session : OverLink (gen_input nonce) limit foretells link outcome
-  pub told : Told outcome result
+  pub told : TellsSummary outcome result
 
 -- the answer is this summary, or memory was wanting
-abbrev pub Gives : GenSummary → Result GenSummary ClientError → Type 0
-Gives summary (Ok answer) = answer ≡ summary
-Gives summary (Err e) = e ≡ client.OutOfMemory
+abbrev pub GivesSummary : GenSummary → Result GenSummary ClientError → Type 0
+GivesSummary summary (Ok answer) = answer ≡ summary
+GivesSummary summary (Err e) = e ≡ client.OutOfMemory

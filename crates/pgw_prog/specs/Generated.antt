@@ -2,7 +2,7 @@
 use Rattle.std.specs.Prelude.{◌≡◌, ◌⊎◌, ℕ, List, ◌++◌, length, codes, decimal}
 use Rattle.sha2.specs.Sha256.{sha256}
 use Rattle.pgw_gen.specs.declared.summary.GenSummary.{GenSummary}
-use Rattle.pgw_gen.specs.Stream.{IsStream, rows_of}
+use Rattle.pgw_gen.specs.Stream.{IsStream, gen_rows}
 use Rattle.pgw_gen.specs.Summary.{payloads}
 use Rattle.pgw_prog.specs.declared.printed.Printed.{Printed}
 use Rattle.pgw_prog.specs.Held.{Says}
@@ -15,7 +15,7 @@ summary_text summary bytes =
 
 -- how many rows are asked for, and SHA-256 of the payloads of the rows of the stream
 abbrev pub stream_summary : ℕ → ℕ → GenSummary
-stream_summary count start = record { rows = count; digest = sha256 (payloads (rows_of count start)) }
+stream_summary count start = record { rows = count; digest = sha256 (payloads (gen_rows count start)) }
 
 -- the same, with the length of the stream
 abbrev pub gen_text : ℕ → ℕ → List ℕ → List ℕ

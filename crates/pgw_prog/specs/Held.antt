@@ -2,7 +2,7 @@
 use Rattle.std.specs.Prelude.{◌≡◌, ◌≢◌, ◌⊎◌, ◌<◌, ◌≤◌, ◌+◌, ◌*◌, ◌++◌, ◌||◌, nat_lt, ℕ, List, [], length, Some, None, Result, Ok, Err, IsErrOf}
 use Rattle.std.specs.List.{Any}
 use Rattle.pgw_link.specs.Tape.{Tape, new_tape}
-use Rattle.pgw_link.specs.Calls.{is_reached, number_of}
+use Rattle.pgw_link.specs.Calls.{is_reached, call_number}
 use Rattle.pgw_link.specs.Memory.{Making}
 use Rattle.pgw_types.specs.declared.config_error.ConfigError.{ConfigError}
 use Rattle.pgw_types.specs.declared.config_error.ConfigError.TheVariants as config_error
@@ -22,14 +22,14 @@ use Rattle.pgw_prog.specs.declared.printed.Printed.{Printed}
 use Rattle.pgw_printing.specs.SessionText.{session_text}
 
 -- the session that the script asks for, with this configuration
-abbrev pub input_of : Script → Config → Input
-input_of s config =
+abbrev pub script_input : Script → Config → Input
+script_input s config =
     input_with (record config { protocol_version = s.protocol_version; certificate_hash = s.certificate_hash })
     s.requests s.nonce
 
 -- the link that the script describes
-abbrev pub making_of : Script → Making
-making_of s = record { server = s.server; cut = s.cut; reads = s.fail_reads; writes = s.fail_writes }
+abbrev pub script_making : Script → Making
+script_making s = record { server = s.server; cut = s.cut; reads = s.fail_reads; writes = s.fail_writes }
 
 -- a new link in memory, what it tells after some calls, what is to come then, and how many calls failed
 abbrev pub memory_span : Making → Tape → List ℕ → ℕ → LinkSpan
@@ -51,7 +51,7 @@ pub record InCuts (made : Making) (after : Tape) : Type 0 where
 
 -- What a session over a new link in memory gives: what the link tells afterwards, what is to come, how many calls failed,
 -- the answer.
-pub record Session (input : Input) (limit : ℕ) (made : Making) (after : Tape) (left : List ℕ)
+pub record MemorySession (input : Input) (limit : ℕ) (made : Making) (after : Tape) (left : List ℕ)
     (faults : ℕ) (outcome : Result SessionReport PgWireClientError) : Type 0 where
   -- what a session over any link gives
   pub over : OverLink input limit (Unit {0}) (memory_span made after left faults) outcome
@@ -59,15 +59,15 @@ pub record Session (input : Input) (limit : ℕ) (made : Making) (after : Tape) 
   pub cut : InCuts made after
   -- a call failed just where one was made whose number is listed
   pub fails : nat_lt 0 faults
-      ≡ (is_reached made.reads (number_of after.reads) || is_reached made.writes (number_of after.writes))
+      ≡ (is_reached made.reads (call_number after.reads) || is_reached made.writes (call_number after.writes))
   -- so the error of the link comes only where a listed call is near,
   pub io_near : IsErrOf outcome client.IoError → IsNear made after.took after.wrote
   -- and never where none is listed
   pub no_io : made.reads ≡ [] → made.writes ≡ [] → IsErrOf outcome client.IoError → ⊥
 
-abbrev pub status_of : Result SessionReport PgWireClientError → ℕ
-status_of (Ok report) = 0
-status_of (Err e) = 1
+abbrev pub exit_status : Result SessionReport PgWireClientError → ℕ
+exit_status (Ok report) = 0
+exit_status (Err e) = 1
 
 -- what is printed is the text of such a session, for which memory sufficed
 pub record PrintsSession (input : Input) (limit : ℕ) (made : Making) (p : Printed) : Type 0 where
@@ -75,10 +75,10 @@ pub record PrintsSession (input : Input) (limit : ℕ) (made : Making) (p : Prin
   pub left : List ℕ
   pub faults : ℕ
   pub outcome : Result SessionReport PgWireClientError
-  pub session : Session input limit made after left faults outcome
+  pub session : MemorySession input limit made after left faults outcome
   pub memory : IsErrOf outcome client.OutOfMemory → ⊥
   pub text : p.text.items ≡ session_text after.wrote outcome
-  pub status : p.status ≡ status_of outcome
+  pub status : p.status ≡ exit_status outcome
 
 -- this text, and this status
 abbrev pub Says : Printed → List ℕ → ℕ → Type 0
@@ -87,7 +87,7 @@ Says p text status = (p.text.items ≡ text) × (p.status ≡ status)
 -- what is printed where the connection text has this outcome: the text of the session with its configuration, or the
 -- refusal, which is not want of memory, and that nothing was sent
 abbrev pub PrintsOutcome : Script → Result Config ConfigError → Printed → Type 0
-PrintsOutcome s (Ok config) p = PrintsSession (input_of s config) s.limit (making_of s) p
+PrintsOutcome s (Ok config) p = PrintsSession (script_input s config) s.limit (script_making s) p
 PrintsOutcome s (Err e) p = (e ≢ config_error.OutOfMemory) × Says p (session_text [] (Err (of_config e))) 1
 
 -- what is printed is what the one outcome of the script's connection text gives
@@ -102,16 +102,16 @@ pub record Holds (s : Script) (p : Printed) : Type 0 where
 pub record CanComplete (s : Script) (segments : List (List Event)) : Type 0 where
   pub config : Config
   pub means : HasOutcome s.config (Ok config)
-  pub clear : refused_config (input_of s config).config ≡ None
+  pub clear : refused_config (script_input s config).config ≡ None
   pub no_reads : s.fail_reads ≡ []
   pub no_writes : s.fail_writes ≡ []
-  pub completes : Completes (input_of s config) s.limit s.server segments
+  pub completes : Completes (script_input s config) s.limit s.server segments
 
 -- what is printed of it: the bytes sent in the transcript, and its report
 abbrev pub completed_text : (s : Script) (segments : List (List Event)) → CanComplete s segments → List ℕ
-completed_text s segments can = session_text can.completes.sent (Ok (report_of (input_of s can.config) segments))
+completed_text s segments can = session_text can.completes.sent (Ok (report_of (script_input s can.config) segments))
 
 -- of the script's link a listed read is at most one more than the server's bytes, or a listed write at most one more than
 -- these bytes sent
 abbrev pub FailsNear : Script → List ℕ → Type 0
-FailsNear s sent = IsNear (making_of s) s.server sent
+FailsNear s sent = IsNear (script_making s) s.server sent

@@ -26,7 +26,7 @@ use Rattle.pgw_script.specs.PoolScript.{IsPoolScript, pool_form}
 use Rattle.pgw_prog.specs.declared.command.NewSecret.{NewSecret}
 use Rattle.pgw_prog.specs.declared.passfile.Asked.{Asked}
 use Rattle.pgw_prog.specs.Command.{reads_source}
-use Rattle.pgw_prog.specs.Connected.{DialSpan, Connects, LeavesDialer, CanConnect, PrintsReport}
+use Rattle.pgw_prog.specs.Connected.{DialSpan, PrintsConnection, LeavesDialer, CanConnect, PrintsReport}
 use Rattle.pgw_prog.specs.Generated.{PrintsGen, SaysGen}
 use Rattle.pgw_prog.specs.Held.{Says, Holds, CanComplete, FailsNear, completed_text}
 use Rattle.pgw_prog.specs.Pair.{PrintsPair, PrintsPairText}
@@ -51,38 +51,38 @@ AnswersText {S = S} form prints text p =
 
 -- what a text gives, read as a script of this kind: its session, its login, what its proxy passes on, or what its pool's
 -- calls give
-abbrev pub Gives : ScriptKind → List ℕ → Printed → Type 0
-Gives scripts.Session text p = AnswersText session_form Holds text p
-Gives scripts.Pair text p = AnswersText pair_form PrintsPair text p
-Gives scripts.Relay text p = AnswersText relay_form PrintsRelay text p
-Gives scripts.Pool text p = AnswersText pool_form PrintsPool text p
+abbrev pub ScriptPrints : ScriptKind → List ℕ → Printed → Type 0
+ScriptPrints scripts.Session text p = AnswersText session_form Holds text p
+ScriptPrints scripts.Pair text p = AnswersText pair_form PrintsPair text p
+ScriptPrints scripts.Relay text p = AnswersText relay_form PrintsRelay text p
+ScriptPrints scripts.Pool text p = AnswersText pool_form PrintsPool text p
 
 -- of a source that gave a whole text, what the text gives; a script has at most 16777216 bytes
 abbrev pub AnswersScript : ScriptKind → SourceSpan → Printed → Type 0
 AnswersScript kind source p =
     (TookTooMany source.old source.new × Says p (codes "script too long\n") 2)
-    ⊎ ((text : List ℕ) × TookWhole source.old source.new text × Gives kind text p)
+    ⊎ ((text : List ℕ) × TookWhole source.old source.new text × ScriptPrints kind text p)
 
 -- what a command prints: of a script of any kind, and of a file of passwords, by the bytes that were read for it; help
 -- and version are fixed texts; a session with a server is told by `Connects`, `gen` prints what it made, and a secret is that
 -- of a password and of words that were drawn
-abbrev pub Answers : List ℕ → List ℕ → List ℕ → List ℕ → SourceSpan → DialSpan → Command → Printed
+abbrev pub PrintsCommand : List ℕ → List ℕ → List ℕ → List ℕ → SourceSpan → DialSpan → Command → Printed
     → Type 0
-Answers help version nonce words source dialer kind.Help p = Says p help 0
-Answers help version nonce words source dialer kind.Version p = Says p version 0
-Answers help version nonce words source dialer kind.Script p = AnswersScript scripts.Session source p
-Answers help version nonce words source dialer kind.Pair p = AnswersScript scripts.Pair source p
-Answers help version nonce words source dialer kind.Relay p = AnswersScript scripts.Relay source p
-Answers help version nonce words source dialer kind.Pool p = AnswersScript scripts.Pool source p
-Answers help version nonce words source dialer (kind.Connect asked) p = Connects nonce dialer asked p
-Answers help version nonce words source dialer (kind.Gen rows start) p = SaysGen rows start p
-Answers help version nonce words source dialer (kind.Secret asked) p =
+PrintsCommand help version nonce words source dialer kind.Help p = Says p help 0
+PrintsCommand help version nonce words source dialer kind.Version p = Says p version 0
+PrintsCommand help version nonce words source dialer kind.Script p = AnswersScript scripts.Session source p
+PrintsCommand help version nonce words source dialer kind.Pair p = AnswersScript scripts.Pair source p
+PrintsCommand help version nonce words source dialer kind.Relay p = AnswersScript scripts.Relay source p
+PrintsCommand help version nonce words source dialer kind.Pool p = AnswersScript scripts.Pool source p
+PrintsCommand help version nonce words source dialer (kind.Connect asked) p = PrintsConnection nonce dialer asked p
+PrintsCommand help version nonce words source dialer (kind.Gen rows start) p = SaysGen rows start p
+PrintsCommand help version nonce words source dialer (kind.Secret asked) p =
     SaysSecret asked.password asked.count words p
-Answers help version nonce words source dialer (kind.Passfile asked) p = AnswersPassfile asked source p
-Answers help version nonce words source dialer kind.Usage p = Says p (codes "usage\n") 2
+PrintsCommand help version nonce words source dialer (kind.Passfile asked) p = AnswersPassfile asked source p
+PrintsCommand help version nonce words source dialer kind.Usage p = Says p (codes "usage\n") 2
 
 -- the whole text of the answer behind what was written before, and its status
-pub record Prints (told : Printed → Type 0) (old new : SinkTape) (status : ℕ) : Type 0 where
+pub record PrintsAnswer (told : Printed → Type 0) (old new : SinkTape) (status : ℕ) : Type 0 where
   pub printed : Printed
   pub answers : told printed
   pub wrote : new.wrote ≡ old.wrote ++ printed.text.items
@@ -113,7 +113,7 @@ ListsFailure old new sent =
     (text : List ℕ) × TookWhole old new text × (script : Script) × IsScript text script × FailsNear script sent
 
 -- bytes were written, with at most one write more than bytes
-pub record Appended (old new : SinkTape) : Type 0 where
+pub record AppendsToSink (old new : SinkTape) : Type 0 where
   pub sent : List ℕ
   pub wrote : new.wrote ≡ old.wrote ++ sent
   pub writes : new.writes ≤ old.writes + length sent + 1
@@ -125,16 +125,16 @@ CountsStop stop.OutOfMemory source = source.now ≡ source.before
 
 -- All that is promised of a run of the program: the texts of its help and its version, the nonce of a login and the words of
 -- a salt, the command, what the source, the sink and the dialer told before and behind it, and the status that it ends with.
-pub record Ran (help version nonce words : List ℕ) (command : Command)
+pub record ProgramRan (help version nonce words : List ℕ) (command : Command)
     (source : SourceSpan) (sink : SinkSpan) (dialer : DialSpan) (status : ℕ) : Type 0 where
   pub status_in : status ≤ 4
   -- At 0, 1 and 2 the whole text of the answer is written, and the status is the answer's.
-  pub prints : status ≤ 2 → Prints (Answers help version nonce words source dialer command) sink.old sink.new status
+  pub prints : status ≤ 2 → PrintsAnswer (PrintsCommand help version nonce words source dialer command) sink.old sink.new status
   -- 3 comes only where a read of the source failed, and then nothing is written, or where a write failed: what is written
   -- then is a front of the text.
   pub fault : status ≡ 3 →
       ((reads_source command ≡ true) × Rose source.before source.now × sink.same)
-      ⊎ (Rose sink.before sink.now × PrintsFront (Answers help version nonce words source dialer command) sink.old sink.new)
+      ⊎ (Rose sink.before sink.now × PrintsFront (PrintsCommand help version nonce words source dialer command) sink.old sink.new)
   -- It comes wherever one failed.
   pub source_fault : source.before < source.now → (status ≡ 3) × sink.same
   pub sink_fault : sink.before < sink.now → status ≡ 3
@@ -154,7 +154,7 @@ pub record Ran (help version nonce words : List ℕ) (command : Command)
   -- At most one read more than bytes read, and one write more than bytes written. No command reads but for a script or a
   -- file of passwords.
   pub reads : TookFront source
-  pub writes : Appended sink.old sink.new
+  pub writes : AppendsToSink sink.old sink.new
   pub unread : reads_source command ≡ false → source.same
   -- Whatever the status: at most one dial is made, to the address of the connection text, over its link the session is held
   -- and no more, and the link is closed; no other command and no refused text touches the dialer.

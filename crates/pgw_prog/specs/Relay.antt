@@ -54,14 +54,14 @@ abbrev pub IsFaultless : MemoryLink → Type 0
 IsFaultless link = ((making_of link).reads ≡ []) × ((making_of link).writes ≡ [])
 
 -- no call of it was made yet
-pub record IsNew (link : MemoryLink) : Type 0 where
+pub record IsNewLink (link : MemoryLink) : Type 0 where
   pub faultless : IsFaultless link
   pub fresh : memory_tape link ≡ new_tape
   pub left : memory_left link ≡ (making_of link).server
   pub calm : faults_of link ≡ 0
 
 -- none failed, and none moved more bytes than the cut
-pub record WentWell (link : MemoryLink) : Type 0 where
+pub record LinkWentWell (link : MemoryLink) : Type 0 where
   pub calm : faults_of link ≡ 0
   pub taken : length (making_of link).server
       ≤ length (memory_left link) + (making_of link).cut * (memory_tape link).reads
@@ -88,14 +88,14 @@ pub record Relayed (turns : List Side) (to_client_made to_server_made : Making)
   pub server_cut : InCuts to_server_made server
 
 -- the text of such a run
-abbrev pub PrintsRun : List Side → Making → Making → Printed → Type 0
-PrintsRun turns client server p =
+abbrev pub PrintsRelayRun : List Side → Making → Making → Printed → Type 0
+PrintsRelayRun turns client server p =
     (to_server : List ℕ) × (to_client : List ℕ) × (run : ProxyRun)
     × Relayed turns client server to_server to_client run
     × Says p (relay_text to_server to_client run) (relay_status run.fault)
 
 abbrev pub PrintsRelay : RelayScript → Printed → Type 0
-PrintsRelay s p = PrintsRun s.turns (making_for s.client s.cut) (making_for s.server s.cut) p
+PrintsRelay s p = PrintsRelayRun s.turns (making_for s.client s.cut) (making_for s.server s.cut) p
 
 -- memory ran out, or that text is written, with its status
 abbrev pub PrintsRelayText : RelayScript → List ℕ → List ℕ → ℕ → Type 0

@@ -1,13 +1,13 @@
 -- The stored secret of a password, as the program prints it.
 use Rattle.std.specs.Prelude.{◌≡◌, ◌⊎◌, ℕ, List, ◌++◌, take}
-use Rattle.pgw_secrets.specs.Secret.{made, text_of}
+use Rattle.pgw_secrets.specs.Secret.{secret_of, stored_secret_text}
 use Rattle.pgw_prog.specs.declared.printed.Printed.{Printed}
 use Rattle.pgw_prog.specs.Held.{Says}
 use Rattle.pgw_printing.specs.Pieces.{line_end}
 
 -- the first 16 of the bytes that were drawn are the salt
 abbrev pub secret_line : List ℕ → ℕ → List ℕ → List ℕ
-secret_line password count words = text_of (made password (take 16 words) count) ++ line_end
+secret_line password count words = stored_secret_text (secret_of password (take 16 words) count) ++ line_end
 
 abbrev pub SaysSecret : List ℕ → ℕ → List ℕ → Printed → Type 0
 SaysSecret password count words p = Says p (secret_line password count words) 0

@@ -64,10 +64,10 @@ pub record TookTooMany (old new : SourceTape) : Type 0 where
 
 -- Why a source was not read to its end: it was too long, or it failed before its end, which its count tells, or memory ran
 -- out.
-abbrev pub Stops : SourceSpan → ReadFault → Type 0
-Stops source fault.TooLong = (source.now ≡ source.before) × TookTooMany source.old source.new
-Stops source fault.Source = Rose source.before source.now × (source.new.ended ≡ source.old.ended)
-Stops source fault.OutOfMemory = source.now ≡ source.before
+abbrev pub StopsSource : SourceSpan → ReadFault → Type 0
+StopsSource source fault.TooLong = (source.now ≡ source.before) × TookTooMany source.old source.new
+StopsSource source fault.Source = Rose source.before source.now × (source.new.ended ≡ source.old.ended)
+StopsSource source fault.OutOfMemory = source.now ≡ source.before
 
 -- all of the text was appended, by at most one write for each byte
 pub record WroteWhole (old new : SinkTape) (text : List ℕ) : Type 0 where
@@ -75,7 +75,7 @@ pub record WroteWhole (old new : SinkTape) (text : List ℕ) : Type 0 where
   pub writes : new.writes ≤ old.writes + length text
 
 -- a front of the text was appended, by at most one write more than bytes
-pub record WroteFront (old new : SinkTape) (text : List ℕ) : Type 0 where
+pub record WroteSinkFront (old new : SinkTape) (text : List ℕ) : Type 0 where
   pub count : ℕ
   pub count_in : count ≤ length text
   pub wrote : new.wrote ≡ old.wrote ++ take count text

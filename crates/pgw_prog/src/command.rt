@@ -1,6 +1,6 @@
 //! The commands, by the words of the command line.
 ghost use Rattle.std.specs.Prelude.{◌≡◌, ◌≤◌, ◌∷◌, [], map, string_bytes, IfOk, IfSome};
-ghost use Rattle.pgw_prog.specs.Command.{command_for, command_named as named, connect_for, gen_for, passfile_for, passfile_with, queries_of as requests_for, secret_for, secret_with, up_to, IsSession, IsSound};
+ghost use Rattle.pgw_prog.specs.Command.{command_for, command_named as named, connect_for, gen_for, passfile_for, passfile_with, queries_of as requests_for, secret_for, secret_with, up_to, IsSessionCommand, IsSoundCommand};
 
 use crate::passfile::Asked;
 use pgw_client::Request;
@@ -56,7 +56,7 @@ pub struct NewSecret {
 
 fn command_named(word: &str) -> Command
     ensures named { result ≡ named word.now }
-    ensures sound { IsSound result }
+    ensures sound { IsSoundCommand result }
 {
     if word == "script" {
         Command::Script
@@ -97,7 +97,7 @@ fn connect_of(
 ) -> Result<Command, OutOfMemory>
     ensures named { IfOk result (λ c. c
         ≡ connect_for word.now text.now limit.now (map string_bytes queries.now)) }
-    ensures sound { IfOk result IsSound }
+    ensures sound { IfOk result IsSoundCommand }
 {
     if word != "connect" {
         return Ok(Command::Usage);
@@ -128,7 +128,7 @@ fn read_up_to(most: u32, word: &str) -> Option<u32>
 #[tactic(auto, unfolding(crate::specs::Command::gen_for))]
 fn gen_of(word: &str, rows: &str, start: &str) -> Command
     ensures named { result ≡ gen_for word.now rows.now start.now }
-    ensures sound { IsSound result }
+    ensures sound { IsSoundCommand result }
 {
     if word != "gen" {
         return Command::Usage;
@@ -142,7 +142,7 @@ fn gen_of(word: &str, rows: &str, start: &str) -> Command
 /// The secret of a password, where its count is a number of 1 or more.
 fn secret_of(alloc: Global, password: &str, count: &str) -> Result<Command, OutOfMemory>
     ensures named { IfOk result (λ c. c ≡ secret_with password.now (up_to 4294967295 count.now)) }
-    ensures sound { IfOk result IsSound }
+    ensures sound { IfOk result IsSoundCommand }
 {
     match read_up_to(u32::MAX, count) {
         Some(count) if count > 0 => Ok(Command::Secret(NewSecret {
@@ -157,7 +157,7 @@ fn secret_of(alloc: Global, password: &str, count: &str) -> Result<Command, OutO
 #[tactic(auto, unfolding(crate::specs::Command::secret_for))]
 fn of_three(alloc: Global, word: &str, one: &str, two: &str) -> Result<Command, OutOfMemory>
     ensures named { IfOk result (λ c. c ≡ secret_for word.now one.now two.now) }
-    ensures sound { IfOk result IsSound }
+    ensures sound { IfOk result IsSoundCommand }
 {
     if word == "secret" {
         secret_of(alloc, one, two)
@@ -176,7 +176,7 @@ fn passfile_of(
 ) -> Result<Command, OutOfMemory>
     ensures named { IfOk result (λ c. c
         ≡ passfile_with host.now (up_to 65535 port.now) database.now user.now) }
-    ensures sound { IfOk result IsSound }
+    ensures sound { IfOk result IsSoundCommand }
 {
     match read_up_to(u32::from(u16::MAX), port) {
         Some(port) => Ok(Command::Passfile(Asked {
@@ -203,7 +203,7 @@ fn of_five(
     requires { map string_bytes last.now ≡ three.now ∷ four.now ∷ [] }
     ensures named { IfOk result (λ c. c
         ≡ passfile_for word.now one.now two.now three.now four.now) }
-    ensures sound { IfOk result IsSound }
+    ensures sound { IfOk result IsSoundCommand }
 {
     if word == "passfile" {
         passfile_of(alloc, one, two, three, four)
@@ -216,7 +216,7 @@ fn of_five(
 #[tactic(auto, unfolding(crate::specs::Command::command_for))]
 pub fn command_of(alloc: Global, words: &[String]) -> Result<Command, OutOfMemory>
     ensures named { IfOk result (λ c. c ≡ command_for (map string_bytes words.now)) }
-    ensures sound { IfOk result IsSound }
+    ensures sound { IfOk result IsSoundCommand }
 {
     match words {
         [] => Ok(Command::Script),
@@ -248,7 +248,7 @@ pub fn command_of(alloc: Global, words: &[String]) -> Result<Command, OutOfMemor
 
 // How many bytes a session may read, where the words ask for one with a server.
 fn limit_of(words: &[String]) -> Option<u64>
-    ensures { IfSome result (IsSession (map string_bytes words.now)) }
+    ensures { IfSome result (IsSessionCommand (map string_bytes words.now)) }
 {
     match words {
         [word, _text, limit, _query, ..] if word.as_str() == "connect" => {
@@ -271,9 +271,9 @@ fn queries_from(alloc: Global, texts: Vec<String>) -> Result<Listed<Request>, Ou
 
 // A session with a server, which takes over the words that ask for it.
 fn session_from(alloc: Global, mut words: Vec<String>, limit: u64) -> Result<Command, OutOfMemory>
-    requires { IsSession (map string_bytes words.items) limit }
+    requires { IsSessionCommand (map string_bytes words.items) limit }
     ensures named { IfOk result (λ c. c ≡ command_for (map string_bytes words.items)) }
-    ensures sound { IfOk result IsSound }
+    ensures sound { IfOk result IsSoundCommand }
 {
     drop(words.remove(0));
     let text = words.remove(0);
@@ -289,7 +289,7 @@ fn session_from(alloc: Global, mut words: Vec<String>, limit: u64) -> Result<Com
 /// it, are copied nowhere, and are no longer there.
 pub fn command_from(alloc: Global, words: &mut Vec<String>) -> Result<Command, OutOfMemory>
     ensures named { IfOk result (λ c. c ≡ command_for (map string_bytes words.old.items)) }
-    ensures sound { IfOk result IsSound }
+    ensures sound { IfOk result IsSoundCommand }
 {
     match limit_of(words) {
         Some(limit) => session_from(alloc, replace(words, Vec::new(alloc)), limit),

@@ -2,8 +2,8 @@
 ghost use Rattle.std.specs.Prelude.{◌≡◌, ◌≢◌, ◌≤◌, IfOk, OnOk, IsErrOf};
 ghost use Rattle.pgw_backend.specs.declared.client_error.PgWireClientError.TheVariants as client;
 ghost use Rattle.pgw_prog.specs.declared.command.Command.TheVariants as kind;
-ghost use Rattle.pgw_prog.specs.Connected.{input_for, dial_span, Connects, LeavesDialer, LeavesFor, PrintsAt, Talked};
-ghost use Rattle.pgw_prog.specs.Held.{Says, status_of as status_for};
+ghost use Rattle.pgw_prog.specs.Connected.{input_for, dial_span, PrintsConnection, LeavesDialer, LeavesFor, PrintsAtAddress, IsDialOutcome};
+ghost use Rattle.pgw_prog.specs.Held.{Says, exit_status as status_for};
 ghost use Rattle.pgw_printing.specs.SessionText.{error_line, result_text};
 ghost use Rattle.pgw_config.specs.Address.{address_of};
 
@@ -32,7 +32,7 @@ fn talk<D: Dialer>(
     nonce: &[u8; 18],
 ) -> PgWireClientResult<SessionReport>
     ensures later { D.faults dialer.old ≤ D.faults dialer.new }
-    ensures talked { Talked (input_for asked.now nonce.now config.now) asked.now.limit address.now
+    ensures talked { IsDialOutcome (input_for asked.now nonce.now config.now) asked.now.limit address.now
         (dial_span D.tape D.foretells D.offers D.faults dialer.old dialer.new) result }
 {
     let mut link = match dialer.dial(address) {
@@ -103,7 +103,7 @@ fn connect_with<D: Dialer>(
     ensures later { D.faults dialer.old ≤ D.faults dialer.new }
     ensures leaves { LeavesFor nonce.now asked.now config.now
         (dial_span D.tape D.foretells D.offers D.faults dialer.old dialer.new) }
-    ensures prints { IfOk result (PrintsAt nonce.now
+    ensures prints { IfOk result (PrintsAtAddress nonce.now
         (dial_span D.tape D.foretells D.offers D.faults dialer.old dialer.new)
         asked.now config.now (address_of config.now)) }
 {
@@ -126,7 +126,7 @@ pub fn connect<D: Dialer>(
     ensures later { D.faults dialer.old ≤ D.faults dialer.new }
     ensures leaves { LeavesDialer nonce.now (kind.Connect asked.now)
         (dial_span D.tape D.foretells D.offers D.faults dialer.old dialer.new) }
-    ensures prints { IfOk result (Connects nonce.now
+    ensures prints { IfOk result (PrintsConnection nonce.now
         (dial_span D.tape D.foretells D.offers D.faults dialer.old dialer.new) asked.now) }
 {
     match Config::parse(alloc, asked.text.as_str()) {

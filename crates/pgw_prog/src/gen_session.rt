@@ -1,7 +1,7 @@
 //! A session of any size over a link, its rows told shortly.
 ghost use Rattle.std.specs.Prelude.{◌≡◌, ◌<◌, ◌^◌, length, IfOk};
 ghost use Rattle.pgw_gen.specs.Summary.{gen_config, gen_query, report_rows};
-ghost use Rattle.pgw_prog.specs.GenSession.{OverLinkShortly, Told};
+ghost use Rattle.pgw_prog.specs.GenSession.{OverLinkShortly, TellsSummary};
 ghost use Rattle.pgw_client.specs.OverLink.{link_span};
 
 use pgw_backend::client_error::PgWireClientResult;
@@ -31,7 +31,7 @@ fn request(alloc: Global) -> Result<Request, OutOfMemory>
 // reads no more bytes than its limit.
 fn summed(outcome: PgWireClientResult<SessionReport>) -> PgWireClientResult<GenSummary>
     requires { IfOk outcome (λ report. length (report_rows report) < 2 ^ 64) }
-    ensures { Told outcome result }
+    ensures { TellsSummary outcome result }
 {
     match outcome {
         Ok(report) => {

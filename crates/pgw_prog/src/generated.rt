@@ -1,7 +1,7 @@
 //! A session of any size, made from a number.
 ghost use Rattle.std.specs.Prelude.{◌≡◌, ◌<◌, ◌^◌, ◌++◌, ℕ, OnOk, IfOk};
 ghost use Rattle.pgw_gen.specs.Stream.{IsStream};
-ghost use Rattle.pgw_prog.specs.GenSession.{Gives};
+ghost use Rattle.pgw_prog.specs.GenSession.{GivesSummary};
 ghost use Rattle.pgw_prog.specs.Generated.{SaysGen, stream_summary, summary_text};
 ghost use Rattle.pgw_prog.specs.Held.{Says};
 
@@ -49,7 +49,7 @@ fn says(alloc: Global, summary: &GenSummary, bytes: u64) -> Result<Printed, OutO
 // Holds the session over what the server sends. Where that is a stream, no error comes but want of memory.
 fn hold(alloc: Global, server: Octets, nonce: &[u8; 18]) -> PgWireClientResult<GenSummary>
     ensures { (count start : ℕ) → count < 2 ^ 64 → IsStream count start server →
-        Gives (stream_summary count start) result }
+        GivesSummary (stream_summary count start) result }
 {
     let limit = server.len() as u64;
     let mut link = MemoryLink::new(alloc, server, CUT, Listed::new(alloc), Listed::new(alloc));

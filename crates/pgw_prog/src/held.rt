@@ -1,9 +1,9 @@
 //! The session of a script.
 ghost use Rattle.std.specs.Prelude.{◌≡◌, ◌≢◌, ◌<◌, ◌≤◌, ◌+◌, ◌*◌, ◌||◌, nat_lt, [], length, None, Ok, Err, IfOk, OnOk, IsErrOf};
 ghost use Rattle.pgw_backend.specs.declared.client_error.PgWireClientError.TheVariants as client;
-ghost use Rattle.pgw_prog.specs.Held.{InCuts, status_of as status_for, Says, PrintsSession, PrintsOutcome, Holds};
+ghost use Rattle.pgw_prog.specs.Held.{InCuts, exit_status as status_for, Says, PrintsSession, PrintsOutcome, Holds};
 ghost use Rattle.pgw_session.specs.Input.{input_with};
-ghost use Rattle.pgw_link.specs.Calls.{is_reached, number_of};
+ghost use Rattle.pgw_link.specs.Calls.{is_reached, call_number};
 ghost use Rattle.pgw_link.specs.Memory.{memory_tape, memory_left, faults_of, making_of};
 ghost use Rattle.pgw_link.specs.Tape.{new_tape};
 ghost use Rattle.pgw_printing.specs.SessionText.{session_text};
@@ -98,8 +98,8 @@ fn print_outcome(
     ensures sent { OnOk result (length (memory_tape link.now).wrote
         ≤ (making_of link.now).cut * (memory_tape link.now).writes) }
     ensures fails { OnOk result (nat_lt 0 (faults_of link.now)
-        ≡ (is_reached (making_of link.now).reads (number_of (memory_tape link.now).reads)
-        || is_reached (making_of link.now).writes (number_of (memory_tape link.now).writes))) }
+        ≡ (is_reached (making_of link.now).reads (call_number (memory_tape link.now).reads)
+        || is_reached (making_of link.now).writes (call_number (memory_tape link.now).writes))) }
 {
     if link.was_short_of_memory() {
         return Err(OutOfMemory);

@@ -1,7 +1,7 @@
 //! The program: the words of the command line, the source and the sink.
 ghost use Rattle.std.specs.Prelude.{◌≡◌, ◌≤◌, true, false, map, string_bytes, IfOk, IfErr, OnOk};
 ghost use Rattle.pgw_prog.specs.declared.program.Stop.TheVariants as stop;
-ghost use Rattle.pgw_prog.specs.Command.{command_for, reads_source, IsSound};
+ghost use Rattle.pgw_prog.specs.Command.{command_for, reads_source, IsSoundCommand};
 ghost use Rattle.pgw_prog.specs.Connected.{dial_span, LeavesDialer};
 ghost use Rattle.pgw_prog.specs.Held.{Says, Holds};
 ghost use Rattle.pgw_prog.specs.Pair.{PrintsPair};
@@ -11,7 +11,7 @@ ghost use Rattle.pgw_script.specs.Script.{session_form};
 ghost use Rattle.pgw_script.specs.PairScript.{pair_form};
 ghost use Rattle.pgw_script.specs.RelayScript.{relay_form};
 ghost use Rattle.pgw_script.specs.PoolScript.{pool_form};
-ghost use Rattle.pgw_prog.specs.Program.{AnswersText, AnswersScript, Gives, Answers, Appended, CountsStop, Ran, SaysLine};
+ghost use Rattle.pgw_prog.specs.Program.{AnswersText, AnswersScript, ScriptPrints, PrintsCommand, AppendsToSink, CountsStop, ProgramRan, SaysLine};
 ghost use Rattle.pgw_prog.specs.Transfer.{source_span, sink_span, TookFront};
 
 use crate::command::{Command, command_of};
@@ -301,7 +301,7 @@ fn answer_pool(alloc: Global, text: Vec<u8>) -> Result<Printed, OutOfMemory>
 }
 
 fn answer_text(alloc: Global, kind: ScriptKind, text: Vec<u8>) -> Result<Printed, OutOfMemory>
-    ensures { IfOk result (Gives kind text.items) }
+    ensures { IfOk result (ScriptPrints kind text.items) }
 {
     match kind {
         ScriptKind::Session => answer_session(alloc, text),
@@ -338,12 +338,12 @@ fn answer<I: Source, D: Dialer>(
     nonce: &[u8; 18],
     words32: &[u8; 32],
 ) -> Result<Printed, Stop>
-    requires { IsSound command }
+    requires { IsSoundCommand command }
     ensures no_fault { OnOk result (I.faults input.new ≡ I.faults input.old) }
     ensures cause { IfErr result (λ e. CountsStop e
         (source_span I.tape I.left I.faults input.old input.new)) }
     ensures took { TookFront (source_span I.tape I.left I.faults input.old input.new) }
-    ensures answers { IfOk result (Answers HELP.now VERSION.now nonce.now words32.now
+    ensures answers { IfOk result (PrintsCommand HELP.now VERSION.now nonce.now words32.now
         (source_span I.tape I.left I.faults input.old input.new)
         (dial_span D.tape D.foretells D.offers D.faults dialer.old dialer.new) command) }
     ensures later { D.faults dialer.old ≤ D.faults dialer.new }
@@ -376,7 +376,7 @@ fn answer<I: Source, D: Dialer>(
 /// Tells people a text. That a write of it fails changes nothing.
 fn tell<E: Sink>(errors: &mut E, text: &str)
     ensures later { E.faults errors.old ≤ E.faults errors.new }
-    ensures writes { Appended (E.tape errors.old) (E.tape errors.new) }
+    ensures writes { AppendsToSink (E.tape errors.old) (E.tape errors.new) }
 {
     let _ = write_whole(errors, text.as_bytes());
 }
@@ -394,13 +394,13 @@ pub fn run_command_with<I: Source, O: Sink, E: Sink, D: Dialer>(
     nonce: &[u8; 18],
     words32: &[u8; 32],
 ) -> u8
-    requires { IsSound command }
-    ensures run { Ran HELP.now VERSION.now nonce.now words32.now command
+    requires { IsSoundCommand command }
+    ensures run { ProgramRan HELP.now VERSION.now nonce.now words32.now command
         (source_span I.tape I.left I.faults input.old input.new)
         (sink_span O.tape O.faults output.old output.new)
         (dial_span D.tape D.foretells D.offers D.faults dialer.old dialer.new) result }
     // What people are told is appended to what was written before.
-    ensures told { Appended (E.tape errors.old) (E.tape errors.new) }
+    ensures told { AppendsToSink (E.tape errors.old) (E.tape errors.new) }
     ensures told_faults { E.faults errors.old ≤ E.faults errors.new }
 {
     match answer(alloc, words, command, input, dialer, nonce, words32) {
@@ -436,12 +436,12 @@ pub fn run_program_with<I: Source, O: Sink, E: Sink, D: Dialer>(
     nonce: &[u8; 18],
     words32: &[u8; 32],
 ) -> u8
-    ensures run { Ran HELP.now VERSION.now nonce.now words32.now
+    ensures run { ProgramRan HELP.now VERSION.now nonce.now words32.now
         (command_for (map string_bytes words.now))
         (source_span I.tape I.left I.faults input.old input.new)
         (sink_span O.tape O.faults output.old output.new)
         (dial_span D.tape D.foretells D.offers D.faults dialer.old dialer.new) result }
-    ensures told { Appended (E.tape errors.old) (E.tape errors.new) }
+    ensures told { AppendsToSink (E.tape errors.old) (E.tape errors.new) }
     ensures told_faults { E.faults errors.old ≤ E.faults errors.new }
 {
     match command_of(alloc, words) {
@@ -472,7 +472,7 @@ pub fn run_program<I: Source, O: Sink, D: Dialer>(
     nonce: &[u8; 18],
     words32: &[u8; 32],
 ) -> u8
-    ensures run { Ran HELP.now VERSION.now nonce.now words32.now
+    ensures run { ProgramRan HELP.now VERSION.now nonce.now words32.now
         (command_for (map string_bytes words.now))
         (source_span I.tape I.left I.faults input.old input.new)
         (sink_span O.tape O.faults output.old output.new)

@@ -2,7 +2,7 @@
 ghost use Rattle.std.specs.Prelude.{◌≡◌, ◌<◌, ◌≤◌, ◌++◌, IfOk, OnOk};
 ghost use Rattle.pgw_link.specs.Memory.{memory_tape, making_of};
 ghost use Rattle.pgw_prog.specs.Held.{Says};
-ghost use Rattle.pgw_prog.specs.Relay.{bytes_line, fault_name, fault_line, relay_text, relay_status as status_for, IsFaultless, IsNew, WentWell, PrintsRun, PrintsRelay};
+ghost use Rattle.pgw_prog.specs.Relay.{bytes_line, fault_name, fault_line, relay_text, relay_status as status_for, IsFaultless, IsNewLink, LinkWentWell, PrintsRelayRun, PrintsRelay};
 
 use crate::held::link_of;
 use crate::printed::Printed;
@@ -86,7 +86,7 @@ fn status_of(fault: &Option<ProxyFault>) -> u8
 fn sent_over(link: &MemoryLink) -> Result<&[u8], OutOfMemory>
     requires { IsFaultless link.now }
     ensures sent { IfOk result (λ bytes. bytes.now ≡ (memory_tape link.now).wrote) }
-    ensures well { OnOk result (WentWell link.now) }
+    ensures well { OnOk result (LinkWentWell link.now) }
 {
     if link.was_short_of_memory() {
         return Err(OutOfMemory);
@@ -125,8 +125,8 @@ fn print_over(
     ensures says { IfOk result (λ p. Says p
         (relay_text (memory_tape server.now).wrote (memory_tape client.now).wrote run.now)
         (status_for run.now.fault)) }
-    ensures client { OnOk result (WentWell client.now) }
-    ensures server { OnOk result (WentWell server.now) }
+    ensures client { OnOk result (LinkWentWell client.now) }
+    ensures server { OnOk result (LinkWentWell server.now) }
 {
     let to_server = sent_over(server)?;
     let to_client = sent_over(client)?;
@@ -140,10 +140,10 @@ fn run_over(
     server: &mut MemoryLink,
     turns: &[Side],
 ) -> Result<Printed, OutOfMemory>
-    requires client { IsNew client.old }
-    requires server { IsNew server.old }
+    requires client { IsNewLink client.old }
+    requires server { IsNewLink server.old }
     ensures { IfOk result
-        (PrintsRun turns.now (making_of client.old) (making_of server.old)) }
+        (PrintsRelayRun turns.now (making_of client.old) (making_of server.old)) }
 {
     let run = run_proxy(alloc, client, server, turns)?;
     let printed = print_over(alloc, client, server, &run);

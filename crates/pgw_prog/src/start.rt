@@ -1,5 +1,5 @@
 //! The program over standard input and output and the system's sockets.
-ghost use Rattle.pgw_prog.specs.Command.{IsSound};
+ghost use Rattle.pgw_prog.specs.Command.{IsSoundCommand};
 
 use crate::command::{Command, command_from, command_of};
 use crate::program::run_command_with;
@@ -63,7 +63,7 @@ fn wants_random_bytes(command: &Command) -> bool {
 }
 
 fn run_command(rt: &HostRuntime, words: &[String], command: Command) -> u8
-    requires { IsSound command }
+    requires { IsSoundCommand command }
 {
     if wants_random_bytes(&command) {
         run_fresh(rt, words, command)
@@ -73,7 +73,7 @@ fn run_command(rt: &HostRuntime, words: &[String], command: Command) -> u8
 }
 
 fn run_fresh(rt: &HostRuntime, words: &[String], command: Command) -> u8
-    requires { IsSound command }
+    requires { IsSoundCommand command }
 {
     let rng: io::Result<StdRng> = rand::make_rng(rt);
     let Ok(mut rng) = rng else {
@@ -92,7 +92,7 @@ fn run_with(
     nonce: &[u8; 18],
     words32: &[u8; 32],
 ) -> u8
-    requires { IsSound command }
+    requires { IsSoundCommand command }
 {
     let mut input = StdSource::new(rt.reader());
     let mut output = StdSink::new(io::writer(rt));

@@ -18,7 +18,7 @@ use Rattle.pgw_frontend.specs.FrontendSpells.{SpellsFrontend}
 use Rattle.pgw_frontend.proofs.FrontendLaws.{frontend_found}
 use Rattle.pgw_frontend.proofs.FrontendStable.{either}
 use Rattle.pgw_proxy.specs.Context.{past_requests}
-use Rattle.pgw_proxy.specs.Fronts.{Found, asks_for_none, or_first, client_front}
+use Rattle.pgw_proxy.specs.Fronts.{RelayFinding, client_asks_none, front_past_encryption, client_side_front}
 
 typed_short : {Body : List ℕ → Type 0} (byte limit : ℕ) (g : List ℕ) → limit ≤ 2147483647
     → (head : List ℕ) × (body : List ℕ) × (g ≡ byte ∷ (head ++ body)) × SpellsNat w32 (length body + 4) head × (length body + 4 ≤ limit) × Body body → length g < 2 ^ 32
@@ -55,19 +55,19 @@ frontend_short v (frontend.CopyData m) g s = typed_short 100 1073741822 g (omega
 frontend_short v (frontend.CopyDone m) g s = typed_short 99 10000 g (omega arith) s
 frontend_short v (frontend.CopyFail m) g s = typed_short 102 10000 g (omega arith) s
 
-none_is : (m : Frontend) → asks_for_none m ≡ true → m ≡ frontend.SslNegotiation negotiation.None
+none_is : (m : Frontend) → client_asks_none m ≡ true → m ≡ frontend.SslNegotiation negotiation.None
 none_is (frontend.SslNegotiation negotiation.None) is = refl
 none_is m is = absurd cc
 
 -- that no encryption is asked for has no bytes
-none_spelled : (v : ProtocolVersion) (m : Frontend) (g : List ℕ) → asks_for_none m ≡ true → SpellsFrontend v m g → g ≡ []
+none_spelled : (v : ProtocolVersion) (m : Frontend) (g : List ℕ) → client_asks_none m ≡ true → SpellsFrontend v m g → g ≡ []
 unfolding SpellsFrontend
 none_spelled v m g is s = subst (λ (n : Frontend). SpellsFrontend v n g) (none_is m is) s
 
-first_spelled : (ctx : DecodeContext) (bytes rest : List ℕ) (m : Frontend) (r : Found Frontend) → frontend_front ctx bytes ≡ r → or_first ctx r ≡ Ok (Some (m, rest)) → (g : List ℕ) × (bytes ≡ g ++ rest) × (length g < 2 ^ 32)
+first_spelled : (ctx : DecodeContext) (bytes rest : List ℕ) (m : Frontend) (r : RelayFinding Frontend) → frontend_front ctx bytes ≡ r → front_past_encryption ctx r ≡ Ok (Some (m, rest)) → (g : List ℕ) × (bytes ≡ g ++ rest) × (length g < 2 ^ 32)
 first_spelled ctx bytes rest m (Err e) is found = absurd cc
 first_spelled ctx bytes rest m (Ok None) is found = absurd cc
-first_spelled ctx bytes rest m (Ok (Some x)) is found = elim (either (asks_for_none x.0)) [
+first_spelled ctx bytes rest m (Ok (Some x)) is found = elim (either (client_asks_none x.0)) [
   | inl none ↦
       let f = frontend_found ctx bytes x.0 x.1 is in
       let same : bytes ≡ x.1 = f.1 ∙ ap (λ (g : List ℕ). g ++ x.1) (none_spelled ctx.protocol_version x.0 f.0 none f.2) in
@@ -79,14 +79,14 @@ first_spelled ctx bytes rest m (Ok (Some x)) is found = elim (either (asks_for_n
       (f.0, f.1, frontend_short ctx.protocol_version m f.0 f.2)
 ]
 
-short_by : (ctx : DecodeContext) (bytes rest : List ℕ) (m : Frontend) (b : Bool) → cond b (or_first ctx (frontend_front ctx bytes)) (frontend_front ctx bytes) ≡ Ok (Some (m, rest)) → (g : List ℕ) × (bytes ≡ g ++ rest) × (length g < 2 ^ 32)
+short_by : (ctx : DecodeContext) (bytes rest : List ℕ) (m : Frontend) (b : Bool) → cond b (front_past_encryption ctx (frontend_front ctx bytes)) (frontend_front ctx bytes) ≡ Ok (Some (m, rest)) → (g : List ℕ) × (bytes ≡ g ++ rest) × (length g < 2 ^ 32)
 short_by ctx bytes rest m true found = first_spelled ctx bytes rest m (frontend_front ctx bytes) refl found
 short_by ctx bytes rest m false found =
     let f = frontend_found ctx bytes m rest found in
     (f.0, f.1, frontend_short ctx.protocol_version m f.0 f.2)
 
-pub client_short : (ctx : DecodeContext) (bytes rest : List ℕ) (m : Frontend) → client_front ctx bytes ≡ Ok (Some (m, rest)) → (g : List ℕ) × (bytes ≡ g ++ rest) × (length g < 2 ^ 32)
-unfolding client_front
+pub client_short : (ctx : DecodeContext) (bytes rest : List ℕ) (m : Frontend) → client_side_front ctx bytes ≡ Ok (Some (m, rest)) → (g : List ℕ) × (bytes ≡ g ++ rest) × (length g < 2 ^ 32)
+unfolding client_side_front
 client_short ctx bytes rest m found = short_by ctx bytes rest m ctx.awaiting_frontend_ssl found
 
 -- ---- a server's

@@ -14,19 +14,19 @@ use Rattle.pgw_proxy.specs.declared.recorded.Recorded.{Recorded}
 use Rattle.pgw_proxy.specs.declared.recorded.Recorded.TheVariants as recorded
 use Rattle.pgw_proxy.specs.declared.fault.ProxyFault.{ProxyFault}
 use Rattle.pgw_proxy.specs.Context.{client_context, is_due, behind_client, behind_server, is_accepted}
-use Rattle.pgw_proxy.specs.Fronts.{Found, Passing, client_front, of_client, of_server, front}
+use Rattle.pgw_proxy.specs.Fronts.{RelayFinding, RelayFront, client_side_front, of_client, of_server, side_front}
 use Rattle.pgw_proxy.specs.Record.{side_of}
 use Rattle.pgw_proxy.proofs.FrontLaws.{client_stable}
 use Rattle.pgw_proxy.proofs.LengthLaws.{client_short, server_short}
 
 -- the bytes of a message at the front, and that it is read wherever they stand
-record Alone {M : Type 0} (at : List ℕ → Found M) (bytes rest : List ℕ) (m : M) : Type 0 where
+record Alone {M : Type 0} (at : List ℕ → RelayFinding M) (bytes rest : List ℕ) (m : M) : Type 0 where
   g : List ℕ
   cut : bytes ≡ g ++ rest
   some : 1 ≤ length g
   again : (more : List ℕ) → at (g ++ more) ≡ Ok (Some (m, more))
 
-alone : {M : Type 0} (at : List ℕ → Found M) → Stable 1 at → (bytes rest : List ℕ) (m : M) → at bytes ≡ Ok (Some (m, rest)) → Alone at bytes rest m
+alone : {M : Type 0} (at : List ℕ → RelayFinding M) → Stable 1 at → (bytes rest : List ℕ) (m : M) → at bytes ≡ Ok (Some (m, rest)) → Alone at bytes rest m
 alone {M} at stable bytes rest m found =
     let ends = stable.whole bytes m rest found in
     let g = take ends.len bytes in
@@ -46,34 +46,34 @@ pub record Met (side : Side) (c : Context) (bytes rest : List ℕ) (m : Recorded
   pub cut : bytes ≡ g ++ rest
   pub some : 1 ≤ length g
   pub short : length g < 2 ^ 32
-  pub again : (more : List ℕ) → front side c (g ++ more) ≡ Ok (Some (m, (more, next)))
+  pub again : (more : List ℕ) → side_front side c (g ++ more) ≡ Ok (Some (m, (more, next)))
   pub owner : side_of m ≡ side
 
-abbrev whole_of : Passing → Result (Option Passing) ProxyFault
+abbrev whole_of : RelayFront → Result (Option RelayFront) ProxyFault
 whole_of x = Ok (Some x)
 
-some_of : (x y : Passing) → whole_of x ≡ whole_of y → x ≡ y
+some_of : (x y : RelayFront) → whole_of x ≡ whole_of y → x ≡ y
 some_of x y is = cc
 
 -- ---- a client's
 
-record OfClient (c : Context) (r : Found Frontend) (rest : List ℕ) (m : Recorded) (next : Context) : Type 0 where
+record OfClient (c : Context) (r : RelayFinding Frontend) (rest : List ℕ) (m : Recorded) (next : Context) : Type 0 where
   x : Frontend
   read : r ≡ Ok (Some (x, rest))
   again : (more : List ℕ) → of_client c (Ok (Some (x, more))) ≡ Ok (Some (m, (more, next)))
   owner : side_of m ≡ Client
 
-of_client_is : (c : Context) (r : Found Frontend) (rest : List ℕ) (m : Recorded) (next : Context) → of_client c r ≡ Ok (Some (m, (rest, next))) → OfClient c r rest m next
+of_client_is : (c : Context) (r : RelayFinding Frontend) (rest : List ℕ) (m : Recorded) (next : Context) → of_client c r ≡ Ok (Some (m, (rest, next))) → OfClient c r rest m next
 of_client_is c (Err e) rest m next is = absurd cc
 of_client_is c (Ok None) rest m next is = absurd cc
 of_client_is c (Ok (Some x)) rest m next is = elim (either (is_due c)) [
   | inl due ↦ let other = rw due at is in absurd cc
   | inr free ↦
-      let here : Passing = (recorded.Frontend x.0, (x.1, behind_client x.0 c)) in
+      let here : RelayFront = (recorded.Frontend x.0, (x.1, behind_client x.0 c)) in
       let same : here ≡ (m, (rest, next)) = some_of here (m, (rest, next)) (rw free at is) in
-      let left : x.1 ≡ rest = ap (λ (p : Passing). p.1.0) same in
-      let made : recorded.Frontend x.0 ≡ m = ap (λ (p : Passing). p.0) same in
-      let behind : behind_client x.0 c ≡ next = ap (λ (p : Passing). p.1.1) same in
+      let left : x.1 ≡ rest = ap (λ (p : RelayFront). p.1.0) same in
+      let made : recorded.Frontend x.0 ≡ m = ap (λ (p : RelayFront). p.0) same in
+      let behind : behind_client x.0 c ≡ next = ap (λ (p : RelayFront). p.1.1) same in
       record {
         x = x.0;
         read = ap (λ (l : List ℕ). Ok (Some (x.0, l))) left;
@@ -82,11 +82,11 @@ of_client_is c (Ok (Some x)) rest m next is = elim (either (is_due c)) [
       }
 ]
 
-met_client : (c : Context) (bytes rest : List ℕ) (m : Recorded) (next : Context) → front Client c bytes ≡ Ok (Some (m, (rest, next))) → Met Client c bytes rest m next
-unfolding front
+met_client : (c : Context) (bytes rest : List ℕ) (m : Recorded) (next : Context) → side_front Client c bytes ≡ Ok (Some (m, (rest, next))) → Met Client c bytes rest m next
+unfolding side_front
 met_client c bytes rest m next found =
-    let o = of_client_is c (client_front (client_context c) bytes) rest m next found in
-    let a = alone (client_front (client_context c)) (client_stable (client_context c)) bytes rest o.x o.read in
+    let o = of_client_is c (client_side_front (client_context c) bytes) rest m next found in
+    let a = alone (client_side_front (client_context c)) (client_stable (client_context c)) bytes rest o.x o.read in
     let s = client_short (client_context c) bytes rest o.x o.read in
     let same : s.0 ≡ a.g = append_cancel_right s.0 a.g rest (sym s.1 ∙ a.cut) in
     record {
@@ -100,23 +100,23 @@ met_client c bytes rest m next found =
 
 -- ---- a server's
 
-record OfServer (c : Context) (r : Found Backend) (rest : List ℕ) (m : Recorded) (next : Context) : Type 0 where
+record OfServer (c : Context) (r : RelayFinding Backend) (rest : List ℕ) (m : Recorded) (next : Context) : Type 0 where
   x : Backend
   read : r ≡ Ok (Some (x, rest))
   again : (more : List ℕ) → of_server c (Ok (Some (x, more))) ≡ Ok (Some (m, (more, next)))
   owner : side_of m ≡ Server
 
-of_server_is : (c : Context) (r : Found Backend) (rest : List ℕ) (m : Recorded) (next : Context) → of_server c r ≡ Ok (Some (m, (rest, next))) → OfServer c r rest m next
+of_server_is : (c : Context) (r : RelayFinding Backend) (rest : List ℕ) (m : Recorded) (next : Context) → of_server c r ≡ Ok (Some (m, (rest, next))) → OfServer c r rest m next
 of_server_is c (Err e) rest m next is = absurd cc
 of_server_is c (Ok None) rest m next is = absurd cc
 of_server_is c (Ok (Some x)) rest m next is = elim (either (is_accepted x.0)) [
   | inl accepted ↦ let other = rw accepted at is in absurd cc
   | inr free ↦
-      let here : Passing = (recorded.Backend x.0, (x.1, behind_server x.0 c)) in
+      let here : RelayFront = (recorded.Backend x.0, (x.1, behind_server x.0 c)) in
       let same : here ≡ (m, (rest, next)) = some_of here (m, (rest, next)) (rw free at is) in
-      let left : x.1 ≡ rest = ap (λ (p : Passing). p.1.0) same in
-      let made : recorded.Backend x.0 ≡ m = ap (λ (p : Passing). p.0) same in
-      let behind : behind_server x.0 c ≡ next = ap (λ (p : Passing). p.1.1) same in
+      let left : x.1 ≡ rest = ap (λ (p : RelayFront). p.1.0) same in
+      let made : recorded.Backend x.0 ≡ m = ap (λ (p : RelayFront). p.0) same in
+      let behind : behind_server x.0 c ≡ next = ap (λ (p : RelayFront). p.1.1) same in
       record {
         x = x.0;
         read = ap (λ (l : List ℕ). Ok (Some (x.0, l))) left;
@@ -125,8 +125,8 @@ of_server_is c (Ok (Some x)) rest m next is = elim (either (is_accepted x.0)) [
       }
 ]
 
-met_server : (c : Context) (bytes rest : List ℕ) (m : Recorded) (next : Context) → front Server c bytes ≡ Ok (Some (m, (rest, next))) → Met Server c bytes rest m next
-unfolding front
+met_server : (c : Context) (bytes rest : List ℕ) (m : Recorded) (next : Context) → side_front Server c bytes ≡ Ok (Some (m, (rest, next))) → Met Server c bytes rest m next
+unfolding side_front
 met_server c bytes rest m next found =
     let o = of_server_is c (backend_front c.decode bytes) rest m next found in
     let a = alone (backend_front c.decode) (backend_stable c.decode) bytes rest o.x o.read in
@@ -141,6 +141,6 @@ met_server c bytes rest m next found =
       owner = o.owner;
     }
 
-pub met : (side : Side) (c : Context) (bytes rest : List ℕ) (m : Recorded) (next : Context) → front side c bytes ≡ Ok (Some (m, (rest, next))) → Met side c bytes rest m next
+pub met : (side : Side) (c : Context) (bytes rest : List ℕ) (m : Recorded) (next : Context) → side_front side c bytes ≡ Ok (Some (m, (rest, next))) → Met side c bytes rest m next
 met Client c bytes rest m next found = met_client c bytes rest m next found
 met Server c bytes rest m next found = met_server c bytes rest m next found

@@ -24,15 +24,15 @@ use Rattle.pgw_frontend.specs.declared.frontend.PgWireFrontendMessage.{PgWireFro
 use Rattle.pgw_frontend.specs.declared.frontend.PgWireFrontendMessage.TheVariants as frontend
 use Rattle.pgw_types.specs.declared.context.DecodeContext.{DecodeContext}
 use Rattle.pgw_frontend.specs.Frontend.{frontend_front}
-use Rattle.pgw_frontend.specs.FrontendSpells.{Awaits, SpellsFrontend}
+use Rattle.pgw_frontend.specs.FrontendSpells.{AwaitsFrontend, SpellsFrontend}
 use Rattle.pgw_frontend.proofs.FrontendLaws.{frontend_again}
 use Rattle.pgw_proxy.specs.declared.context.Context.{Context}
 use Rattle.pgw_proxy.specs.declared.recorded.Side.{Side}
 use Rattle.pgw_proxy.specs.declared.recorded.Side.TheVariants.{Client, Server}
 use Rattle.pgw_proxy.specs.declared.recorded.Recorded.TheVariants as recorded
 use Rattle.pgw_proxy.specs.Context.{client_context, is_due, behind_client, behind_server, is_accepted}
-use Rattle.pgw_proxy.specs.Fronts.{front, client_front, of_client, of_server, or_first}
-use Rattle.pgw_proxy.specs.Plain.{AreColumns, ColumnTo, IsPlain, IsPlainKind, IsSettled, IsText}
+use Rattle.pgw_proxy.specs.Fronts.{side_front, client_side_front, of_client, of_server, front_past_encryption}
+use Rattle.pgw_proxy.specs.Plain.{ArePlainColumns, ColumnTo, IsPlain, IsPlainKind, IsSettled, IsZeroEnded}
 
 -- ---- in a settled context
 
@@ -43,22 +43,22 @@ calm c s =
     ∙ ap (λ (b : Bool). record c { decode = record c.decode { awaiting_backend_gss_response = b } }) (sym s.gss_answer)
 
 -- past the requests for encryption
-typed_client : (ctx : DecodeContext) (b : List ℕ) → ctx.awaiting_frontend_ssl ≡ false → client_front ctx b ≡ frontend_front ctx b
-unfolding client_front
-typed_client ctx b is = ap (λ (t : Bool). cond t (or_first ctx (frontend_front ctx b)) (frontend_front ctx b)) is
+typed_client : (ctx : DecodeContext) (b : List ℕ) → ctx.awaiting_frontend_ssl ≡ false → client_side_front ctx b ≡ frontend_front ctx b
+unfolding client_side_front
+typed_client ctx b is = ap (λ (t : Bool). cond t (front_past_encryption ctx (frontend_front ctx b)) (frontend_front ctx b)) is
 
-plain_client : (c : Context) (m : Frontend) (g : List ℕ) → IsSettled c → Awaits (client_context c) m → SpellsFrontend PROTOCOL3_2 m g → behind_client m c ≡ c → IsPlain Client c g
-unfolding front
+plain_client : (c : Context) (m : Frontend) (g : List ℕ) → IsSettled c → AwaitsFrontend (client_context c) m → SpellsFrontend PROTOCOL3_2 m g → behind_client m c ≡ c → IsPlain Client c g
+unfolding side_front
 plain_client c m g s awaits spelled stays = record {
   message = recorded.Frontend m;
   found = λ more.
-      let read : client_front (client_context c) (g ++ more) ≡ Ok (Some (m, more)) = typed_client (client_context c) (g ++ more) s.ssl ∙ frontend_again (client_context c) m g more awaits spelled in
+      let read : client_side_front (client_context c) (g ++ more) ≡ Ok (Some (m, more)) = typed_client (client_context c) (g ++ more) s.ssl ∙ frontend_again (client_context c) m g more awaits spelled in
       let free : is_due c ≡ false = rw (s.ssl_answer, s.gss_answer) refl in
       ap (of_client c) read ∙ rw (free, stays) refl;
 }
 
 plain_server : (c : Context) (m : Backend) (g : List ℕ) → SpellsIn c.decode m g → is_accepted m ≡ false → behind_server m c ≡ c → IsPlain Server c g
-unfolding front
+unfolding side_front
 plain_server c m g spelled free stays = record {
   message = recorded.Backend m;
   found = λ more. ap (of_server c) (backend_again c.decode m g more spelled) ∙ rw (free, stays) refl;
@@ -66,7 +66,7 @@ plain_server c m g spelled free stays = record {
 
 -- ---- a client's messages
 
-pub query_plain : (body : List ℕ) → length body ≤ 1073741818 → IsText body → (ready : Bool) → IsPlainKind Client ready 81 body
+pub query_plain : (body : List ℕ) → length body ≤ 1073741818 → IsZeroEnded body → (ready : Bool) → IsPlainKind Client ready 81 body
 unfolding SpellsFrontend behind_client
 query_plain body short t ready = λ c s is head spelled.
     plain_client c (frontend.Query (record { query = lossy t.raw })) (81 ∷ (head ++ body)) s (s.ssl, s.startup)
@@ -94,7 +94,7 @@ unfolding SpellsIn behind_server
 data_plain body short ready = λ c s is head spelled.
     plain_server c (backend.CopyData (record { payload = body })) (100 ∷ (head ++ body)) ((s.ssl_answer, s.gss_answer), (head, body, refl, spelled, omega (arith, short), refl)) refl refl
 
-pub complete_plain : (body : List ℕ) → length body ≤ 29996 → IsText body → (ready : Bool) → IsPlainKind Server ready 67 body
+pub complete_plain : (body : List ℕ) → length body ≤ 29996 → IsZeroEnded body → (ready : Bool) → IsPlainKind Server ready 67 body
 unfolding SpellsIn behind_server
 complete_plain body short t ready = λ c s is head spelled.
     plain_server c (backend.CommandComplete (record { tag = lossy t.raw })) (67 ∷ (head ++ body))
@@ -111,7 +111,7 @@ ready_plain status = λ c s is head spelled.
     read Transaction = refl
     read Error = refl
 
-pub columns_plain : (body : List ℕ) → length body + 4 ≤ 2147483647 → AreColumns body → (ready : Bool) → IsPlainKind Server ready 84 body
+pub columns_plain : (body : List ℕ) → length body + 4 ≤ 2147483647 → ArePlainColumns body → (ready : Bool) → IsPlainKind Server ready 84 body
 unfolding SpellsIn behind_server
 columns_plain body short columns ready = λ c s is head spelled.
     plain_server c (backend.RowDescription columns.0) (84 ∷ (head ++ body)) ((s.ssl_answer, s.gss_answer), (head, body, refl, spelled, short, columns.1)) refl refl
@@ -131,7 +131,7 @@ not_true true not_so = absurd (not_so refl)
 not_true false not_so = refl
 
 -- up to its first zero byte
-pub text_to : (bytes : List ℕ) (i : ℕ) → i < length bytes → Passes (is_byte 0) bytes i → Nowhere (Passes (is_byte 0) bytes) 0 i → IsText (take (i + 1) bytes)
+pub text_to : (bytes : List ℕ) (i : ℕ) → i < length bytes → Passes (is_byte 0) bytes i → Nowhere (Passes (is_byte 0) bytes) 0 i → IsZeroEnded (take (i + 1) bytes)
 text_to bytes i within here before = record {
   raw = take i bytes;
   whole = take-add i 1 bytes ∙ ap (λ (l : List ℕ). take i bytes ++ take 1 l) (drop-cons bytes i 0 within) ∙ ap (λ (b : ℕ). take i bytes ++ b ∷ []) (eqb-true _ _ here);
@@ -142,8 +142,8 @@ text_to bytes i within here before = record {
 }
 
 -- all of the bytes
-pub text_is : (bytes : List ℕ) (i : ℕ) → i < length bytes → Passes (is_byte 0) bytes i → Nowhere (Passes (is_byte 0) bytes) 0 i → i + 1 ≡ length bytes → IsText bytes
-text_is bytes i within here before end = subst IsText (ap (λ (n : ℕ). take n bytes) end ∙ take-length bytes) (text_to bytes i within here before)
+pub text_is : (bytes : List ℕ) (i : ℕ) → i < length bytes → Passes (is_byte 0) bytes i → Nowhere (Passes (is_byte 0) bytes) 0 i → i + 1 ≡ length bytes → IsZeroEnded bytes
+text_is bytes i within here before end = subst IsZeroEnded (ap (λ (n : ℕ). take n bytes) end ∙ take-length bytes) (text_to bytes i within here before)
 
 -- ---- columns
 
@@ -155,7 +155,7 @@ nat_front : (w : Width) (n : ℕ) (bytes : List ℕ) → byte_len w ≡ n → n 
 nat_front w n bytes is within = (length-take-le n bytes within ∙ sym is, refl)
 
 -- a name and six numbers
-column : (name rest : List ℕ) → IsText name → length rest ≡ 18 → (f : FieldDescription) × SpellsField f (name ++ rest)
+column : (name rest : List ℕ) → IsZeroEnded name → length rest ≡ 18 → (f : FieldDescription) × SpellsField f (name ++ rest)
 column name rest t long =
     let a = drop 4 rest in
     let b = drop 2 a in
@@ -249,7 +249,7 @@ columns_on body rest left n end cs to is = record {
   counted = length_push cs.done to.2 ∙ ap (λ (k : ℕ). k + 1) cs.counted;
 }
 
-pub columns_are : (body rest : List ℕ) (n : ℕ) → 2 ≤ length body → Columns body rest n → length rest ≡ 0 → cast_signed w16 (from_be_bytes w16 (take 2 body)) ≡ pos n → AreColumns body
+pub columns_are : (body rest : List ℕ) (n : ℕ) → 2 ≤ length body → Columns body rest n → length rest ≡ 0 → cast_signed w16 (from_be_bytes w16 (take 2 body)) ≡ pos n → ArePlainColumns body
 columns_are body rest n two cs none count =
     let all : drop 2 body ≡ cs.part = cs.whole ∙ ap (λ (l : List ℕ). cs.part ++ l) (sym (nothing rest none)) ∙ append-nil cs.part in
     (record { fields = cs.done }, (take 2 body, cs.part, sym (take-append-drop 2 body) ∙ ap (λ (l : List ℕ). take 2 body ++ l) all, (length-take-le 2 body two, count ∙ ap pos (sym cs.counted)), cs.spelled))

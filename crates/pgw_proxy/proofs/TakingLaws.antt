@@ -10,10 +10,10 @@ use Rattle.pgw_proxy.specs.declared.recorded.Recorded.{Recorded}
 use Rattle.pgw_proxy.specs.declared.recorded.Recorded.TheVariants as recorded
 use Rattle.pgw_proxy.specs.declared.fault.ProxyFault.{ProxyFault}
 use Rattle.pgw_proxy.specs.declared.fault.ProxyFault.TheVariants as fault
-use Rattle.pgw_proxy.specs.Fronts.{front}
-use Rattle.pgw_proxy.specs.Record.{Passed, passed, side_of, of_side, joined, entry, record_of}
-use Rattle.pgw_proxy.specs.Proxied.{Ending, Waits, Fails, Takes, waits, fails, breaks, passes, answer_of}
-use Rattle.pgw_proxy.specs.Taking.{IsCutOf, LeavesAt, Ran, Runs}
+use Rattle.pgw_proxy.specs.Fronts.{side_front}
+use Rattle.pgw_proxy.specs.Record.{RelayMessage, passed, side_of, of_side, side_bytes, relay_entry, record_of}
+use Rattle.pgw_proxy.specs.Proxied.{SideEnding, Waits, Fails, SideTakes, waits, fails, breaks, passes, relay_answer}
+use Rattle.pgw_proxy.specs.Taking.{IsCutOf, RelayLeaves, SideRelayed, RelaysUpTo}
 use Rattle.pgw_proxy.proofs.MetLaws.{Met}
 
 pub memory_or : (f : ProxyFault) → (f ≡ fault.OutOfMemory) ⊎ (f ≢ fault.OutOfMemory)
@@ -22,21 +22,21 @@ memory_or f = inr (λ is. cc)
 
 -- ---- lists of messages
 
-pub joined_append : (side : Side) (xs ys : List Passed) → joined side (xs ++ ys) ≡ joined side xs ++ joined side ys
+pub joined_append : (side : Side) (xs ys : List RelayMessage) → side_bytes side (xs ++ ys) ≡ side_bytes side xs ++ side_bytes side ys
 joined_append side xs ys = flat_map-append (λ m. of_side side m.message m.bytes) xs ys
 
-pub record_append : (xs ys : List Passed) → record_of (xs ++ ys) ≡ record_of xs ++ record_of ys
-record_append xs ys = flat_map-append (λ m. entry (side_of m.message) m.bytes) xs ys
+pub record_append : (xs ys : List RelayMessage) → record_of (xs ++ ys) ≡ record_of xs ++ record_of ys
+record_append xs ys = flat_map-append (λ m. relay_entry (side_of m.message) m.bytes) xs ys
 
 own_bytes : (m : Recorded) (g : List ℕ) → of_side (side_of m) m g ≡ g
 own_bytes (recorded.Frontend m) g = refl
 own_bytes (recorded.Backend m) g = refl
 
-pub joined_one : (side : Side) (m : Recorded) (g : List ℕ) → side_of m ≡ side → joined side (passed m g ∷ []) ≡ g
+pub joined_one : (side : Side) (m : Recorded) (g : List ℕ) → side_of m ≡ side → side_bytes side (passed m g ∷ []) ≡ g
 joined_one side m g owner = append-nil (of_side side m g) ∙ ap (λ (s : Side). of_side s m g) (sym owner) ∙ own_bytes m g
 
-pub record_one : (side : Side) (m : Recorded) (g : List ℕ) → side_of m ≡ side → record_of (passed m g ∷ []) ≡ entry side g
-record_one side m g owner = append-nil (entry (side_of m) g) ∙ ap (λ (s : Side). entry s g) owner
+pub record_one : (side : Side) (m : Recorded) (g : List ℕ) → side_of m ≡ side → record_of (passed m g ∷ []) ≡ relay_entry side g
+record_one side m g owner = append-nil (relay_entry (side_of m) g) ∙ ap (λ (s : Side). relay_entry s g) owner
 
 -- behind what was put out before, what is put out now
 out_on : (old mid new a b both : List ℕ) → both ≡ a ++ b → mid ≡ old ++ a → new ≡ mid ++ b → new ≡ old ++ both
@@ -45,7 +45,7 @@ out_on old mid new a b both is one two = two ∙ ap (λ (l : List ℕ). l ++ b) 
 -- ---- where it ends
 
 module _ (side : Side) where
-  pub ran_none : (c next : Context) (bytes left out tape : List ℕ) → next ≡ c → left ≡ bytes → front side c bytes ≡ Ok None → Ran side c bytes next left out out tape tape (Ok tt)
+  pub ran_none : (c next : Context) (bytes left out tape : List ℕ) → next ≡ c → left ≡ bytes → side_front side c bytes ≡ Ok None → SideRelayed side c bytes next left out out tape tape (Ok tt)
   ran_none c next bytes left out tape same stays none = record {
     messages = [];
     there = Waits c bytes;
@@ -56,7 +56,7 @@ module _ (side : Side) where
     says = refl;
   }
 
-  pub ran_broken_at : (c next : Context) (bytes left out_old out_new tape_old tape_new : List ℕ) → out_new ≡ out_old → tape_new ≡ tape_old → Ran side c bytes next left out_old out_new tape_old tape_new (Err fault.OutOfMemory)
+  pub ran_broken_at : (c next : Context) (bytes left out_old out_new tape_old tape_new : List ℕ) → out_new ≡ out_old → tape_new ≡ tape_old → SideRelayed side c bytes next left out_old out_new tape_old tape_new (Err fault.OutOfMemory)
   ran_broken_at c next bytes left out_old out_new tape_old tape_new one two = record {
     messages = [];
     there = Fails fault.OutOfMemory;
@@ -67,12 +67,12 @@ module _ (side : Side) where
     says = refl;
   }
 
-  pub ran_broken : (c next : Context) (bytes left out tape : List ℕ) → Ran side c bytes next left out out tape tape (Err fault.OutOfMemory)
+  pub ran_broken : (c next : Context) (bytes left out tape : List ℕ) → SideRelayed side c bytes next left out out tape tape (Err fault.OutOfMemory)
   ran_broken c next bytes left out tape = ran_broken_at c next bytes left out out tape tape refl refl
 
-  pub ran_fault : (c next : Context) (bytes left out tape : List ℕ) (f : ProxyFault) → (f ≢ fault.OutOfMemory → front side c bytes ≡ Err f) → Ran side c bytes next left out out tape tape (Err f)
+  pub ran_fault : (c next : Context) (bytes left out tape : List ℕ) (f : ProxyFault) → (f ≢ fault.OutOfMemory → side_front side c bytes ≡ Err f) → SideRelayed side c bytes next left out out tape tape (Err f)
   ran_fault c next bytes left out tape f bad = elim (memory_or f) [
-    | inl is ↦ subst (λ (g : ProxyFault). Ran side c bytes next left out out tape tape (Err g)) (sym is) (ran_broken c next bytes left out tape)
+    | inl is ↦ subst (λ (g : ProxyFault). SideRelayed side c bytes next left out out tape tape (Err g)) (sym is) (ran_broken c next bytes left out tape)
     | inr ne ↦ record {
       messages = [];
       there = Fails f;
@@ -86,7 +86,7 @@ module _ (side : Side) where
 
   -- ---- one message after the other
 
-  pub runs_start : (c : Context) (bytes out tape : List ℕ) → Runs side c bytes c bytes out out tape tape
+  pub runs_start : (c : Context) (bytes out tape : List ℕ) → RelaysUpTo side c bytes c bytes out out tape tape
   runs_start c bytes out tape = record {
     messages = [];
     cut = ([], refl);
@@ -96,8 +96,8 @@ module _ (side : Side) where
   }
 
   -- one message
-  pub runs_one : (c next : Context) (bytes rest out_old out_new tape_old tape_new : List ℕ) (m : Recorded) (h : Met side c bytes rest m next) → front side c bytes ≡ Ok (Some (m, (rest, next)))
-      → out_new ≡ out_old ++ h.g → tape_new ≡ tape_old ++ entry side h.g → Runs side c bytes next rest out_old out_new tape_old tape_new × (length rest < length bytes)
+  pub runs_one : (c next : Context) (bytes rest out_old out_new tape_old tape_new : List ℕ) (m : Recorded) (h : Met side c bytes rest m next) → side_front side c bytes ≡ Ok (Some (m, (rest, next)))
+      → out_new ≡ out_old ++ h.g → tape_new ≡ tape_old ++ relay_entry side h.g → RelaysUpTo side c bytes next rest out_old out_new tape_old tape_new × (length rest < length bytes)
   runs_one c next bytes rest out_old out_new tape_old tape_new m h found out tape = (
     record {
       messages = passed m h.g ∷ [];
@@ -111,35 +111,35 @@ module _ (side : Side) where
 
   -- one run after the other
   pub runs_then : (c mid next : Context) (bytes left rest out_old out_mid out_new tape_old tape_mid tape_new : List ℕ)
-      → Runs side c bytes mid left out_old out_mid tape_old tape_mid → Runs side mid left next rest out_mid out_new tape_mid tape_new → Runs side c bytes next rest out_old out_new tape_old tape_new
+      → RelaysUpTo side c bytes mid left out_old out_mid tape_old tape_mid → RelaysUpTo side mid left next rest out_mid out_new tape_mid tape_new → RelaysUpTo side c bytes next rest out_old out_new tape_old tape_new
   runs_then c mid next bytes left rest out_old out_mid out_new tape_old tape_mid tape_new a b = record {
     messages = a.messages ++ b.messages;
     cut = (a.cut.0 ++ b.cut.0, a.cut.1 ∙ ap (λ (l : List ℕ). a.cut.0 ++ l) b.cut.1 ∙ sym (append_assoc a.cut.0 b.cut.0 rest));
-    on = λ more there takes. subst (λ (ms : List Passed). Takes side c bytes ms there) (sym (append_assoc a.messages b.messages more)) (a.on (b.messages ++ more) there (b.on more there takes));
-    out = out_on out_old out_mid out_new (joined side a.messages) (joined side b.messages) (joined side (a.messages ++ b.messages)) (joined_append side a.messages b.messages) a.out b.out;
+    on = λ more there takes. subst (λ (ms : List RelayMessage). SideTakes side c bytes ms there) (sym (append_assoc a.messages b.messages more)) (a.on (b.messages ++ more) there (b.on more there takes));
+    out = out_on out_old out_mid out_new (side_bytes side a.messages) (side_bytes side b.messages) (side_bytes side (a.messages ++ b.messages)) (joined_append side a.messages b.messages) a.out b.out;
     tape = out_on tape_old tape_mid tape_new (record_of a.messages) (record_of b.messages) (record_of (a.messages ++ b.messages)) (record_append a.messages b.messages) a.tape b.tape;
   }
 
   pub ran_behind : (c mid next : Context) (bytes left rest out_old out_mid out_new tape_old tape_mid tape_new : List ℕ) (answer : Result (Unit {0}) ProxyFault)
-      → Runs side c bytes mid left out_old out_mid tape_old tape_mid → Ran side mid left next rest out_mid out_new tape_mid tape_new answer → Ran side c bytes next rest out_old out_new tape_old tape_new answer
+      → RelaysUpTo side c bytes mid left out_old out_mid tape_old tape_mid → SideRelayed side mid left next rest out_mid out_new tape_mid tape_new answer → SideRelayed side c bytes next rest out_old out_new tape_old tape_new answer
   ran_behind c mid next bytes left rest out_old out_mid out_new tape_old tape_mid tape_new answer runs ran = record {
     messages = runs.messages ++ ran.messages;
     there = ran.there;
     takes = runs.on ran.messages ran.there ran.takes;
     leaves = ran.leaves;
-    out = out_on out_old out_mid out_new (joined side runs.messages) (joined side ran.messages) (joined side (runs.messages ++ ran.messages)) (joined_append side runs.messages ran.messages) runs.out ran.out;
+    out = out_on out_old out_mid out_new (side_bytes side runs.messages) (side_bytes side ran.messages) (side_bytes side (runs.messages ++ ran.messages)) (joined_append side runs.messages ran.messages) runs.out ran.out;
     tape = out_on tape_old tape_mid tape_new (record_of runs.messages) (record_of ran.messages) (record_of (runs.messages ++ ran.messages)) (record_append runs.messages ran.messages) runs.tape ran.tape;
     says = ran.says;
   }
 
   -- memory may run out behind the last message
-  takes_broken : (c : Context) (bytes : List ℕ) (ms : List Passed) (there : Ending) → Takes side c bytes ms there → Takes side c bytes ms (Fails fault.OutOfMemory)
+  takes_broken : (c : Context) (bytes : List ℕ) (ms : List RelayMessage) (there : SideEnding) → SideTakes side c bytes ms there → SideTakes side c bytes ms (Fails fault.OutOfMemory)
   takes_broken c bytes ms there (waits x y none) = breaks c bytes
   takes_broken c bytes ms there (fails x y why bad) = breaks c bytes
   takes_broken c bytes ms there (breaks x y) = breaks c bytes
   takes_broken c bytes ms there (passes x next y g rest m more z cut found takes) = passes c next bytes g rest m more (Fails fault.OutOfMemory) cut found (takes_broken next rest more there takes)
 
-  pub ran_then_broken : (c next other : Context) (bytes left rest out_old out_new tape_old tape_new : List ℕ) (answer : Result (Unit {0}) ProxyFault) → Ran side c bytes next left out_old out_new tape_old tape_new answer → Ran side c bytes other rest out_old out_new tape_old tape_new (Err fault.OutOfMemory)
+  pub ran_then_broken : (c next other : Context) (bytes left rest out_old out_new tape_old tape_new : List ℕ) (answer : Result (Unit {0}) ProxyFault) → SideRelayed side c bytes next left out_old out_new tape_old tape_new answer → SideRelayed side c bytes other rest out_old out_new tape_old tape_new (Err fault.OutOfMemory)
   ran_then_broken c next other bytes left rest out_old out_new tape_old tape_new answer ran = record {
     messages = ran.messages;
     there = Fails fault.OutOfMemory;
@@ -151,7 +151,7 @@ module _ (side : Side) where
   }
 
   -- after a fault it does not matter what is left
-  pub ran_failed : (c next other : Context) (bytes left rest out_old out_new tape_old tape_new : List ℕ) (f : ProxyFault) → Ran side c bytes next left out_old out_new tape_old tape_new (Err f) → Ran side c bytes other rest out_old out_new tape_old tape_new (Err f)
+  pub ran_failed : (c next other : Context) (bytes left rest out_old out_new tape_old tape_new : List ℕ) (f : ProxyFault) → SideRelayed side c bytes next left out_old out_new tape_old tape_new (Err f) → SideRelayed side c bytes other rest out_old out_new tape_old tape_new (Err f)
   ran_failed c next other bytes left rest out_old out_new tape_old tape_new f ran = record {
     messages = ran.messages;
     there = ran.there;
@@ -162,19 +162,19 @@ module _ (side : Side) where
     says = ran.says;
   }
     where
-      leaves_any : (there : Ending) → Err f ≡ answer_of there → LeavesAt other rest there
+      leaves_any : (there : SideEnding) → Err f ≡ relay_answer there → RelayLeaves other rest there
       leaves_any (Waits x y) is = absurd cc
       leaves_any (Fails why) is = tt
 
 pub ran_same : (side : Side) (c next : Context) (bytes bytes2 left left2 out_old out_new tape_old tape_new : List ℕ) (answer : Result (Unit {0}) ProxyFault) → bytes ≡ bytes2 → left ≡ left2
-    → Ran side c bytes next left out_old out_new tape_old tape_new answer → Ran side c bytes2 next left2 out_old out_new tape_old tape_new answer
+    → SideRelayed side c bytes next left out_old out_new tape_old tape_new answer → SideRelayed side c bytes2 next left2 out_old out_new tape_old tape_new answer
 ran_same side c next bytes bytes2 left left2 out_old out_new tape_old tape_new answer one two ran =
-    subst (λ (b : List ℕ). Ran side c b next left2 out_old out_new tape_old tape_new answer) one (subst (λ (l : List ℕ). Ran side c bytes next l out_old out_new tape_old tape_new answer) two ran)
+    subst (λ (b : List ℕ). SideRelayed side c b next left2 out_old out_new tape_old tape_new answer) one (subst (λ (l : List ℕ). SideRelayed side c bytes next l out_old out_new tape_old tape_new answer) two ran)
 
 -- ---- places
 
 -- what is left where it waits is the end of the bytes
-takes_cut : (side : Side) (c next : Context) (bytes rest : List ℕ) (ms : List Passed) (there : Ending) → there ≡ Waits next rest → Takes side c bytes ms there → IsCutOf bytes rest
+takes_cut : (side : Side) (c next : Context) (bytes rest : List ℕ) (ms : List RelayMessage) (there : SideEnding) → there ≡ Waits next rest → SideTakes side c bytes ms there → IsCutOf bytes rest
 takes_cut side c next bytes rest ms there is (waits x y none) = let same : bytes ≡ rest = cc in ([], same)
 takes_cut side c next bytes rest ms there is (fails x y why bad) = absurd cc
 takes_cut side c next bytes rest ms there is (breaks x y) = absurd cc
@@ -182,11 +182,11 @@ takes_cut side c next bytes rest ms there is (passes x mid y g left m more z cut
     let on = takes_cut side mid next left rest more there is takes in
     (g ++ on.0, cut ∙ ap (λ (l : List ℕ). g ++ l) on.1 ∙ sym (append_assoc g on.0 rest))
 
-waits_at : (next : Context) (left : List ℕ) (there : Ending) → Ok tt ≡ answer_of there → LeavesAt next left there → there ≡ Waits next left
+waits_at : (next : Context) (left : List ℕ) (there : SideEnding) → Ok tt ≡ relay_answer there → RelayLeaves next left there → there ≡ Waits next left
 waits_at next left (Waits c rest) is leaves = ap (λ (d : Context). Waits d rest) (sym leaves.0) ∙ ap (Waits next) (sym leaves.1)
 waits_at next left (Fails why) is leaves = absurd cc
 
-pub ran_cut : (side : Side) (c next : Context) (bytes left out_old out_new tape_old tape_new : List ℕ) → Ran side c bytes next left out_old out_new tape_old tape_new (Ok tt) → IsCutOf bytes left
+pub ran_cut : (side : Side) (c next : Context) (bytes left out_old out_new tape_old tape_new : List ℕ) → SideRelayed side c bytes next left out_old out_new tape_old tape_new (Ok tt) → IsCutOf bytes left
 ran_cut side c next bytes left out_old out_new tape_old tape_new ran = takes_cut side c next bytes left ran.messages ran.there (waits_at next left ran.there ran.says ran.leaves) ran.takes
 
 -- the bytes of the message that was taken

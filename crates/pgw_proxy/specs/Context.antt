@@ -13,7 +13,7 @@ use Rattle.pgw_backend.specs.declared.backend.PgWireBackendMessage.{PgWireBacken
 use Rattle.pgw_backend.specs.declared.backend.PgWireBackendMessage.TheVariants as backend
 use Rattle.pgw_frontend.specs.declared.frontend.PgWireFrontendMessage.{PgWireFrontendMessage as Frontend}
 use Rattle.pgw_frontend.specs.declared.frontend.PgWireFrontendMessage.TheVariants as frontend
-use Rattle.pgw_codec.specs.Phase.{phase_behind, with_version}
+use Rattle.pgw_codec.specs.Phase.{phase_behind, with_codec_version}
 use Rattle.pgw_proxy.specs.declared.context.Context.{Context}
 
 -- as a connection begins, before any Startup: a server's messages are read at 3.0
@@ -22,7 +22,7 @@ first = record { decode = first_context PROTOCOL3_0; ready = false }
 
 -- a client's messages are read at 3.2, whatever is agreed
 abbrev pub client_context : Context → DecodeContext
-client_context c = with_version PROTOCOL3_2 c.decode
+client_context c = with_codec_version PROTOCOL3_2 c.decode
 
 -- the answer to a request for encryption is due
 abbrev pub is_due : Context → Bool
@@ -45,7 +45,7 @@ past_startup ctx = record ctx { awaiting_frontend_ssl = false; awaiting_frontend
 -- under the version that is offered, if it is known
 abbrev pub at_version : Option ProtocolVersion → DecodeContext → DecodeContext
 at_version None ctx = ctx
-at_version (Some version) ctx = with_version version ctx
+at_version (Some version) ctx = with_codec_version version ctx
 
 -- A Startup sets the version by its minor number, and a CancelRequest stands where one may. Behind
 -- a request for encryption its answer is due.
@@ -61,19 +61,19 @@ behind_client m c = record c { decode = phase_behind m c.decode }
 -- ---- a server's message
 
 -- no answer is due any more
-abbrev pub answered : DecodeContext → DecodeContext
-answered ctx =
+abbrev pub no_answer_due : DecodeContext → DecodeContext
+no_answer_due ctx =
     record ctx { awaiting_backend_ssl_response = false; awaiting_backend_gss_response = false }
 
 -- between a Startup and the first ReadyForQuery a server may offer another version
-abbrev pub offered : NegotiateProtocolVersion → Context → Context
-offered m c = if c.ready || is_unstarted c then c
+abbrev pub with_version_offer : NegotiateProtocolVersion → Context → Context
+with_version_offer m c = if c.ready || is_unstarted c then c
     else record c { decode = at_version (negotiated_version m.newest_minor_protocol) c.decode }
 
 unfoldable pub behind_server : Backend → Context → Context
-behind_server (backend.SslResponse m) c = record c { decode = answered c.decode }
-behind_server (backend.GssEncResponse m) c = record c { decode = answered c.decode }
-behind_server (backend.NegotiateProtocolVersion m) c = offered m c
+behind_server (backend.SslResponse m) c = record c { decode = no_answer_due c.decode }
+behind_server (backend.GssEncResponse m) c = record c { decode = no_answer_due c.decode }
+behind_server (backend.NegotiateProtocolVersion m) c = with_version_offer m c
 behind_server (backend.ReadyForQuery m) c = record c { ready = true }
 behind_server m c = c
 

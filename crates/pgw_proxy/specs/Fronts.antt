@@ -24,25 +24,25 @@ use Rattle.pgw_proxy.specs.Context.{behind_server, is_accepted}
 -- ---- as it is read
 
 -- what a reader finds: a message and the bytes behind it, or nothing yet, or a refusal
-abbrev pub Found : Type 0 → Type 0
-Found M = Result (Option (M × List ℕ)) PgWireError
+abbrev pub RelayFinding : Type 0 → Type 0
+RelayFinding M = Result (Option (M × List ℕ)) PgWireError
 
 -- whether the bytes ask for no encryption, and begin a first message
-abbrev pub asks_for_none : Frontend → Bool
-asks_for_none (frontend.SslNegotiation negotiation.None) = true
-asks_for_none m = false
+abbrev pub client_asks_none : Frontend → Bool
+client_asks_none (frontend.SslNegotiation negotiation.None) = true
+client_asks_none m = false
 
 -- that no encryption is asked for is passed over
-abbrev pub or_first : DecodeContext → Found Frontend → Found Frontend
-or_first ctx (Err e) = Err e
-or_first ctx (Ok None) = Ok None
-or_first ctx (Ok (Some x)) =
-    if asks_for_none x.0 then frontend_front (past_requests ctx) x.1 else Ok (Some x)
+abbrev pub front_past_encryption : DecodeContext → RelayFinding Frontend → RelayFinding Frontend
+front_past_encryption ctx (Err e) = Err e
+front_past_encryption ctx (Ok None) = Ok None
+front_past_encryption ctx (Ok (Some x)) =
+    if client_asks_none x.0 then frontend_front (past_requests ctx) x.1 else Ok (Some x)
 
 -- a client's message
-unfoldable pub client_front : DecodeContext → List ℕ → Found Frontend
-client_front ctx bytes =
-    if ctx.awaiting_frontend_ssl then or_first ctx (frontend_front ctx bytes)
+unfoldable pub client_side_front : DecodeContext → List ℕ → RelayFinding Frontend
+client_side_front ctx bytes =
+    if ctx.awaiting_frontend_ssl then front_past_encryption ctx (frontend_front ctx bytes)
     else frontend_front ctx bytes
 
 -- ---- as it is passed on
@@ -53,34 +53,34 @@ refused make wire.OutOfMemory = fault.OutOfMemory
 refused make e = make e
 
 -- a message, the bytes behind it, and the context behind it
-abbrev pub Passing : Type 0
-Passing = Recorded × (List ℕ × Context)
+abbrev pub RelayFront : Type 0
+RelayFront = Recorded × (List ℕ × Context)
 
 -- a client does not go on while the answer to its request for encryption is due
-abbrev pub of_client : Context → Found Frontend → Result (Option Passing) ProxyFault
+abbrev pub of_client : Context → RelayFinding Frontend → Result (Option RelayFront) ProxyFault
 of_client c (Err e) = Err (refused fault.Client e)
 of_client c (Ok None) = Ok None
 of_client c (Ok (Some x)) = if is_due c then Err fault.Negotiation
     else Ok (Some (recorded.Frontend x.0, (x.1, behind_client x.0 c)))
 
 -- that the server goes on encrypted is not passed on
-abbrev pub of_server : Context → Found Backend → Result (Option Passing) ProxyFault
+abbrev pub of_server : Context → RelayFinding Backend → Result (Option RelayFront) ProxyFault
 of_server c (Err e) = Err (refused fault.Server e)
 of_server c (Ok None) = Ok None
 of_server c (Ok (Some x)) = if is_accepted x.0 then Err fault.TlsAccepted
     else Ok (Some (recorded.Backend x.0, (x.1, behind_server x.0 c)))
 
 -- what stands at the front of a side's bytes: a message to be passed on, or nothing yet, or a fault
-unfoldable pub front : Side → Context → List ℕ → Result (Option Passing) ProxyFault
-front Client c bytes = of_client c (client_front (client_context c) bytes)
-front Server c bytes = of_server c (backend_front c.decode bytes)
+unfoldable pub side_front : Side → Context → List ℕ → Result (Option RelayFront) ProxyFault
+side_front Client c bytes = of_client c (client_side_front (client_context c) bytes)
+side_front Server c bytes = of_server c (backend_front c.decode bytes)
 
 -- ---- a call
 
 -- It gave what stands at the front, and took its bytes and no others, or memory was wanting.
-abbrev pub Gives : Side → Context → List ℕ → Context → List ℕ
+abbrev pub GivesSideFront : Side → Context → List ℕ → Context → List ℕ
     → Result (Option Recorded) ProxyFault → Type 0
-Gives side c bytes next rest (Ok None) =
-    (next ≡ c) × (rest ≡ bytes) × (front side c bytes ≡ Ok None)
-Gives side c bytes next rest (Ok (Some m)) = front side c bytes ≡ Ok (Some (m, (rest, next)))
-Gives side c bytes next rest (Err f) = f ≢ fault.OutOfMemory → front side c bytes ≡ Err f
+GivesSideFront side c bytes next rest (Ok None) =
+    (next ≡ c) × (rest ≡ bytes) × (side_front side c bytes ≡ Ok None)
+GivesSideFront side c bytes next rest (Ok (Some m)) = side_front side c bytes ≡ Ok (Some (m, (rest, next)))
+GivesSideFront side c bytes next rest (Err f) = f ≢ fault.OutOfMemory → side_front side c bytes ≡ Err f

@@ -11,8 +11,8 @@ use Rattle.pgw_query.specs.Rows.{SpellsField, SpellsRowDescription}
 use Rattle.pgw_proxy.specs.declared.context.Context.{Context}
 use Rattle.pgw_proxy.specs.declared.recorded.Side.{Side}
 use Rattle.pgw_proxy.specs.declared.recorded.Recorded.{Recorded}
-use Rattle.pgw_proxy.specs.Fronts.{front}
-use Rattle.pgw_proxy.specs.Taking.{Runs}
+use Rattle.pgw_proxy.specs.Fronts.{side_front}
+use Rattle.pgw_proxy.specs.Taking.{RelaysUpTo}
 
 -- each message has a type byte, and no answer to a request for encryption is due
 pub record IsSettled (c : Context) : Type 0 where
@@ -24,7 +24,7 @@ pub record IsSettled (c : Context) : Type 0 where
 -- ---- bodies
 
 -- a text, up to the zero byte behind it
-pub record IsText (bytes : List ℕ) : Type 0 where
+pub record IsZeroEnded (bytes : List ℕ) : Type 0 where
   pub raw : List ℕ
   pub whole : bytes ≡ raw ++ 0 ∷ []
   pub none : has_zero raw ≡ false
@@ -35,15 +35,15 @@ ColumnTo bytes None = Unit {0}
 ColumnTo bytes (Some end) = (0 < end) × (end ≤ length bytes)
     × (f : FieldDescription) × SpellsField f (take end bytes)
 
-abbrev pub AreColumns : List ℕ → Type 0
-AreColumns body = (m : RowDescription) × SpellsRowDescription m body
+abbrev pub ArePlainColumns : List ℕ → Type 0
+ArePlainColumns body = (m : RowDescription) × SpellsRowDescription m body
 
 -- ---- messages
 
 -- the bytes are a message, whatever follows them, and the context stays
 pub record IsPlain (side : Side) (c : Context) (g : List ℕ) : Type 0 where
   pub message : Recorded
-  pub found : (more : List ℕ) → front side c (g ++ more) ≡ Ok (Some (message, (more, c)))
+  pub found : (more : List ℕ) → side_front side c (g ++ more) ≡ Ok (Some (message, (more, c)))
 
 -- with this type byte, its length, and this body
 abbrev pub IsPlainBody : Side → Context → ℕ → List ℕ → Type 0
@@ -67,7 +67,7 @@ PlainTo side ready bytes (Some end) = (0 < end) × (end ≤ length bytes) × (en
 abbrev pub PlainRuns : Side → Context → List ℕ → List ℕ → List ℕ → List ℕ → List ℕ → List ℕ
     → Type 0
 PlainRuns side c bytes left out_old out_new tape_old tape_new =
-    (more : List ℕ) → Runs side c (bytes ++ more) c (left ++ more) out_old out_new tape_old tape_new
+    (more : List ℕ) → RelaysUpTo side c (bytes ++ more) c (left ++ more) out_old out_new tape_old tape_new
 
 -- they were recorded, so many bytes in all
 abbrev pub Tapes : Side → Bool → List ℕ → ℕ → List ℕ → List ℕ → Type 0
@@ -76,6 +76,6 @@ Tapes side ready bytes n tape_old tape_new =
     → PlainRuns side c bytes (drop n bytes) [] (take n bytes) tape_old tape_new
 
 -- some were passed on and recorded, and then memory was wanting
-abbrev pub Breaks : Side → Context → List ℕ → List ℕ → List ℕ → List ℕ → List ℕ → Type 0
-Breaks side c bytes out_old out_new tape_old tape_new =
-    (left : List ℕ) × Runs side c bytes c left out_old out_new tape_old tape_new
+abbrev pub BreaksRelay : Side → Context → List ℕ → List ℕ → List ℕ → List ℕ → List ℕ → Type 0
+BreaksRelay side c bytes out_old out_new tape_old tape_new =
+    (left : List ℕ) × RelaysUpTo side c bytes c left out_old out_new tape_old tape_new

@@ -9,20 +9,20 @@ use Rattle.pgw_proxy.specs.declared.fault.ProxyFault.{ProxyFault}
 use Rattle.pgw_proxy.specs.declared.fault.ProxyFault.TheVariants as proxy
 use Rattle.pgw_proxy.specs.declared.fault.RecordFault.{RecordFault}
 use Rattle.pgw_proxy.specs.declared.fault.RecordFault.TheVariants as fault
-use Rattle.pgw_proxy.specs.Reading.{Entry, Missing, Astray, Holds, message_in}
-use Rattle.pgw_proxy.specs.Reading.{Reads}
+use Rattle.pgw_proxy.specs.Reading.{RelayEntry, Missing, Astray, Holds, message_in}
+use Rattle.pgw_proxy.specs.Reading.{ReadsRelayRecord}
 
 -- what was found at the front of the records
-abbrev pub Finds : ℕ → Entry → Result Found RecordFault → Type 0
+abbrev pub Finds : ℕ → RelayEntry → Result Found RecordFault → Type 0
 Finds n entry (Ok x) = entry ≡ Holds x.side x.message.now x.rest.now
 Finds n entry (Err (fault.Truncated k)) = (k ≡ n) × (entry ≡ Missing)
 Finds n entry (Err (fault.BadDirection k d)) = (k ≡ n) × (entry ≡ Astray d)
 Finds n entry (Err f) = ⊥
 
 -- memory was wanting
-abbrev pub is_wanting : ProxyFault → Bool
-is_wanting proxy.OutOfMemory = true
-is_wanting f = false
+abbrev pub is_relay_wanting : ProxyFault → Bool
+is_relay_wanting proxy.OutOfMemory = true
+is_relay_wanting f = false
 
 -- what the bytes of a record were read as
 abbrev pub Becomes : Side → Context → List ℕ → Context → ℕ → Result Recorded RecordFault → Type 0
@@ -40,4 +40,4 @@ all_before ms (Err f) = Err f
 -- Some were read, and what the rest is read as tells what all are.
 abbrev pub ReadOn : Context → ℕ → List ℕ → List Recorded → Context → ℕ → List ℕ → Type 0
 ReadOn c n bytes ms next k rest = (others : Result (List Recorded) RecordFault)
-    → Reads next k rest others → Reads c n bytes (all_before ms others)
+    → ReadsRelayRecord next k rest others → ReadsRelayRecord c n bytes (all_before ms others)

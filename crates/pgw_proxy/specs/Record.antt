@@ -8,11 +8,11 @@ use Rattle.pgw_proxy.specs.declared.recorded.Recorded.{Recorded}
 use Rattle.pgw_proxy.specs.declared.recorded.Recorded.TheVariants as recorded
 
 -- a message that was passed on, and its bytes as they came
-pub record Passed : Type 0 where
+pub record RelayMessage : Type 0 where
   pub message : Recorded
   pub bytes : List ℕ
 
-abbrev pub passed : Recorded → List ℕ → Passed
+abbrev pub passed : Recorded → List ℕ → RelayMessage
 passed m bytes = record { message = m; bytes = bytes }
 
 -- whose message it is
@@ -27,8 +27,8 @@ of_side Server (recorded.Backend m) bytes = bytes
 of_side side m bytes = []
 
 -- the bytes of a side's messages, one behind the other
-abbrev pub joined : Side → List Passed → List ℕ
-joined side ms = flat_map (λ m. of_side side m.message m.bytes) ms
+abbrev pub side_bytes : Side → List RelayMessage → List ℕ
+side_bytes side ms = flat_map (λ m. of_side side m.message m.bytes) ms
 
 -- ---- the record
 
@@ -37,8 +37,8 @@ direction Client = 0
 direction Server = 1
 
 -- the side, how many bytes the message has, and these bytes
-unfoldable pub entry : Side → List ℕ → List ℕ
-entry side bytes = (direction side ∷ u32 (length bytes)) ++ bytes
+unfoldable pub relay_entry : Side → List ℕ → List ℕ
+relay_entry side bytes = (direction side ∷ u32 (length bytes)) ++ bytes
 
-abbrev pub record_of : List Passed → List ℕ
-record_of ms = flat_map (λ m. entry (side_of m.message) m.bytes) ms
+abbrev pub record_of : List RelayMessage → List ℕ
+record_of ms = flat_map (λ m. relay_entry (side_of m.message) m.bytes) ms

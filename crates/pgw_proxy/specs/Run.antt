@@ -4,15 +4,15 @@ use Rattle.std.specs.Prelude.{length, Option, Some, None, Result, Ok, Err}
 use Rattle.std.specs.List.{filter}
 use Rattle.pgw_types.specs.Counts.{Rose}
 use Rattle.pgw_link.specs.Tape.{Tape}
-use Rattle.pgw_link.specs.Foresight.{Foreseen, Ends}
+use Rattle.pgw_link.specs.Foresight.{Foreseen, TapeEnds}
 use Rattle.pgw_proxy.specs.declared.recorded.Side.{Side}
 use Rattle.pgw_proxy.specs.declared.recorded.Side.TheVariants.{Client, Server}
 use Rattle.pgw_proxy.specs.declared.fault.ProxyFault.{ProxyFault}
 use Rattle.pgw_proxy.specs.declared.fault.ProxyFault.TheVariants as fault
 use Rattle.pgw_proxy.specs.declared.run.ProxyRun.{ProxyRun}
-use Rattle.pgw_proxy.specs.Record.{Passed, joined, record_of}
-use Rattle.pgw_proxy.specs.Proxied.{Event, Course, Going, Stopped, Place, Proxied, given}
-use Rattle.pgw_proxy.specs.Turns.{Links, Turns, faults_of, io_of, other, tape_of}
+use Rattle.pgw_proxy.specs.Record.{RelayMessage, side_bytes, record_of}
+use Rattle.pgw_proxy.specs.Proxied.{SideEvent, RelayCourse, Going, Stopped, ProxyPlace, Proxied, side_input}
+use Rattle.pgw_proxy.specs.Turns.{Links, Turns, side_faults, io_of, other, side_tape}
 
 -- a link before and behind some calls: what it tells, what is to come, and how many calls failed
 pub record Span : Type 0 where
@@ -42,8 +42,8 @@ start_of client server = record {
   server_faults = server.before;
 }
 
-abbrev pub end_of : Span → Span → Links
-end_of client server = record {
+abbrev pub relay_links : Span → Span → Links
+relay_links client server = record {
   client = client.new;
   server = server.new;
   client_faults = client.now;
@@ -70,54 +70,54 @@ abbrev pub HadTurns : Tape → Tape → ℕ → List ℕ → Type 0
 HadTurns old new count came = (count ≤ length came) ⊎ MetEnd old new
 
 -- of a link that knows what is to come: what was taken is the front of it, and the end is answered behind the last byte
-pub record Foretold (link : Span) : Type 0 where
+pub record IsRelayForetold (link : Span) : Type 0 where
   pub foreseen : Foreseen link.was link.is link.old link.new
-  pub ends : Ends link.is link.old link.new
+  pub ends : TapeEnds link.is link.old link.new
 
 -- ---- at each side
 
 -- a call of its link that failed is not why the proxy stopped; and where memory was wanting, none failed
 abbrev pub FaredWell : Side → Links → Links → Option ProxyFault → Type 0
 FaredWell side start last why = (why ≢ Some (io_of side))
-    × (why ≡ Some fault.OutOfMemory → Rose (faults_of side start) (faults_of side last) → ⊥)
+    × (why ≡ Some fault.OutOfMemory → Rose (side_faults side start) (side_faults side last) → ⊥)
 
 -- Over the link to this side its pieces came, and the messages of the other side were written: whole and flushed, or a
 -- front of them where a call of the link failed. So many turns were made, unless a call of its link failed.
-pub record AtLink (side : Side) (start last : Links) (turns : List Side) (events : List Event)
-    (messages : List Passed) (why : Option ProxyFault) : Type 0 where
-  pub took : (tape_of side last).took ≡ (tape_of side start).took ++ given side events
+pub record AtLink (side : Side) (start last : Links) (turns : List Side) (events : List SideEvent)
+    (messages : List RelayMessage) (why : Option ProxyFault) : Type 0 where
+  pub took : (side_tape side last).took ≡ (side_tape side start).took ++ side_input side events
   pub part : List ℕ
   pub lost : List ℕ
-  pub cut : joined (other side) messages ≡ part ++ lost
-  pub wrote : (tape_of side last).wrote ≡ (tape_of side start).wrote ++ part
+  pub cut : side_bytes (other side) messages ≡ part ++ lost
+  pub wrote : (side_tape side last).wrote ≡ (side_tape side start).wrote ++ part
   pub whole : FaredWell side start last why → lost ≡ []
   pub flushed : FaredWell side start last why → part ≢ []
-      → (tape_of side last).flushed ≡ length (tape_of side last).wrote
+      → (side_tape side last).flushed ≡ length (side_tape side last).wrote
   pub calm : why ≢ Some (io_of side) → why ≢ Some fault.OutOfMemory
-      → faults_of side last ≡ faults_of side start
-  pub failed : why ≡ Some (io_of side) → Rose (faults_of side start) (faults_of side last)
-  pub turns_made : why ≢ Some (io_of side) → HadTurns (tape_of side start) (tape_of side last)
-      (turns_of side turns) (given side events)
+      → side_faults side last ≡ side_faults side start
+  pub failed : why ≡ Some (io_of side) → Rose (side_faults side start) (side_faults side last)
+  pub turns_made : why ≢ Some (io_of side) → HadTurns (side_tape side start) (side_tape side last)
+      (turns_of side turns) (side_input side events)
 
 -- ---- the whole
 
 -- The pieces lead on; or they lead to the fault for which the proxy stopped; or a call of a link failed, and memory was
 -- not wanting beside.
-abbrev pub StopsFor : Option ProxyFault → Course → Type 0
-StopsFor None course = (p : Place) × (course ≡ Going p)
+abbrev pub StopsFor : Option ProxyFault → RelayCourse → Type 0
+StopsFor None course = (p : ProxyPlace) × (course ≡ Going p)
 StopsFor (Some f) course = (((f ≡ io_of Client) ⊎ (f ≡ io_of Server))
     × (course ≢ Stopped fault.OutOfMemory)) ⊎ (course ≡ Stopped f)
 
 -- In these turns a proxy between two links passed on these messages, those of the pieces that came.
-pub record Passes (turns : List Side) (start last : Links) (messages : List Passed)
+pub record RelaysMessages (turns : List Side) (start last : Links) (messages : List RelayMessage)
     (why : Option ProxyFault) : Type 0 where
   pub done : List Side
   pub left : List Side
   pub cut : turns ≡ done ++ left
   -- all turns were made, where there was no fault
   pub all : why ≡ None → left ≡ []
-  pub events : List Event
-  pub course : Course
+  pub events : List SideEvent
+  pub course : RelayCourse
   -- turn by turn
   pub made : Turns start done events messages course last why
   -- and in sum
@@ -128,21 +128,21 @@ pub record Passes (turns : List Side) (start last : Links) (messages : List Pass
 -- What a run comes to that is answered: the record is that of the messages passed on, and memory was not wanting.
 pub record Relays (turns : List Side) (client server : Span)
     (client_foretells server_foretells : Type 0) (run : ProxyRun) : Type 0 where
-  pub messages : List Passed
-  pub passes : Passes turns (start_of client server) (end_of client server) messages run.fault
+  pub messages : List RelayMessage
+  pub passes : RelaysMessages turns (start_of client server) (relay_links client server) messages run.fault
   pub record_is : run.tape ≡ record_of messages
   pub known : run.fault ≢ Some fault.OutOfMemory
-  pub client_foretold : client_foretells → Foretold client
-  pub server_foretold : server_foretells → Foretold server
+  pub client_foretold : client_foretells → IsRelayForetold client
+  pub server_foretold : server_foretells → IsRelayForetold server
 
 -- Where memory was wanting, in a turn or for the record behind the last, the turns up to then were made as ever.
 pub record Unrecorded (turns : List Side) (client server : Span)
     (client_foretells server_foretells : Type 0) : Type 0 where
-  pub messages : List Passed
+  pub messages : List RelayMessage
   pub why : Option ProxyFault
-  pub passes : Passes turns (start_of client server) (end_of client server) messages why
-  pub client_foretold : client_foretells → Foretold client
-  pub server_foretold : server_foretells → Foretold server
+  pub passes : RelaysMessages turns (start_of client server) (relay_links client server) messages why
+  pub client_foretold : client_foretells → IsRelayForetold client
+  pub server_foretold : server_foretells → IsRelayForetold server
 
 abbrev pub RelaysOr : {E : Type 0} → List Side → Span → Span → Type 0 → Type 0
     → Result ProxyRun E → Type 0

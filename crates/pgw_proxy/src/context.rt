@@ -5,7 +5,7 @@ ghost use Rattle.pgw_startup.specs.Negotiate.{negotiated_version as version_offe
 ghost use Rattle.pgw_proxy.specs.Context.{first, client_context as context_of_client};
 ghost use Rattle.pgw_proxy.specs.Context.{is_due as due, past_requests as requests_past};
 ghost use Rattle.pgw_proxy.specs.Context.{at_version as version_at, past_startup as startup_past};
-ghost use Rattle.pgw_proxy.specs.Context.{answered as all_answered, offered as told_offer};
+ghost use Rattle.pgw_proxy.specs.Context.{no_answer_due as all_answered, with_version_offer as told_offer};
 ghost use Rattle.pgw_proxy.specs.Context.{behind_client as client_behind};
 ghost use Rattle.pgw_proxy.specs.Context.{behind_server as server_behind};
 ghost use Rattle.pgw_proxy.specs.Context.{is_accepted as accepted};

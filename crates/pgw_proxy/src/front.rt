@@ -4,7 +4,7 @@ ghost use Rattle.pgw_wire.specs.Framing.{Decodes};
 ghost use Rattle.pgw_frontend.specs.Frontend.{frontend_front};
 ghost use Rattle.pgw_proxy.specs.declared.recorded.Side.TheVariants.{Client, Server};
 ghost use Rattle.pgw_proxy.specs.declared.fault.ProxyFault.TheVariants as fault;
-ghost use Rattle.pgw_proxy.specs.Fronts.{or_first, client_front, refused, Gives};
+ghost use Rattle.pgw_proxy.specs.Fronts.{front_past_encryption, client_side_front, refused, GivesSideFront};
 
 use crate::context::{
     Context, behind_client, behind_server, client_context, is_accepted, is_due, past_requests,
@@ -26,7 +26,7 @@ fn decode_opening<B: Buffer>(
     bytes: &mut B,
 ) -> PgWireResult<Option<PgWireFrontendMessage>>
     ensures { Decodes result (B.held bytes.old) (B.held bytes.new)
-        (or_first context.now (frontend_front context.now (B.held bytes.old))) }
+        (front_past_encryption context.now (frontend_front context.now (B.held bytes.old))) }
 {
     match PgWireFrontendMessage::decode_from(alloc, bytes, context)? {
         Some(PgWireFrontendMessage::SslNegotiation(SslNegotiationMetaMessage::None)) => {
@@ -37,14 +37,14 @@ fn decode_opening<B: Buffer>(
 }
 
 // Takes the message at the front of a client's bytes, if it is whole.
-#[tactic(auto, unfolding(crate::specs::Fronts::client_front))]
+#[tactic(auto, unfolding(crate::specs::Fronts::client_side_front))]
 fn decode_client<B: Buffer>(
     alloc: Global,
     context: &DecodeContext,
     bytes: &mut B,
 ) -> PgWireResult<Option<PgWireFrontendMessage>>
     ensures { Decodes result (B.held bytes.old) (B.held bytes.new)
-        (client_front context.now (B.held bytes.old)) }
+        (client_side_front context.now (B.held bytes.old)) }
 {
     if context.awaiting_frontend_ssl {
         decode_opening(alloc, context, bytes)
@@ -72,13 +72,13 @@ fn server_fault(e: PgWireError) -> ProxyFault
 }
 
 // Takes the message at the front of a client's bytes.
-#[tactic(auto, unfolding(crate::specs::Fronts::front))]
+#[tactic(auto, unfolding(crate::specs::Fronts::side_front))]
 fn take_client<B: Buffer>(
     alloc: Global,
     context: &mut Context,
     bytes: &mut B,
 ) -> Result<Option<Recorded>, ProxyFault>
-    ensures { Gives Client context.old (B.held bytes.old) context.new (B.held bytes.new) result }
+    ensures { GivesSideFront Client context.old (B.held bytes.old) context.new (B.held bytes.new) result }
 {
     match decode_client(alloc, &client_context(context), bytes) {
         Ok(None) => Ok(None),
@@ -95,13 +95,13 @@ fn take_client<B: Buffer>(
 }
 
 // Takes the message at the front of a server's bytes.
-#[tactic(auto, unfolding(crate::specs::Fronts::front))]
+#[tactic(auto, unfolding(crate::specs::Fronts::side_front))]
 fn take_server<B: Buffer>(
     alloc: Global,
     context: &mut Context,
     bytes: &mut B,
 ) -> Result<Option<Recorded>, ProxyFault>
-    ensures { Gives Server context.old (B.held bytes.old) context.new (B.held bytes.new) result }
+    ensures { GivesSideFront Server context.old (B.held bytes.old) context.new (B.held bytes.new) result }
 {
     match PgWireBackendMessage::decode_from(alloc, bytes, &context.decode) {
         Ok(None) => Ok(None),
@@ -124,7 +124,7 @@ pub fn take_message<B: Buffer>(
     context: &mut Context,
     bytes: &mut B,
 ) -> Result<Option<Recorded>, ProxyFault>
-    ensures { Gives side context.old (B.held bytes.old) context.new (B.held bytes.new) result }
+    ensures { GivesSideFront side context.old (B.held bytes.old) context.new (B.held bytes.new) result }
 {
     match side {
         Side::Client => take_client(alloc, context, bytes),

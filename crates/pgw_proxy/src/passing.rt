@@ -1,7 +1,7 @@
 //! Plain messages, passed on as they lie: one record for each, and one copy of all of them.
 ghost use Rattle.std.specs.Prelude.{◌≡◌, ◌≤◌, ◌++◌, drop, length, IfOk, OnOk, OnErr};
-ghost use Rattle.pgw_proxy.specs.Plain.{Breaks, PlainRuns, Tapes};
-ghost use Rattle.pgw_proxy.specs.Taking.{Runs};
+ghost use Rattle.pgw_proxy.specs.Plain.{BreaksRelay, PlainRuns, Tapes};
+ghost use Rattle.pgw_proxy.specs.Taking.{RelaysUpTo};
 
 use crate::context::Context;
 use crate::plain::{is_settled, plain_end};
@@ -111,7 +111,7 @@ fn pass_piece(
     tape: &mut BytesMut,
 ) -> Result<usize, OutOfMemory>
     ensures within { IfOk result (λ n. n ≤ length piece.now) }
-    ensures ok { IfOk result (λ n. Runs side context.now (waiting.now.items ++ piece.now)
+    ensures ok { IfOk result (λ n. RelaysUpTo side context.now (waiting.now.items ++ piece.now)
         context.now (waiting.now.items ++ drop n piece.now)
         out.old.items out.new.items tape.old.items tape.new.items) }
     ensures err { OnErr result
@@ -175,10 +175,10 @@ pub fn pass_front(
     tape: &mut BytesMut,
 ) -> Result<usize, OutOfMemory>
     ensures within { IfOk result (λ n. n ≤ length piece.now) }
-    ensures ok { IfOk result (λ n. Runs side context.now (waiting.old.items ++ piece.now)
+    ensures ok { IfOk result (λ n. RelaysUpTo side context.now (waiting.old.items ++ piece.now)
         context.now (waiting.new.items ++ drop n piece.now)
         out.old.items out.new.items tape.old.items tape.new.items) }
-    ensures err { OnErr result (Breaks side context.now (waiting.old.items ++ piece.now)
+    ensures err { OnErr result (BreaksRelay side context.now (waiting.old.items ++ piece.now)
         out.old.items out.new.items tape.old.items tape.new.items) }
 {
     let wanted = wanted(waiting.as_slice(), piece);

@@ -5,7 +5,7 @@ ghost use Rattle.std.specs.Bool.{OnTrue};
 ghost use Rattle.pgw_query.specs.declared.response.TransactionStatus.{TransactionStatus};
 ghost use Rattle.pgw_query.specs.Rows.{status_byte};
 ghost use Rattle.pgw_proxy.specs.declared.recorded.Side.TheVariants.{Client, Server};
-ghost use Rattle.pgw_proxy.specs.Plain.{AreColumns, ColumnTo, IsPlainKind, IsSettled, IsText};
+ghost use Rattle.pgw_proxy.specs.Plain.{ArePlainColumns, ColumnTo, IsPlainKind, IsSettled, IsZeroEnded};
 ghost use Rattle.pgw_proxy.specs.Plain.{PlainTo};
 
 use crate::context::Context;
@@ -26,7 +26,7 @@ pub fn is_settled(context: &Context) -> bool
 
 // Whether the first zero byte is the last byte.
 fn is_text(bytes: &[u8]) -> bool
-    ensures { OnTrue result (IsText bytes.now) }
+    ensures { OnTrue result (IsZeroEnded bytes.now) }
 {
     match memchr(0, bytes) {
         Some(zero) => zero + 1 == bytes.len(),
@@ -49,7 +49,7 @@ fn column_end(bytes: &[u8]) -> Option<usize>
 
 // Whether the bytes are as many columns as they say.
 fn are_columns(body: &[u8]) -> bool
-    ensures { OnTrue result (AreColumns body.now) }
+    ensures { OnTrue result (ArePlainColumns body.now) }
 {
     if body.len() < 2 {
         return false;

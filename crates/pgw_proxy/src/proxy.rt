@@ -1,8 +1,8 @@
 //! A recording proxy: pieces go in as they come from either side, and those to be sent on come out.
 ghost use Rattle.std.specs.Prelude.{◌≡◌, ◌∷◌, ◌++◌, ℕ, List, [], Err};
 ghost use Rattle.pgw_proxy.specs.declared.recorded.Side.TheVariants.{Client, Server};
-ghost use Rattle.pgw_proxy.specs.Proxied.{Event};
-ghost use Rattle.pgw_proxy.specs.Stands.{HasStopped, GoesOn, Stands, Arrives, Forwards};
+ghost use Rattle.pgw_proxy.specs.Proxied.{SideEvent};
+ghost use Rattle.pgw_proxy.specs.Stands.{IsRelayOver, ProxyGoesOn, RelayStands, ProxyArrives, Forwards};
 
 use crate::context::Context;
 use crate::fault::ProxyFault;
@@ -30,9 +30,9 @@ pub struct Proxy {
 impl Proxy {
     /// A connection of which nothing came yet.
     pub fn new(alloc: Global) -> Proxy
-        ensures going { GoesOn result }
+        ensures going { ProxyGoesOn result }
         // It stands for no pieces, with nothing passed on and nothing recorded.
-        ensures stands { Stands result [] [] [] [] }
+        ensures stands { RelayStands result [] [] [] [] }
     {
         Proxy {
             context: Context::new(),
@@ -55,19 +55,19 @@ impl Proxy {
         tape: &mut BytesMut,
     ) -> Result<(), ProxyFault>
         // From where it is the piece leads to where it is then, and the answer says so.
-        ensures forwards { GoesOn self.old → Forwards Client self.old self.new piece.now
+        ensures forwards { ProxyGoesOn self.old → Forwards Client self.old self.new piece.now
             to_server.old.items to_server.new.items tape.old.items tape.new.items result }
         // For all pieces that it stood for, with what was passed on and recorded, it stands for
         // them with this piece behind them, and what is appended; the answer is what the place
         // tells to which they lead.
-        ensures stands { (events : List Event) (sent got record_so_far : List ℕ) →
-            Stands self.old events sent got record_so_far → (more part : List ℕ)
+        ensures stands { (events : List SideEvent) (sent got record_so_far : List ℕ) →
+            RelayStands self.old events sent got record_so_far → (more part : List ℕ)
             × (to_server.new.items ≡ to_server.old.items ++ more)
             × (tape.new.items ≡ tape.old.items ++ part)
-            × Arrives self.old self.new (events ++ (Client, piece.now) ∷ []) (sent ++ more) got
+            × ProxyArrives self.old self.new (events ++ (Client, piece.now) ∷ []) (sent ++ more) got
             (record_so_far ++ part) result }
         // Behind a fault nothing changes.
-        ensures stopped { HasStopped self.old → (self.new ≡ self.old)
+        ensures stopped { IsRelayOver self.old → (self.new ≡ self.old)
             × (to_server.new.items ≡ to_server.old.items) × (tape.new.items ≡ tape.old.items)
             × (result ≡ Err ProxyFault.Stopped) }
     {
@@ -88,15 +88,15 @@ impl Proxy {
         to_client: &mut BytesMut,
         tape: &mut BytesMut,
     ) -> Result<(), ProxyFault>
-        ensures forwards { GoesOn self.old → Forwards Server self.old self.new piece.now
+        ensures forwards { ProxyGoesOn self.old → Forwards Server self.old self.new piece.now
             to_client.old.items to_client.new.items tape.old.items tape.new.items result }
-        ensures stands { (events : List Event) (sent got record_so_far : List ℕ) →
-            Stands self.old events sent got record_so_far → (more part : List ℕ)
+        ensures stands { (events : List SideEvent) (sent got record_so_far : List ℕ) →
+            RelayStands self.old events sent got record_so_far → (more part : List ℕ)
             × (to_client.new.items ≡ to_client.old.items ++ more)
             × (tape.new.items ≡ tape.old.items ++ part)
-            × Arrives self.old self.new (events ++ (Server, piece.now) ∷ []) sent (got ++ more)
+            × ProxyArrives self.old self.new (events ++ (Server, piece.now) ∷ []) sent (got ++ more)
             (record_so_far ++ part) result }
-        ensures stopped { HasStopped self.old → (self.new ≡ self.old)
+        ensures stopped { IsRelayOver self.old → (self.new ≡ self.old)
             × (to_client.new.items ≡ to_client.old.items) × (tape.new.items ≡ tape.old.items)
             × (result ≡ Err ProxyFault.Stopped) }
     {

@@ -1,10 +1,10 @@
 //! Records that are read back.
 ghost use Rattle.std.specs.Prelude.{◌≡◌, ◌⊎◌, List, map, Ok, Err};
 ghost use Rattle.pgw_proxy.specs.declared.fault.RecordFault.TheVariants as faults;
-ghost use Rattle.pgw_proxy.specs.Proxied.{Event, Course, Proxied};
-ghost use Rattle.pgw_proxy.specs.Record.{Passed, record_of};
-ghost use Rattle.pgw_proxy.specs.Reading.{held_by as side_held, entry_at as entry_found, IsReadAs};
-ghost use Rattle.pgw_proxy.specs.ReadingSteps.{Finds, Becomes, is_wanting as wanting};
+ghost use Rattle.pgw_proxy.specs.Proxied.{SideEvent, RelayCourse, Proxied};
+ghost use Rattle.pgw_proxy.specs.Record.{RelayMessage, record_of};
+ghost use Rattle.pgw_proxy.specs.Reading.{held_by as side_held, entry_at as entry_found, IsRelayReadAs};
+ghost use Rattle.pgw_proxy.specs.ReadingSteps.{Finds, Becomes, is_relay_wanting as wanting};
 
 use crate::context::Context;
 use crate::fault::{ProxyFault, RecordFault};
@@ -100,9 +100,9 @@ fn read_message(
 /// The first record that is faulty decides.
 pub fn read_record(alloc: Global, bytes: &[u8]) -> Result<Listed<Recorded>, RecordFault>
     // What it is read as, or why not.
-    ensures exact { IsReadAs bytes.now result }
+    ensures exact { IsRelayReadAs bytes.now result }
     // The record of a list of events gives the messages of that list, in order.
-    ensures back { (events : List Event) (messages : List Passed) (course : Course) →
+    ensures back { (events : List SideEvent) (messages : List RelayMessage) (course : RelayCourse) →
         Proxied events messages course → bytes.now ≡ record_of messages →
         (result ≡ Ok (map (λ m. m.message) messages)) ⊎ (result ≡ Err faults.OutOfMemory) }
 {

@@ -1,11 +1,11 @@
 //! A proxy between two links.
 ghost use Rattle.std.specs.Prelude.{◌≡◌, ◌<◌, ◌≤◌, [], length, OnOk};
 ghost use Rattle.std.specs.Io.KnownBytes.{Keeps};
-ghost use Rattle.pgw_link.specs.Foresight.{Ends, Foreseen};
-ghost use Rattle.pgw_link.specs.Tape.{HasCause};
-ghost use Rattle.pgw_proxy.specs.Run.{Foretold, RelaysOr, end_of, span, start_of};
-ghost use Rattle.pgw_proxy.specs.RunSteps.{Came, Delivers, Ended, Moves, Stops, end_by, start_by};
-ghost use Rattle.pgw_proxy.specs.Stands.{Forwards, GoesOn};
+ghost use Rattle.pgw_link.specs.Foresight.{TapeEnds, Foreseen};
+ghost use Rattle.pgw_link.specs.Tape.{HasTapeCause};
+ghost use Rattle.pgw_proxy.specs.Run.{IsRelayForetold, RelaysOr, relay_links, span, start_of};
+ghost use Rattle.pgw_proxy.specs.RunSteps.{SideWasRead, Delivers, EndsRelayRun, RelayMoves, RelayStops, end_by, start_by};
+ghost use Rattle.pgw_proxy.specs.Stands.{Forwards, ProxyGoesOn};
 ghost use Rattle.pgw_proxy.specs.Turns.{graver as graver_of, io_of, other as other_of};
 
 use crate::fault::ProxyFault;
@@ -56,13 +56,13 @@ fn read_piece<L: Link>(
     side: Side,
     piece: &mut [u8; CHUNK],
 ) -> Result<usize, ProxyFault>
-    ensures cause { HasCause (L.faults link.old) (L.faults link.new) result }
+    ensures cause { HasTapeCause (L.faults link.old) (L.faults link.new) result }
     ensures calm { OnOk result (L.faults link.new ≡ L.faults link.old) }
-    ensures came { Came side (L.tape link.old) (L.tape link.new) piece.new result }
+    ensures came { SideWasRead side (L.tape link.old) (L.tape link.new) piece.new result }
     ensures kept { L.plan link.new ≡ L.plan link.old }
     ensures foreseen { L.foretells → Foreseen (L.left link.old) (L.left link.new)
         (L.tape link.old) (L.tape link.new) }
-    ensures ends { L.foretells → Ends (L.left link.new) (L.tape link.old) (L.tape link.new) }
+    ensures ends { L.foretells → TapeEnds (L.left link.new) (L.tape link.old) (L.tape link.new) }
 {
     match link.read(&mut piece[..CHUNK]) {
         Ok(n) => Ok(n),
@@ -79,7 +79,7 @@ fn pass(
     out: &mut BytesMut,
     tape: &mut BytesMut,
 ) -> Result<(), ProxyFault>
-    requires { GoesOn proxy.old }
+    requires { ProxyGoesOn proxy.old }
     ensures { Forwards side proxy.old proxy.new piece.now out.old.items out.new.items
         tape.old.items tape.new.items result }
 {
@@ -91,7 +91,7 @@ fn pass(
 
 // Writes what is due to a side, and flushes; nothing where nothing is due.
 fn deliver<L: Link>(link: &mut L, side: Side, due: &[u8]) -> Result<(), ProxyFault>
-    ensures cause { HasCause (L.faults link.old) (L.faults link.new) result }
+    ensures cause { HasTapeCause (L.faults link.old) (L.faults link.new) result }
     ensures calm { OnOk result (L.faults link.new ≡ L.faults link.old) }
     ensures left { L.foretells → Keeps (L.left link.old) (L.left link.new) }
     ensures kept { L.plan link.new ≡ L.plan link.old }
@@ -132,15 +132,15 @@ fn turn<F: Link, T: Link>(
     piece: &mut [u8; CHUNK],
     tape: &mut BytesMut,
 ) -> Result<(), ProxyFault>
-    requires { GoesOn proxy.old }
-    ensures turn { Moves side proxy.old proxy.new tape.old.items tape.new.items
+    requires { ProxyGoesOn proxy.old }
+    ensures turn { RelayMoves side proxy.old proxy.new tape.old.items tape.new.items
         (start_by side (span F.tape F.left F.faults from.old from.new)
         (span T.tape T.left T.faults to.old to.new))
         (end_by side (span F.tape F.left F.faults from.old from.new)
         (span T.tape T.left T.faults to.old to.new))
         result }
-    ensures from { F.foretells → Foretold (span F.tape F.left F.faults from.old from.new) }
-    ensures to { T.foretells → Foretold (span T.tape T.left T.faults to.old to.new) }
+    ensures from { F.foretells → IsRelayForetold (span F.tape F.left F.faults from.old from.new) }
+    ensures to { T.foretells → IsRelayForetold (span T.tape T.left T.faults to.old to.new) }
     ensures kept { (F.plan from.new ≡ F.plan from.old) × (T.plan to.new ≡ T.plan to.old) }
 {
     let n = match read_piece(from, side, piece) {
@@ -168,15 +168,15 @@ fn turn_of<A: Link, B: Link>(
     piece: &mut [u8; CHUNK],
     tape: &mut BytesMut,
 ) -> Result<(), ProxyFault>
-    requires { GoesOn proxy.old }
-    ensures turn { Moves side proxy.old proxy.new tape.old.items tape.new.items
+    requires { ProxyGoesOn proxy.old }
+    ensures turn { RelayMoves side proxy.old proxy.new tape.old.items tape.new.items
         (start_of (span A.tape A.left A.faults client.old client.new)
         (span B.tape B.left B.faults server.old server.new))
-        (end_of (span A.tape A.left A.faults client.old client.new)
+        (relay_links (span A.tape A.left A.faults client.old client.new)
         (span B.tape B.left B.faults server.old server.new))
         result }
-    ensures client { A.foretells → Foretold (span A.tape A.left A.faults client.old client.new) }
-    ensures server { B.foretells → Foretold (span B.tape B.left B.faults server.old server.new) }
+    ensures client { A.foretells → IsRelayForetold (span A.tape A.left A.faults client.old client.new) }
+    ensures server { B.foretells → IsRelayForetold (span B.tape B.left B.faults server.old server.new) }
     ensures kept { (A.plan client.new ≡ A.plan client.old)
         × (B.plan server.new ≡ B.plan server.old) }
 {
@@ -195,10 +195,10 @@ fn take_turns<A: Link, B: Link>(
     tape: &mut BytesMut,
 ) -> Result<(), ProxyFault>
     requires { tape.old.items ≡ [] }
-    ensures relays { Stops turns.now (span A.tape A.left A.faults client.old client.new)
+    ensures relays { RelayStops turns.now (span A.tape A.left A.faults client.old client.new)
         (span B.tape B.left B.faults server.old server.new) tape.new.items result }
-    ensures client { A.foretells → Foretold (span A.tape A.left A.faults client.old client.new) }
-    ensures server { B.foretells → Foretold (span B.tape B.left B.faults server.old server.new) }
+    ensures client { A.foretells → IsRelayForetold (span A.tape A.left A.faults client.old client.new) }
+    ensures server { B.foretells → IsRelayForetold (span B.tape B.left B.faults server.old server.new) }
     ensures kept { (A.plan client.new ≡ A.plan client.old)
         × (B.plan server.new ≡ B.plan server.old) }
 {
@@ -215,7 +215,7 @@ fn take_turns<A: Link, B: Link>(
 
 // The record with the fault, unless memory was wanting.
 fn ended(tape: BytesMut, stopped: Result<(), ProxyFault>) -> Result<ProxyRun, OutOfMemory>
-    ensures { Ended tape.items stopped result }
+    ensures { EndsRelayRun tape.items stopped result }
 {
     let mut tape = tape;
     let len = tape.len();

@@ -1,6 +1,6 @@
 //! The bytes that wait of a side: what came, and was not passed on yet.
 ghost use Rattle.std.specs.Prelude.{◌≡◌, ◌≤◌, ◌-◌, ◌++◌, length, slice_range};
-ghost use Rattle.pgw_proxy.specs.Taking.{IsCutOf, Ran, Stepped};
+ghost use Rattle.pgw_proxy.specs.Taking.{IsCutOf, SideRelayed, StepsRelay};
 
 use crate::context::Context;
 use crate::fault::ProxyFault;
@@ -61,7 +61,7 @@ fn take_next<B: Buffer>(
     tape: &mut BytesMut,
 ) -> Result<bool, ProxyFault>
     requires { IsCutOf bytes.now (B.held left.old) }
-    ensures { Stepped side context.old (B.held left.old) context.new (B.held left.new)
+    ensures { StepsRelay side context.old (B.held left.old) context.new (B.held left.new)
         out.old.items out.new.items tape.old.items tape.new.items result }
 {
     let before = left.bytes().len();
@@ -89,7 +89,7 @@ fn take_all<B: Buffer>(
     tape: &mut BytesMut,
 ) -> Result<(), ProxyFault>
     requires { B.held left.old ≡ bytes.now }
-    ensures { Ran side context.old bytes.now context.new (B.held left.new)
+    ensures { SideRelayed side context.old bytes.now context.new (B.held left.new)
         out.old.items out.new.items tape.old.items tape.new.items result }
 {
     'messages: loop {
@@ -110,7 +110,7 @@ fn take_frozen(
     out: &mut BytesMut,
     tape: &mut BytesMut,
 ) -> Result<(), ProxyFault>
-    ensures { Ran side context.old waiting.old.items context.new waiting.new.items
+    ensures { SideRelayed side context.old waiting.old.items context.new waiting.new.items
         out.old.items out.new.items tape.old.items tape.new.items result }
 {
     let all = match waiting.freeze_to(waiting.len()) {
@@ -143,7 +143,7 @@ fn take_here(
     out: &mut BytesMut,
     tape: &mut BytesMut,
 ) -> Result<(), ProxyFault>
-    ensures { Ran side context.old waiting.old.items context.new waiting.new.items
+    ensures { SideRelayed side context.old waiting.old.items context.new waiting.new.items
         out.old.items out.new.items tape.old.items tape.new.items result }
 {
     let mut peek = Peek {
@@ -175,7 +175,7 @@ fn take_whole(
     out: &mut BytesMut,
     tape: &mut BytesMut,
 ) -> Result<(), ProxyFault>
-    ensures { Ran side context.old waiting.old.items context.new waiting.new.items
+    ensures { SideRelayed side context.old waiting.old.items context.new waiting.new.items
         out.old.items out.new.items tape.old.items tape.new.items result }
 {
     if waiting.is_empty() {
@@ -197,7 +197,7 @@ fn take_behind(
     out: &mut BytesMut,
     tape: &mut BytesMut,
 ) -> Result<(), ProxyFault>
-    ensures { Ran side context.old (waiting.old.items ++ piece.now) context.new waiting.new.items
+    ensures { SideRelayed side context.old (waiting.old.items ++ piece.now) context.new waiting.new.items
         out.old.items out.new.items tape.old.items tape.new.items result }
 {
     match append(alloc, waiting, piece) {
@@ -216,7 +216,7 @@ pub fn take_piece(
     out: &mut BytesMut,
     tape: &mut BytesMut,
 ) -> Result<(), ProxyFault>
-    ensures { Ran side context.old (waiting.old.items ++ piece.now) context.new waiting.new.items
+    ensures { SideRelayed side context.old (waiting.old.items ++ piece.now) context.new waiting.new.items
         out.old.items out.new.items tape.old.items tape.new.items result }
 {
     match pass_front(alloc, side, context, waiting, piece, out, tape) {

@@ -1,6 +1,6 @@
 //! Messages that are passed on, and recorded.
 ghost use Rattle.std.specs.Prelude.{◌≡◌, ◌<◌, ◌^◌, ◌++◌, length, OnOk, OnErr};
-ghost use Rattle.pgw_proxy.specs.Record.{direction as direction_of, entry};
+ghost use Rattle.pgw_proxy.specs.Record.{direction as direction_of, relay_entry};
 
 use crate::recorded::Side;
 use bytes::BytesMut;
@@ -17,10 +17,10 @@ fn direction(side: Side) -> u8
 }
 
 // Appends the record of a message, or nothing.
-#[tactic(auto, unfolding(crate::specs::Record::entry, pgw_wire::specs::Writing::u32))]
+#[tactic(auto, unfolding(crate::specs::Record::relay_entry, pgw_wire::specs::Writing::u32))]
 pub fn put_record(side: Side, bytes: &[u8], tape: &mut BytesMut) -> Result<(), OutOfMemory>
     requires { length bytes.now < 2 ^ 32 }
-    ensures ok { OnOk result (tape.new.items ≡ tape.old.items ++ entry side bytes.now) }
+    ensures ok { OnOk result (tape.new.items ≡ tape.old.items ++ relay_entry side bytes.now) }
     ensures err { OnErr result (tape.new.items ≡ tape.old.items) }
 {
     let [a, b, c, d] = (bytes.len() as u32).to_be_bytes();
@@ -39,7 +39,7 @@ pub fn pass_on(
 ) -> Result<(), OutOfMemory>
     requires { length bytes.now < 2 ^ 32 }
     ensures out { OnOk result (out.new.items ≡ out.old.items ++ bytes.now) }
-    ensures tape { OnOk result (tape.new.items ≡ tape.old.items ++ entry side bytes.now) }
+    ensures tape { OnOk result (tape.new.items ≡ tape.old.items ++ relay_entry side bytes.now) }
     ensures err { OnErr result
         ((out.new.items ≡ out.old.items) × (tape.new.items ≡ tape.old.items)) }
 {

@@ -4,7 +4,7 @@ use Rattle.pgw_types.specs.declared.error.PgWireError.{PgWireError}
 use Rattle.pgw_frontend.specs.Frontend.{encodings}
 use Rattle.pgw_backend.specs.declared.backend.PgWireBackendMessage.{PgWireBackendMessage as Backend}
 use Rattle.pgw_config.specs.declared.config.Config.{Config}
-use Rattle.pgw_course.specs.Course.{On, Ends, moved}
+use Rattle.pgw_course.specs.Course.{On, Ends, map_move}
 use Rattle.pgw_session.specs.declared.notes.Notes.{Notes}
 use Rattle.pgw_session.specs.declared.stage.Kind.{Kind}
 use Rattle.pgw_session.specs.declared.stage.Next.{Next}
@@ -17,12 +17,12 @@ use Rattle.pgw_session.specs.declared.types.Answer.{Answer}
 use Rattle.pgw_session.specs.declared.types.Request.{Request}
 use Rattle.pgw_session.specs.Answers.{tally_after}
 use Rattle.pgw_session.specs.Input.{Input, input_with}
-use Rattle.pgw_session.specs.Machine.{Complete, End, answered, ended, moves_by, opens_next, passes_by, rules_by, sending, turn_by}
+use Rattle.pgw_session.specs.Machine.{Complete, End, open_request, map_end, moves_by, opens_next, passes_by, rules_by, sending, turn_by}
 use Rattle.pgw_session.specs.Notes.{answer_for, notes_book}
 use Rattle.pgw_session.specs.Requests.{passes_over, role}
 use Rattle.pgw_session.specs.Segments.{is_ready, sends}
-use Rattle.pgw_session.specs.Table.{after, by_ready, by_role, misplaced}
-use Rattle.pgw_push.specs.Behind.{behind}
+use Rattle.pgw_session.specs.Table.{next_after, by_ready, by_role, misplaced}
+use Rattle.pgw_push.specs.Behind.{notes_behind}
 use Rattle.pgw_push.specs.Standing.{IsRequests}
 use Rattle.pgw_push.proofs.ViewLaws.{IsViewWhere}
 
@@ -58,7 +58,7 @@ ready_goes true stage reply is = absurd (cc)
 ready_goes false stage reply is = let same : PassingOver ≡ stage = cc in subst IsRequests same tt
 
 after_goes : (input : Input) (s : Stage) (m : Backend) (stage : Stage) (reply : _) → IsRequests s
-    → after input s m ≡ Goes stage reply → IsRequests stage
+    → next_after input s m ≡ Goes stage reply → IsRequests stage
 after_goes input (Answering k rows) m stage reply here is = role_goes k (role k rows m) stage reply is
 after_goes input PassingOver m stage reply here is = ready_goes (is_ready m) stage reply is
 after_goes input s m stage reply here is = absurd here
@@ -85,7 +85,7 @@ module _ (config : Config) (nonce : List ℕ) (q : Request) where
       (encodings (sends reply)) out is in
       subst IsOfRequest same (goes stage reply refl, here.1, here.2)
   moves_keep n next m out Closes here goes is =
-      let ends = ap (opens_next notes_book (notes_book.closes n m (answered one n.closed))) (none_next q n here.1) in
+      let ends = ap (opens_next notes_book (notes_book.closes n m (open_request one n.closed))) (none_next q n here.1) in
       absurd (cc)
   moves_keep n next m out Wrong here goes is = absurd (cc)
   moves_keep n next m out (Refuses e) here goes is = absurd (cc)
@@ -103,7 +103,7 @@ module _ (config : Config) (nonce : List ℕ) (q : Request) where
   turn_keeps : (n next : Notes) (m : Backend) (out : List ℕ) (o : Option Backend) → IsOfRequest n
       → turn_by notes_book one n m o ≡ On next out → IsOfRequest next
   turn_keeps n next m out None here is =
-      moves_keep n next m out (after one n.stage m) here
+      moves_keep n next m out (next_after one n.stage m) here
       (λ stage reply. after_goes one n.stage m stage reply here.0) is
   turn_keeps n next m out (Some first) here is = passes_keep n next m first out (is_ready m) here is
 
@@ -114,28 +114,28 @@ module _ (config : Config) (nonce : List ℕ) (q : Request) where
     all = input_with config (before ++ q ∷ []) nonce
 
     abbrev f : Notes → Notes
-    f = behind (length before) earlier
+    f = notes_behind (length before) earlier
 
-    same_after : (s : Stage) (m : Backend) → IsRequests s → after all s m ≡ after one s m
+    same_after : (s : Stage) (m : Backend) → IsRequests s → next_after all s m ≡ next_after one s m
     same_after (Answering k rows) m here = refl
     same_after PassingOver m here = refl
     same_after s m here = absurd here
 
     sending_seen : (first second : Notes) (o : Result (List ℕ) PgWireError)
-        → sending (f first) (f second) o ≡ moved f (ended f) (sending first second o)
+        → sending (f first) (f second) o ≡ map_move f (map_end f) (sending first second o)
     sending_seen first second (Err e) = refl
     sending_seen first second (Ok bytes) = refl
 
     closes_seen : (n : Notes) (m : Backend) → IsOfRequest n
-        → opens_next notes_book (notes_book.closes (f n) m (answered all (n.closed + length before)))
-        (slice_get (before ++ q ∷ []) (n.closed + length before)) ≡ moved f (ended f)
-        (opens_next notes_book (notes_book.closes n m (answered one n.closed)) (slice_get (q ∷ []) n.closed))
+        → opens_next notes_book (notes_book.closes (f n) m (open_request all (n.closed + length before)))
+        (slice_get (before ++ q ∷ []) (n.closed + length before)) ≡ map_move f (map_end f)
+        (opens_next notes_book (notes_book.closes n m (open_request one n.closed)) (slice_get (q ∷ []) n.closed))
     closes_seen n m here =
         let k = length before in
         let count : n.closed + k ≡ suc k = omega (arith, here.1) in
         let here_closed = here.1 in
-        let was : answered all (n.closed + k) ≡ Some q = ap (answered all) count ∙ get_last before q in
-        let is : answered one n.closed ≡ Some q = ap (answered one) here.1 in
+        let was : open_request all (n.closed + k) ≡ Some q = ap (open_request all) count ∙ get_last before q in
+        let is : open_request one n.closed ≡ Some q = ap (open_request one) here.1 in
         let none : slice_get (before ++ q ∷ []) (n.closed + k) ≡ None =
         ap (slice_get (before ++ q ∷ [])) count ∙ get_past before q in
         let tally = tally_after n.tally m in
@@ -148,12 +148,12 @@ module _ (config : Config) (nonce : List ℕ) (q : Request) where
         (slice_get (before ++ q ∷ []) (n.closed + k))) was
         ∙ ap (opens_next notes_book (notes_book.closes (f n) m (Some q))) none
         ∙ ap (λ (x : Notes). opens_next notes_book x None) notes
-        ∙ ap (λ o. moved f (ended f) (opens_next notes_book (notes_book.closes n m o) None)) (sym is)
-        ∙ ap (λ o. moved f (ended f) (opens_next notes_book (notes_book.closes n m (answered one n.closed)) o))
+        ∙ ap (λ o. map_move f (map_end f) (opens_next notes_book (notes_book.closes n m o) None)) (sym is)
+        ∙ ap (λ o. map_move f (map_end f) (opens_next notes_book (notes_book.closes n m (open_request one n.closed)) o))
         (sym (none_next q n here.1))
 
     moves_seen : (n : Notes) (m : Backend) (x : Next) → IsOfRequest n
-        → moves_by notes_book all (f n) m x ≡ moved f (ended f) (moves_by notes_book one n m x)
+        → moves_by notes_book all (f n) m x ≡ map_move f (map_end f) (moves_by notes_book one n m x)
     moves_seen n m (Goes stage reply) here =
         sending_seen (notes_book.takes n m [] stage) (notes_book.takes n m (sends reply) stage)
         (encodings (sends reply))
@@ -163,17 +163,17 @@ module _ (config : Config) (nonce : List ℕ) (q : Request) where
     moves_seen n m PassesOver here = refl
 
     passes_seen : (n : Notes) (m first : Backend) (b : Bool)
-        → passes_by notes_book (f n) first m b ≡ moved f (ended f) (passes_by notes_book n first m b)
+        → passes_by notes_book (f n) first m b ≡ map_move f (map_end f) (passes_by notes_book n first m b)
     passes_seen n m first true = refl
     passes_seen n m first false = refl
 
     turn_seen : (n : Notes) (m : Backend) (o : Option Backend) → IsOfRequest n
-        → turn_by notes_book all (f n) m o ≡ moved f (ended f) (turn_by notes_book one n m o)
+        → turn_by notes_book all (f n) m o ≡ map_move f (map_end f) (turn_by notes_book one n m o)
     turn_seen n m None here =
-        ap (moves_by notes_book all (f n) m) (same_after n.stage m here.0) ∙ moves_seen n m (after one n.stage m) here
+        ap (moves_by notes_book all (f n) m) (same_after n.stage m here.0) ∙ moves_seen n m (next_after one n.stage m) here
     turn_seen n m (Some first) here = passes_seen n m first (is_ready m)
 
-    pub last_view : IsViewWhere IsOfRequest f (ended f) (rules_by notes_book one) (rules_by notes_book all)
+    pub last_view : IsViewWhere IsOfRequest f (map_end f) (rules_by notes_book one) (rules_by notes_book all)
     last_view = record {
       read = λ n bytes. refl;
       step = λ n m. turn_seen n m n.first_passed;
@@ -197,17 +197,17 @@ module _ (config : Config) (nonce : List ℕ) (q : Request) where
   sending_ends first second end (Ok bytes) whole is = absurd (cc)
 
   closes_gives : (n : Notes) (end : End Notes) (m : Backend) → IsOfRequest n
-      → opens_next notes_book (notes_book.closes n m (answered input n.closed)) (slice_get (q ∷ []) n.closed) ≡
+      → opens_next notes_book (notes_book.closes n m (open_request input n.closed)) (slice_get (q ∷ []) n.closed) ≡
       Ends end []
       → Gives end.notes
   closes_gives n end m here is =
-      let asked : answered input n.closed ≡ Some q = ap (answered input) here.1 in
+      let asked : open_request input n.closed ≡ Some q = ap (open_request input) here.1 in
       let ends =
-      ap (opens_next notes_book (notes_book.closes n m (answered input n.closed))) (none_next q n here.1) in
-      let same : end.notes ≡ notes_book.closes n m (answered input n.closed) = cc in (
+      ap (opens_next notes_book (notes_book.closes n m (open_request input n.closed))) (none_next q n here.1) in
+      let same : end.notes ≡ notes_book.closes n m (open_request input n.closed) = cc in (
         _,
         ap (λ (x : Notes). x.answers) same
-            ∙ ap (λ (l : List Answer). l ++ answer_for (answered input n.closed) (tally_after n.tally m)) here.2
+            ∙ ap (λ (l : List Answer). l ++ answer_for (open_request input n.closed) (tally_after n.tally m)) here.2
             ∙ ap (λ o. answer_for o (tally_after n.tally m)) asked,
       )
 
@@ -228,5 +228,5 @@ module _ (config : Config) (nonce : List ℕ) (q : Request) where
 
   pub turn_gives : (n : Notes) (end : End Notes) (m : Backend) (o : Option Backend) → IsOfRequest n
       → end.outcome ≡ Complete → turn_by notes_book input n m o ≡ Ends end [] → Gives end.notes
-  turn_gives n end m None here whole is = moves_give n end m (after input n.stage m) here whole is
+  turn_gives n end m None here whole is = moves_give n end m (next_after input n.stage m) here whole is
   turn_gives n end m (Some first) here whole is = passes_give n end m first (is_ready m) whole is

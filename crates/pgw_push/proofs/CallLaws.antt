@@ -16,10 +16,10 @@ use Rattle.pgw_session.specs.declared.types.Answer.{Answer}
 use Rattle.pgw_session.specs.declared.types.Request.{Request}
 use Rattle.pgw_session.specs.declared.types.SessionReport.{SessionReport}
 use Rattle.pgw_session.specs.Answers.{answers_of, no_tally, tally_at, tally_of}
-use Rattle.pgw_session.specs.Events.{Event, Sent, joined}
-use Rattle.pgw_session.specs.Failures.{EndsAs, Told, WaitsStill}
+use Rattle.pgw_session.specs.Events.{Event, Sent, all_events}
+use Rattle.pgw_session.specs.Failures.{EndsAs, BytesTell, WaitsStill}
 use Rattle.pgw_session.specs.Input.{Input, input_with}
-use Rattle.pgw_session.specs.Machine.{ended, rules_by, sending, turn_by}
+use Rattle.pgw_session.specs.Machine.{map_end, rules_by, sending, turn_by}
 use Rattle.pgw_session.specs.Notes.{notes_book, view}
 use Rattle.pgw_session.specs.Requests.{sends_of}
 use Rattle.pgw_session.specs.Segments.{startup_message}
@@ -35,18 +35,18 @@ use Rattle.pgw_session.proofs.ReadingLaws.{reads_more}
 use Rattle.pgw_session.proofs.Whole.{conversation_completes, conversation_goes_on}
 use Rattle.pgw_dialogue.specs.declared.phase.DialoguePhase.{DialoguePhase}
 use Rattle.pgw_dialogue.specs.Answers.{answer_behind, waiting_answer}
-use Rattle.pgw_dialogue.specs.Dialogue.{Answers}
-use Rattle.pgw_dialogue.specs.Machine.{Started, notes_end, runs, whole_end}
+use Rattle.pgw_dialogue.specs.Dialogue.{AnswersDialogue}
+use Rattle.pgw_dialogue.specs.Machine.{StartsRun, notes_end, runs, whole_end}
 use Rattle.pgw_dialogue.specs.Wire.{Unless}
 use Rattle.pgw_dialogue.proofs.TalkLaws.{start_is, waits_in}
-use Rattle.pgw_push.specs.Behind.{behind}
-use Rattle.pgw_push.specs.Calls.{HasAnswer, IsLastAnswer, IsLeft, Opens, OpensSegment, Served, TakesPiece, opened, with_request}
+use Rattle.pgw_push.specs.Behind.{notes_behind}
+use Rattle.pgw_push.specs.Calls.{HasAnswer, IsLastAnswer, IsLeft, PushesRequest, OpensSegment, Served, TakesPiece, opening_notes, input_with_request}
 use Rattle.pgw_push.specs.declared.client.PushClient.{PushClient}
 use Rattle.pgw_push.specs.declared.state.State.{State}
 use Rattle.pgw_push.specs.declared.state.State.TheVariants as state
-use Rattle.pgw_push.specs.Serving.{Serves, StopsAt}
-use Rattle.pgw_push.specs.State.{state_behind}
-use Rattle.pgw_push.specs.Standing.{ComesTo, IsIdle, IsOpen, IsStarved, NotesAt, StandsFor, StandsIdle, StandsIn, asks, last_input}
+use Rattle.pgw_push.specs.Serving.{Serves, PushStopsAtFront}
+use Rattle.pgw_push.specs.State.{push_state_behind}
+use Rattle.pgw_push.specs.Standing.{PushWaits, IsIdle, IsOpen, IsStarvedPush, NotesAt, StandsFor, StandsIdle, PushStandsIn, asks, last_input}
 use Rattle.pgw_push.proofs.BehindLaws.{IsOfRequest, last_view, turn_gives}
 use Rattle.pgw_push.proofs.ViewLaws.{Within, run_where}
 use Rattle.pgw_push.proofs.PairLaws.{Fits, served_pair, stands_as, stands_in, starved_pair}
@@ -89,7 +89,7 @@ answered_by mid new old_out new_out result here v = subst (HasAnswer new) (sym v
     s = v.serves
 
     gives : (q : Request) → mid.asked ≡ Some (q ∷ [])
-        → StopsAt (last_input mid) s.notes s.left new.notes new.inbox (Ok true)
+        → PushStopsAtFront (last_input mid) s.notes s.left new.notes new.inbox (Ok true)
         → (answer : Answer) × (new.notes.answers ≡ answer ∷ [])
     gives q asked stops =
         let one = input_with mid.config (q ∷ []) mid.nonce in
@@ -97,7 +97,7 @@ answered_by mid new old_out new_out result here v = subst (HasAnswer new) (sym v
         let first : IsOfRequest mid.notes = subst (λ a. IsOf a mid.notes) asked here in
         let rules = rules_by notes_book one in
         let w =
-        run_where IsOfRequest (behind 0 []) (ended (behind 0 [])) rules rules
+        run_where IsOfRequest (notes_behind 0 []) (map_end (notes_behind 0 [])) rules rules
         (last_view mid.config mid.nonce q [] []) (Waits mid.notes [] []) s.way.taken first in
         let last : IsOfRequest s.notes =
         subst (Within IsOfRequest) (ap (λ i. runs i mid.notes [] s.way.taken) (sym same) ∙ s.way.leads []) w.1 in
@@ -105,7 +105,7 @@ answered_by mid new old_out new_out result here v = subst (HasAnswer new) (sym v
         (ap (λ i. turn_by notes_book i s.notes stops.0 s.notes.first_passed) (sym same)
         ∙ stops.4)
 
-    go : (fed : Result Bool ClientError) → StopsAt (last_input mid) s.notes s.left new.notes new.inbox fed
+    go : (fed : Result Bool ClientError) → PushStopsAtFront (last_input mid) s.notes s.left new.notes new.inbox fed
         → HasAnswer new (answer_behind fed new.room new.notes.closed)
     go (Ok true) stops = λ q is. gives q (sym v.made.2 ∙ is) stops
     go (Ok false) stops = waiting_has new new.room new.notes.closed
@@ -138,7 +138,7 @@ takes old mid new piece old_out new_out result stood same inbox room v = record 
   where
     pair : (input : Input) (limit : ℕ) (given put : List ℕ) → StandsFor input limit old given put
         → StandsFor input limit new (given ++ piece) (put ++ (v.serves).way.out)
-        × Answers input limit (given ++ piece) (put ++ (v.serves).way.out) result
+        × AnswersDialogue input limit (given ++ piece) (put ++ (v.serves).way.out) result
     pair input limit given put s =
         let h = stands_in input limit old given put state.Open stood s in
         let asked : new.asked ≡ old.asked = v.made.2 ∙ same.2 in
@@ -148,9 +148,9 @@ takes old mid new piece old_out new_out result stood same inbox room v = record 
           v.made.1
               ∙ same.1,
         ) (omega (arith, v.room, room)) s in
-        let comes : ComesTo input new.asked mid.notes h.done put =
-        subst (λ (n : Notes). ComesTo input new.asked n h.done put) (sym same.3)
-        (subst (λ a. ComesTo input a old.notes h.done put) (sym asked) h.comes) in
+        let comes : PushWaits input new.asked mid.notes h.done put =
+        subst (λ (n : Notes). PushWaits input new.asked n h.done put) (sym same.3)
+        (subst (λ a. PushWaits input a old.notes h.done put) (sym asked) h.comes) in
         let cut : given ++ piece ≡ h.done ++ mid.inbox =
         ap (λ (l : List ℕ). l ++ piece) h.cut ∙ append_assoc h.done old.inbox piece
         ∙ ap (λ (l : List ℕ). h.done ++ l) (sym inbox) in
@@ -158,8 +158,8 @@ takes old mid new piece old_out new_out result stood same inbox room v = record 
         served_pair input (last_input mid) limit new mid.notes mid.inbox (given ++ piece) h.done put old_out
         new_out v.fed (goes_by input mid new (same.0
         ∙ s.config) (same.1 ∙ s.nonce) v.made.2) fits comes cut v.serves (v.state
-        ∙ ap state_behind v.answer) in
-        subst (λ r. StandsFor input limit new (given ++ piece) (put ++ (v.serves).way.out) × Answers input limit
+        ∙ ap push_state_behind v.answer) in
+        subst (λ r. StandsFor input limit new (given ++ piece) (put ++ (v.serves).way.out) × AnswersDialogue input limit
         (given ++ piece) (put ++ (v.serves).way.out) r) (sym v.answer) p
 
 -- memory was wanting for the piece
@@ -176,7 +176,7 @@ lacks old new piece out stood same room to = record {
   where
     pair : (input : Input) (limit : ℕ) (given put : List ℕ) → StandsFor input limit old given put
         → StandsFor input limit new (given ++ piece) (put ++ [])
-        × Answers input limit (given ++ piece) (put ++ []) (Err client.OutOfMemory)
+        × AnswersDialogue input limit (given ++ piece) (put ++ []) (Err client.OutOfMemory)
     pair input limit given put s =
         let h = stands_in input limit old given put state.Open stood s in
         let fits = fits_more input limit old new given piece put same room s in
@@ -185,7 +185,7 @@ lacks old new piece out stood same room to = record {
         let begins =
         subst (λ (l : List ℕ). Begins (conversation input l) put) (sym cut)
         (comes_begins input old.asked old.notes h.done put (old.inbox ++ piece) h.comes) in
-        subst (λ (p : List ℕ). StandsFor input limit new (given ++ piece) p × Answers input limit
+        subst (λ (p : List ℕ). StandsFor input limit new (given ++ piece) p × AnswersDialogue input limit
         (given ++ piece) p (Err client.OutOfMemory)) (sym (append-nil put))
         (starved_pair input limit new (given ++ piece) put client.OutOfMemory fits refl to begins)
 
@@ -208,14 +208,14 @@ tally_sent fs = go no_tally fs
 
 -- behind the bytes of a transcript the next request's segment is opened
 opens_at : (input : Input) (q : Request) (notes : Notes) (segments : List (List Event)) (done put opening : List ℕ)
-    → IsTranscript input segments → SpellsGot (first_standing input.config) (joined segments) done
-    → EncodesSent (joined segments) put
-    → notes.standing ≡ standing_of input.config (joined segments)
+    → IsTranscript input segments → SpellsGot (first_standing input.config) (all_events segments) done
+    → EncodesSent (all_events segments) put
+    → notes.standing ≡ standing_of input.config (all_events segments)
     → (notes.tally ≡ no_tally) × (notes.first_passed ≡ None) → encodings (sends_of q) ≡ Ok opening
-    → ComesTo (with_request input q) (Some (q ∷ [])) (opened notes q) done (put ++ opening)
+    → PushWaits (input_with_request input q) (Some (q ∷ [])) (opening_notes notes q) done (put ++ opening)
 opens_at input q notes [] done put opening transcript got sent standing fresh encoded = absurd transcript
 opens_at input q notes (startup ∷ segments) done put opening transcript got sent standing fresh encoded =
-    let more = with_request input q in
+    let more = input_with_request input q in
     let all = startup ∷ segments in
     let talk : Talk =
     record { closed = all; open_events = [] ++ map Sent (sends_of q); stage = stage_for q; passed = [] } in
@@ -226,9 +226,9 @@ opens_at input q notes (startup ∷ segments) done put opening transcript got se
     let answers = answers_of more.requests segments in
     let count = count_segments input.requests segments transcript.1 in
     let closed : suc (length segments) ≡ 1 + length input.requests = omega (arith, count) in
-    let heard : (joined all ++ map Sent (sends_of q)) ++ [] ≡ joined all ++ map Sent (sends_of q) = append-nil _ in
-    let stand : standing_of input.config ((joined all ++ map Sent (sends_of q)) ++ []) ≡ notes.standing =
-    ap (standing_of input.config) heard ∙ standing_plus input.config (joined all) (sends_of q) ∙ sym standing in
+    let heard : (all_events all ++ map Sent (sends_of q)) ++ [] ≡ all_events all ++ map Sent (sends_of q) = append-nil _ in
+    let stand : standing_of input.config ((all_events all ++ map Sent (sends_of q)) ++ []) ≡ notes.standing =
+    ap (standing_of input.config) heard ∙ standing_plus input.config (all_events all) (sends_of q) ∙ sym standing in
     let tally : tally_of (map Sent (sends_of q)) ≡ notes.tally = tally_sent (sends_of q) ∙ sym fresh.0 in
     let none = sym (append-nil answers) in
     let passed = sym fresh.1 in
@@ -251,7 +251,7 @@ opens_at input q notes (startup ∷ segments) done put opening transcript got se
 pub asks_next : (old mid new : PushClient) (q : Request) (opening old_out mid_out new_out : List ℕ)
     (result : Result DialoguePhase ClientError)
     → IsIdle old → encodings (sends_of q) ≡ Ok opening → mid_out ≡ old_out ++ opening → OpensSegment old mid q
-    → Served mid new mid_out new_out result → Opens old new q old_out new_out result
+    → Served mid new mid_out new_out result → PushesRequest old new q old_out new_out result
 asks_next old mid new q opening old_out mid_out new_out result idle encoded put_is o v = record {
   opening = opening;
   encoded = encoded;
@@ -263,18 +263,18 @@ asks_next old mid new q opening old_out mid_out new_out result idle encoded put_
 }
   where
     pair : (input : Input) (limit : ℕ) (given put : List ℕ) → StandsFor input limit old given put
-        → StandsFor (with_request input q) limit new given (put ++ (opening ++ (v.serves).way.out))
-        × Answers (with_request input q) limit given (put ++ (opening ++ (v.serves).way.out)) result
+        → StandsFor (input_with_request input q) limit new given (put ++ (opening ++ (v.serves).way.out))
+        × AnswersDialogue (input_with_request input q) limit given (put ++ (opening ++ (v.serves).way.out)) result
     pair input limit given put s =
         let h = stands_in input limit old given put state.Idle idle s in
-        let more = with_request input q in
+        let more = input_with_request input q in
         let at =
         opens_at input q old.notes h.segments h.done put opening h.transcript h.got h.put_is h.standing
         h.fresh encoded in
         let asked : new.asked ≡ Some (q ∷ []) = v.made.2 ∙ o.asked in
-        let comes : ComesTo more new.asked mid.notes h.done (put ++ opening) =
-        subst (λ (n : Notes). ComesTo more new.asked n h.done (put ++ opening)) (sym o.notes)
-        (subst (λ a. ComesTo more a (opened old.notes q) h.done (put ++ opening)) (sym asked) at) in
+        let comes : PushWaits more new.asked mid.notes h.done (put ++ opening) =
+        subst (λ (n : Notes). PushWaits more new.asked n h.done (put ++ opening)) (sym o.notes)
+        (subst (λ a. PushWaits more a (opening_notes old.notes q) h.done (put ++ opening)) (sym asked) at) in
         let fits : Fits more limit new given =
         record {
           config = v.made.0 ∙ o.made.0 ∙ s.config;
@@ -287,10 +287,10 @@ asks_next old mid new q opening old_out mid_out new_out result idle encoded put_
         served_pair more (last_input mid) limit new mid.notes mid.inbox given h.done (put ++ opening) mid_out
         new_out v.fed (goes_by more mid new (o.made.0
         ∙ s.config) (o.made.1 ∙ s.nonce) v.made.2) fits comes cut v.serves (v.state
-        ∙ ap state_behind v.answer) in
-        subst (λ r. StandsFor more limit new given (put ++ (opening ++ (v.serves).way.out)) × Answers more limit
+        ∙ ap push_state_behind v.answer) in
+        subst (λ r. StandsFor more limit new given (put ++ (opening ++ (v.serves).way.out)) × AnswersDialogue more limit
         given (put ++ (opening ++ (v.serves).way.out)) r) (sym v.answer)
-        (subst (λ (w : List ℕ). StandsFor more limit new given w × Answers more limit given w
+        (subst (λ (w : List ℕ). StandsFor more limit new given w × AnswersDialogue more limit given w
         (answer_behind v.fed new.room new.notes.closed)) (append_assoc put opening (v.serves).way.out) p)
 
 -- ---- the answer
@@ -391,22 +391,22 @@ ends c e stood is input limit given put s ne =
 -- ---- where an answer leaves it
 
 waiting_left : (c : PushClient) (room closed : ℕ) → c.room ≡ room
-    → c.state ≡ state_behind (waiting_answer room closed) → IsLeft c (waiting_answer room closed)
+    → c.state ≡ push_state_behind (waiting_answer room closed) → IsLeft c (waiting_answer room closed)
 waiting_left c zero closed here to = inl to
 waiting_left c (suc room) zero here to = (to, omega (arith, here))
 waiting_left c (suc room) (suc closed) here to = (to, omega (arith, here))
 
-refused_left : (c : PushClient) (e : ClientError) → c.state ≡ state_behind (Err e) → IsLeft c (Err e)
+refused_left : (c : PushClient) (e : ClientError) → c.state ≡ push_state_behind (Err e) → IsLeft c (Err e)
 refused_left c client.OutOfMemory to = inr to
 refused_left c e to = inl to
 
 pub left_by : (mid new : PushClient) (old_out new_out : List ℕ) (result : Result DialoguePhase ClientError)
     → Served mid new old_out new_out result → IsLeft new result
 left_by mid new old_out new_out result v =
-    subst (IsLeft new) (sym v.answer) (go v.fed (v.state ∙ ap state_behind v.answer))
+    subst (IsLeft new) (sym v.answer) (go v.fed (v.state ∙ ap push_state_behind v.answer))
   where
     go : (fed : Result Bool ClientError)
-        → new.state ≡ state_behind (answer_behind fed new.room new.notes.closed)
+        → new.state ≡ push_state_behind (answer_behind fed new.room new.notes.closed)
         → IsLeft new (answer_behind fed new.room new.notes.closed)
     go (Ok true) to = to
     go (Ok false) to = waiting_left new new.room new.notes.closed refl to
@@ -420,18 +420,18 @@ put_out first second notes (Err e) out is = cc
 put_out first second notes (Ok bytes) out is = ap Ok (cc)
 
 pub begins : (input : Input) (limit : ℕ) (c : PushClient) (out : List ℕ) → input.requests ≡ []
-    → Started input out (Ok c.notes) → c.config ≡ input.config → c.nonce ≡ input.nonce → c.asked ≡ None
+    → StartsRun input out (Ok c.notes) → c.config ≡ input.config → c.nonce ≡ input.nonce → c.asked ≡ None
     → c.inbox ≡ [] → c.room ≡ limit → c.state ≡ state.Open
     → (encodings (startup_message input ∷ []) ≡ Ok out) × StandsFor input limit c [] out
 begins input limit c out none started config nonce asked empty room stood =
     let w = waits_in input (conversation input []) c.notes out [] (sym (start_is input) ∙ started) in
-    let same : c.notes ≡ behind 0 [] c.notes =
+    let same : c.notes ≡ notes_behind 0 [] c.notes =
     let zero_is : c.notes.closed ≡ c.notes.closed + 0 =
     omega arith in ap (λ k. record c.notes { closed = k }) zero_is in
     let at : NotesAt input None c.notes w.0 =
     record { before = []; earlier = []; are = none; notes_are = sym w.2 ∙ same; last = (refl, refl) } in
-    let comes : ComesTo input c.asked c.notes [] out =
-    subst (λ a. ComesTo input a c.notes [] out) (sym asked)
+    let comes : PushWaits input c.asked c.notes [] out =
+    subst (λ a. PushWaits input a c.notes [] out) (sym asked)
     (record { talk = w.0; waits = w.1; notes_at = at }) in (
       put_out _ _ c.notes (encodings (startup_message input ∷ [])) out started,
       stands_as input limit c [] out state.Open
@@ -460,7 +460,7 @@ still_waits input limit c given put stood s =
 
 -- what was put out is all that is sent in the conversation, or a front of it where memory was wanting
 sent_in : (s : State) (c : PushClient) (input : Input) (limit : ℕ) (given put : List ℕ)
-    → StandsIn s c input limit given put
+    → PushStandsIn s c input limit given put
     → (unsent : List ℕ) × (sent_of (conversation input given) ≡ put ++ unsent) × ((s ≡ state.Starved) ⊎ (unsent ≡ []))
 sent_in state.Open c input limit given put h =
     let waits = comes_waits input c.asked c.notes h.done put c.inbox h.comes
@@ -475,7 +475,7 @@ sent_in state.Refused c input limit given put (inr waits) =
 sent_in state.Starved c input limit given put begins = (begins.0, begins.1, inl refl)
 
 pub tells : (input : Input) (limit : ℕ) (c : PushClient) (given put : List ℕ) → StandsFor input limit c given put
-    → (unsent : List ℕ) × Told input given (put ++ unsent) × (IsStarved c ⊎ (unsent ≡ []))
+    → (unsent : List ℕ) × BytesTell input given (put ++ unsent) × (IsStarvedPush c ⊎ (unsent ≡ []))
 tells input limit c given put s =
     let t = sent_in c.state c input limit given put s.stands in
-    (t.0, subst (Told input given) t.1 (told input given), t.2)
+    (t.0, subst (BytesTell input given) t.1 (told input given), t.2)

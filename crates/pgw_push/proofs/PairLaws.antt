@@ -14,7 +14,7 @@ use Rattle.pgw_session.proofs.ReadingLaws.{reads_more}
 use Rattle.pgw_session.proofs.Whole.{conversation_completes}
 use Rattle.pgw_dialogue.specs.declared.phase.DialoguePhase.{DialoguePhase}
 use Rattle.pgw_dialogue.specs.Answers.{TakeCause, answer_at, answer_behind, ending_answer, taken_of, waiting_answer}
-use Rattle.pgw_dialogue.specs.Dialogue.{Answers}
+use Rattle.pgw_dialogue.specs.Dialogue.{AnswersDialogue}
 use Rattle.pgw_dialogue.specs.Machine.{runs}
 use Rattle.pgw_dialogue.proofs.AnswerLaws.{done_tells, ended_as, waiting_tells}
 use Rattle.pgw_dialogue.proofs.DialogueLaws.{taken_below}
@@ -22,9 +22,9 @@ use Rattle.pgw_dialogue.proofs.WireLaws.{memory_or}
 use Rattle.pgw_push.specs.declared.client.PushClient.{PushClient}
 use Rattle.pgw_push.specs.declared.state.State.{State}
 use Rattle.pgw_push.specs.declared.state.State.TheVariants as state
-use Rattle.pgw_push.specs.Serving.{Serves, StopsAt}
-use Rattle.pgw_push.specs.Standing.{ComesTo, NotesAt, StandsFor, StandsIn}
-use Rattle.pgw_push.specs.State.{state_behind}
+use Rattle.pgw_push.specs.Serving.{Serves, PushStopsAtFront}
+use Rattle.pgw_push.specs.Standing.{PushWaits, NotesAt, StandsFor, PushStandsIn}
+use Rattle.pgw_push.specs.State.{push_state_behind}
 use Rattle.pgw_push.proofs.StandingLaws.{closes, comes_begins, comes_on, comes_over, comes_waits, latest}
 
 -- a client that goes by this input, with so many bytes given
@@ -34,19 +34,19 @@ pub record Fits (input : Input) (limit : ℕ) (c : PushClient) (given : List ℕ
   pub room : length given + c.room ≡ limit
 
 pub stands_as : (input : Input) (limit : ℕ) (c : PushClient) (given put : List ℕ) (s : State)
-    → Fits input limit c given → c.state ≡ s → StandsIn s c input limit given put → StandsFor input limit c given put
+    → Fits input limit c given → c.state ≡ s → PushStandsIn s c input limit given put → StandsFor input limit c given put
 stands_as input limit c given put s fits is h =
     record {
       config = fits.config;
       nonce = fits.nonce;
       room = fits.room;
       stands = subst
-          (λ x. StandsIn x c input limit given put) (sym is) h;
+          (λ x. PushStandsIn x c input limit given put) (sym is) h;
     }
 
 pub stands_in : (input : Input) (limit : ℕ) (c : PushClient) (given put : List ℕ) (s : State) → c.state ≡ s
-    → StandsFor input limit c given put → StandsIn s c input limit given put
-stands_in input limit c given put s is h = subst (λ x. StandsIn x c input limit given put) is h.stands
+    → StandsFor input limit c given put → PushStandsIn s c input limit given put
+stands_in input limit c given put s is h = subst (λ x. PushStandsIn x c input limit given put) is h.stands
 
 -- no more is given than may be taken
 below : (input : Input) (limit : ℕ) (c : PushClient) (given : List ℕ) → Fits input limit c given
@@ -54,20 +54,20 @@ below : (input : Input) (limit : ℕ) (c : PushClient) (given : List ℕ) → Fi
 below input limit c given fits = taken_below limit given (omega (arith, fits.room))
 
 abbrev Pair : Input → ℕ → PushClient → List ℕ → List ℕ → Result DialoguePhase ClientError → Type 0
-Pair input limit c given put result = StandsFor input limit c given put × Answers input limit given put result
+Pair input limit c given put result = StandsFor input limit c given put × AnswersDialogue input limit given put result
 
 -- ---- refused
 
-refused_state : (e : ClientError) → (e ≡ client.OutOfMemory → ⊥) → state_behind (Err e) ≡ state.Refused
+refused_state : (e : ClientError) → (e ≡ client.OutOfMemory → ⊥) → push_state_behind (Err e) ≡ state.Refused
 refused_state client.OutOfMemory ne = absurd (ne refl)
 refused_state e ne = refl
 
-starved_state : (e : ClientError) → e ≡ client.OutOfMemory → state_behind (Err e) ≡ state.Starved
-starved_state e is = ap (λ x. state_behind (Err x)) is
+starved_state : (e : ClientError) → e ≡ client.OutOfMemory → push_state_behind (Err e) ≡ state.Starved
+starved_state e is = ap (λ x. push_state_behind (Err x)) is
 
 -- memory was wanting
 pub starved_pair : (input : Input) (limit : ℕ) (c : PushClient) (given put : List ℕ) (e : ClientError)
-    → Fits input limit c given → e ≡ client.OutOfMemory → c.state ≡ state_behind (Err e)
+    → Fits input limit c given → e ≡ client.OutOfMemory → c.state ≡ push_state_behind (Err e)
     → Begins (conversation input given) put → Pair input limit c given put (Err e)
 starved_pair input limit c given put e fits is to begins = (
   stands_as input limit c given put state.Starved fits (to ∙ starved_state e is) begins,
@@ -76,7 +76,7 @@ starved_pair input limit c given put e fits is to begins = (
 
 -- the conversation has ended with an error
 refused_pair : (input : Input) (limit : ℕ) (c : PushClient) (given put : List ℕ) (e : ClientError) (ending : Ending)
-    → Fits input limit c given → (e ≡ client.OutOfMemory → ⊥) → c.state ≡ state_behind (Err e)
+    → Fits input limit c given → (e ≡ client.OutOfMemory → ⊥) → c.state ≡ push_state_behind (Err e)
     → conversation input given ≡ Over ending put → error_of ending.outcome ≡ Some e
     → Pair input limit c given put (Err e)
 refused_pair input limit c given put e ending fits ne to over why =
@@ -114,9 +114,9 @@ phase_is input (Some qs) notes t room a =
     ∙ same_phase room notes.closed (length a.before) (Some qs) (λ e. absurd (cc)) (λ other e. a.last.3)
 
 waiting_stands : (input : Input) (limit : ℕ) (c : PushClient) (given done put : List ℕ) (room closed : ℕ)
-    → Fits input limit c given → given ≡ done ++ c.inbox → ComesTo input c.asked c.notes done put
+    → Fits input limit c given → given ≡ done ++ c.inbox → PushWaits input c.asked c.notes done put
     → front c.notes.standing.version c.inbox ≡ Wants → c.room ≡ room
-    → c.state ≡ state_behind (waiting_answer room closed) → StandsFor input limit c given put
+    → c.state ≡ push_state_behind (waiting_answer room closed) → StandsFor input limit c given put
 waiting_stands input limit c given done put zero closed fits cut comes partial here to =
     let waits =
     comes_waits input c.asked c.notes done put c.inbox comes
@@ -138,9 +138,9 @@ waiting_stands input limit c given done put (suc room) (suc closed) fits cut com
     (record { done = done; cut = cut; comes = comes; partial = partial })
 
 waiting_pair : (input : Input) (limit : ℕ) (c : PushClient) (given done put : List ℕ) → Fits input limit c given
-    → given ≡ done ++ c.inbox → (comes : ComesTo input c.asked c.notes done put)
+    → given ≡ done ++ c.inbox → (comes : PushWaits input c.asked c.notes done put)
     → front c.notes.standing.version c.inbox ≡ Wants
-    → c.state ≡ state_behind (waiting_answer c.room c.notes.closed)
+    → c.state ≡ push_state_behind (waiting_answer c.room c.notes.closed)
     → Pair input limit c given put (waiting_answer c.room c.notes.closed)
 waiting_pair input limit c given done put fits cut comes partial to =
     let t = comes.talk in
@@ -152,7 +152,7 @@ waiting_pair input limit c given done put fits cut comes partial to =
     let left : limit - length given ≡ c.room = omega (arith, fits.room) in
     let same = phase_is input c.asked c.notes t c.room comes.notes_at in (
       waiting_stands input limit c given done put c.room c.notes.closed fits cut comes partial refl to,
-      subst (Answers input limit given put) same
+      subst (AnswersDialogue input limit given put) same
           (record {
             answer =
                 inl (ap (λ n. waiting_answer n (length t.closed)) (sym left)
@@ -167,9 +167,9 @@ waiting_pair input limit c given done put fits cut comes partial to =
 
 pub served_pair : (input one : Input) (limit : ℕ) (c : PushClient) (notes : Notes)
     (inbox given done put old_out new_out : List ℕ) (fed : Result Bool ClientError)
-    → one ≡ latest input c.asked → Fits input limit c given → ComesTo input c.asked notes done put
+    → one ≡ latest input c.asked → Fits input limit c given → PushWaits input c.asked notes done put
     → given ≡ done ++ inbox → (s : Serves one notes c.notes inbox c.inbox old_out new_out fed)
-    → c.state ≡ state_behind (answer_behind fed c.room c.notes.closed)
+    → c.state ≡ push_state_behind (answer_behind fed c.room c.notes.closed)
     → Pair input limit c given (put ++ s.way.out) (answer_behind fed c.room c.notes.closed)
 served_pair input one limit c notes inbox given done put old_out new_out fed by fits comes cut s to = go fed
     s.stops to
@@ -180,7 +180,7 @@ served_pair input one limit c notes inbox given done put old_out new_out fed by 
     before : List ℕ
     before = done ++ s.way.taken
 
-    here : ComesTo input c.asked s.notes before (put ++ out)
+    here : PushWaits input c.asked s.notes before (put ++ out)
     here = comes_on input c.asked notes s.notes done put s.way.taken out comes
         (λ sent. ap (λ i. runs i notes sent s.way.taken) (sym by)
         ∙ s.way.leads sent)
@@ -188,11 +188,11 @@ served_pair input one limit c notes inbox given done put old_out new_out fed by 
     all : given ≡ before ++ s.left
     all = cut ∙ ap (λ (l : List ℕ). done ++ l) s.way.cut ∙ sym (append_assoc done s.way.taken s.left)
 
-    go : (r : Result Bool ClientError) → StopsAt one s.notes s.left c.notes c.inbox r
-        → c.state ≡ state_behind (answer_behind r c.room c.notes.closed)
+    go : (r : Result Bool ClientError) → PushStopsAtFront one s.notes s.left c.notes c.inbox r
+        → c.state ≡ push_state_behind (answer_behind r c.room c.notes.closed)
         → Pair input limit c given (put ++ out) (answer_behind r c.room c.notes.closed)
     go (Ok false) stops there =
-        let comes_here = subst (λ (n : Notes). ComesTo input c.asked n before (put ++ out)) (sym stops.0) here in
+        let comes_here = subst (λ (n : Notes). PushWaits input c.asked n before (put ++ out)) (sym stops.0) here in
         let partial =
         ap (λ (n : Notes). front n.standing.version c.inbox) stops.0
         ∙ ap (front s.notes.standing.version) stops.1 ∙ stops.2 in

@@ -9,11 +9,11 @@ use Rattle.pgw_session.specs.Input.{Input}
 use Rattle.pgw_session.specs.Machine.{rules_by}
 use Rattle.pgw_session.specs.Notes.{notes_book}
 use Rattle.pgw_dialogue.specs.declared.machine.Progress.TheVariants as progress
-use Rattle.pgw_dialogue.specs.Machine.{Advanced, NotesCourse, CutsFront}
+use Rattle.pgw_dialogue.specs.Machine.{AdvancesRun, NotesCourse, CutsFront}
 use Rattle.pgw_dialogue.proofs.RowLaws.{run_nothing}
-use Rattle.pgw_push.specs.Serving.{LeadsTo, Serves}
+use Rattle.pgw_push.specs.Serving.{InboxLeadsTo, Serves}
 
-pub first : (input : Input) (notes : Notes) (inbox out : List ℕ) → LeadsTo input notes notes inbox inbox out out
+pub first : (input : Input) (notes : Notes) (inbox out : List ℕ) → InboxLeadsTo input notes notes inbox inbox out out
 first input notes inbox out = record {
   taken = [];
   cut = refl;
@@ -23,9 +23,9 @@ first input notes inbox out = record {
 }
 
 pub went : (input : Input) (old notes next : Notes) (old_inbox inbox rest old_out out new_out : List ℕ)
-    → LeadsTo input old notes old_inbox inbox old_out out
+    → InboxLeadsTo input old notes old_inbox inbox old_out out
     → CutsFront input notes next inbox rest out new_out (Ok progress.Went)
-    → LeadsTo input old next old_inbox rest old_out new_out
+    → InboxLeadsTo input old next old_inbox rest old_out new_out
 went input old notes next old_inbox inbox rest old_out out new_out w t =
     let rules = rules_by notes_book input in
     record {
@@ -42,14 +42,14 @@ went input old notes next old_inbox inbox rest old_out out new_out w t =
 
 -- nothing more was put out
 stays : (input : Input) (old notes : Notes) (old_inbox inbox old_out out new_out : List ℕ)
-    → LeadsTo input old notes old_inbox inbox old_out out → new_out ≡ out
-    → LeadsTo input old notes old_inbox inbox old_out new_out
+    → InboxLeadsTo input old notes old_inbox inbox old_out out → new_out ≡ out
+    → InboxLeadsTo input old notes old_inbox inbox old_out new_out
 stays input old notes old_inbox inbox old_out out new_out w same =
     record { taken = w.taken; cut = w.cut; out = w.out; puts = same ∙ w.puts; leads = w.leads }
 
 pub waits : (input : Input) (old notes next : Notes) (old_inbox inbox rest old_out out new_out : List ℕ)
-    → LeadsTo input old notes old_inbox inbox old_out out
-    → Advanced input notes next inbox rest out new_out (Ok progress.More)
+    → InboxLeadsTo input old notes old_inbox inbox old_out out
+    → AdvancesRun input notes next inbox rest out new_out (Ok progress.More)
     → Serves input old next old_inbox rest old_out new_out (Ok false)
 waits input old notes next old_inbox inbox rest old_out out new_out w a = record {
   notes = notes;
@@ -59,8 +59,8 @@ waits input old notes next old_inbox inbox rest old_out out new_out w a = record
 }
 
 pub closed : (input : Input) (old notes next : Notes) (old_inbox inbox rest old_out out new_out : List ℕ)
-    → LeadsTo input old notes old_inbox inbox old_out out
-    → Advanced input notes next inbox rest out new_out (Ok progress.Done)
+    → InboxLeadsTo input old notes old_inbox inbox old_out out
+    → AdvancesRun input notes next inbox rest out new_out (Ok progress.Done)
     → CutsFront input notes next inbox rest out new_out (Ok progress.Done)
     → Serves input old next old_inbox rest old_out new_out (Ok true)
 closed input old notes next old_inbox inbox rest old_out out new_out w a t = record {
@@ -72,8 +72,8 @@ closed input old notes next old_inbox inbox rest old_out out new_out w a t = rec
 
 pub refused : (input : Input) (old notes next : Notes) (old_inbox inbox rest old_out out new_out : List ℕ)
     (e : ClientError)
-    → LeadsTo input old notes old_inbox inbox old_out out
-    → Advanced input notes next inbox rest out new_out (Err e)
+    → InboxLeadsTo input old notes old_inbox inbox old_out out
+    → AdvancesRun input notes next inbox rest out new_out (Err e)
     → Serves input old next old_inbox rest old_out new_out (Err e)
 refused input old notes next old_inbox inbox rest old_out out new_out e w a = record {
   notes = notes;

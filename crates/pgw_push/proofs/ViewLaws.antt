@@ -1,13 +1,13 @@
 -- Where one machine is a view of another in some of its states alone, they run alike from these.
 use Rattle.std.proofs.Common.{◌≡◌, ℕ, List, [], ◌∷◌, ◌++◌, refl, ◌∙◌, ap}
-use Rattle.pgw_course.specs.Course.{Front, More, Bad, Whole, Move, On, Ends, Course, Waits, Over, Rules, onto, eat, feed, run, seen, moved}
+use Rattle.pgw_course.specs.Course.{Front, More, Bad, Whole, Move, On, Ends, Course, Waits, Over, Rules, onto, eat, feed, run, map_course, map_move}
 use Rattle.pgw_course.proofs.CourseLaws.{onto_seen}
 
 -- In these states the second machine reads and does what the first does, and the first stays in them.
 pub record IsViewWhere {S T Q R M E : Type 0} (p : S → Type 0) (f : S → T) (g : Q → R) (first : Rules S Q M E)
     (second : Rules T R M E) : Type 0 where
   pub read : (state : S) (bytes : List ℕ) → second.read (f state) bytes ≡ first.read state bytes
-  pub step : (state : S) (m : M) → p state → second.step (f state) m ≡ moved f g (first.step state m)
+  pub step : (state : S) (m : M) → p state → second.step (f state) m ≡ map_move f g (first.step state m)
   pub keeps : (state next : S) (m : M) (out : List ℕ) → p state → first.step state m ≡ On next out → p next
   pub bad : (state : S) (why : E) → second.bad (f state) why ≡ g (first.bad state why)
 
@@ -24,7 +24,7 @@ within_onto p sent (Ends ending out) keeps = tt
 eat_where : {S T Q R M E : Type 0} (p : S → Type 0) (f : S → T) (g : Q → R) (first : Rules S Q M E)
     (second : Rules T R M E) (v : IsViewWhere p f g first second) (state : S) (sent pending : List ℕ)
     (x : Front M E) → p state
-    → (eat second (f state) sent pending x ≡ seen f g (eat first state sent pending x))
+    → (eat second (f state) sent pending x ≡ map_course f g (eat first state sent pending x))
     × Within p (eat first state sent pending x)
 eat_where p f g first second v state sent pending More here = (refl, here)
 eat_where p f g first second v state sent pending (Bad why) here = (ap (λ r. Over r sent) (v.bad state why), tt)
@@ -38,7 +38,7 @@ eat_where p f g first second v state sent pending (Whole m len) here = (
 feed_where : {S T Q R M E : Type 0} (p : S → Type 0) (f : S → T) (g : Q → R) (first : Rules S Q M E)
     (second : Rules T R M E) (v : IsViewWhere p f g first second) (c : Course S Q) (byte : ℕ)
     → Within p c
-    → (feed second (seen f g c) byte ≡ seen f g (feed first c byte)) × Within p (feed first c byte)
+    → (feed second (map_course f g c) byte ≡ map_course f g (feed first c byte)) × Within p (feed first c byte)
 feed_where p f g first second v (Waits state sent pending) byte here =
     let all = pending ++ byte ∷ [] in
     let e = eat_where p f g first second v state sent all (first.read state all) here in
@@ -48,7 +48,7 @@ feed_where p f g first second v (Over ending sent) byte here = (refl, tt)
 pub run_where : {S T Q R M E : Type 0} (p : S → Type 0) (f : S → T) (g : Q → R) (first : Rules S Q M E)
     (second : Rules T R M E) (v : IsViewWhere p f g first second) (c : Course S Q) (bytes : List ℕ)
     → Within p c
-    → (run second (seen f g c) bytes ≡ seen f g (run first c bytes)) × Within p (run first c bytes)
+    → (run second (map_course f g c) bytes ≡ map_course f g (run first c bytes)) × Within p (run first c bytes)
 unfolding run
 run_where p f g first second v c [] here = (refl, here)
 run_where p f g first second v c (byte ∷ bytes) here =

@@ -4,5 +4,5 @@ use Rattle.pgw_session.specs.declared.types.Answer.{Answer}
 use Rattle.pgw_session.specs.declared.notes.Notes.{Notes}
 
 -- the same notes, with so many segments more closed before them, and with their answers
-abbrev pub behind : ℕ → List Answer → Notes → Notes
-behind k earlier n = record n { answers = earlier ++ n.answers; closed = n.closed + k }
+abbrev pub notes_behind : ℕ → List Answer → Notes → Notes
+notes_behind k earlier n = record n { answers = earlier ++ n.answers; closed = n.closed + k }

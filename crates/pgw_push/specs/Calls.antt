@@ -16,17 +16,17 @@ use Rattle.pgw_session.specs.Transcript.{Completed}
 use Rattle.pgw_dialogue.specs.declared.phase.DialoguePhase.{DialoguePhase}
 use Rattle.pgw_dialogue.specs.declared.phase.DialoguePhase.TheVariants as phase
 use Rattle.pgw_dialogue.specs.Answers.{answer_behind}
-use Rattle.pgw_dialogue.specs.Dialogue.{Answers, StartCause}
-use Rattle.pgw_dialogue.specs.Machine.{Started}
+use Rattle.pgw_dialogue.specs.Dialogue.{AnswersDialogue, StartCause}
+use Rattle.pgw_dialogue.specs.Machine.{StartsRun}
 use Rattle.pgw_push.specs.declared.client.PushClient.{PushClient}
 use Rattle.pgw_push.specs.declared.state.State.TheVariants as state
 use Rattle.pgw_push.specs.Serving.{Serves}
-use Rattle.pgw_push.specs.Standing.{IsBroken, IsIdle, IsOpen, StandsFor, last_input}
-use Rattle.pgw_push.specs.State.{state_behind}
+use Rattle.pgw_push.specs.Standing.{IsPushBroken, IsIdle, IsOpen, StandsFor, last_input}
+use Rattle.pgw_push.specs.State.{push_state_behind}
 
 -- with one request more
-abbrev pub with_request : Input → Request → Input
-with_request input q = record input { requests = input.requests ++ q ∷ [] }
+abbrev pub input_with_request : Input → Request → Input
+input_with_request input q = record input { requests = input.requests ++ q ∷ [] }
 
 -- ---- the beginning
 
@@ -43,7 +43,7 @@ abbrev pub IsLeft : PushClient → Result DialoguePhase ClientError → Type 0
 IsLeft c (Ok phase.Waiting) = IsOpen c
 IsLeft c (Ok phase.Ready) = IsOpen c
 IsLeft c (Ok phase.Done) = IsIdle c
-IsLeft c (Err e) = IsBroken c
+IsLeft c (Err e) = IsPushBroken c
 
 -- the answer of a request that was asked is there once its segment has closed
 abbrev pub HasAnswer : PushClient → Result DialoguePhase ClientError → Type 0
@@ -63,14 +63,14 @@ pub record TakesPiece (old new : PushClient) (piece old_out new_out : List ℕ)
       → StandsFor input limit new (given ++ piece) (put ++ out)
   pub answers : (input : Input) (limit : ℕ) (given put : List ℕ)
       → StandsFor input limit old given put
-      → Answers input limit (given ++ piece) (put ++ out) result
+      → AnswersDialogue input limit (given ++ piece) (put ++ out) result
   pub answered : (input : Input) (limit : ℕ) (given put : List ℕ)
       → StandsFor input limit old given put
       → HasAnswer new result
 
 -- The request's messages were put out: for every pair that it stood for, it stands for that pair with what was put out
 -- behind it, of a session with this request behind those asked before; and its answer is that of the bytes given.
-pub record Opens (old new : PushClient) (q : Request) (old_out new_out : List ℕ)
+pub record PushesRequest (old new : PushClient) (q : Request) (old_out new_out : List ℕ)
     (result : Result DialoguePhase ClientError) : Type 0 where
   pub opening : List ℕ
   pub encoded : encodings (sends_of q) ≡ Ok opening
@@ -78,16 +78,16 @@ pub record Opens (old new : PushClient) (q : Request) (old_out new_out : List �
   pub puts : new_out ≡ old_out ++ (opening ++ out)
   pub stands : (input : Input) (limit : ℕ) (given put : List ℕ)
       → StandsFor input limit old given put
-      → StandsFor (with_request input q) limit new given (put ++ (opening ++ out))
+      → StandsFor (input_with_request input q) limit new given (put ++ (opening ++ out))
   pub answers : (input : Input) (limit : ℕ) (given put : List ℕ)
       → StandsFor input limit old given put
-      → Answers (with_request input q) limit given (put ++ (opening ++ out)) result
+      → AnswersDialogue (input_with_request input q) limit given (put ++ (opening ++ out)) result
 
 -- it has no spelling, or memory was wanting, and nothing changed
-abbrev pub NotAsked : PushClient → PushClient → Request → List ℕ → List ℕ
+abbrev pub PushNotAsked : PushClient → PushClient → Request → List ℕ → List ℕ
     → Result DialoguePhase ClientError → Type 0
-NotAsked old new q old_out new_out (Ok p) = ⊥
-NotAsked old new q old_out new_out (Err e) =
+PushNotAsked old new q old_out new_out (Ok p) = ⊥
+PushNotAsked old new q old_out new_out (Err e) =
     (new ≡ old) × (new_out ≡ old_out)
     × ((e ≡ client.OutOfMemory) ⊎
     ((why : PgWireError) × (encodings (sends_of q) ≡ Err why) × (e ≡ client.PgWireError why)))
@@ -95,8 +95,8 @@ NotAsked old new q old_out new_out (Err e) =
 abbrev pub AsksNext : PushClient → PushClient → Request → List ℕ → List ℕ
     → Result DialoguePhase ClientError → Type 0
 AsksNext old new q old_out new_out result =
-    NotAsked old new q old_out new_out result
-    ⊎ (Opens old new q old_out new_out result × IsLeft new result)
+    PushNotAsked old new q old_out new_out result
+    ⊎ (PushesRequest old new q old_out new_out result × IsLeft new result)
 
 -- The bytes given begin with those of a whole session, with those put out, and the last answer of its report is this
 -- one. Each request has one answer there.
@@ -110,18 +110,18 @@ pub record IsLastAnswer (input : Input) (given put : List ℕ) (answer : Answer)
 
 -- the startup message was put out, or not
 abbrev pub Begun : Input → ℕ → List ℕ → Result Notes ClientError → Type 0
-Begun input limit out (Ok notes) = Started input out (Ok notes) × (0 < limit)
+Begun input limit out (Ok notes) = StartsRun input out (Ok notes) × (0 < limit)
 Begun input limit out (Err e) =
     (out ≡ []) × (((e ≡ client.ReadLimit) × (limit ≡ 0)) ⊎ StartCause input e)
 
 -- the notes behind the opening of a request's segment
-abbrev pub opened : Notes → Request → Notes
-opened n q = record n { stage = stage_for q; closed = 1; answers = [] }
+abbrev pub opening_notes : Notes → Request → Notes
+opening_notes n q = record n { stage = stage_for q; closed = 1; answers = [] }
 
 -- the segment of a request was opened
 pub record OpensSegment (old new : PushClient) (q : Request) : Type 0 where
   pub asked : new.asked ≡ Some (q ∷ [])
-  pub notes : new.notes ≡ opened old.notes q
+  pub notes : new.notes ≡ opening_notes old.notes q
   pub state : new.state ≡ state.Open
   pub made : (new.config ≡ old.config) × (new.nonce ≡ old.nonce)
   pub inbox : new.inbox ≡ old.inbox
@@ -134,6 +134,6 @@ pub record Served (old new : PushClient) (old_out new_out : List ℕ)
   pub fed : Result Bool ClientError
   pub serves : Serves (last_input old) old.notes new.notes old.inbox new.inbox old_out new_out fed
   pub answer : result ≡ answer_behind fed new.room (new.notes).closed
-  pub state : new.state ≡ state_behind result
+  pub state : new.state ≡ push_state_behind result
   pub room : new.room ≡ old.room
   pub made : (new.config ≡ old.config) × (new.nonce ≡ old.nonce) × (new.asked ≡ old.asked)

@@ -12,7 +12,7 @@ use Rattle.pgw_dialogue.specs.Machine.{runs, whole_end}
 use Rattle.pgw_dialogue.specs.Wire.{Unless}
 
 -- the front of the inbox alone led there, and this was put out
-pub record LeadsTo (input : Input) (old notes : Notes) (inbox left old_out new_out : List ℕ) :
+pub record InboxLeadsTo (input : Input) (old notes : Notes) (inbox left old_out new_out : List ℕ) :
     Type 0 where
   pub taken : List ℕ
   pub cut : inbox ≡ taken ++ left
@@ -22,14 +22,14 @@ pub record LeadsTo (input : Input) (old notes : Notes) (inbox left old_out new_o
 
 -- What stands at the front then: no whole message; the message that closes the segment, which is taken; or what the
 -- conversation ends with.
-abbrev pub StopsAt : Input → Notes → List ℕ → Notes → List ℕ → Result Bool ClientError → Type 0
-StopsAt input notes left new rest (Ok false) =
+abbrev pub PushStopsAtFront : Input → Notes → List ℕ → Notes → List ℕ → Result Bool ClientError → Type 0
+PushStopsAtFront input notes left new rest (Ok false) =
     (new ≡ notes) × (rest ≡ left) × (front notes.standing.version left ≡ More)
-StopsAt input notes left new rest (Ok true) =
+PushStopsAtFront input notes left new rest (Ok true) =
     (m : Backend) × (len : ℕ) × (front notes.standing.version left ≡ Whole m len)
     × (rest ≡ drop len left)
     × (turn_by notes_book input notes m notes.first_passed ≡ Ends (whole_end new) [])
-StopsAt input notes left new rest (Err e) =
+PushStopsAtFront input notes left new rest (Err e) =
     Unless e ((end : End Notes) × (error_of end.outcome ≡ Some e) ×
     ((sent : List ℕ) → runs input notes sent left ≡ Over end sent))
 
@@ -37,5 +37,5 @@ pub record Serves (input : Input) (old new : Notes) (inbox rest old_out new_out 
     (result : Result Bool ClientError) : Type 0 where
   pub notes : Notes
   pub left : List ℕ
-  pub way : LeadsTo input old notes inbox left old_out new_out
-  pub stops : StopsAt input notes left new rest result
+  pub way : InboxLeadsTo input old notes inbox left old_out new_out
+  pub stops : PushStopsAtFront input notes left new rest result

@@ -8,14 +8,14 @@ use Rattle.pgw_session.specs.declared.stage.Stage.TheVariants.{Answering, Passin
 use Rattle.pgw_session.specs.declared.types.Answer.{Answer}
 use Rattle.pgw_session.specs.declared.types.Request.{Request}
 use Rattle.pgw_session.specs.Answers.{answers_of, no_tally}
-use Rattle.pgw_session.specs.Events.{Event, joined}
+use Rattle.pgw_session.specs.Events.{Event, all_events}
 use Rattle.pgw_session.specs.Input.{Input, input_with}
 use Rattle.pgw_session.specs.Notes.{view}
 use Rattle.pgw_session.specs.Standings.{first_standing, standing_of}
 use Rattle.pgw_session.specs.Talk.{Talk, conversation}
 use Rattle.pgw_session.specs.Transcript.{EncodesSent, IsTranscript, SpellsGot}
-use Rattle.pgw_dialogue.specs.Dialogue.{Settles}
-use Rattle.pgw_push.specs.Behind.{behind}
+use Rattle.pgw_dialogue.specs.Dialogue.{DialogueSettles}
+use Rattle.pgw_push.specs.Behind.{notes_behind}
 use Rattle.pgw_push.specs.declared.client.PushClient.{PushClient}
 use Rattle.pgw_push.specs.declared.state.State.{State}
 use Rattle.pgw_push.specs.declared.state.State.TheVariants as state
@@ -39,11 +39,11 @@ IsOpen c = (c.state ≡ state.Open) × (0 < c.room)
 abbrev pub IsIdle : PushClient → Type 0
 IsIdle c = c.state ≡ state.Idle
 
-abbrev pub IsStarved : PushClient → Type 0
-IsStarved c = c.state ≡ state.Starved
+abbrev pub IsStarvedPush : PushClient → Type 0
+IsStarvedPush c = c.state ≡ state.Starved
 
-abbrev pub IsBroken : PushClient → Type 0
-IsBroken c = (c.state ≡ state.Refused) ⊎ IsStarved c
+abbrev pub IsPushBroken : PushClient → Type 0
+IsPushBroken c = (c.state ≡ state.Refused) ⊎ IsStarvedPush c
 
 -- ---- what it notes
 
@@ -54,9 +54,9 @@ IsRequests PassingOver = Unit {0}
 IsRequests stage = ⊥
 
 -- The open segment is that of the last request, behind those before it; or it is the startup segment.
-abbrev pub IsLast : Option (List Request) → List Request → List Answer → Notes → Type 0
-IsLast None before earlier notes = (before ≡ []) × (earlier ≡ [])
-IsLast (Some qs) before earlier notes =
+abbrev pub IsLastSegment : Option (List Request) → List Request → List Answer → Notes → Type 0
+IsLastSegment None before earlier notes = (before ≡ []) × (earlier ≡ [])
+IsLastSegment (Some qs) before earlier notes =
     (q : Request) × (qs ≡ q ∷ []) × IsRequests notes.stage × (notes.closed ≡ 1)
     × (notes.answers ≡ [])
 
@@ -66,11 +66,11 @@ pub record NotesAt (input : Input) (asked : Option (List Request)) (notes : Note
   pub before : List Request
   pub earlier : List Answer
   pub are : input.requests ≡ before ++ asks asked
-  pub notes_are : view input t ≡ behind (length before) earlier notes
-  pub last : IsLast asked before earlier notes
+  pub notes_are : view input t ≡ notes_behind (length before) earlier notes
+  pub last : IsLastSegment asked before earlier notes
 
 -- the conversation of these bytes waits between two messages
-pub record ComesTo (input : Input) (asked : Option (List Request)) (notes : Notes)
+pub record PushWaits (input : Input) (asked : Option (List Request)) (notes : Notes)
     (done put : List ℕ) : Type 0 where
   pub talk : Talk
   pub waits : conversation input done ≡ Waits talk put []
@@ -82,7 +82,7 @@ pub record ComesTo (input : Input) (asked : Option (List Request)) (notes : Note
 pub record StandsOpen (c : PushClient) (input : Input) (given put : List ℕ) : Type 0 where
   pub done : List ℕ
   pub cut : given ≡ done ++ c.inbox
-  pub comes : ComesTo input c.asked c.notes done put
+  pub comes : PushWaits input c.asked c.notes done put
   pub partial : front c.notes.standing.version c.inbox ≡ More
 
 -- The front of the bytes given and all that was put out make a transcript of the requests asked so far. The answers that
@@ -92,22 +92,22 @@ pub record StandsIdle (c : PushClient) (input : Input) (given put : List ℕ) : 
   pub cut : given ≡ done ++ c.inbox
   pub segments : List (List Event)
   pub transcript : IsTranscript input segments
-  pub got : SpellsGot (first_standing input.config) (joined segments) done
-  pub put_is : EncodesSent (joined segments) put
-  pub standing : c.notes.standing ≡ standing_of input.config (joined segments)
+  pub got : SpellsGot (first_standing input.config) (all_events segments) done
+  pub put_is : EncodesSent (all_events segments) put
+  pub standing : c.notes.standing ≡ standing_of input.config (all_events segments)
   pub earlier : List Answer
   pub answers : answers_of input.requests (drop 1 segments) ≡ earlier ++ c.notes.answers
   pub fresh : (c.notes.tally ≡ no_tally) × (c.notes.first_passed ≡ None)
 
-abbrev pub StandsIn : State → PushClient → Input → ℕ → List ℕ → List ℕ → Type 0
-StandsIn state.Open c input limit given put = StandsOpen c input given put
-StandsIn state.Idle c input limit given put = StandsIdle c input given put
-StandsIn state.Refused c input limit given put = Settles (conversation input given) limit given put
-StandsIn state.Starved c input limit given put = Begins (conversation input given) put
+abbrev pub PushStandsIn : State → PushClient → Input → ℕ → List ℕ → List ℕ → Type 0
+PushStandsIn state.Open c input limit given put = StandsOpen c input given put
+PushStandsIn state.Idle c input limit given put = StandsIdle c input given put
+PushStandsIn state.Refused c input limit given put = DialogueSettles (conversation input given) limit given put
+PushStandsIn state.Starved c input limit given put = Begins (conversation input given) put
 
 pub record StandsFor (input : Input) (limit : ℕ) (c : PushClient) (given put : List ℕ) : Type
     0 where
   pub config : c.config ≡ input.config
   pub nonce : c.nonce ≡ input.nonce
   pub room : length given + c.room ≡ limit
-  pub stands : StandsIn c.state c input limit given put
+  pub stands : PushStandsIn c.state c input limit given put

@@ -7,9 +7,9 @@ use Rattle.pgw_dialogue.specs.declared.phase.DialoguePhase.TheVariants as phase
 use Rattle.pgw_push.specs.declared.state.State.{State}
 use Rattle.pgw_push.specs.declared.state.State.TheVariants as state
 
-abbrev pub state_behind : Result DialoguePhase ClientError → State
-state_behind (Ok phase.Waiting) = state.Open
-state_behind (Ok phase.Ready) = state.Open
-state_behind (Ok phase.Done) = state.Idle
-state_behind (Err client.OutOfMemory) = state.Starved
-state_behind (Err e) = state.Refused
+abbrev pub push_state_behind : Result DialoguePhase ClientError → State
+push_state_behind (Ok phase.Waiting) = state.Open
+push_state_behind (Ok phase.Ready) = state.Open
+push_state_behind (Ok phase.Done) = state.Idle
+push_state_behind (Err client.OutOfMemory) = state.Starved
+push_state_behind (Err e) = state.Refused

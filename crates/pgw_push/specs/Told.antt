@@ -7,12 +7,12 @@ use Rattle.pgw_session.specs.declared.types.Request.{Request}
 use Rattle.pgw_push.specs.declared.client.PushClient.{PushClient}
 
 -- how many bytes more it may be given
-abbrev pub room_of : PushClient → ℕ
-room_of c = c.room
+abbrev pub push_room : PushClient → ℕ
+push_room c = c.room
 
 -- what it was told of its connection
-abbrev pub told_in : PushClient → Standing
-told_in c = c.notes.standing
+abbrev pub push_standing : PushClient → Standing
+push_standing c = c.notes.standing
 
 -- what it logs in by
 abbrev pub config_of : PushClient → Config

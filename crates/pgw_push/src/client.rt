@@ -3,9 +3,9 @@ ghost use Rattle.std.specs.Prelude.{◌≡◌, ◌≤◌, ◌<◌, ◌+◌, ◌+
 ghost use Rattle.std.specs.Bool.{Decides};
 ghost use Rattle.pgw_backend.specs.declared.client_error.PgWireClientError.TheVariants as client;
 ghost use Rattle.pgw_dialogue.specs.Answers.{answer_behind};
-ghost use Rattle.pgw_dialogue.specs.Demands.{Refuses};
-ghost use Rattle.pgw_dialogue.specs.Machine.{notes_end, Started};
-ghost use Rattle.pgw_dialogue.specs.Wire.{IsEnd, Unless};
+ghost use Rattle.pgw_dialogue.specs.Demands.{RefusesKey};
+ghost use Rattle.pgw_dialogue.specs.Machine.{notes_end, StartsRun};
+ghost use Rattle.pgw_dialogue.specs.Wire.{IsEndError, Unless};
 ghost use Rattle.pgw_session.specs.declared.types.Answer.{Answer as TheAnswer};
 ghost use Rattle.pgw_session.specs.declared.types.Request.{Request as TheRequest};
 ghost use Rattle.pgw_session.specs.Demands.{refused_config};
@@ -106,7 +106,7 @@ fn begin(
     out: &mut BytesMut,
 ) -> PgWireClientResult<Notes>
     requires { out.old.items ≡ [] }
-    ensures refused { IfSome (refused_config config.now) (λ key. Refuses key result) }
+    ensures refused { IfSome (refused_config config.now) (λ key. RefusesKey key result) }
     ensures begun { Begun (input_with config.now [] nonce.now) limit out.new.items result }
 {
     match check_config(alloc, config) {
@@ -162,7 +162,7 @@ fn serve_last(
 
 impl PushClient {
     ghost use Rattle.pgw_push.specs.Calls.{AsksNext, HasAnswer, IsLastAnswer, IsLeft, Served, StartsClient, TakesPiece};
-    ghost use Rattle.pgw_push.specs.Standing.{IsBroken, IsIdle, IsOpen, IsStarved, StandsFor};
+    ghost use Rattle.pgw_push.specs.Standing.{IsPushBroken, IsIdle, IsOpen, IsStarvedPush, StandsFor};
 
     /// Begins to log in: puts out the first message. It is made for this configuration and the nonce of a SCRAM login. A
     /// limit of 0 is ReadLimit.
@@ -175,7 +175,7 @@ impl PushClient {
     ) -> PgWireClientResult<PushClient>
         requires { out.old.items ≡ [] }
         // A configuration that demands what this client can't do is refused by that key, or memory is wanting.
-        ensures refused { IfSome (refused_config config) (λ key. Refuses key result) }
+        ensures refused { IfSome (refused_config config) (λ key. RefusesKey key result) }
         // It stands for no bytes given, and for the startup message put out, with no request asked. Else nothing is put
         // out, and the error has its cause.
         ensures starts { StartsClient (input_with config [] nonce.now) limit out.new.items result }
@@ -229,7 +229,7 @@ impl PushClient {
         ensures left { IsLeft self.new result }
         ensures room { self.new.room + length piece.now ≡ self.old.room }
         ensures asked { self.new.asked ≡ self.old.asked }
-        ensures starved { IsStarved self.new → result ≡ Err client.OutOfMemory }
+        ensures starved { IsStarvedPush self.new → result ≡ Err client.OutOfMemory }
     {
         self.room -= piece.len() as u64;
         match self.inbox.append(piece) {
@@ -264,7 +264,7 @@ impl PushClient {
         ensures answer { HasAnswer self.new result }
         ensures asked { IfOk result (λ phase. self.new.asked ≡ Some (request ∷ [])) }
         ensures room { self.new.room ≡ self.old.room }
-        ensures starved { IsStarved self.new → result ≡ Err client.OutOfMemory }
+        ensures starved { IsStarvedPush self.new → result ≡ Err client.OutOfMemory }
     {
         match put_request(self.alloc, &request, out) {
             Ok(()) => {}
@@ -300,7 +300,7 @@ impl PushClient {
     /// What it means that no more bytes come, while a segment is open.
     pub fn at_end(&self) -> PgWireClientError
         requires { IsOpen self.now }
-        ensures end { IsEnd result }
+        ensures end { IsEndError result }
         // For every pair that it stands for, the error has its cause, or memory is wanting.
         ensures cause { (input : TheInput) (limit : ℕ) (given put : List ℕ) →
             StandsFor input limit self.now given put →

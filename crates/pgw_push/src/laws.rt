@@ -1,11 +1,11 @@
 //! What holds of clients.
 ghost use Rattle.std.specs.Prelude.{◌≡◌, ◌⊎◌, ◌<◌, ◌++◌, ℕ, List, [], length};
 ghost use Rattle.pgw_session.specs.declared.types.SessionReport.{SessionReport as TheReport};
-ghost use Rattle.pgw_session.specs.Failures.{Told, WaitsStill};
+ghost use Rattle.pgw_session.specs.Failures.{BytesTell, WaitsStill};
 ghost use Rattle.pgw_session.specs.Input.{Input as TheInput};
 ghost use Rattle.pgw_session.specs.Transcript.{Completed};
 ghost use Rattle.pgw_push.specs.declared.client.PushClient.{PushClient as TheClient};
-ghost use Rattle.pgw_push.specs.Standing.{IsIdle, IsOpen, IsStarved, StandsFor};
+ghost use Rattle.pgw_push.specs.Standing.{IsIdle, IsOpen, IsStarvedPush, StandsFor};
 
 /// What holds of every pair of bytes given and bytes put out that a client stands for.
 pub fn clients_hold_sessions()
@@ -22,6 +22,6 @@ pub fn clients_hold_sessions()
     // them, or a front of them where memory was wanting.
     ensures told { (input : TheInput) (limit : ℕ) (c : TheClient) (given put : List ℕ) →
         StandsFor input limit c given put →
-        (unsent : List ℕ) × Told input given (put ++ unsent)
-        × (IsStarved c ⊎ (unsent ≡ [])) }
+        (unsent : List ℕ) × BytesTell input given (put ++ unsent)
+        × (IsStarvedPush c ⊎ (unsent ≡ [])) }
 {}

@@ -1,6 +1,6 @@
 //! What a client does with bytes.
 ghost use Rattle.std.specs.Prelude.{◌≡◌};
-ghost use Rattle.pgw_push.specs.State.{state_behind};
+ghost use Rattle.pgw_push.specs.State.{push_state_behind};
 
 use pgw_backend::client_error::{PgWireClientError, PgWireClientResult};
 use pgw_dialogue::DialoguePhase;
@@ -20,7 +20,7 @@ pub enum State {
 
 /// Where an answer leaves a client.
 pub(crate) fn state_behind(answer: &PgWireClientResult<DialoguePhase>) -> State
-    ensures { result ≡ state_behind answer.now }
+    ensures { result ≡ push_state_behind answer.now }
 {
     match answer {
         Ok(DialoguePhase::Waiting) | Ok(DialoguePhase::Ready) => State::Open,

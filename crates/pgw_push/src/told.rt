@@ -1,6 +1,6 @@
 //! What a client tells of itself.
 ghost use Rattle.std.specs.Prelude.{◌≡◌};
-ghost use Rattle.pgw_push.specs.Told.{config_of, told_in};
+ghost use Rattle.pgw_push.specs.Told.{config_of, push_standing};
 
 use crate::client::PushClient;
 use pgw_config::config::Config;
@@ -9,7 +9,7 @@ use pgw_session::standing::Standing;
 impl PushClient {
     /// What it was told of its connection.
     pub fn told(&self) -> &Standing
-        ensures { result.now ≡ told_in self.now }
+        ensures { result.now ≡ push_standing self.now }
     {
         &self.notes.standing
     }

@@ -4,7 +4,7 @@ use Rattle.std.specs.Int.{w8, w16, w32}
 use Rattle.std.proofs.lemmas.Bool.{eqb-true}
 use Rattle.pgw_types.specs.declared.context.DecodeContext.{DecodeContext}
 use Rattle.pgw_wire.specs.Reading.{text_at, nat_at, int_at, rest_at, marked_list_at}
-use Rattle.pgw_wire.specs.Formats.{tried_at, counted_at, NoBody, IsRow, Reads, ReadsLast, SpellsText, SpellsNat, SpellsInt, IsRest, SpellsCounted, SpellsMarked}
+use Rattle.pgw_wire.specs.Formats.{tried_at, counted_at, NoBody, IsRow, ReadsFormat, ReadsLast, SpellsText, SpellsNat, SpellsInt, IsRest, SpellsCounted, SpellsMarked}
 use Rattle.pgw_wire.proofs.Laws.{pair_reads, made_reads, tried_reads, ok_is, chosen}
 use Rattle.pgw_wire.proofs.FieldLaws.{text_reads, nat_reads, int_reads}
 use Rattle.pgw_wire.proofs.FrameLaws.{reads_last, rest_reads, pair_last, made_last, counted_reads, count16}
@@ -14,7 +14,7 @@ use Rattle.pgw_wire.specs.Counted.{counted16_at, SpellsCounted16}
 use Rattle.std.proofs.Common.{inl, inr}
 use Rattle.pgw_query.specs.declared.response.TransactionStatus.{TransactionStatus}
 use Rattle.pgw_query.specs.declared.response.TransactionStatus.TheVariants.{Idle, Transaction, Error}
-use Rattle.pgw_query.specs.Rows.{status_of, status_byte, ready_for_query_of, command_complete_of, query_of, row_description_of, data_row_of, field_at, field_of, parts_of, SpellsCommandComplete, SpellsQuery, SpellsRowDescription, SpellsDataRow, SpellsField, empty_query_response_of, no_data_of, parameter_description_of, SpellsParameterDescription, notification_response_of, SpellsNotificationResponse, codes_at, error_response_of, SpellsErrorResponse, notice_response_of, SpellsNoticeResponse}
+use Rattle.pgw_query.specs.Rows.{status_of_byte, status_byte, ready_for_query_of, command_complete_of, query_of, row_description_of, data_row_of, field_at, field_of, field_parts, SpellsCommandComplete, SpellsQuery, SpellsRowDescription, SpellsDataRow, SpellsField, empty_query_response_of, no_data_of, parameter_description_of, SpellsParameterDescription, notification_response_of, SpellsNotificationResponse, codes_at, error_response_of, SpellsErrorResponse, notice_response_of, SpellsNoticeResponse}
 use Rattle.pgw_wire.specs.Codes.{code_at, SpellsCode}
 use Rattle.pgw_wire.specs.CodeLaws.{code_shrinks}
 use Rattle.pgw_wire.proofs.MarkLaws.{marked_reads, code_reads}
@@ -27,9 +27,9 @@ pub query : (ctx : DecodeContext) → IsRow 81 1073741822 (query_of ctx) SpellsQ
 unfolding query_of
 query ctx = is_row 81 1073741822 (lit< tt) _ SpellsQuery (made_last (λ t. record { query = t }) (λ m. m.query) text_at SpellsText (λ x. refl) (λ y. refl) (reads_last text_at SpellsText text_reads))
 
-field_reads : Reads field_at SpellsField
+field_reads : ReadsFormat field_at SpellsField
 unfolding field_at
-field_reads = made_reads field_of parts_of _ _ (λ x. refl) (λ y. refl)
+field_reads = made_reads field_of field_parts _ _ (λ x. refl) (λ y. refl)
     (pair_reads text_at SpellsText _ _ text_reads
     (pair_reads (int_at w32) (SpellsInt w32) _ _ (int_reads w32)
     (pair_reads (int_at w16) (SpellsInt w16) _ _ (int_reads w16)
@@ -74,8 +74,8 @@ row_description ctx = is_row 84 2147483647 (lit< tt) _ SpellsRowDescription
     (made_last (λ fields. record { fields = fields }) (λ m. m.fields) _ _ (λ x. refl) (λ y. refl)
     (reads_last (counted_at w16 19 field_at) (SpellsCounted w16 SpellsField) (counted_reads w16 count16 field_at SpellsField 19 (lit< tt) field_least field_reads)))
 
-status_back : (b : ℕ) (s : TransactionStatus) → status_of b ≡ Ok s → status_byte s ≡ b
-unfolding status_of
+status_back : (b : ℕ) (s : TransactionStatus) → status_of_byte b ≡ Ok s → status_byte s ≡ b
+unfolding status_of_byte
 status_back b s e =
     elim (chosen (eqb b 73) _ _ _ e) [
       | inl h ↦ subst (λ (t : TransactionStatus). status_byte t ≡ b) (ok_is Idle s h.1) (sym (eqb-true _ _ h.0))
@@ -88,8 +88,8 @@ status_back b s e =
       ]
     ]
 
-status_again : (s : TransactionStatus) → status_of (status_byte s) ≡ Ok s
-unfolding status_of
+status_again : (s : TransactionStatus) → status_of_byte (status_byte s) ≡ Ok s
+unfolding status_of_byte
 status_again Idle = refl
 status_again Transaction = refl
 status_again Error = refl
@@ -98,7 +98,7 @@ pub ready_for_query : (ctx : DecodeContext) → IsRow 90 30000 (ready_for_query_
 unfolding ready_for_query_of
 ready_for_query ctx = is_row 90 30000 (lit< tt) _ (λ m. SpellsNat w8 (status_byte m.status))
     (made_last (λ s. record { status = s }) (λ m. m.status) _ _ (λ x. refl) (λ y. refl)
-    (reads_last (tried_at status_of (nat_at w8)) (λ s. SpellsNat w8 (status_byte s)) (tried_reads status_of status_byte (nat_at w8) (SpellsNat w8) status_back status_again (nat_reads w8))))
+    (reads_last (tried_at status_of_byte (nat_at w8)) (λ s. SpellsNat w8 (status_byte s)) (tried_reads status_of_byte status_byte (nat_at w8) (SpellsNat w8) status_back status_again (nat_reads w8))))
 
 pub empty_query_response : (ctx : DecodeContext) → IsRow 73 30000 (empty_query_response_of ctx) NoBody
 unfolding empty_query_response_of

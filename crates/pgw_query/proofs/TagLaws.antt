@@ -18,7 +18,7 @@ use Rattle.std.specs.Prelude.{encode_utf8_all}
 use Rattle.pgw_types.specs.Numbers.{number_in}
 use Rattle.pgw_types.proofs.NumberLaws.{number_in-decimal}
 use Rattle.pgw_query.specs.declared.tag.Tag.{Tag}
-use Rattle.pgw_query.specs.Tags.{Words, ended, with_character, words, counted_tag, inserted_tag, tag_by, tag_of, tag_text, IsWord, AreCounts}
+use Rattle.pgw_query.specs.Tags.{Words, tag_words, with_character, words, counted_tag, inserted_tag, tag_by, tag_of, tag_text, IsWord, AreCounts}
 
 -- ---- numbers are words
 
@@ -49,17 +49,17 @@ goes_on : (cs : List ℕ) (ws : List (List ℕ)) (w : List ℕ) → list_all is_
 goes_on [] ws w h = ap (λ (l : List ℕ). (ws, l)) (sym (append-nil w))
 goes_on (c ∷ cs) ws w h =
     let p = and_parts (is_not_whitespace c) (list_all is_not_whitespace cs) h in
-    let step : with_character (ws, w) c ≡ (ws, w ++ encode_utf8 c) = ap (λ (b : Bool). cond b (ended (ws, w), []) (ws, w ++ encode_utf8 c)) (false_of (is_whitespace c) p.0) in
+    let step : with_character (ws, w) c ≡ (ws, w ++ encode_utf8 c) = ap (λ (b : Bool). cond b (tag_words (ws, w), []) (ws, w ++ encode_utf8 c)) (false_of (is_whitespace c) p.0) in
     ap (λ (s : Words). fold with_character s cs) step ∙ goes_on cs ws (w ++ encode_utf8 c) p.1 ∙ ap (λ (l : List ℕ). (ws, l)) (append_assoc w (encode_utf8 c) (encode_utf8_all cs))
 
-ends : (ws : List (List ℕ)) (x : List ℕ) → 0 < length x → ended (ws, x) ≡ ws ++ x ∷ []
+ends : (ws : List (List ℕ)) (x : List ℕ) → 0 < length x → tag_words (ws, x) ≡ ws ++ x ∷ []
 ends ws x h = let some : eqb (length x) 0 ≡ false = grind (arith, nat_tests) in ap (λ (b : Bool). cond b ws (ws ++ x ∷ [])) some
 
 word_read : (ws : List (List ℕ)) (x : List ℕ) → IsWord x → fold with_character (ws, []) (chars x) ≡ (ws, x)
 word_read ws x w = goes_on (chars x) ws [] w.whole ∙ ap (λ (l : List ℕ). (ws, l)) (encodes-chars x w.utf8)
 
-last_word : (ws : List (List ℕ)) (x : List ℕ) → IsWord x → ended (fold with_character (ws, []) (chars x)) ≡ ws ++ x ∷ []
-last_word ws x w = ap ended (word_read ws x w) ∙ ends ws x w.some
+last_word : (ws : List (List ℕ)) (x : List ℕ) → IsWord x → tag_words (fold with_character (ws, []) (chars x)) ≡ ws ++ x ∷ []
+last_word ws x w = ap tag_words (word_read ws x w) ∙ ends ws x w.some
 
 after_space : (rest : List ℕ) → chars (32 ∷ rest) ≡ 32 ∷ chars rest
 after_space rest =
@@ -79,11 +79,11 @@ one_word x w = last_word [] x w
 
 two_words : (x y : List ℕ) → IsWord x → IsWord y → words (x ++ 32 ∷ y) ≡ x ∷ y ∷ []
 unfolding words
-two_words x y wx wy = ap ended (next_word [] x y wx) ∙ last_word (x ∷ []) y wy
+two_words x y wx wy = ap tag_words (next_word [] x y wx) ∙ last_word (x ∷ []) y wy
 
 three_words : (x y z : List ℕ) → IsWord x → IsWord y → IsWord z → words (x ++ 32 ∷ (y ++ 32 ∷ z)) ≡ x ∷ y ∷ z ∷ []
 unfolding words
-three_words x y z wx wy wz = ap ended (next_word [] x (y ++ 32 ∷ z) wx ∙ next_word (x ∷ []) y z wy) ∙ last_word (x ∷ y ∷ []) z wz
+three_words x y z wx wy wz = ap tag_words (next_word [] x (y ++ 32 ∷ z) wx ∙ next_word (x ∷ []) y z wy) ∙ last_word (x ∷ y ∷ []) z wz
 
 -- ---- tags
 

@@ -6,11 +6,11 @@ use Rattle.std.specs.Char.{is_whitespace, is_not_whitespace, encode_utf8}
 use Rattle.std.proofs.lemmas.Bool.Decides.{nat_tests}
 use Rattle.std.proofs.lemmas.Str.{cons_from_encodes, encodes-chars, encodes_same, length-le-encodes}
 use Rattle.std.proofs.lemmas.List.{append-nil}
-use Rattle.pgw_query.specs.Tags.{Words, ended, with_character, words}
+use Rattle.pgw_query.specs.Tags.{Words, tag_words, with_character, words}
 
 -- the words of some characters
 abbrev pub words_of : List ℕ → List (List ℕ)
-words_of cs = ended (fold with_character ([], []) cs)
+words_of cs = tag_words (fold with_character ([], []) cs)
 
 -- ---- characters of some bytes
 
@@ -33,33 +33,33 @@ kept_by true ws vs w = refl
 kept_by false ws vs w = append_assoc ws vs (w ∷ [])
 
 -- the words before stay
-kept : (cs : List ℕ) (ws vs : List (List ℕ)) (w : List ℕ) → ended (fold with_character (ws ++ vs, w) cs) ≡ ws ++ ended (fold with_character (vs, w) cs)
+kept : (cs : List ℕ) (ws vs : List (List ℕ)) (w : List ℕ) → tag_words (fold with_character (ws ++ vs, w) cs) ≡ ws ++ tag_words (fold with_character (vs, w) cs)
 kept [] ws vs w = kept_by (eqb (length w) 0) ws vs w
 kept (c ∷ cs) ws vs w = go (is_whitespace c) (kept cs ws)
   where
-    go : (b : Bool) → ((vs : List (List ℕ)) (w : List ℕ) → ended (fold with_character (ws ++ vs, w) cs) ≡ ws ++ ended (fold with_character (vs, w) cs))
-        → ended (fold with_character (cond b (ended (ws ++ vs, w), []) (ws ++ vs, w ++ encode_utf8 c)) cs) ≡ ws ++ ended (fold with_character (cond b (ended (vs, w), []) (vs, w ++ encode_utf8 c)) cs)
-    go true later = ap (λ (l : List (List ℕ)). ended (fold with_character (l, []) cs)) (kept_by (eqb (length w) 0) ws vs w) ∙ later (ended (vs, w)) []
+    go : (b : Bool) → ((vs : List (List ℕ)) (w : List ℕ) → tag_words (fold with_character (ws ++ vs, w) cs) ≡ ws ++ tag_words (fold with_character (vs, w) cs))
+        → tag_words (fold with_character (cond b (tag_words (ws ++ vs, w), []) (ws ++ vs, w ++ encode_utf8 c)) cs) ≡ ws ++ tag_words (fold with_character (cond b (tag_words (vs, w), []) (vs, w ++ encode_utf8 c)) cs)
+    go true later = ap (λ (l : List (List ℕ)). tag_words (fold with_character (l, []) cs)) (kept_by (eqb (length w) 0) ws vs w) ∙ later (tag_words (vs, w)) []
     go false later = later vs (w ++ encode_utf8 c)
 
 past_white : (cs ds : List ℕ) → NonePass is_not_whitespace cs → fold with_character ([], []) (cs ++ ds) ≡ fold with_character ([], []) ds
 past_white [] ds none = refl
 past_white (c ∷ cs) ds none =
-    let step : with_character ([], []) c ≡ ([], []) = ap (λ (b : Bool). cond b (ended ([], []), []) ([], encode_utf8 c)) (white_of (is_whitespace c) none.0) in
+    let step : with_character ([], []) c ≡ ([], []) = ap (λ (b : Bool). cond b (tag_words ([], []), []) ([], encode_utf8 c)) (white_of (is_whitespace c) none.0) in
     ap (λ (s : Words). fold with_character s (cs ++ ds)) step ∙ past_white cs ds none.1
 
 in_word : (cs ds w : List ℕ) → NonePass is_whitespace cs → fold with_character ([], w) (cs ++ ds) ≡ fold with_character ([], w ++ encode_utf8_all cs) ds
 in_word [] ds w none = ap (λ (l : List ℕ). fold with_character ([], l) ds) (sym (append-nil w))
 in_word (c ∷ cs) ds w none =
-    let step : with_character ([], w) c ≡ ([], w ++ encode_utf8 c) = ap (λ (b : Bool). cond b (ended ([], w), []) ([], w ++ encode_utf8 c)) none.0 in
+    let step : with_character ([], w) c ≡ ([], w ++ encode_utf8 c) = ap (λ (b : Bool). cond b (tag_words ([], w), []) ([], w ++ encode_utf8 c)) none.0 in
     ap (λ (s : Words). fold with_character s (cs ++ ds)) step ∙ in_word cs ds (w ++ encode_utf8 c) none.1
     ∙ ap (λ (l : List ℕ). fold with_character ([], l) ds) (append_assoc w (encode_utf8 c) (encode_utf8_all cs))
 
-alone : (x : List ℕ) → 0 < length x → ended ([], x) ≡ x ∷ []
+alone : (x : List ℕ) → 0 < length x → tag_words ([], x) ≡ x ∷ []
 alone x some = let is : eqb (length x) 0 ≡ false = grind (arith, nat_tests) in ap (λ (b : Bool). cond b [] (x ∷ [])) is
 
 -- a word ends where nothing is left, or at white space
-word_ends : (ts x more : List ℕ) → 0 < length x → EmptyOrStartsWithPassing is_whitespace (encode_utf8_all ts) more → ended (fold with_character ([], x) ts) ≡ x ∷ words_of ts
+word_ends : (ts x more : List ℕ) → 0 < length x → EmptyOrStartsWithPassing is_whitespace (encode_utf8_all ts) more → tag_words (fold with_character ([], x) ts) ≡ x ∷ words_of ts
 word_ends [] x more some starts = alone x some
 word_ends (c ∷ ts) x more some starts =
     let first = starts (omega (arith, length-le-encodes (c ∷ ts))) in
@@ -67,10 +67,10 @@ word_ends (c ∷ ts) x more some starts =
     let same : c ≡ first.0 = cc in
     let white : is_whitespace c ≡ true = ap is_whitespace same ∙ first.1 in
     let here : with_character ([], x) c ≡ (x ∷ [], []) =
-    ap (λ (b : Bool). cond b (ended ([], x), []) ([], x ++ encode_utf8 c)) white ∙ ap (λ (l : List (List ℕ)). (l, [])) (alone x some) in
-    let there : with_character ([], []) c ≡ ([], []) = ap (λ (b : Bool). cond b (ended ([], []), []) ([], encode_utf8 c)) white in
-    ap (λ (s : Words). ended (fold with_character s ts)) here ∙ kept ts (x ∷ []) [] []
-    ∙ sym (ap (λ (s : Words). x ∷ ended (fold with_character s ts)) there)
+    ap (λ (b : Bool). cond b (tag_words ([], x), []) ([], x ++ encode_utf8 c)) white ∙ ap (λ (l : List (List ℕ)). (l, [])) (alone x some) in
+    let there : with_character ([], []) c ≡ ([], []) = ap (λ (b : Bool). cond b (tag_words ([], []), []) ([], encode_utf8 c)) white in
+    ap (λ (s : Words). tag_words (fold with_character s ts)) here ∙ kept ts (x ∷ []) [] []
+    ∙ sym (ap (λ (s : Words). x ∷ tag_words (fold with_character s ts)) there)
 
 -- ---- one step
 
@@ -93,14 +93,14 @@ word_found old x new cs is step =
       ts,
       second.2,
       ap words_of are
-          ∙ ap ended (past_white gap (word ++ ts) (step.3).2 ∙ in_word word ts [] (step.4).2 ∙ ap (λ (l : List ℕ). fold with_character ([], l) ts) (step.4).1)
+          ∙ ap tag_words (past_white gap (word ++ ts) (step.3).2 ∙ in_word word ts [] (step.4).2 ∙ ap (λ (l : List ℕ). fold with_character ([], l) ts) (step.4).1)
           ∙ word_ends ts x (step.5).0 step.2 starts,
     )
 
 pub none_found : (old cs : List ℕ) → encode_utf8_all cs ≡ old → NoCharPasses is_not_whitespace old → words_of cs ≡ []
 none_found old cs is step =
     let same : cs ≡ step.0 = encodes_same cs step.0 (is ∙ sym step.1) in
-    ap words_of (same ∙ sym (append-nil step.0)) ∙ ap ended (past_white step.0 [] step.2)
+    ap words_of (same ∙ sym (append-nil step.0)) ∙ ap tag_words (past_white step.0 [] step.2)
 
 pub words_from : (text cs : List ℕ) → cs ≡ chars text → words text ≡ words_of cs
 unfolding words

@@ -27,8 +27,8 @@ use Rattle.pgw_wire.specs.Counted.{counted16_at, SpellsCounted16}
 
 -- ---- ReadyForQuery
 
-unfoldable pub status_of : ℕ → Result TransactionStatus PgWireError
-status_of b = if b == 73 then Ok Idle else (if b == 84 then Ok Transaction else (if b == 69 then Ok Error else Err (InvalidTransactionStatus b)))
+unfoldable pub status_of_byte : ℕ → Result TransactionStatus PgWireError
+status_of_byte b = if b == 73 then Ok Idle else (if b == 84 then Ok Transaction else (if b == 69 then Ok Error else Err (InvalidTransactionStatus b)))
 
 abbrev pub status_byte : TransactionStatus → ℕ
 status_byte Idle = 73
@@ -36,7 +36,7 @@ status_byte Transaction = 84
 status_byte Error = 69
 
 unfoldable pub ready_for_query_of : DecodeContext → List ℕ → Result ReadyForQuery PgWireError
-ready_for_query_of ctx bytes = all_of (made_at (λ s. record { status = s }) (tried_at status_of (nat_at w8)) bytes)
+ready_for_query_of ctx bytes = all_of (made_at (λ s. record { status = s }) (tried_at status_of_byte (nat_at w8)) bytes)
 
 abbrev pub SpellsReadyForQuery : ReadyForQuery → List ℕ → Type 0
 SpellsReadyForQuery m = SpellsNat w8 (status_byte m.status)
@@ -89,20 +89,20 @@ SpellsQuery m = SpellsText m.query
 -- ---- RowDescription
 
 -- a field's parts, in order
-abbrev pub Parts : Type 0
-Parts = List ℕ × (ℤ × (ℤ × (ℕ × (ℤ × (ℤ × ℤ)))))
+abbrev pub FieldParts : Type 0
+FieldParts = List ℕ × (ℤ × (ℤ × (ℕ × (ℤ × (ℤ × ℤ)))))
 
-abbrev pub field_of : Parts → FieldDescription
+abbrev pub field_of : FieldParts → FieldDescription
 field_of p = record { name = p.0; table_id = p.1.0; column_id = p.1.1.0; type_id = p.1.1.1.0; type_size = p.1.1.1.1.0; type_modifier = p.1.1.1.1.1.0; format_code = p.1.1.1.1.1.1 }
 
-abbrev pub parts_of : FieldDescription → Parts
-parts_of f = (f.name, (f.table_id, (f.column_id, (f.type_id, (f.type_size, (f.type_modifier, f.format_code))))))
+abbrev pub field_parts : FieldDescription → FieldParts
+field_parts f = (f.name, (f.table_id, (f.column_id, (f.type_id, (f.type_size, (f.type_modifier, f.format_code))))))
 
 unfoldable pub field_at : List ℕ → Result (FieldDescription × List ℕ) PgWireError
 field_at = made_at field_of (pair_at text_at (pair_at (int_at w32) (pair_at (int_at w16) (pair_at (nat_at w32) (pair_at (int_at w16) (pair_at (int_at w32) (int_at w16)))))))
 
 abbrev pub SpellsField : FieldDescription → List ℕ → Type 0
-SpellsField f = Pair SpellsText (Pair (SpellsInt w32) (Pair (SpellsInt w16) (Pair (SpellsNat w32) (Pair (SpellsInt w16) (Pair (SpellsInt w32) (SpellsInt w16)))))) (parts_of f)
+SpellsField f = Pair SpellsText (Pair (SpellsInt w32) (Pair (SpellsInt w16) (Pair (SpellsNat w32) (Pair (SpellsInt w16) (Pair (SpellsInt w32) (SpellsInt w16)))))) (field_parts f)
 
 abbrev pub field : FieldDescription → List ℕ
 field f = text f.name ++ i32 f.table_id ++ i16 f.column_id ++ u32 f.type_id ++ i16 f.type_size ++ i32 f.type_modifier ++ i16 f.format_code

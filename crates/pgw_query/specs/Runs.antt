@@ -66,9 +66,9 @@ pub record StandsTo (bytes : List ℕ) (end : ℕ) : Type 0 where
   pub whole : end ≤ length bytes
 
 -- where the row at the front ends, if one stands whole there
-abbrev pub Stands : List ℕ → Option ℕ → Type 0
-Stands bytes None = HasNoRow bytes
-Stands bytes (Some end) = StandsTo bytes end
+abbrev pub RowEndsAt : List ℕ → Option ℕ → Type 0
+RowEndsAt bytes None = HasNoRow bytes
+RowEndsAt bytes (Some end) = StandsTo bytes end
 
 -- how many rows stand whole at the front, and where they end
 pub record IsSpan (bytes : List ℕ) (span : Span) : Type 0 where

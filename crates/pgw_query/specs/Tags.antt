@@ -14,15 +14,15 @@ abbrev pub Words : Type 0
 Words = List (List ℕ) × List ℕ
 
 -- a word ends, if one goes on
-abbrev pub ended : Words → List (List ℕ)
-ended w = if length w.1 == 0 then w.0 else w.0 ++ w.1 ∷ []
+abbrev pub tag_words : Words → List (List ℕ)
+tag_words w = if length w.1 == 0 then w.0 else w.0 ++ w.1 ∷ []
 
 abbrev pub with_character : Words → ℕ → Words
-with_character w c = if is_whitespace c then (ended w, []) else (w.0, w.1 ++ encode_utf8 c)
+with_character w c = if is_whitespace c then (tag_words w, []) else (w.0, w.1 ++ encode_utf8 c)
 
 -- the longest runs of characters that are not white space
 unfoldable pub words : List ℕ → List (List ℕ)
-words text = ended (fold with_character ([], []) (chars text))
+words text = tag_words (fold with_character ([], []) (chars text))
 
 -- ---- tags
 

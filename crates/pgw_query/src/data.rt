@@ -267,7 +267,7 @@ impl Message for DataRow {
         out.put_slice(self.payload.as_slice())
     }
 
-    #[tactic(auto, unfolding(crate::specs::Rows::data_row_of, pgw_wire::specs::Reading::rest_at, pgw_wire::specs::Reading::ended))]
+    #[tactic(auto, unfolding(crate::specs::Rows::data_row_of, pgw_wire::specs::Reading::rest_at, pgw_wire::specs::Reading::read_end))]
     fn decode_body(_alloc: Global, body: &Octets, _ctx: &DecodeContext) -> PgWireResult<DataRow> {
         let mut reader = FieldReader::new(body);
         let field_count = reader.take_i16()?;

@@ -5,7 +5,7 @@ ghost use Rattle.pgw_wire.specs.declared.framing.Framing.TheVariants.{Typed};
 ghost use Rattle.pgw_wire.specs.Writing.{text, has_zero as holds_zero, refused_if};
 ghost use Rattle.std.specs.List.{list_any, flat_map};
 ghost use Rattle.pgw_wire.specs.Codes.{is_code_refused};
-ghost use Rattle.pgw_query.specs.Rows.{status_of, status_byte, ready_for_query_of, command_complete_of, empty_query_response_of, error_response_of, notice_response_of, codes_at, codes, codes_fault};
+ghost use Rattle.pgw_query.specs.Rows.{status_of_byte, status_byte, ready_for_query_of, command_complete_of, empty_query_response_of, error_response_of, notice_response_of, codes_at, codes, codes_fault};
 ghost use Rattle.pgw_wire.specs.Reading.{Reads};
 
 use pgw_types::context::DecodeContext;
@@ -47,11 +47,11 @@ pub enum TransactionStatus {
     Error,
 }
 
-#[tactic(auto, unfolding(crate::specs::Rows::status_of))]
+#[tactic(auto, unfolding(crate::specs::Rows::status_of_byte))]
 impl TryFrom<u8> for TransactionStatus {
     type Error = PgWireError;
 
-    ghost try_from_gives = { λ byte r. r ≡ status_of byte };
+    ghost try_from_gives = { λ byte r. r ≡ status_of_byte byte };
 
     fn try_from(byte: u8) -> Result<TransactionStatus, PgWireError> {
         match byte {

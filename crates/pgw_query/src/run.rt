@@ -1,6 +1,6 @@
 //! Rows as they came, one behind the other.
 ghost use Rattle.std.specs.Prelude.{◌≡◌, drop};
-ghost use Rattle.pgw_query.specs.Runs.{HasHead, IsHead, IsSpan, Stands, lent_row, row_end, row_in};
+ghost use Rattle.pgw_query.specs.Runs.{HasHead, IsHead, IsSpan, RowEndsAt, lent_row, row_end, row_in};
 
 use crate::data::{DataRow, MESSAGE_TYPE_BYTE_DATA_ROW};
 use crate::row_ref::DataRowRef;
@@ -35,7 +35,7 @@ pub const HEAD: usize = 7;
 
 // Where the row at the front ends, if one stands whole there. The length counts itself, and not the type byte.
 fn row_len(bytes: &[u8]) -> Option<usize>
-    ensures { Stands bytes.now result }
+    ensures { RowEndsAt bytes.now result }
 {
     if bytes.len() < HEAD || bytes[0] != MESSAGE_TYPE_BYTE_DATA_ROW {
         return None;

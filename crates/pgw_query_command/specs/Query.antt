@@ -10,16 +10,16 @@ use Rattle.pgw_places.specs.declared.places.NoSession.{NoSession}
 use Rattle.pgw_places.specs.declared.places.NoSession.TheVariants as why
 use Rattle.pgw_places.specs.Telling.{Telling}
 use Rattle.pgw_places.specs.Places.{DialsInTurn, IsClosed, TriesAll}
-use Rattle.pgw_query_command.specs.Talking.{line_of}
+use Rattle.pgw_query_command.specs.Talking.{line_of_client}
 
 -- the status of a session
-abbrev pub status_of : AnswerEnd → ℕ
-status_of ends.Well = 0
-status_of ends.Failed = 1
-status_of ends.Misplaced = 1
-status_of ends.Lost = 1
-status_of ends.NoOutput = 3
-status_of ends.NoMemory = 4
+abbrev pub query_status : AnswerEnd → ℕ
+query_status ends.Well = 0
+query_status ends.Failed = 1
+query_status ends.Misplaced = 1
+query_status ends.Lost = 1
+query_status ends.NoOutput = 3
+query_status ends.NoMemory = 4
 
 -- and where there is none
 abbrev pub status_without : NoSession → ℕ
@@ -29,15 +29,15 @@ status_without why.Memory = 4
 -- The queries were asked in turn of a client, over the bytes that its link and its buffer had, and
 -- what was printed is the text of the answers that came over it; and then the client that this left
 -- was closed.
-pub record HeldSession {Y X : Type 0} (t : Telling Y X) (f : RowFormat) (queries : List (List ℕ))
+pub record HoldsQuerySession {Y X : Type 0} (t : Telling Y X) (f : RowFormat) (queries : List (List ℕ))
     (first : ClientState X) (mid new : Y) (wrote printed : List ℕ) (before now status : ℕ)
     : Type 0 where
   pub last : ClientState X
   pub how : AnswerEnd
-  pub asked : AskedAll f queries (line_of t.tape t.faults first) (line_of t.tape t.faults last)
+  pub asked : AskedAll f queries (line_of_client t.tape t.faults first) (line_of_client t.tape t.faults last)
       wrote printed how
   pub closed : IsClosed t last mid new
-  pub status_is : status ≡ status_of how
+  pub status_is : status ≡ query_status how
   pub counts : CountsEnd before now how
 
 -- no place let the client in, and nothing was printed
@@ -47,11 +47,11 @@ pub record HeldNone (why : NoSession) (wrote printed : List ℕ) (before now sta
   pub status_is : status ≡ status_without why
   pub calm : now ≡ before
 
-abbrev pub Held : {Y X : Type 0} → Telling Y X → RowFormat → List (List ℕ) →
+abbrev pub HoldsQueryCommand : {Y X : Type 0} → Telling Y X → RowFormat → List (List ℕ) →
     Result (ClientState X) NoSession → Y → Y → List ℕ → List ℕ → ℕ → ℕ → ℕ → Type 0
-Held t f queries (Ok c) mid new wrote printed before now status =
-    HeldSession t f queries c mid new wrote printed before now status
-Held t f queries (Err why) mid new wrote printed before now status =
+HoldsQueryCommand t f queries (Ok c) mid new wrote printed before now status =
+    HoldsQuerySession t f queries c mid new wrote printed before now status
+HoldsQueryCommand t f queries (Err why) mid new wrote printed before now status =
     HeldNone why wrote printed before now status × (new ≡ mid)
 
 -- The places were tried in their order, each dialled once at most, and the session was held with
@@ -63,4 +63,4 @@ pub record RanQuery {Y X : Type 0} (t : Telling Y X) (f : RowFormat) (places : L
   pub entered : Result (ClientState X) NoSession
   pub tries : TriesAll t places old mid entered
   pub dials : DialsInTurn places (t.dials old) (t.dials mid)
-  pub held : Held t f queries entered mid new wrote printed before now status
+  pub held : HoldsQueryCommand t f queries entered mid new wrote printed before now status

@@ -2,11 +2,11 @@
 use Rattle.std.specs.Prelude.{ℕ, ◌-◌, length}
 use Rattle.pgw_link.specs.Tape.{Tape}
 use Rattle.pgw_connection.specs.State.{ClientState}
-use Rattle.pgw_answers.specs.Lines.{Line}
+use Rattle.pgw_answers.specs.Lines.{ServerLine}
 
 -- what it tells of itself and of the bytes between it and its server, by what its link tells
-abbrev pub line_of : {X : Type 0} → (X → Tape) → (X → ℕ) → ClientState X → Line
-line_of tape faults c = record {
+abbrev pub line_of_client : {X : Type 0} → (X → Tape) → (X → ℕ) → ClientState X → ServerLine
+line_of_client tape faults c = record {
   came = (tape c.link).took;
   buffer = c.buffer;
   sent = (tape c.link).wrote;

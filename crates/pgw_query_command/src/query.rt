@@ -1,6 +1,6 @@
 //! The session of the command `query`.
 ghost use Rattle.std.specs.Prelude.{◌≡◌};
-ghost use Rattle.pgw_query_command.specs.Query.{RanQuery, status_of as status_for, status_without as status_lacking};
+ghost use Rattle.pgw_query_command.specs.Query.{RanQuery, query_status as status_for, status_without as status_lacking};
 ghost use Rattle.pgw_places.specs.Places.{IsClosed};
 ghost use Rattle.pgw_places.specs.Telling.{telling};
 

@@ -18,10 +18,10 @@ pub struct Talking<L: Link> {
 }
 
 impl<L: Link> Messages for Talking<L> {
-    ghost use Rattle.pgw_answers.specs.Lines.{Fills, Sends, Takes};
-    ghost use Rattle.pgw_query_command.specs.Talking.{line_of};
+    ghost use Rattle.pgw_answers.specs.Lines.{LineFills, SendsQuery, LineTakes};
+    ghost use Rattle.pgw_query_command.specs.Talking.{line_of_client};
 
-    ghost line = { λ talking. line_of L.tape L.faults talking.client };
+    ghost line = { λ talking. line_of_client L.tape L.faults talking.client };
 
     #[tactic(auto, using(crate::proofs::TalkingLaws::sends, crate::proofs::TalkingLaws::unspelled))]
     fn ask(&mut self, alloc: Global, query: &str) -> PgWireClientResult<()> {

@@ -8,8 +8,8 @@ use lib.ListN.{get_elem?}
 use Rattle.atomic_table.specs.Table.{State, Me, step, keeps, stepped, Allows, Splits, Joins, opening}
 use Rattle.atomic_table.proofs.Lists.{at_set, at_snoc, set_else}
 use Rattle.pgw_registry.specs.declared.numbers.Hand.{Hand}
-use Rattle.pgw_registry.specs.Numbers.{total, times, above, weight, founder, newcomer, spent, settled, both_of, saw, drew, IsDistinct, NoneBelow, DrewAll, IsIdleOrBegins, Kept, Ruled, Looked, Compared, Drew, DrewForSeat}
-use Rattle.pgw_registry.specs.Shares.{IsPart}
+use Rattle.pgw_registry.specs.Numbers.{total, times, above, weight, founder, newcomer, spent_hand, with_seat_made, both_of, saw, drew, IsDistinct, NoneBelow, DrewAll, IsIdleOrBegins, KeepsProcessNumbers, Ruled, Looked, Compared, DrewNumber, DrewForSeat}
+use Rattle.pgw_registry.specs.Shares.{IsSomeShare}
 use Rattle.pgw_registry.proofs.Shares.{together_part, has_whole, same_share, divided, joined, nothing_beside}
 use Rattle.pgw_registry.proofs.Totals.{total_set, total_snoc, total_has, total_only, total_le, times-append, above-append, times_here, times_else, above_low, above_high}
 
@@ -48,7 +48,7 @@ begins_first : (first : ℕ) (v : Hand) → 0 < v.share.parts → IsIdleOrBegins
 begins_first first v part h = ⊎_elim (λ (t : (v.share.parts ≡ 0) × (v.drawn ≡ [])). absurd (omega arith)) (λ (t : (0 < v.share.parts) × (v.begins ≡ first)). t.1) h
 
 -- a view with the whole share has drawn each number up to the word
-drew_all : (first word : ℕ) (views : List Hand) (id : ℕ) (v : Hand) → Kept first word views → get_elem? views id ≡ some v → DrewAll v.begins v.drawn v.share word
+drew_all : (first word : ℕ) (views : List Hand) (id : ℕ) (v : Hand) → KeepsProcessNumbers first word views → get_elem? views id ≡ some v → DrewAll v.begins v.drawn v.share word
 drew_all first word views id v k at whole =
     let some_whole = has_whole (λ (u : Hand). u.share) views k.shares id v at in
     let from : v.begins ≡ first = begins_first first v (omega arith) (k.sharing id v at) in
@@ -59,7 +59,7 @@ drew_all first word views id v k at whole =
     omega arith
 
 -- the count of a number in a view is at most that in all
-pub is_distinct : (first word : ℕ) (views : List Hand) (id : ℕ) (v : Hand) → Kept first word views → get_elem? views id ≡ some v → IsDistinct v.drawn
+pub is_distinct : (first word : ℕ) (views : List Hand) (id : ℕ) (v : Hand) → KeepsProcessNumbers first word views → get_elem? views id ≡ some v → IsDistinct v.drawn
 is_distinct first word views id v k at x = let m = total_has (λ u. times x u.drawn) views id v at in go (dec_lt x first) (dec_lt x word) m
   where
     go : Dec (x < first) → Dec (x < word) → times x v.drawn ≤ total (λ u. times x u.drawn) views → times x v.drawn ≤ 1
@@ -67,19 +67,19 @@ is_distinct first word views id v k at x = let m = total_has (λ u. times x u.dr
     go (no a) (yes b) m = let z = k.once x (omega arith) b in omega arith
     go (no a) (no b) m = let z = k.none x (inr (omega arith)) in omega arith
 
-pub none_below : (first word : ℕ) (views : List Hand) (id : ℕ) (v : Hand) → Kept first word views → get_elem? views id ≡ some v → NoneBelow v.begins v.drawn
+pub none_below : (first word : ℕ) (views : List Hand) (id : ℕ) (v : Hand) → KeepsProcessNumbers first word views → get_elem? views id ≡ some v → NoneBelow v.begins v.drawn
 none_below first word views id v k at x low =
     let m = total_has (λ u. times x u.drawn) views id v at in let t = k.each id v at in let z = k.none x (inl (omega arith)) in omega arith
 
 -- the word is far from its end
-pub never_wraps : (first word : ℕ) (views : List Hand) → Kept first word views → word ≤ 4294967297
+pub never_wraps : (first word : ℕ) (views : List Hand) → KeepsProcessNumbers first word views → word ≤ 4294967297
 never_wraps first word views k =
     let a = total_le (λ v. above v.drawn) (λ v. v.seats + weight v.owes) views (λ i v e. let t = k.each i v e in omega arith) in
     let b = k.over in let c = k.seated in omega arith
 
 -- a view is changed in what it has seen alone
-sees : (first word : ℕ) (views : List Hand) (id : ℕ) (v w : Hand) → Kept first word views → get_elem? views id ≡ some v
-    → w.drawn ≡ v.drawn → w.seats ≡ v.seats → w.owes ≡ v.owes → w.begins ≡ v.begins → w.share ≡ v.share → w.seen ≤ word → Kept first word (set views id w)
+sees : (first word : ℕ) (views : List Hand) (id : ℕ) (v w : Hand) → KeepsProcessNumbers first word views → get_elem? views id ≡ some v
+    → w.drawn ≡ v.drawn → w.seats ≡ v.seats → w.owes ≡ v.owes → w.begins ≡ v.begins → w.share ≡ v.share → w.seen ≤ word → KeepsProcessNumbers first word (set views id w)
 sees first word views id v w k at same seats owes from share low = record {
   begins = k.begins;
   grows = k.grows;
@@ -97,8 +97,8 @@ sees first word views id v w k at same seats owes from share low = record {
 }
 
 -- the word's number is drawn
-draws : (first n : ℕ) (views : List Hand) (id : ℕ) (v : Hand) (b : Bool) → Kept first n views → get_elem? views id ≡ some v → 0 < v.seats → above v.drawn ≡ 0 → 0 < v.share.parts
-    → weight b + min n 2147483648 ≤ weight v.owes + min (n + 1) 2147483648 → Kept first (n + 1) (set views id (drew v n b))
+draws : (first n : ℕ) (views : List Hand) (id : ℕ) (v : Hand) (b : Bool) → KeepsProcessNumbers first n views → get_elem? views id ≡ some v → 0 < v.seats → above v.drawn ≡ 0 → 0 < v.share.parts
+    → weight b + min n 2147483648 ≤ weight v.owes + min (n + 1) 2147483648 → KeepsProcessNumbers first (n + 1) (set views id (drew v n b))
 draws first n views id v b k at seat none_above part room = let w : Hand = drew v n b in record {
   begins = k.begins;
   grows = (let g = k.grows in omega arith);
@@ -122,9 +122,9 @@ draws first n views id v b k at seat none_above part room = let w : Hand = drew 
   sharing = sharing_set first views id w k.sharing (inr (part, begins_first first v part (k.sharing id v at)));
 }
 
-splits : (first word : ℕ) (views : List Hand) (id : ℕ) (v : Hand) → Kept first word views → get_elem? views id ≡ some v → v.owes ≡ true
-    → Kept first word (set views id (settled v) ++ newcomer v ∷ [])
-splits first word views id v k at owes = let w : Hand = settled v in let all : List Hand = set views id w in let new : Hand = newcomer v in record {
+splits : (first word : ℕ) (views : List Hand) (id : ℕ) (v : Hand) → KeepsProcessNumbers first word views → get_elem? views id ≡ some v → v.owes ≡ true
+    → KeepsProcessNumbers first word (set views id (with_seat_made v) ++ newcomer v ∷ [])
+splits first word views id v k at owes = let w : Hand = with_seat_made v in let all : List Hand = set views id w in let new : Hand = newcomer v in record {
   begins = k.begins;
   grows = k.grows;
   none = λ x h. (let s = total_set (λ u. times x u.drawn) views id v w at in let t = total_snoc (λ u. times x u.drawn) all new in let z = k.none x h in omega arith);
@@ -145,24 +145,24 @@ weight_or : (a b : Bool) → weight (a || b) ≤ weight a + weight b
 weight_or true b = omega arith
 weight_or false b = omega arith
 
-joins : (first word : ℕ) (views : List Hand) (id other : ℕ) (v u : Hand) → IsPart v.share → IsPart u.share → Kept first word views → get_elem? views id ≡ some v → ¬ (other ≡ id)
-    → get_elem? (set views id (both_of v u)) other ≡ some u → Kept first word (set (set views id (both_of v u)) other spent)
+joins : (first word : ℕ) (views : List Hand) (id other : ℕ) (v u : Hand) → IsSomeShare v.share → IsSomeShare u.share → KeepsProcessNumbers first word views → get_elem? views id ≡ some v → ¬ (other ≡ id)
+    → get_elem? (set views id (both_of v u)) other ≡ some u → KeepsProcessNumbers first word (set (set views id (both_of v u)) other spent_hand)
 joins first word views id other v u part part' k at apart there = let w : Hand = both_of v u in let mid : List Hand = set views id w in
     let was : get_elem? views other ≡ some u = sym (set_else views id other w apart) ∙ there in record {
       begins = k.begins;
       grows = k.grows;
-      none = λ x h. (let s = total_set (λ y. times x y.drawn) views id v w at in let t = total_set (λ y. times x y.drawn) mid other u spent there in let p = times-append x v.drawn u.drawn in let z = k.none x h in omega arith);
-      once = λ x a b. (let s = total_set (λ y. times x y.drawn) views id v w at in let t = total_set (λ y. times x y.drawn) mid other u spent there in let p = times-append x v.drawn u.drawn in let z = k.once x a b in omega arith);
-      each = each_set first word mid other spent
+      none = λ x h. (let s = total_set (λ y. times x y.drawn) views id v w at in let t = total_set (λ y. times x y.drawn) mid other u spent_hand there in let p = times-append x v.drawn u.drawn in let z = k.none x h in omega arith);
+      once = λ x a b. (let s = total_set (λ y. times x y.drawn) views id v w at in let t = total_set (λ y. times x y.drawn) mid other u spent_hand there in let p = times-append x v.drawn u.drawn in let z = k.once x a b in omega arith);
+      each = each_set first word mid other spent_hand
           (each_set first word views id w k.each (let a = k.each id v at in let b = k.each other u was in omega arith)
           (let a = k.each id v at in let b = k.each other u was in let p = above-append v.drawn u.drawn in omega arith)
           (k.each id v at).2)
           (omega arith) (omega arith) (omega arith);
-      seated = (let s = total_set (λ y. y.seats + weight y.owes) views id v w at in let t = total_set (λ y. y.seats + weight y.owes) mid other u spent there in let z = k.seated in let o = weight_or v.owes u.owes in omega arith);
-      over = (let s = total_set (λ y. above y.drawn) views id v w at in let t = total_set (λ y. above y.drawn) mid other u spent there in let z = k.over in let p = above-append v.drawn u.drawn in omega arith);
-      counted = (let s = total_set (λ y. length y.drawn) views id v w at in let t = total_set (λ y. length y.drawn) mid other u spent there in let z = k.counted in let p = length-append v.drawn u.drawn in omega arith);
-      shares = joined (λ (y : Hand). y.share) views k.shares id v at other u w spent apart was refl refl;
-      sharing = sharing_set first mid other spent
+      seated = (let s = total_set (λ y. y.seats + weight y.owes) views id v w at in let t = total_set (λ y. y.seats + weight y.owes) mid other u spent_hand there in let z = k.seated in let o = weight_or v.owes u.owes in omega arith);
+      over = (let s = total_set (λ y. above y.drawn) views id v w at in let t = total_set (λ y. above y.drawn) mid other u spent_hand there in let z = k.over in let p = above-append v.drawn u.drawn in omega arith);
+      counted = (let s = total_set (λ y. length y.drawn) views id v w at in let t = total_set (λ y. length y.drawn) mid other u spent_hand there in let z = k.counted in let p = length-append v.drawn u.drawn in omega arith);
+      shares = joined (λ (y : Hand). y.share) views k.shares id v at other u w spent_hand apart was refl refl;
+      sharing = sharing_set first mid other spent_hand
           (sharing_set first views id w k.sharing (inr ((together_part v.share u.share part part').0, begins_first first v part.0 (k.sharing id v at))))
           (inl (refl, refl));
     }
@@ -193,12 +193,12 @@ begins first low = (
     one zero v e = subst (λ (z : Hand). (z.seen ≤ first) × (above z.drawn ≤ z.seats) × (z.begins ≤ first)) (some-injective _ _ e) (omega arith, omega arith, omega arith)
     one (suc i) v e = absurd (some-ne-none v (sym e))
 
-placed : (first n : ℕ) (s : St) (id : ℕ) (me : M) (w : Hand) → Ruled first s → Kept first n (set s.views id w) → Ruled first (stepped s 0 n id me.1 w keeps)
+placed : (first n : ℕ) (s : St) (id : ℕ) (me : M) (w : Hand) → Ruled first s → KeepsProcessNumbers first n (set s.views id w) → Ruled first (stepped s 0 n id me.1 w keeps)
 placed first n s id me w r k = let wide = r.0 in
-    (length-set s.words 0 n ∙ wide, subst (λ (z : ℕ). Kept first z (set s.views id w)) (sym (get_or-set_same s.words 0 n 0 (omega arith))) k)
+    (length-set s.words 0 n ∙ wide, subst (λ (z : ℕ). KeepsProcessNumbers first z (set s.views id w)) (sym (get_or-set_same s.words 0 n 0 (omega arith))) k)
 
 pub looks : (first slots id : ℕ) (me : M) → Allows (Ruled first) slots id me 0 (λ n. n) (Looked (step slots 0 0 0 none) me)
-looks first slots id me s r _ at _ = let n : ℕ = get_or s.words 0 0 in let k : Kept first n s.views = r.1 in let v = me.0 in (
+looks first slots id me s r _ at _ = let n : ℕ = get_or s.words 0 0 in let k : KeepsProcessNumbers first n s.views = r.1 in let v = me.0 in (
   saw v n,
   keeps,
   tt,
@@ -213,7 +213,7 @@ looks first slots id me s r _ at _ = let n : ℕ = get_or s.words 0 0 in let k :
 )
 
 pub compares : (first slots id : ℕ) (me : M) → Allows (Ruled first) slots id me 0 (λ n. n) (Compared (step slots 0 0 0 none) me)
-compares first slots id me s r _ at _ = let n : ℕ = get_or s.words 0 0 in let k : Kept first n s.views = r.1 in let v = me.0 in (
+compares first slots id me s r _ at _ = let n : ℕ = get_or s.words 0 0 in let k : KeepsProcessNumbers first n s.views = r.1 in let v = me.0 in (
   v,
   keeps,
   tt,
@@ -224,10 +224,10 @@ compares first slots id me s r _ at _ = let n : ℕ = get_or s.words 0 0 in let 
 drawing : (first slots id : ℕ) (me : M) (mark : ℕ → Bool) → 0 < me.0.seats → above me.0.drawn ≡ 0 → 0 < me.0.share.parts
     → ((n : ℕ) → weight (mark n) + min n 2147483648 ≤ weight me.0.owes + min (n + 1) 2147483648)
     → Allows (Ruled first) slots id me 0 (λ n. (n + 1) % 2 ^ 64) (λ n w. (w.0 ≡ drew me.0 n (mark n)) × (w.1 ≡ me.1) × (me.0.seen ≤ n) × IsDistinct w.0.drawn × NoneBelow w.0.begins w.0.drawn × (me.0.begins ≤ n) × DrewAll me.0.begins me.0.drawn me.0.share n)
-drawing first slots id me mark seat none_above part room s r _ at _ = let n : ℕ = get_or s.words 0 0 in let k : Kept first n s.views = r.1 in let v = me.0 in
+drawing first slots id me mark seat none_above part room s r _ at _ = let n : ℕ = get_or s.words 0 0 in let k : KeepsProcessNumbers first n s.views = r.1 in let v = me.0 in
     let w : Hand = drew v n (mark n) in let far = never_wraps first n s.views k in
     let next : (n + 1) % 2 ^ 64 ≡ n + 1 = omega arith in
-    let after : Kept first (n + 1) (set s.views id w) = draws first n s.views id v (mark n) k at seat none_above part (room n) in (
+    let after : KeepsProcessNumbers first (n + 1) (set s.views id w) = draws first n s.views id v (mark n) k at seat none_above part (room n) in (
       w,
       keeps,
       tt,
@@ -249,7 +249,7 @@ drawing first slots id me mark seat none_above part room s r _ at _ = let n : �
     set_at (x ∷ xs) (suc i) v w e = set_at xs i v w e
 
 pub draws_one : (first slots id : ℕ) (me : M) → 0 < me.0.seats → above me.0.drawn ≡ 0 → 0 < me.0.share.parts
-    → Allows (Ruled first) slots id me 0 (λ n. (n + 1) % 2 ^ 64) (Drew (step slots 0 1 0 none) me)
+    → Allows (Ruled first) slots id me 0 (λ n. (n + 1) % 2 ^ 64) (DrewNumber (step slots 0 1 0 none) me)
 draws_one first slots id me seat low part = drawing first slots id me (λ _. me.0.owes) seat low part (λ n. omega arith)
 
 pub draws_for_seat : (first slots id : ℕ) (me : M) → 0 < me.0.seats → above me.0.drawn ≡ 0 → 0 < me.0.share.parts
@@ -260,8 +260,8 @@ draws_for_seat first slots id me seat low part = drawing first slots id me (λ n
     room n true e = let h : n ≤ 2147483647 = grind (arith, nat_tests) in omega arith
     room n false e = omega arith
 
-pub forks : (first id : ℕ) (v : Hand) → v.owes ≡ true → Splits (Ruled first) id v (settled v) (newcomer v)
+pub forks : (first id : ℕ) (v : Hand) → v.owes ≡ true → Splits (Ruled first) id v (with_seat_made v) (newcomer v)
 forks first id v owes s r at = (r.0, splits first (get_or s.words 0 0) s.views id v r.1 at owes)
 
-pub merges : (first id other : ℕ) (v u : Hand) → IsPart v.share → IsPart u.share → Joins (Ruled first) id v other u (both_of v u) spent
+pub merges : (first id other : ℕ) (v u : Hand) → IsSomeShare v.share → IsSomeShare u.share → Joins (Ruled first) id v other u (both_of v u) spent_hand
 merges first id other v u part part' s r at apart there = (r.0, joins first (get_or s.words 0 0) s.views id other v u part part' r.1 at apart there)

@@ -7,7 +7,7 @@ use Rattle.pgw_registry.specs.declared.call.Handle.{Handle}
 use Rattle.pgw_registry.specs.declared.call.Call.{Call}
 use Rattle.pgw_registry.specs.declared.call.Call.TheVariants.{Register, NewHandle, StartQuery, CancelHandle, Cancel, Look, Finish, CloseHandle, Release}
 use Rattle.pgw_registry.specs.declared.call.Entry.{Entry}
-use Rattle.pgw_registry.specs.Sequential.{Book, nothing, next, state_after, handle_at, handle_of, held, registered, started, canceled, canceled_active, canceled_pair, looked, let_go, released, without_pair}
+use Rattle.pgw_registry.specs.Sequential.{Book, nothing, next_book, state_after, handle_at, handle_of, held, registered, started, canceled, canceled_active, canceled_pair, looked, let_go, released, without_pair}
 
 held_adds : (x : Option Handle) (b : Book) (h : ℕ) → (held x b h).events ≡ b.events + 1
 held_adds None b h = refl
@@ -52,8 +52,8 @@ released_adds : (p : Option ℕ) (b : Book) (pid : ℤ) (key : List ℕ) → (re
 released_adds None b pid key = refl
 released_adds (Some h) b pid key = let_go_adds (handle_at b h) (without_pair b pid key) h
 
-next_adds : (b : Book) (c : Call) → (next b c).events ≡ b.events + 1
-unfolding next
+next_adds : (b : Book) (c : Call) → (next_book b c).events ≡ b.events + 1
+unfolding next_book
 next_adds b (Register pid key) = registered_adds (handle_of b pid key) b pid key
 next_adds b NewHandle = refl
 next_adds b (StartQuery h) = started_adds (handle_at b h) b h
@@ -66,7 +66,7 @@ next_adds b (Release pid key) = released_adds (handle_of b pid key) b pid key
 
 events_from : (b : Book) (log : List Entry) → (state_after b log).events ≡ b.events + length log
 events_from b [] = omega arith
-events_from b (e ∷ es) = let r = events_from (next b e.call) es in let n = next_adds b e.call in omega arith
+events_from b (e ∷ es) = let r = events_from (next_book b e.call) es in let n = next_adds b e.call in omega arith
 
 -- the number of events is the length of the history
 pub events_are : (log : List Entry) → (state_after nothing log).events ≡ length log

@@ -10,8 +10,8 @@ use Rattle.pgw_registry.specs.declared.call.Call.{Call}
 use Rattle.pgw_registry.specs.declared.call.Call.TheVariants.{Register, NewHandle, StartQuery, CancelHandle, Cancel, Look, Finish, CloseHandle, Release}
 use Rattle.pgw_registry.specs.declared.call.Reply.TheVariants.{Started, Looked}
 use Rattle.pgw_registry.specs.Pairs.{without_handle}
-use Rattle.pgw_registry.specs.Sequential.{Book, Handles, Queries, nothing, handle, next, reply_of, handle_at, handle_of, held, registered, started, started_reply, replaced, replaced_at, fired, fired_at, canceled, canceled_active, canceled_pair, looked, looked_reply, let_go, released, without_pair, state_after, AreReplies}
-use Rattle.pgw_registry.specs.Laws.{StartsAt, CancelsAt, NoStartBetween, FiredLaw}
+use Rattle.pgw_registry.specs.Sequential.{Book, ProcessHandles, QueryPhases, nothing, handle, next_book, reply_of, handle_at, handle_of, held, registered, started, started_reply, replaced, replaced_at, fired, fired_at, canceled, canceled_active, canceled_pair, looked, looked_reply, let_go, released, without_pair, state_after, AreBookReplies}
+use Rattle.pgw_registry.specs.Laws.{StartsQueryAt, CancelsAt, NoStartBetween, FiredLaw}
 use Rattle.pgw_registry.proofs.Holders.{some_is, not_none, number_itself, in_written, in_removed}
 
 abbrev Log : Type 0
@@ -28,13 +28,13 @@ record FiredBy (log : Log) (n q : ℕ) : Type 0 where
   h : ℕ
   order : i < j
   bound : j < n
-  start : StartsAt log i h q
+  start : StartsQueryAt log i h q
   cancel : CancelsAt log j h
   between : NoStartBetween log i j h
 
 -- the handle's active query was started on it, and no other was since
 abbrev Active : Log → ℕ → Handle → Type 0
-Active log h x = (q : ℕ) → x.active ≡ Some q → (i : ℕ) × StartsAt log i h q × NoStart log i h
+Active log h x = (q : ℕ) → x.active ≡ Some q → (i : ℕ) × StartsQueryAt log i h q × NoStart log i h
 
 -- a query that is fired has its cancel
 abbrev Query : Log → ℕ → Phase → Type 0
@@ -67,7 +67,7 @@ module _ {V : Type 0} where
       (λ (t : (eq_by_cmp nat_cmp q h ≡ false) × (map.get m q ≡ Some x)). e q x t.1 (λ s. true≢false (sym (number_itself h) ∙ ap (λ n. eq_by_cmp nat_cmp n h) (sym s) ∙ t.0)))
       (in_written m h v q x at)
 
-record Good (log : Log) (hs : Handles) (qs : Queries) : Type 0 where
+record Good (log : Log) (hs : ProcessHandles) (qs : QueryPhases) : Type 0 where
   active : Each (Active log) hs
   queries : Each (Query log) qs
 
@@ -106,7 +106,7 @@ take_whole : (xs ys : Log) → take (length xs) (xs ++ ys) ≡ xs
 take_whole [] ys = refl
 take_whole (x ∷ xs) ys = ap (λ (t : Log). x ∷ t) (take_whole xs ys)
 
-start_later : (xs ys : Log) (i h q : ℕ) → StartsAt xs i h q → StartsAt (xs ++ ys) i h q
+start_later : (xs ys : Log) (i h q : ℕ) → StartsQueryAt xs i h q → StartsQueryAt (xs ++ ys) i h q
 start_later xs ys i h q s = (s.0, get_front xs ys i s.0 s.1, s.2, s.3)
 
 cancel_later : (xs ys : Log) (j h : ℕ) → j ≤ length xs → CancelsAt xs j h → CancelsAt (xs ++ ys) j h
@@ -146,34 +146,34 @@ idle log h n q is = absurd (cc)
 not_fired : (log : Log) (q : ℕ) (p : Phase) → (p ≡ Fired → ⊥) → Query log q p
 not_fired log q p n is = absurd (n is)
 
-replaced_keeps_at : (log : Log) (o : Option Phase) (qs : Queries) (q : ℕ) → Each (Query log) qs → Each (Query log) (replaced_at o qs q)
+replaced_keeps_at : (log : Log) (o : Option Phase) (qs : QueryPhases) (q : ℕ) → Each (Query log) qs → Each (Query log) (replaced_at o qs q)
 replaced_keeps_at log (Some Waiting) qs q e = each_put (Query log) qs q Replaced (not_fired log q Replaced (λ h. cc)) e
 replaced_keeps_at log (Some Fired) qs q e = e
 replaced_keeps_at log (Some Taken) qs q e = e
 replaced_keeps_at log (Some Replaced) qs q e = e
 replaced_keeps_at log None qs q e = e
 
-replaced_keeps : (log : Log) (qs : Queries) (a : Option ℕ) → Each (Query log) qs → Each (Query log) (replaced qs a)
+replaced_keeps : (log : Log) (qs : QueryPhases) (a : Option ℕ) → Each (Query log) qs → Each (Query log) (replaced qs a)
 replaced_keeps log qs None e = e
 replaced_keeps log qs (Some q) e = replaced_keeps_at log (map.get qs q) qs q e
 
-fired_keeps_at : (log : Log) (o : Option Phase) (qs : Queries) (q : ℕ) → FiredBy log (length log) q → Each (Query log) qs → Each (Query log) (fired_at o qs q)
+fired_keeps_at : (log : Log) (o : Option Phase) (qs : QueryPhases) (q : ℕ) → FiredBy log (length log) q → Each (Query log) qs → Each (Query log) (fired_at o qs q)
 fired_keeps_at log (Some p) qs q f e = each_put (Query log) qs q Fired (λ _. f) e
 fired_keeps_at log None qs q f e = e
 
 abbrev GoodAt : Log → Book → Type 0
 GoodAt log b = Good log b.handles b.queries
 
-calm_later : (xs : Log) (x : Entry) (hs : Handles) (qs : Queries) → ((h : ℕ) → x.call ≡ StartQuery h → ⊥) → Good xs hs qs → Good (xs ++ x ∷ []) hs qs
+calm_later : (xs : Log) (x : Entry) (hs : ProcessHandles) (qs : QueryPhases) → ((h : ℕ) → x.call ≡ StartQuery h → ⊥) → Good xs hs qs → Good (xs ++ x ∷ []) hs qs
 calm_later xs x hs qs calm g = record {
   active = each_map (Active xs) (Active (xs ++ x ∷ [])) (λ h v a. active_later xs x h v (calm h) a) hs g.active;
   queries = each_map (Query xs) (Query (xs ++ x ∷ [])) (λ q p a. query_later xs x q p a) qs g.queries;
 }
 
-put_handle : (log : Log) (hs : Handles) (qs : Queries) (h : ℕ) (v : Handle) → Active log h v → Good log hs qs → Good log (map.insert hs h v) qs
+put_handle : (log : Log) (hs : ProcessHandles) (qs : QueryPhases) (h : ℕ) (v : Handle) → Active log h v → Good log hs qs → Good log (map.insert hs h v) qs
 put_handle log hs qs h v a g = record { active = each_put (Active log) hs h v a g.active; queries = g.queries }
 
-with_queries : (log : Log) (hs : Handles) (qs new : Queries) → Good log hs qs → Each (Query log) new → Good log hs new
+with_queries : (log : Log) (hs : ProcessHandles) (qs new : QueryPhases) → Good log hs qs → Each (Query log) new → Good log hs new
 with_queries log hs qs new g e = record { active = g.active; queries = e }
 
 held_keeps : (log : Log) (o : Option Handle) (b : Book) (h : ℕ) → handle_at b h ≡ o → GoodAt log b → GoodAt log (held o b h)
@@ -211,10 +211,10 @@ same_start : (h k : ℕ) → StartQuery h ≡ StartQuery k → h ≡ k
 same_start h k e = cc
 
 -- a start
-else_later : (xs : Log) (x : Entry) (h : ℕ) (hs : Handles) → x.call ≡ StartQuery h → Each (Active xs) hs → Each (λ k v. k ≢ h → Active (xs ++ x ∷ []) k v) hs
+else_later : (xs : Log) (x : Entry) (h : ℕ) (hs : ProcessHandles) → x.call ≡ StartQuery h → Each (Active xs) hs → Each (λ k v. k ≢ h → Active (xs ++ x ∷ []) k v) hs
 else_later xs x h hs call e = each_map (Active xs) (λ k v. k ≢ h → Active (xs ++ x ∷ []) k v) (λ k v a apart. active_later xs x k v (λ s. apart (sym (same_start h k (sym call ∙ s)))) a) hs e
 
-queries_later : (xs : Log) (x : Entry) (qs : Queries) → Each (Query xs) qs → Each (Query (xs ++ x ∷ [])) qs
+queries_later : (xs : Log) (x : Entry) (qs : QueryPhases) → Each (Query xs) qs → Each (Query (xs ++ x ∷ [])) qs
 queries_later xs x qs e = each_map (Query xs) (Query (xs ++ x ∷ [])) (λ q p a. query_later xs x q p a) qs e
 
 newly_active : (xs : Log) (x : Entry) (h n holders : ℕ) → x.call ≡ StartQuery h → x.reply ≡ Started n → Active (xs ++ x ∷ []) h (handle (Some n) holders)
@@ -275,8 +275,8 @@ canceled_pair_keeps xs x (Some h) b pid key is state call calm g = canceled_keep
 )
     calm g
 
-step_by : (xs : Log) (x : Entry) (b : Book) (c : Call) → b ≡ state_after nothing xs → x.call ≡ c → x.reply ≡ reply_of b c → GoodAt xs b → GoodAt (xs ++ x ∷ []) (next b c)
-unfolding next reply_of
+step_by : (xs : Log) (x : Entry) (b : Book) (c : Call) → b ≡ state_after nothing xs → x.call ≡ c → x.reply ≡ reply_of b c → GoodAt xs b → GoodAt (xs ++ x ∷ []) (next_book b c)
+unfolding next_book reply_of
 step_by xs x b (Register pid key) state is reply g = registered_keeps (xs ++ x ∷ []) (handle_of b pid key) b pid key (calm_later xs x b.handles b.queries (λ h s. (let e = sym is ∙ s in cc)) g)
 step_by xs x b NewHandle state is reply g = put_handle (xs ++ x ∷ []) b.handles b.queries (b.handles_made + 1) (handle None 1) (idle (xs ++ x ∷ []) (b.handles_made + 1) 1) (calm_later xs x b.handles b.queries (λ h s. (let e = sym is ∙ s in cc)) g)
 step_by xs x b (StartQuery h) state is reply g = started_keeps xs x (handle_at b h) b h refl is reply g
@@ -290,14 +290,14 @@ step_by xs x b (Release pid key) state is reply g = released_keeps (xs ++ x ∷ 
 
 state_after-append : (s : Book) (xs ys : Log) → state_after s (xs ++ ys) ≡ state_after (state_after s xs) ys
 state_after-append s [] ys = refl
-state_after-append s (e ∷ xs) ys = state_after-append (next s e.call) xs ys
+state_after-append s (e ∷ xs) ys = state_after-append (next_book s e.call) xs ys
 
-good_from : (xs rest : Log) (b : Book) → b ≡ state_after nothing xs → GoodAt xs b → AreReplies b rest → GoodAt (xs ++ rest) (state_after b rest)
+good_from : (xs rest : Log) (b : Book) → b ≡ state_after nothing xs → GoodAt xs b → AreBookReplies b rest → GoodAt (xs ++ rest) (state_after b rest)
 good_from xs [] b state g legal = subst (λ (l : Log). GoodAt l b) (sym (append-nil xs)) g
-good_from xs (e ∷ es) b state g legal = subst (λ (l : Log). GoodAt l (state_after (next b e.call) es)) (append_assoc xs (e ∷ []) es)
-    (good_from (xs ++ e ∷ []) es (next b e.call) (ap (λ (s : Book). next s e.call) state ∙ sym (state_after-append nothing xs (e ∷ []))) (step_by xs e b e.call state refl legal.0 g) legal.1)
+good_from xs (e ∷ es) b state g legal = subst (λ (l : Log). GoodAt l (state_after (next_book b e.call) es)) (append_assoc xs (e ∷ []) es)
+    (good_from (xs ++ e ∷ []) es (next_book b e.call) (ap (λ (s : Book). next_book s e.call) state ∙ sym (state_after-append nothing xs (e ∷ []))) (step_by xs e b e.call state refl legal.0 g) legal.1)
 
-good : (log : Log) → AreReplies nothing log → GoodAt log (state_after nothing log)
+good : (log : Log) → AreBookReplies nothing log → GoodAt log (state_after nothing log)
 good log legal = good_from [] log nothing refl (record { active = λ k v at. absurd (not_none v (sym (map.get-empty nat_cmp k) ∙ at)); queries = λ k v at. absurd (not_none v (sym (map.get-empty nat_cmp k) ∙ at)) }) legal
 
 split_at : (log : Log) (k : ℕ) (e : Entry) → slice_get log k ≡ Some e → (pre : Log) × (post : Log) × (log ≡ pre ++ e ∷ post) × (length pre ≡ k)
@@ -305,9 +305,9 @@ split_at [] k e h = absurd (cc)
 split_at (x ∷ xs) zero e h = ([], xs, ap (λ (y : Entry). y ∷ xs) (some_is x e h), refl)
 split_at (x ∷ xs) (suc k) e h = let r = split_at xs k e h in (x ∷ r.0, r.1, ap (λ (l : Log). x ∷ l) r.2, ap suc r.3)
 
-legal_parts : (s : Book) (pre : Log) (e : Entry) (post : Log) → AreReplies s (pre ++ e ∷ post) → AreReplies s pre × (e.reply ≡ reply_of (state_after s pre) e.call)
+legal_parts : (s : Book) (pre : Log) (e : Entry) (post : Log) → AreBookReplies s (pre ++ e ∷ post) → AreBookReplies s pre × (e.reply ≡ reply_of (state_after s pre) e.call)
 legal_parts s [] e post h = (tt, h.0)
-legal_parts s (x ∷ pre) e post h = let r = legal_parts (next s x.call) pre e post h.1 in ((h.0, r.0), r.1)
+legal_parts s (x ∷ pre) e post h = let r = legal_parts (next_book s x.call) pre e post h.1 in ((h.0, r.0), r.1)
 
 was_fired : (o : Option Phase) → Looked (Some tt) ≡ looked_reply o → o ≡ Some Fired
 was_fired (Some Waiting) h = absurd (cc)
@@ -324,7 +324,7 @@ pub fired_law : FiredLaw
 fired_law log legal k q by at =
     let e : Entry = record { by = by; call = Look q; reply = Looked (Some tt) } in
     let s = split_at log k e at in
-    let parts = legal_parts nothing s.0 e s.1 (subst (AreReplies nothing) s.2 legal.1) in
+    let parts = legal_parts nothing s.0 e s.1 (subst (AreBookReplies nothing) s.2 legal.1) in
     let b : Book = state_after nothing s.0 in
     let f : FiredBy s.0 (length s.0) q = (good s.0 parts.0).queries q Fired (look_says b q parts.1) refl in
     let r = subst (λ (l : Log). FiredBy l k q) (sym s.2) (fired_later s.0 (e ∷ s.1) (length s.0) k q (omega arith) (let n = s.3 in omega arith) f) in

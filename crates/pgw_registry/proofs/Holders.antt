@@ -5,7 +5,7 @@ use Rattle.std.specs.Ordering.{nat_cmp, eq_by_cmp}
 use Rattle.std.specs.Cmp.{nat_cmp_total}
 use Rattle.std.specs.FinMap as map
 use Rattle.pgw_registry.specs.declared.call.Handle.{Handle}
-use Rattle.pgw_registry.specs.Sequential.{Handles}
+use Rattle.pgw_registry.specs.Sequential.{ProcessHandles}
 use Rattle.pgw_registry.specs.Registry.{FewHolders}
 
 module _ {X : Type 0} where
@@ -42,17 +42,17 @@ in_removed m k q x h = ⊎_elim
     (λ (t : (eq_by_cmp nat_cmp q k ≡ false) × (map.get m q ≡ Some x)). t.1)
     (cond_is (eq_by_cmp nat_cmp q k) None (map.get m q) x (subst (λ o. o ≡ Some x) (map.get-remove nat_cmp_total m k q) h))
 
-pub few_nothing : (hs : Handles) → hs ≡ map.empty → FewHolders hs 0
+pub few_nothing : (hs : ProcessHandles) → hs ≡ map.empty → FewHolders hs 0
 few_nothing hs is k x h = absurd (not_none x (subst (λ o. o ≡ Some x) (ap (λ m. map.get m k) is ∙ map.get-empty nat_cmp k) h))
 
-pub few_later : (hs : Handles) (n : ℕ) → FewHolders hs n → FewHolders hs (n + 1)
+pub few_later : (hs : ProcessHandles) (n : ℕ) → FewHolders hs n → FewHolders hs (n + 1)
 few_later hs n few k x h = let f = few k x h in (f.0, omega arith)
 
-pub few_written : (hs new : Handles) (k n : ℕ) (v : Handle) → new ≡ map.insert hs k v → FewHolders hs n → 0 < v.holders → v.holders ≤ n + 2 → FewHolders new (n + 1)
+pub few_written : (hs new : ProcessHandles) (k n : ℕ) (v : Handle) → new ≡ map.insert hs k v → FewHolders hs n → 0 < v.holders → v.holders ≤ n + 2 → FewHolders new (n + 1)
 few_written hs new k n v is few some_holder low q x h = ⊎_elim
     (λ (t : (q ≡ k) × (v ≡ x)). (let e = ap (λ (y : Handle). y.holders) t.1 in (omega arith, omega arith)))
     (λ (t : (eq_by_cmp nat_cmp q k ≡ false) × (map.get hs q ≡ Some x)). (let f = few q x t.1 in (f.0, omega arith)))
     (in_written hs k v q x (subst (λ m. map.get m q ≡ Some x) is h))
 
-pub few_removed : (hs new : Handles) (k n : ℕ) → new ≡ map.remove hs k → FewHolders hs n → FewHolders new (n + 1)
+pub few_removed : (hs new : ProcessHandles) (k n : ℕ) → new ≡ map.remove hs k → FewHolders hs n → FewHolders new (n + 1)
 few_removed hs new k n is few q x h = let f = few q x (in_removed hs k q x (subst (λ m. map.get m q ≡ Some x) is h)) in (f.0, omega arith)

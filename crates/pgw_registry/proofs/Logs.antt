@@ -5,32 +5,32 @@ use mathlib.Core.Option.{some, some-injective, some-ne-none}
 use lib.ListN.{get_elem?}
 use Rattle.pgw_registry.specs.declared.call.Entry.{Entry}
 use Rattle.pgw_registry.specs.declared.sight.Sight.{Sight}
-use Rattle.pgw_registry.specs.Sequential.{Book, nothing, next, reply_of, state_after, AreReplies, IsLegal}
-use Rattle.pgw_registry.specs.History.{Log, Begins, Apart, held, places_from, places, turns, longer}
+use Rattle.pgw_registry.specs.Sequential.{Book, nothing, next_book, reply_of, state_after, AreBookReplies, IsLegal}
+use Rattle.pgw_registry.specs.History.{Log, BeginsLog, Apart, held, places_from, places, turns, longer}
 use Rattle.pgw_registry.specs.Numbers.{weight}
 
 pub state_after-append : (s : Book) (xs ys : Log) → state_after s (xs ++ ys) ≡ state_after (state_after s xs) ys
 state_after-append s [] ys = refl
-state_after-append s (e ∷ xs) ys = state_after-append (next s e.call) xs ys
+state_after-append s (e ∷ xs) ys = state_after-append (next_book s e.call) xs ys
 
-replies_snoc : (s : Book) (xs : Log) (e : Entry) → AreReplies s xs → e.reply ≡ reply_of (state_after s xs) e.call → AreReplies s (xs ++ e ∷ [])
+replies_snoc : (s : Book) (xs : Log) (e : Entry) → AreBookReplies s xs → e.reply ≡ reply_of (state_after s xs) e.call → AreBookReplies s (xs ++ e ∷ [])
 replies_snoc s [] e h r = (r, tt)
-replies_snoc s (x ∷ xs) e h r = (h.0, replies_snoc (next s x.call) xs e h.1 r)
+replies_snoc s (x ∷ xs) e h r = (h.0, replies_snoc (next_book s x.call) xs e h.1 r)
 
 pub legal_snoc : (xs : Log) (e : Entry) → IsLegal xs → length xs < 18446744073709551615 → e.reply ≡ reply_of (state_after nothing xs) e.call → IsLegal (xs ++ e ∷ [])
 legal_snoc xs e h room r = let l = length-append xs (e ∷ []) in (omega arith, replies_snoc nothing xs e h.1 r)
 
-pub begins_same : (xs : Log) → Begins xs xs
+pub begins_same : (xs : Log) → BeginsLog xs xs
 begins_same xs = ([], sym (append-nil xs))
 
-pub begins_none : (xs : Log) → Begins [] xs
+pub begins_none : (xs : Log) → BeginsLog [] xs
 begins_none xs = (xs, refl)
 
-pub begins_later : (xs log more : Log) → Begins xs log → Begins xs (log ++ more)
+pub begins_later : (xs log more : Log) → BeginsLog xs log → BeginsLog xs (log ++ more)
 begins_later xs log more b = (b.0 ++ more, ap (λ (l : Log). l ++ more) b.1 ∙ append_assoc xs b.0 more)
 
-pub begins_longer : (xs ys log : Log) → Begins xs log → Begins ys log → Begins (longer xs ys) log
-begins_longer xs ys log a b = elim (leb (length ys) (length xs)) as (λ t. Begins (cond t xs ys) log) [ true ↦ a | false ↦ b ]
+pub begins_longer : (xs ys log : Log) → BeginsLog xs log → BeginsLog ys log → BeginsLog (longer xs ys) log
+begins_longer xs ys log a b = elim (leb (length ys) (length xs)) as (λ t. BeginsLog (cond t xs ys) log) [ true ↦ a | false ↦ b ]
 
 pub longer_first : (xs ys : Log) → length xs ≤ length (longer xs ys)
 longer_first xs ys = go (leb (length ys) (length xs)) refl
@@ -157,7 +157,7 @@ places_two k xs ys (e ∷ log) apart =
     omega arith
 
 -- where each call of these stands in the front, the places are those of the front
-pub places_same : (ns : List ℕ) (seen log : Log) → Begins seen log → ((k : ℕ) (e : Entry) → slice_get log k ≡ Some e → held e.by ns ≡ true → k < length seen)
+pub places_same : (ns : List ℕ) (seen log : Log) → BeginsLog seen log → ((k : ℕ) (e : Entry) → slice_get log k ≡ Some e → held e.by ns ≡ true → k < length seen)
     → places ns log ≡ places ns seen
 places_same ns seen log b calls = ap (λ (l : Log). places_from 0 ns l) b.1 ∙ places-append 0 ns seen b.0
     ∙ ap (λ (l : List ℕ). places_from 0 ns seen ++ l) (places_none (0 + length seen) ns b.0 (λ i e at is.

@@ -6,7 +6,7 @@ use Rattle.std.specs.Cmp.{nat_cmp_total, eq_by_cmp_equiv}
 use Rattle.std.specs.FinMap as map
 use Rattle.pgw_registry.specs.Pairs.{PairMap, pair_cmp, is_handle, without_handle}
 use Rattle.pgw_registry.specs.declared.pairs.Pair.{Pair}
-use Rattle.pgw_registry.specs.Registry.{NamesPairs, pair}
+use Rattle.pgw_registry.specs.Registry.{NamesPairs, cancel_key_pair}
 use Rattle.pgw_registry.proofs.Nesting.{pair_cmp_total, pairs_alone}
 use Rattle.pgw_registry.proofs.Holders.{cond_is, some_is, not_none, numbers_apart, number_itself}
 
@@ -62,8 +62,8 @@ name_written : (names : Names) (k : ℕ) (v : Pair) → map.get (map.insert name
 name_written names k v = map.get-insert nat_cmp_total names k v k ∙ ap (λ b. cond b (Some v) (map.get names k)) (number_itself k)
 
 -- one name names one pair
-pub one_pair : (p q : ℤ × List ℕ) → Some (pair p.0 p.1) ≡ Some (pair q.0 q.1) → p ≡ q
-one_pair p q e = let s = some_is (pair p.0 p.1) (pair q.0 q.1) e in λ i. ((s i).pid, (s i).key)
+pub one_pair : (p q : ℤ × List ℕ) → Some (cancel_key_pair p.0 p.1) ≡ Some (cancel_key_pair q.0 q.1) → p ≡ q
+one_pair p q e = let s = some_is (cancel_key_pair p.0 p.1) (cancel_key_pair q.0 q.1) e in λ i. ((s i).pid, (s i).key)
 
 pub names_nothing : (pairs : PairMap) (names : Names) → pairs ≡ map.empty → NamesPairs pairs names 0
 names_nothing pairs names is pid key h e = absurd (not_none h (subst (λ o. o ≡ Some h) (ap (λ m. map.get m (pid, key)) is ∙ map.get-empty pair_cmp (pid, key)) e))
@@ -77,9 +77,9 @@ names_spare pairs names new made v is n pid key h e = let t = n pid key h e in l
     (low, ap (λ m. map.get m h) is ∙ name_kept names (made + 1) v h (λ s. omega arith) ∙ t.1)
 
 -- a pair is added
-pub names_more : (pairs new : PairMap) (names : Names) (made : ℕ) (pid : ℤ) (key : List ℕ) → new ≡ map.insert pairs (pid, key) (made + 1) → map.get names (made + 1) ≡ Some (pair pid key) → NamesPairs pairs names made → NamesPairs new names (made + 1)
+pub names_more : (pairs new : PairMap) (names : Names) (made : ℕ) (pid : ℤ) (key : List ℕ) → new ≡ map.insert pairs (pid, key) (made + 1) → map.get names (made + 1) ≡ Some (cancel_key_pair pid key) → NamesPairs pairs names made → NamesPairs new names (made + 1)
 names_more pairs new names made pid key is named n p k h e = ⊎_elim
-    (λ (t : ((p, k) ≡ (pid, key)) × (made + 1 ≡ h)). (let low = t.1 in (omega arith, ap (map.get names) (sym t.1) ∙ named ∙ (λ i. Some (pair (sym t.0 i).0 (sym t.0 i).1)))))
+    (λ (t : ((p, k) ≡ (pid, key)) × (made + 1 ≡ h)). (let low = t.1 in (omega arith, ap (map.get names) (sym t.1) ∙ named ∙ (λ i. Some (cancel_key_pair (sym t.0 i).0 (sym t.0 i).1)))))
     (λ (t : map.get pairs (p, k) ≡ Some h). names_later pairs names made n p k h t)
     (in_pairs_written pairs (pid, key) (made + 1) (p, k) h (subst (λ m. map.get m (p, k) ≡ Some h) is e))
 

@@ -13,7 +13,7 @@ use Rattle.std.proofs.lemmas.Map.Keys.{sorted_head, sorted_tail}
 use Rattle.std.specs.Bool.{Decides}
 use Rattle.pgw_registry.specs.Pairs.{bytes_cmp, pair_cmp}
 use Rattle.pgw_registry.specs.declared.pairs.One.{One}
-use Rattle.pgw_registry.specs.Nested.{Key, pairs_of, flat, at_key, in_number, at_pair, flat_firsts, in_one, at_first, is_other, first_of, both_flat, at_either}
+use Rattle.pgw_registry.specs.Nested.{Key, pairs_of, flat, at_key, in_number, at_pair, flat_firsts, in_one, at_first, is_other_key, first_number_of, both_flat, at_either}
 
 pub pair_cmp_total : IsTotalOrder pair_cmp
 pair_cmp_total = then_total (on_total (λ (p : ℤ × List ℕ). p.0) int_cmp_total) (on_total (λ (p : ℤ × List ℕ). p.1) nat_list_cmp_total)
@@ -37,15 +37,15 @@ pair_is x y t = pairs_alone x y (by (pair_cmp x y) t)
     by Equal e = refl
     by Greater e = absurd (cc)
 
-first_of_none : (o : Option ℕ) → first_of o None ≡ o
-unfolding first_of
+first_of_none : (o : Option ℕ) → first_number_of o None ≡ o
+unfolding first_number_of
 first_of_none None = refl
 first_of_none (Some x) = refl
 
-found_in_two : (q : ℤ × List ℕ) (xs ys : List ((ℤ × List ℕ) × ℕ)) → find pair_cmp q (xs ++ ys) ≡ first_of (find pair_cmp q xs) (find pair_cmp q ys)
-unfolding first_of
+found_in_two : (q : ℤ × List ℕ) (xs ys : List ((ℤ × List ℕ) × ℕ)) → find pair_cmp q (xs ++ ys) ≡ first_number_of (find pair_cmp q xs) (find pair_cmp q ys)
+unfolding first_number_of
 found_in_two q [] ys = refl
-found_in_two q (x ∷ xs) ys = elim (eq_by_cmp pair_cmp q x.0) as (λ b. cond b (Some x.1) (find pair_cmp q (xs ++ ys)) ≡ first_of (cond b (Some x.1) (find pair_cmp q xs)) (find pair_cmp q ys)) [
+found_in_two q (x ∷ xs) ys = elim (eq_by_cmp pair_cmp q x.0) as (λ b. cond b (Some x.1) (find pair_cmp q (xs ++ ys)) ≡ first_number_of (cond b (Some x.1) (find pair_cmp q xs)) (find pair_cmp q ys)) [
   | true ↦ refl
   | false ↦ found_in_two q xs ys
 ]
@@ -73,10 +73,10 @@ none_later {V} pid n (x ∷ es) e later =
     ∙ none_later pid n es e later.1
 
 one_number : (o : Ordering) (keys : BTreeMap Key ℕ) (later : Option (BTreeMap Key ℕ)) (key : List ℕ) → (o ≡ Equal → later ≡ None)
-    → first_of (cond (is_eq o) (at_key keys.entries key) None) (in_number later key) ≡ in_number (cond (is_eq o) (Some keys) later) key
-unfolding first_of in_number
+    → first_number_of (cond (is_eq o) (at_key keys.entries key) None) (in_number later key) ≡ in_number (cond (is_eq o) (Some keys) later) key
+unfolding first_number_of in_number
 one_number Less keys later key none = refl
-one_number Equal keys later key none = ap (λ (o : Option (BTreeMap Key ℕ)). first_of (at_key keys.entries key) (in_number o key)) (none refl) ∙ first_of_none (at_key keys.entries key)
+one_number Equal keys later key none = ap (λ (o : Option (BTreeMap Key ℕ)). first_number_of (at_key keys.entries key) (in_number o key)) (none refl) ∙ first_of_none (at_key keys.entries key)
 one_number Greater keys later key none = refl
 
 -- what the flat list finds stands at the number and the key
@@ -85,8 +85,8 @@ unfolding flat at_pair in_number
 at_flat [] sorted pid key = refl
 at_flat (e ∷ es) sorted pid key =
     found_in_two (pid, key) (pairs_of e.0 e.1.entries) (flat es)
-    ∙ ap (λ (o : Option ℕ). first_of o (find pair_cmp (pid, key) (flat es))) (found_in_number (int_cmp pid e.0) pid e.0 key refl e.1.entries)
-    ∙ ap (λ (o : Option ℕ). first_of (cond (is_eq (int_cmp pid e.0)) (at_key e.1.entries key) None) o) (at_flat es (sorted_tail int_cmp e.0 (keys_of es) sorted) pid key)
+    ∙ ap (λ (o : Option ℕ). first_number_of o (find pair_cmp (pid, key) (flat es))) (found_in_number (int_cmp pid e.0) pid e.0 key refl e.1.entries)
+    ∙ ap (λ (o : Option ℕ). first_number_of (cond (is_eq (int_cmp pid e.0)) (at_key e.1.entries key) None) o) (at_flat es (sorted_tail int_cmp e.0 (keys_of es) sorted) pid key)
     ∙ one_number (int_cmp pid e.0) e.1 (lookup (is_at (int_cmp pid)) es) key (λ t. none_later pid e.0 es t (sorted_head int_cmp e.0 (keys_of es) sorted))
 
 -- ---- one key of a number
@@ -234,8 +234,8 @@ pub at_both : (fs : List (ℤ × One)) (es : List (ℤ × Held)) → IsStrictlyS
 unfolding both_flat at_either
 at_both fs es firsts sorted pid key =
     found_in_two (pid, key) (flat_firsts fs) (flat es)
-    ∙ ap (λ (o : Option ℕ). first_of o (find pair_cmp (pid, key) (flat es))) (at_flat_firsts fs firsts pid key)
-    ∙ ap (first_of (at_first fs pid key)) (at_flat es sorted pid key)
+    ∙ ap (λ (o : Option ℕ). first_number_of o (find pair_cmp (pid, key) (flat es))) (at_flat_firsts fs firsts pid key)
+    ∙ ap (first_number_of (at_first fs pid key)) (at_flat es sorted pid key)
 
 tied : (x : List ℕ) → eq_by_cmp bytes_cmp x x ≡ true
 tied x = (eq_by_cmp_equiv nat_list_cmp_total).refl x
@@ -264,75 +264,75 @@ pub nothing_stands : (key : List ℕ) → in_one None key ≡ None
 unfolding in_one
 nothing_stands key = refl
 
-pub none_other : (key : List ℕ) → is_other None key ≡ false
-unfolding is_other
+pub none_other : (key : List ℕ) → is_other_key None key ≡ false
+unfolding is_other_key
 none_other key = refl
 
 -- where no other key stands, every key but this one has nothing
-alone : (o : Option One) (key q : List ℕ) → is_other o key ≡ false → eq_by_cmp bytes_cmp q key ≡ false → in_one o q ≡ None
-unfolding is_other in_one
+alone : (o : Option One) (key q : List ℕ) → is_other_key o key ≡ false → eq_by_cmp bytes_cmp q key ≡ false → in_one o q ≡ None
+unfolding is_other_key in_one
 alone None key q own apart = refl
 alone (Some x) key q own apart =
     ap (λ (k : List ℕ). cond (eq_by_cmp bytes_cmp q k) (Some x.handle) None) (sym (tied_is key x.key.items (not_is (eq_by_cmp bytes_cmp key x.key.items) own)))
     ∙ ap (λ (b : Bool). cond b (Some x.handle) None) apart
 
 -- where another key stands, this one has nothing
-hidden : (o : Option One) (key : List ℕ) → is_other o key ≡ true → in_one o key ≡ None
-unfolding is_other in_one
+hidden : (o : Option One) (key : List ℕ) → is_other_key o key ≡ true → in_one o key ≡ None
+unfolding is_other_key in_one
 hidden None key other = absurd (cc)
 hidden (Some x) key other = ap (λ (b : Bool). cond b (Some x.handle) None) (is_not (eq_by_cmp bytes_cmp key x.key.items) other)
 
 -- a pair is put first
-pub first_put : (old new : List (ℤ × One)) (es : List (ℤ × Held)) (pid : ℤ) (one : One) → is_other (at_one old pid) one.key.items ≡ false
+pub first_put : (old new : List (ℤ × One)) (es : List (ℤ × Held)) (pid : ℤ) (one : One) → is_other_key (at_one old pid) one.key.items ≡ false
     → ((p : ℤ) → at_one new p ≡ cond (is_at (int_cmp pid) p) (Some one) (at_one old p))
     → (p : ℤ) (q : List ℕ) → at_either new es p q ≡ cond (eq_by_cmp pair_cmp (pid, one.key.items) (p, q)) (Some one.handle) (at_either old es p q)
-unfolding at_either at_first in_one first_of
-first_put old new es pid one own outer p q = ap (λ (z : Option One). first_of (in_one z q) (at_pair es p q)) (outer p) ∙ by (int_cmp pid p) refl
+unfolding at_either at_first in_one first_number_of
+first_put old new es pid one own outer p q = ap (λ (z : Option One). first_number_of (in_one z q) (at_pair es p q)) (outer p) ∙ by (int_cmp pid p) refl
   where
     key : (b : Bool) → eq_by_cmp bytes_cmp q one.key.items ≡ b → at_one old p ≡ at_one old pid
-        → first_of (cond b (Some one.handle) None) (at_pair es p q) ≡ cond b (Some one.handle) (first_of (in_one (at_one old p) q) (at_pair es p q))
+        → first_number_of (cond b (Some one.handle) None) (at_pair es p q) ≡ cond b (Some one.handle) (first_number_of (in_one (at_one old p) q) (at_pair es p q))
     key true t same = refl
-    key false t same = ap (λ (z : Option ℕ). first_of z (at_pair es p q)) (sym (ap (λ (o : Option One). in_one o q) same ∙ alone (at_one old pid) one.key.items q own t))
+    key false t same = ap (λ (z : Option ℕ). first_number_of z (at_pair es p q)) (sym (ap (λ (o : Option One). in_one o q) same ∙ alone (at_one old pid) one.key.items q own t))
 
     by : (r : Ordering) → int_cmp pid p ≡ r
-        → first_of (in_one (cond (is_eq r) (Some one) (at_one old p)) q) (at_pair es p q) ≡ cond (is_eq (ordering_then r (bytes_cmp one.key.items q))) (Some one.handle) (first_of (in_one (at_one old p) q) (at_pair es p q))
+        → first_number_of (in_one (cond (is_eq r) (Some one) (at_one old p)) q) (at_pair es p q) ≡ cond (is_eq (ordering_then r (bytes_cmp one.key.items q))) (Some one.handle) (first_number_of (in_one (at_one old p) q) (at_pair es p q))
     by Less t = refl
     by Equal t = key (eq_by_cmp bytes_cmp q one.key.items) refl (ap (at_one old) (sym (map.int_cmp-IsAntisymmetric pid p t)))
-        ∙ ap (λ (b : Bool). cond b (Some one.handle) (first_of (in_one (at_one old p) q) (at_pair es p q))) (turned q one.key.items)
+        ∙ ap (λ (b : Bool). cond b (Some one.handle) (first_number_of (in_one (at_one old p) q) (at_pair es p q))) (turned q one.key.items)
     by Greater t = refl
 
 -- a pair is written among the other keys
-pub other_put : (fs : List (ℤ × One)) (old new : List (ℤ × Held)) (pid : ℤ) (key : List ℕ) (h : ℕ) → is_other (at_one fs pid) key ≡ true
+pub other_put : (fs : List (ℤ × One)) (old new : List (ℤ × Held)) (pid : ℤ) (key : List ℕ) (h : ℕ) → is_other_key (at_one fs pid) key ≡ true
     → ((p : ℤ) (q : List ℕ) → at_pair new p q ≡ cond (eq_by_cmp pair_cmp (pid, key) (p, q)) (Some h) (at_pair old p q))
     → (p : ℤ) (q : List ℕ) → at_either fs new p q ≡ cond (eq_by_cmp pair_cmp (pid, key) (p, q)) (Some h) (at_either fs old p q)
-unfolding at_either at_first first_of
-other_put fs old new pid key h other written p q = ap (first_of (at_first fs p q)) (written p q) ∙ by (eq_by_cmp pair_cmp (pid, key) (p, q)) refl
+unfolding at_either at_first first_number_of
+other_put fs old new pid key h other written p q = ap (first_number_of (at_first fs p q)) (written p q) ∙ by (eq_by_cmp pair_cmp (pid, key) (p, q)) refl
   where
-    by : (b : Bool) → eq_by_cmp pair_cmp (pid, key) (p, q) ≡ b → first_of (at_first fs p q) (cond b (Some h) (at_pair old p q)) ≡ cond b (Some h) (first_of (at_first fs p q) (at_pair old p q))
+    by : (b : Bool) → eq_by_cmp pair_cmp (pid, key) (p, q) ≡ b → first_number_of (at_first fs p q) (cond b (Some h) (at_pair old p q)) ≡ cond b (Some h) (first_number_of (at_first fs p q) (at_pair old p q))
     by true t = let same = pair_is (pid, key) (p, q) t in
-        ap (λ (o : Option ℕ). first_of o (Some h)) (ap (λ (z : ℤ × List ℕ). at_first fs z.0 z.1) (sym same) ∙ hidden (at_one fs pid) key other)
+        ap (λ (o : Option ℕ). first_number_of o (Some h)) (ap (λ (z : ℤ × List ℕ). at_first fs z.0 z.1) (sym same) ∙ hidden (at_one fs pid) key other)
     by false t = refl
 
 -- the other keys stay
 pub others_kept : (fs : List (ℤ × One)) (old new : List (ℤ × Held)) → ((p : ℤ) (q : List ℕ) → at_pair new p q ≡ at_pair old p q) → (p : ℤ) (q : List ℕ) → at_either fs new p q ≡ at_either fs old p q
 unfolding at_either
-others_kept fs old new same p q = ap (first_of (at_first fs p q)) (same p q)
+others_kept fs old new same p q = ap (first_number_of (at_first fs p q)) (same p q)
 
 -- a pair is taken, wherever it stands
 pub either_taken : (fs gs : List (ℤ × One)) (es ds : List (ℤ × Held)) (pid : ℤ) (key : List ℕ)
     → ((p : ℤ) (q : List ℕ) → at_first gs p q ≡ cond (eq_by_cmp pair_cmp (pid, key) (p, q)) None (at_first fs p q))
     → ((p : ℤ) (q : List ℕ) → at_pair ds p q ≡ cond (eq_by_cmp pair_cmp (pid, key) (p, q)) None (at_pair es p q))
     → (p : ℤ) (q : List ℕ) → at_either gs ds p q ≡ cond (eq_by_cmp pair_cmp (pid, key) (p, q)) None (at_either fs es p q)
-unfolding at_either first_of
-either_taken fs gs es ds pid key one other p q = ap (λ (o : Option ℕ). first_of o (at_pair ds p q)) (one p q) ∙ ap (first_of (cond (eq_by_cmp pair_cmp (pid, key) (p, q)) None (at_first fs p q))) (other p q) ∙ by (eq_by_cmp pair_cmp (pid, key) (p, q))
+unfolding at_either first_number_of
+either_taken fs gs es ds pid key one other p q = ap (λ (o : Option ℕ). first_number_of o (at_pair ds p q)) (one p q) ∙ ap (first_number_of (cond (eq_by_cmp pair_cmp (pid, key) (p, q)) None (at_first fs p q))) (other p q) ∙ by (eq_by_cmp pair_cmp (pid, key) (p, q))
   where
-    by : (b : Bool) → first_of (cond b None (at_first fs p q)) (cond b None (at_pair es p q)) ≡ cond b None (first_of (at_first fs p q) (at_pair es p q))
+    by : (b : Bool) → first_number_of (cond b None (at_first fs p q)) (cond b None (at_pair es p q)) ≡ cond b None (first_number_of (at_first fs p q) (at_pair es p q))
     by true = refl
     by false = refl
 
 -- where this key has something, no other stands
-owned : (o : Option One) (key : List ℕ) (h : ℕ) → in_one o key ≡ Some h → is_other o key ≡ false
-unfolding in_one is_other
+owned : (o : Option One) (key : List ℕ) (h : ℕ) → in_one o key ≡ Some h → is_other_key o key ≡ false
+unfolding in_one is_other_key
 owned None key h e = absurd (cc)
 owned (Some x) key h e = by (eq_by_cmp bytes_cmp key x.key.items) e
   where

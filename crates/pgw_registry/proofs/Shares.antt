@@ -4,7 +4,7 @@ use mathlib.Core.Option.{some, some-injective, some-ne-none}
 use lib.ListN.{get_elem?}
 use Rattle.atomic_table.proofs.Lists.{set_else}
 use Rattle.pgw_registry.specs.declared.share.Share.{Share}
-use Rattle.pgw_registry.specs.Shares.{IsWhole, none, half, together, HasUnits, HaveUnits, AddUp, IsPart}
+use Rattle.pgw_registry.specs.Shares.{IsWholeShare, none, half, together, HasUnits, HaveUnits, AddUp, IsSomeShare}
 
 -- a common factor is left out
 few_factor : (m n k : ℕ) → 0 < k → m * k ≤ n * k → m ≤ n
@@ -39,7 +39,7 @@ put_together k m n s t u v = (
 )
 
 -- a part, and what is put to it
-pub together_part : (s t : Share) → IsPart s → IsPart t → IsPart (together s t)
+pub together_part : (s t : Share) → IsSomeShare s → IsSomeShare t → IsSomeShare (together s t)
 together_part s t p q = let a = positive_product s.parts t.whole p.0 q.1 in (omega arith, positive_product s.whole t.whole p.1 q.1)
 
 module _ {A : Type 0} (share_of : A → Share) where
@@ -154,7 +154,7 @@ module _ {A : Type 0} (share_of : A → Share) where
         }
 
     -- beside the whole there is nothing
-    pub nothing_beside : IsWhole (share_of v) → (j : ℕ) (u : A) → j ≢ i → get_elem? xs j ≡ some u → (share_of u).parts ≡ 0
+    pub nothing_beside : IsWholeShare (share_of v) → (j : ℕ) (u : A) → j ≢ i → get_elem? xs j ≡ some u → (share_of u).parts ≡ 0
     nothing_beside whole j u apart there =
         let k : ℕ = h.units in
         let t = parted k k xs i v h.all at in

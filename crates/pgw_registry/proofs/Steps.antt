@@ -12,11 +12,11 @@ use Rattle.pgw_registry.specs.declared.call.Call.{Call}
 use Rattle.pgw_registry.specs.declared.call.Entry.{Entry}
 use Rattle.pgw_registry.specs.declared.sight.Sight.{Sight}
 use Rattle.pgw_registry.specs.declared.sight.Old.{Old}
-use Rattle.pgw_registry.specs.Sequential.{Book, nothing, next, reply_of, state_after, IsLegal}
+use Rattle.pgw_registry.specs.Sequential.{Book, nothing, next_book, reply_of, state_after, IsLegal}
 use Rattle.pgw_registry.specs.Numbers.{weight}
-use Rattle.pgw_registry.specs.Shares.{IsPart}
+use Rattle.pgw_registry.specs.Shares.{IsSomeShare}
 use Rattle.pgw_registry.proofs.Shares.{together_part, same_share, divided, joined, nothing_beside, within_whole}
-use Rattle.pgw_registry.specs.History.{Log, Begins, entry, held, turns, founder, newcomer, spent, no_old, both_of, holding, at_rest, saw, halved, named, appended, Stands, Fits, Kept, Ruled, Sat, Grown, Later, HasAll, Took, Left, Looked, Named, Appended}
+use Rattle.pgw_registry.specs.History.{Log, BeginsLog, entry, held, turns, founder, newcomer, spent_sight, no_old, both_of, holding, at_rest, saw, halved, with_process, appended, SeesProcessLog, FitsHistory, KeepsHistory, Ruled, Sat, Grown, Later, HasAll, TookLog, Left, Looked, NamesProcess, AppendsToLog}
 use Rattle.pgw_registry.proofs.Logs.{state_after-append, legal_snoc, begins_same, begins_none, begins_later, begins_longer, longer_first, longer_second, get_front, get_within, get_snoc, held_append, held_front, held_back, held_one, held_self, places_none, places_all, places_same, places_more, turns_set, turns_snoc, turns_has, turns_two, at_within, at_end, set_only}
 
 abbrev Owner : Type 0
@@ -76,22 +76,22 @@ eqb_self n = grind (arith, nat_tests)
 abbrev Homes : Type 0
 Homes = List (math.Option (Option Book))
 
-re_kept : (a b : List ℕ) (h i : Homes) (v w : List Sight) → a ≡ b → h ≡ i → v ≡ w → Kept a h v → Kept b i w
-re_kept a b h i v w p q r k = subst (λ (z : List ℕ × Homes × List Sight). Kept z.0 z.1 z.2) (λ j. (p j, q j, r j)) k
+re_kept : (a b : List ℕ) (h i : Homes) (v w : List Sight) → a ≡ b → h ≡ i → v ≡ w → KeepsHistory a h v → KeepsHistory b i w
+re_kept a b h i v w p q r k = subst (λ (z : List ℕ × Homes × List Sight). KeepsHistory z.0 z.1 z.2) (λ j. (p j, q j, r j)) k
 
-grown : (log : Log) (owner : Owner) (id : ℕ) (seen : Log) (numbers : List ℕ) → Stands log owner id seen numbers → Grown seen numbers log
+grown : (log : Log) (owner : Owner) (id : ℕ) (seen : Log) (numbers : List ℕ) → SeesProcessLog log owner id seen numbers → Grown seen numbers log
 grown log owner id seen numbers f = (f.begins, places_same numbers seen log f.begins f.calls)
 
 -- the whole history stands for the same numbers
-stands_whole : (log : Log) (owner : Owner) (id : ℕ) (seen : Log) (numbers : List ℕ) → Stands log owner id seen numbers → Stands log owner id log numbers
+stands_whole : (log : Log) (owner : Owner) (id : ℕ) (seen : Log) (numbers : List ℕ) → SeesProcessLog log owner id seen numbers → SeesProcessLog log owner id log numbers
 stands_whole log owner id seen numbers f = record { begins = begins_same log; calls = λ k e at is. get_within log k e at; owns = f.owns }
 
-stands_none : (log : Log) (owner : Owner) (id : ℕ) (seen : Log) → Begins seen log → Stands log owner id seen []
+stands_none : (log : Log) (owner : Owner) (id : ℕ) (seen : Log) → BeginsLog seen log → SeesProcessLog log owner id seen []
 stands_none log owner id seen b = record { begins = b; calls = λ k e at is. off is; owns = λ n is. off is }
 
 -- another view makes a call
-stands_later : (log : Log) (owner : Owner) (id : ℕ) (seen : Log) (numbers : List ℕ) (e : Entry) → Stands log owner id seen numbers → (owner e.by ≡ math.some id → ⊥)
-    → Stands (log ++ e ∷ []) owner id seen numbers
+stands_later : (log : Log) (owner : Owner) (id : ℕ) (seen : Log) (numbers : List ℕ) (e : Entry) → SeesProcessLog log owner id seen numbers → (owner e.by ≡ math.some id → ⊥)
+    → SeesProcessLog (log ++ e ∷ []) owner id seen numbers
 stands_later log owner id seen numbers e f else_by = record {
   begins = begins_later seen log (e ∷ []) f.begins;
   calls = λ n x gets is. ⊎_elim (λ (was : slice_get log n ≡ Some x). f.calls n x was is)
@@ -101,8 +101,8 @@ stands_later log owner id seen numbers e f else_by = record {
 }
 
 -- the owners are said in another way
-stands_by : (log : Log) (owner owner' : Owner) (id id' : ℕ) (seen : Log) (numbers : List ℕ) → Stands log owner id seen numbers
-    → ((n : ℕ) → held n numbers ≡ true → owner n ≡ math.some id → owner' n ≡ math.some id') → Stands log owner' id' seen numbers
+stands_by : (log : Log) (owner owner' : Owner) (id id' : ℕ) (seen : Log) (numbers : List ℕ) → SeesProcessLog log owner id seen numbers
+    → ((n : ℕ) → held n numbers ≡ true → owner n ≡ math.some id → owner' n ≡ math.some id') → SeesProcessLog log owner' id' seen numbers
 stands_by log owner owner' id id' seen numbers f h = record { begins = f.begins; calls = f.calls; owns = λ n is. h n is (f.owns n is) }
 
 -- ---- whose numbers are whose
@@ -131,7 +131,7 @@ chosen_is true x j y e = inl (refl, some-injective x j e)
 chosen_is false x j y e = inr (refl, e)
 
 -- beside the whole share there are no other calls
-has_all : (words : List ℕ) (homes : Homes) (views : List Sight) (id : ℕ) (v : Sight) (k : Kept words homes views) → At views id v → HasAll v.share v.numbers k.log
+has_all : (words : List ℕ) (homes : Homes) (views : List Sight) (id : ℕ) (v : Sight) (k : KeepsHistory words homes views) → At views id v → HasAll v.share v.numbers k.log
 has_all words homes views id v k at whole = places_all 0 v.numbers k.log (λ i e gets. by e (k.owner e.by) refl (λ none. k.unowned e.by none i e gets refl))
   where
     by : (e : Entry) (o : math.Option ℕ) → k.owner e.by ≡ o → (k.owner e.by ≡ math.none → ⊥) → held e.by v.numbers ≡ true
@@ -140,7 +140,7 @@ has_all words homes views id v k at whole = places_all 0 v.numbers k.log (λ i e
         (λ (same : j ≡ id). held_at k.owner views id v at k.owned e.by (is ∙ ap math.some same))
         (λ (ne : j ≢ id). off (sym (ap (held e.by) ((k.each j t.0 t.1).spare (nothing_beside (λ (u : Sight). u.share) views k.shares id v at whole j t.0 ne t.1))) ∙ t.2))
 
-later_of : (words : List ℕ) (homes : Homes) (views : List Sight) (id : ℕ) (v : Sight) (k : Kept words homes views) → At views id v → Later v k.log
+later_of : (words : List ℕ) (homes : Homes) (views : List Sight) (id : ℕ) (v : Sight) (k : KeepsHistory words homes views) → At views id v → Later v k.log
 later_of words homes views id v k at = (
   grown k.log k.owner id v.seen v.numbers (k.each id v at).now,
   k.legal,
@@ -149,14 +149,14 @@ later_of words homes views id v k at = (
 )
 
 -- the view that is changed keeps its numbers
-module _ (log : Log) (owner : Owner) (id : ℕ) (v : Sight) (f : Fits log owner id v) where
-  fits_holding : Fits log owner id (holding v log)
+module _ (log : Log) (owner : Owner) (id : ℕ) (v : Sight) (f : FitsHistory log owner id v) where
+  fits_holding : FitsHistory log owner id (holding v log)
   fits_holding = record { now = stands_whole log owner id v.seen v.numbers f.now; one = f.one; two = f.two; apart = f.apart; fresh = f.fresh; spare = f.spare; whole = λ _. (refl, refl) }
 
-  fits_at_rest : Fits log owner id (at_rest v)
+  fits_at_rest : FitsHistory log owner id (at_rest v)
   fits_at_rest = record { now = f.now; one = f.one; two = f.two; apart = f.apart; fresh = f.fresh; spare = f.spare; whole = λ e. off e }
 
-  fits_saw : Fits log owner id (saw v log)
+  fits_saw : FitsHistory log owner id (saw v log)
   fits_saw = record {
     now = stands_whole log owner id v.seen v.numbers f.now;
     one = stands_none log owner id [] (begins_none log);
@@ -168,8 +168,8 @@ module _ (log : Log) (owner : Owner) (id : ℕ) (v : Sight) (f : Fits log owner 
   }
 
 -- where no view has the turn, one takes it, with the slot
-took_turn : (words : List ℕ) (homes : Homes) (views : List Sight) (id : ℕ) (v : Sight) (k : Kept words homes views) → At views id v → turns views ≡ 0
-    → Kept (set words 0 1) (set homes 0 math.none) (set views id (holding v k.log))
+took_turn : (words : List ℕ) (homes : Homes) (views : List Sight) (id : ℕ) (v : Sight) (k : KeepsHistory words homes views) → At views id v → turns views ≡ 0
+    → KeepsHistory (set words 0 1) (set homes 0 math.none) (set views id (holding v k.log))
 took_turn words homes views id v k at none = let w : Sight = holding v k.log in let s = turns_set views id v w at in let m = turns_has views id v at in
     let one : turns (set views id w) ≡ 1 = omega arith in record {
       log = k.log;
@@ -178,14 +178,14 @@ took_turn words homes views id v k at none = let w : Sight = holding v k.log in 
       one_turn = omega arith;
       legal = k.legal;
       home = λ e. absurd (omega arith);
-      each = each_set (Fits k.log k.owner) views id w (λ j u _ e. k.each j u e) (fits_holding k.log k.owner id v (k.each id v at));
+      each = each_set (FitsHistory k.log k.owner) views id w (λ j u _ e. k.each j u e) (fits_holding k.log k.owner id v (k.each id v at));
       shares = same_share (λ (u : Sight). u.share) views k.shares id v at w refl;
       owned = owned_same k.owner views id v w at refl k.owned;
       beyond = λ n h. k.beyond n (let l = length-set views id w in omega arith);
       unowned = k.unowned;
     }
 
-pub takes_turn : (slots id : ℕ) (me : Sat) → Allows Ruled slots id me 0 (λ _. 1) (Took (step slots 0 1 0 math.none) me)
+pub takes_turn : (slots id : ℕ) (me : Sat) → Allows Ruled slots id me 0 (λ _. 1) (TookLog (step slots 0 1 0 math.none) me)
 takes_turn slots id me s k _ at _ = let n : ℕ = get_or s.words 0 0 in let v : Sight = me.0 in
     let is : n ≡ turns s.views = ap (λ (l : List ℕ). get_or l 0 0) k.counts in
     dite (ℕ_discrete n 0)
@@ -206,8 +206,8 @@ takes_turn slots id me s k _ at _ = let n : ℕ = get_or s.words 0 0 in let v : 
       ((λ e. absurd (ne e)), λ _. (refl, refl)),
     ))
 
-left_turn : (words : List ℕ) (homes : Homes) (views : List Sight) (id : ℕ) (v : Sight) → Kept words homes views → At views id v → v.turn ≡ true → length homes ≡ 1
-    → Kept (set words 0 0) (set homes 0 (math.some (Some v.state))) (set views id (at_rest v))
+left_turn : (words : List ℕ) (homes : Homes) (views : List Sight) (id : ℕ) (v : Sight) → KeepsHistory words homes views → At views id v → v.turn ≡ true → length homes ≡ 1
+    → KeepsHistory (set words 0 0) (set homes 0 (math.some (Some v.state))) (set views id (at_rest v))
 left_turn words homes views id v k at turn single = let w : Sight = at_rest v in let s = turns_set views id v w at in let o = k.one_turn in let t = ap weight turn in
     let none : turns (set views id w) ≡ 0 = omega arith in let f = k.each id v at in record {
       log = k.log;
@@ -216,7 +216,7 @@ left_turn words homes views id v k at turn single = let w : Sight = at_rest v in
       one_turn = omega arith;
       legal = k.legal;
       home = λ e. set_only homes (math.some (Some v.state)) single ∙ ap (λ (x : Book). math.some (Some x) ∷ []) (f.whole turn).1;
-      each = each_set (Fits k.log k.owner) views id w (λ j u _ e. k.each j u e) (fits_at_rest k.log k.owner id v f);
+      each = each_set (FitsHistory k.log k.owner) views id w (λ j u _ e. k.each j u e) (fits_at_rest k.log k.owner id v f);
       shares = same_share (λ (u : Sight). u.share) views k.shares id v at w refl;
       owned = owned_same k.owner views id v w at refl k.owned;
       beyond = λ n h. k.beyond n (let l = length-set views id w in omega arith);
@@ -249,7 +249,7 @@ looks slots id me s k _ at _ = let v : Sight = me.0 in let w : Sight = saw v k.l
         one_turn = (let o = k.one_turn in omega arith);
         legal = k.legal;
         home = λ e. k.home (sym same ∙ e);
-        each = each_set (Fits k.log k.owner) s.views id w (λ j u _ e. k.each j u e) (fits_saw k.log k.owner id v f);
+        each = each_set (FitsHistory k.log k.owner) s.views id w (λ j u _ e. k.each j u e) (fits_saw k.log k.owner id v f);
         shares = same_share (λ (u : Sight). u.share) s.views k.shares id v at w refl;
         owned = owned_same k.owner s.views id v w at refl k.owned;
         beyond = λ m h. k.beyond m (let l = length-set s.views id w in omega arith);
@@ -259,8 +259,8 @@ looks slots id me s k _ at _ = let v : Sight = me.0 in let w : Sight = saw v k.l
     )
 
 -- a seat is told its number, which no one else has
-pub names : (slots id : ℕ) (me : Sat) → me.0.named ≡ false → me.0.numbers ≡ [] → 0 < me.0.share.parts → Allows Ruled slots id me 1 (λ n. n) (Named (step slots 1 0 0 math.none) me)
-names slots id me new bare part s k _ at _ = let v : Sight = me.0 in let w : Sight = named v id in let f = k.each id v at in let t = turns_set s.views id v w at in
+pub names : (slots id : ℕ) (me : Sat) → me.0.named ≡ false → me.0.numbers ≡ [] → 0 < me.0.share.parts → Allows Ruled slots id me 1 (λ n. n) (NamesProcess (step slots 1 0 0 math.none) me)
+names slots id me new bare part s k _ at _ = let v : Sight = me.0 in let w : Sight = with_process v id in let f = k.each id v at in let t = turns_set s.views id v w at in
     let same : turns (set s.views id w) ≡ turns s.views = omega arith in
     let owner : Owner = one_more k.owner id in
     let alone : k.owner id ≡ math.none = f.fresh new in
@@ -275,7 +275,7 @@ names slots id me new bare part s k _ at _ = let v : Sight = me.0 in let w : Sig
         one_turn = (let o = k.one_turn in omega arith);
         legal = k.legal;
         home = λ e. k.home (sym same ∙ e);
-        each = each_set (Fits k.log owner) s.views id w
+        each = each_set (FitsHistory k.log owner) s.views id w
             (λ j u ne e. let g = k.each j u e in
             let same_owner : (numbers : List ℕ) → (n : ℕ) → held n numbers ≡ true → k.owner n ≡ math.some j → owner n ≡ math.some j = λ numbers n is was. chosen (eqb n id) (math.some id) (k.owner n) (math.some j)
             (λ hit. no_owner (k.owner id) j (subst (λ (m : ℕ). k.owner m ≡ math.some j) (eqb_is n id hit) was) alone)
@@ -322,9 +322,9 @@ abbrev fresh_entry : Sight → Call → Entry
 fresh_entry v c = entry v.own c (reply_of v.state c)
 
 -- the entry is appended by the view with the turn
-append_one : (words : List ℕ) (homes : Homes) (views : List Sight) (id : ℕ) (v : Sight) (c : Call) → Kept words homes views → At views id v → v.turn ≡ true → held v.own v.numbers ≡ true
+append_one : (words : List ℕ) (homes : Homes) (views : List Sight) (id : ℕ) (v : Sight) (c : Call) → KeepsHistory words homes views → At views id v → v.turn ≡ true → held v.own v.numbers ≡ true
     → v.one ≡ no_old → v.two ≡ no_old → length v.seen < 18446744073709551615
-    → Kept (set words 1 (length v.seen + 1)) homes (set views id (appended v c))
+    → KeepsHistory (set words 1 (length v.seen + 1)) homes (set views id (appended v c))
 append_one words homes views id v c k at turn own no_one no_two room = let w : Sight = appended v c in let f = k.each id v at in let t = turns_set views id v w at in let o = k.one_turn in
     let seen : v.seen ≡ k.log = (f.whole turn).0 in let state : v.state ≡ state_after nothing k.log = (f.whole turn).1 in
     let e : Entry = fresh_entry v c in let log : Log = k.log ++ e ∷ [] in
@@ -339,7 +339,7 @@ append_one words homes views id v c k at turn own no_one no_two room = let w : S
       one_turn = omega arith;
       legal = legal_snoc k.log e k.legal (let r = ap length seen in omega arith) (ap (λ (z : Book). reply_of z c) state);
       home = λ z. absurd (omega arith);
-      each = each_set (Fits log k.owner) views id w
+      each = each_set (FitsHistory log k.owner) views id w
           (λ j u ne there. let g = k.each j u there in
           let idle : u.turn ≡ true → ⊥ = λ both. (let two = turns_two views id j v u ne at there in let y = ap weight turn in let z = ap weight both in omega arith) in record {
             now = stands_later k.log k.owner j u.seen u.numbers e g.now (λ theirs. ne (two_owners (k.owner v.own) j id theirs mine));
@@ -356,12 +356,12 @@ append_one words homes views id v c k at turn own no_one no_two room = let w : S
               calls = λ n x gets is. (let a = get_within log n x gets in let b = ap length all in omega arith);
               owns = f.now.owns;
             };
-            one = subst (λ (z : Old). Stands log k.owner id z.seen z.numbers) (sym no_one) (stands_none log k.owner id [] (begins_none log));
-            two = subst (λ (z : Old). Stands log k.owner id z.seen z.numbers) (sym no_two) (stands_none log k.owner id [] (begins_none log));
+            one = subst (λ (z : Old). SeesProcessLog log k.owner id z.seen z.numbers) (sym no_one) (stands_none log k.owner id [] (begins_none log));
+            two = subst (λ (z : Old). SeesProcessLog log k.owner id z.seen z.numbers) (sym no_two) (stands_none log k.owner id [] (begins_none log));
             apart = λ n a b. off (sym (ap (λ (z : Old). held n z.numbers) no_one) ∙ a);
             fresh = f.fresh;
             spare = f.spare;
-            whole = λ _. (all, ap (λ (z : Book). next z c) state ∙ sym (state_after-append nothing k.log (e ∷ [])));
+            whole = λ _. (all, ap (λ (z : Book). next_book z c) state ∙ sym (state_after-append nothing k.log (e ∷ [])));
           });
       shares = same_share (λ (u : Sight). u.share) views k.shares id v at w refl;
       owned = owned_same k.owner views id v w at refl k.owned;
@@ -372,17 +372,17 @@ append_one words homes views id v c k at turn own no_one no_two room = let w : S
     }
 
 pub appends : (slots id : ℕ) (me : Sat) (c : Call) → me.0.turn ≡ true → held me.0.own me.0.numbers ≡ true → me.0.one ≡ no_old → me.0.two ≡ no_old → length me.0.seen < 18446744073709551615
-    → Allows Ruled slots id me 1 (λ n. (n + 1) % 2 ^ 64) (Appended c (step slots 1 1 0 math.none) me)
+    → Allows Ruled slots id me 1 (λ n. (n + 1) % 2 ^ 64) (AppendsToLog c (step slots 1 1 0 math.none) me)
 appends slots id me c turn own no_one no_two room s k _ at _ = let v : Sight = me.0 in let w : Sight = appended v c in let f = k.each id v at in let n : ℕ = get_or s.words 1 0 in
     let seen : v.seen ≡ k.log = (f.whole turn).0 in
     let is : n ≡ length k.log = ap (λ (l : List ℕ). get_or l 1 0) k.counts in
     let len = ap length seen in
     let to : length v.seen + 1 ≡ (n + 1) % 2 ^ 64 = omega arith in
-    let after : Kept (set s.words 1 (length v.seen + 1)) s.homes (set s.views id w) = append_one s.words s.homes s.views id v c k at turn own no_one no_two room in (
+    let after : KeepsHistory (set s.words 1 (length v.seen + 1)) s.homes (set s.views id w) = append_one s.words s.homes s.views id v c k at turn own no_one no_two room in (
       w,
       keeps,
       tt,
-      subst (λ (m : ℕ). Kept (set s.words 1 m) s.homes (set s.views id w)) to after,
+      subst (λ (m : ℕ). KeepsHistory (set s.words 1 m) s.homes (set s.views id w)) to after,
       (
         refl,
         refl,
@@ -404,9 +404,9 @@ forks id v s k at = let w : Sight = newcomer v in let left : Sight = halved v in
       legal = k.legal;
       home = λ e. k.home (more ∙ e);
       each = λ j u there. ⊎_elim
-          (each_set (Fits k.log k.owner) s.views id left (λ i y _ e. k.each i y e)
+          (each_set (FitsHistory k.log k.owner) s.views id left (λ i y _ e. k.each i y e)
           (record { now = f.now; one = f.one; two = f.two; apart = f.apart; fresh = f.fresh; spare = f.spare; whole = f.whole }) j u)
-          (λ (here : (j ≡ length views) × (w ≡ u)). subst (Fits k.log k.owner j) here.1 (record {
+          (λ (here : (j ≡ length views) × (w ≡ u)). subst (FitsHistory k.log k.owner j) here.1 (record {
             now = stands_none k.log k.owner j v.seen f.now.begins;
             one = stands_none k.log k.owner j [] (begins_none k.log);
             two = stands_none k.log k.owner j [] (begins_none k.log);
@@ -421,12 +421,12 @@ forks id v s k at = let w : Sight = newcomer v in let left : Sight = halved v in
       unowned = k.unowned;
     }
 
-pub merges : (id other : ℕ) (v u : Sight) → v.turn ≡ false → u.turn ≡ false → IsPart v.share → IsPart u.share → Joins Ruled id v other u (both_of v u) spent
+pub merges : (id other : ℕ) (v u : Sight) → v.turn ≡ false → u.turn ≡ false → IsSomeShare v.share → IsSomeShare u.share → Joins Ruled id v other u (both_of v u) spent_sight
 merges id other v u idle idle' part part' s k at apart there = let w : Sight = both_of v u in let mid : List Sight = set s.views id w in
     let was : At s.views other u = sym (set_else s.views id other w apart) ∙ there in
     let f = k.each id v at in let g = k.each other u was in
-    let t = turns_set s.views id v w at in let t' = turns_set mid other u spent there in let z = ap weight idle in let z' = ap weight idle' in
-    let same : turns (set mid other spent) ≡ turns s.views = omega arith in
+    let t = turns_set s.views id v w at in let t' = turns_set mid other u spent_sight there in let z = ap weight idle in let z' = ap weight idle' in
+    let same : turns (set mid other spent_sight) ≡ turns s.views = omega arith in
     let owner : Owner = moved k.owner u.numbers id in
     let theirs : (n : ℕ) → held n u.numbers ≡ true → owner n ≡ math.some id = λ n is. ap (λ (b : Bool). cond b (math.some id) (k.owner n)) is in
     let others' : (i : ℕ) → i ≢ other → (numbers : List ℕ) (n : ℕ) → held n numbers ≡ true → k.owner n ≡ math.some i → owner n ≡ math.some i =
@@ -438,8 +438,8 @@ merges id other v u idle idle' part part' s k at apart there = let w : Sight = b
       one_turn = (let o = k.one_turn in omega arith);
       legal = k.legal;
       home = λ e. k.home (sym same ∙ e);
-      each = each_set (Fits k.log owner) mid other spent
-          (λ j x ne gets. each_set (λ i y. i ≢ other → Fits k.log owner i y) s.views id w
+      each = each_set (FitsHistory k.log owner) mid other spent_sight
+          (λ j x ne gets. each_set (λ i y. i ≢ other → FitsHistory k.log owner i y) s.views id w
           (λ i y ne' at' far. let h = k.each i y at' in record {
             now = stands_by k.log k.owner owner i i y.seen y.numbers h.now (others' i far y.numbers);
             one = stands_by k.log k.owner owner i i y.one.seen y.one.numbers h.one (others' i far y.one.numbers);
@@ -473,20 +473,20 @@ merges id other v u idle idle' part part' s k at apart there = let w : Sight = b
             spare = λ _. refl;
             whole = λ e. off e;
           });
-      shares = joined (λ (y : Sight). y.share) s.views k.shares id v at other u w spent apart was refl refl;
+      shares = joined (λ (y : Sight). y.share) s.views k.shares id v at other u w spent_sight apart was refl refl;
       owned = λ n j is. ⊎_elim
           (λ (t : (held n u.numbers ≡ true) × (id ≡ j)). (
             w,
-            subst (λ (m : ℕ). At (set mid other spent) m w) t.1 (set_else mid other id spent far_id ∙ set_here s.views id w (at_within s.views id v at)),
+            subst (λ (m : ℕ). At (set mid other spent_sight) m w) t.1 (set_else mid other id spent_sight far_id ∙ set_here s.views id w (at_within s.views id v at)),
             held_back n v.numbers u.numbers t.0,
           ))
           (λ (t : (held n u.numbers ≡ false) × (k.owner n ≡ math.some j)).
           let far : j ≢ other = λ e. on (sym (held_at k.owner s.views other u was k.owned n (t.1 ∙ ap math.some e)) ∙ t.0) in
           let o = owned_by k.owner k.owner s.views id v w at k.owned
           (λ m mine. held_front m v.numbers u.numbers (held_at k.owner s.views id v at k.owned m mine)) (λ m i ne e. e) n j t.1 in
-          (o.0, set_else mid other j spent far ∙ o.1, o.2))
+          (o.0, set_else mid other j spent_sight far ∙ o.1, o.2))
           (chosen_is (held n u.numbers) id j (k.owner n) is);
-      beyond = λ n h. (let a = length-set mid other spent in let b = length-set s.views id w in let none = k.beyond n (omega arith) in
+      beyond = λ n h. (let a = length-set mid other spent_sight in let b = length-set s.views id w in let none = k.beyond n (omega arith) in
           chosen (held n u.numbers) (math.some id) (k.owner n) math.none (λ hit. no_owner (k.owner n) other (g.now.owns n hit) none) (λ _. none));
       unowned = λ n e. k.unowned n (not_chosen (held n u.numbers) id (k.owner n) e).1;
     }
@@ -494,8 +494,8 @@ merges id other v u idle idle' part part' s k at apart there = let w : Sight = b
 abbrev first_owner : Owner
 first_owner n = cond (eqb n 0) (math.some 0) math.none
 
-alone_at_start : (id : ℕ) (v : Sight) → At (founder ∷ []) id v → Fits [] first_owner id v
-alone_at_start zero v e = subst (Fits [] first_owner 0) (some-injective _ _ e) (record {
+alone_at_start : (id : ℕ) (v : Sight) → At (founder ∷ []) id v → FitsHistory [] first_owner id v
+alone_at_start zero v e = subst (FitsHistory [] first_owner 0) (some-injective _ _ e) (record {
   now = record { begins = begins_same []; calls = λ k x gets. absurd (cc); owns = λ n is. ap (λ (m : ℕ). first_owner m) (sym (held_one n 0 is)) };
   one = stands_none [] first_owner 0 [] (begins_same []);
   two = stands_none [] first_owner 0 [] (begins_same []);

@@ -5,7 +5,7 @@ use Rattle.pgw_types.specs.declared.context.ProtocolVersion.{ProtocolVersion}
 use Rattle.pgw_types.specs.declared.context.ProtocolVersion.TheVariants.{PROTOCOL3_0}
 use Rattle.pgw_wire.specs.declared.secret_key.SecretKey.{SecretKey}
 use Rattle.pgw_registry.specs.Shares.{everything, half, together}
-use Rattle.pgw_registry.specs.Key.{key_of}
+use Rattle.pgw_registry.specs.Key.{process_key}
 use Rattle.pgw_registry.specs.Numbers.{IsDistinct, NoneBelow, DrewAll}
 use Rattle.pgw_registry.specs.Seats.{Numbers}
 use Rattle.pgw_registry.specs.declared.error.PidError.{PidError}
@@ -30,28 +30,28 @@ NoNumber PidsExhausted v w = (2147483647 < w.seen) × ((w.drawn ≡ v.drawn) ⊎
 NoNumber OutOfMemory v w = (w.seen ≤ 2147483647) × (w.drawn ≡ v.drawn)
 
 -- a seat of the same numbers, which has seen as much
-abbrev pub Continues : Numbers → Numbers → Type 0
-Continues v w =
+abbrev pub ContinuesSeat : Numbers → Numbers → Type 0
+ContinuesSeat v w =
     (w.of ≡ v.of) × (w.begins ≡ v.begins) × (w.share ≡ v.share) × (v.seen ≤ w.seen)
     × IsDistinct w.drawn × NoneBelow w.begins w.drawn
 
 -- the number that was drawn, with the key that the words give
-abbrev pub Gives : Numbers → ProtocolVersion → List ℕ → Numbers → ℤ × SecretKey → Type 0
-Gives v version words w r =
+abbrev pub DrawsCancelKey : Numbers → ProtocolVersion → List ℕ → Numbers → ℤ × SecretKey → Type 0
+DrawsCancelKey v version words w r =
     (w.drawn ≡ v.drawn ++ w.seen ∷ []) × (v.begins ≤ w.seen) × (w.seen ≤ 2147483647)
-    × (r.0 ≡ pos w.seen) × (r.1 ≡ key_of version words) × IsNext v w.seen
+    × (r.0 ≡ pos w.seen) × (r.1 ≡ process_key version words) × IsNext v w.seen
 
 -- what the answer says. At 3.0 memory is never wanting
-abbrev pub Tells : Numbers → ProtocolVersion → List ℕ → Numbers
+abbrev pub TellsProcessId : Numbers → ProtocolVersion → List ℕ → Numbers
     → Result (ℤ × SecretKey) PidError → Type 0
-Tells v version words w (Ok r) = Gives v version words w r
-Tells v version words w (Err e) =
+TellsProcessId v version words w (Ok r) = DrawsCancelKey v version words w r
+TellsProcessId v version words w (Err e) =
     NoNumber e v w × (version ≡ PROTOCOL3_0 → e ≡ PidsExhausted) × IsNext v w.seen
 
 -- what a call of a generator comes to
 abbrev pub Generates : Numbers → ProtocolVersion → List ℕ → Numbers
     → Result (ℤ × SecretKey) PidError → Type 0
-Generates v version words w answer = Continues v w × Tells v version words w answer
+Generates v version words w answer = ContinuesSeat v w × TellsProcessId v version words w answer
 
 -- where the numbers are spent, at most the one seen was drawn
 abbrev pub NoSeat : PidError → Numbers → Numbers → Type 0
@@ -60,5 +60,5 @@ NoSeat PidsExhausted v w =
 NoSeat OutOfMemory v w = ⊥
 
 -- the numbers of both
-abbrev pub met : Numbers → Numbers → Numbers
-met v w = record { of = v.of; begins = v.begins; drawn = v.drawn ++ w.drawn; seen = max v.seen w.seen; share = together v.share w.share }
+abbrev pub joint_numbers : Numbers → Numbers → Numbers
+joint_numbers v w = record { of = v.of; begins = v.begins; drawn = v.drawn ++ w.drawn; seen = max v.seen w.seen; share = together v.share w.share }

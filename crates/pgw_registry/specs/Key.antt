@@ -11,7 +11,7 @@ abbrev pub first_four : List ℕ → List ℕ
 first_four words = slice_index words 0 ∷ slice_index words 1 ∷ slice_index words 2 ∷ slice_index words 3 ∷ []
 
 -- four bytes at 3.0, as a number with the high byte first, and all bytes at a later version
-abbrev pub key_of : ProtocolVersion → List ℕ → SecretKey
-key_of PROTOCOL3_0 words = I32 (cast_signed w32 (from_be_bytes w32 (first_four words)))
-key_of PROTOCOL3_2 words = Bytes words
-key_of PROTOCOL3_9999 words = Bytes words
+abbrev pub process_key : ProtocolVersion → List ℕ → SecretKey
+process_key PROTOCOL3_0 words = I32 (cast_signed w32 (from_be_bytes w32 (first_four words)))
+process_key PROTOCOL3_2 words = Bytes words
+process_key PROTOCOL3_9999 words = Bytes words

@@ -6,8 +6,8 @@ use Rattle.pgw_registry.specs.declared.call.Reply.TheVariants.{Looked, Started}
 use Rattle.pgw_registry.specs.Sequential.{nothing, handle_of, state_after, IsLegal}
 
 -- the query was started on the handle, at this place
-abbrev pub StartsAt : List Entry → ℕ → ℕ → ℕ → Type 0
-StartsAt log i h q = (a : Entry) × (slice_get log i ≡ Some a) × (a.call ≡ StartQuery h) × (a.reply ≡ Started q)
+abbrev pub StartsQueryAt : List Entry → ℕ → ℕ → ℕ → Type 0
+StartsQueryAt log i h q = (a : Entry) × (slice_get log i ≡ Some a) × (a.call ≡ StartQuery h) × (a.reply ≡ Started q)
 
 -- a cancel stands at this place, on the handle or by a number and a key that had it there
 abbrev pub CancelsAt : List Entry → ℕ → ℕ → Type 0
@@ -22,4 +22,4 @@ NoStartBetween log i j h = (m : ℕ) (e : Entry) → i < m → m < j → slice_g
 -- start on that handle between the query's start and that cancel
 abbrev pub FiredLaw : Type 0
 FiredLaw = (log : List Entry) → IsLegal log → (k q by : ℕ) → slice_get log k ≡ Some (record { by = by; call = Look q; reply = Looked (Some tt) })
-    → (i : ℕ) × (j : ℕ) × (h : ℕ) × (i < j) × (j < k) × StartsAt log i h q × CancelsAt log j h × NoStartBetween log i j h
+    → (i : ℕ) × (j : ℕ) × (h : ℕ) × (i < j) × (j < k) × StartsQueryAt log i h q × CancelsAt log j h × NoStartBetween log i j h

@@ -51,16 +51,16 @@ unfoldable pub at_first : List (ℤ × One) → ℤ → List ℕ → Option ℕ
 at_first firsts pid key = in_one (lookup (is_at (int_cmp pid)) firsts) key
 
 -- whether a key stands there, and it is another
-unfoldable pub is_other : Option One → List ℕ → Bool
-is_other None key = false
-is_other (Some one) key = not (eq_by_cmp bytes_cmp key one.key.items)
+unfoldable pub is_other_key : Option One → List ℕ → Bool
+is_other_key None key = false
+is_other_key (Some one) key = not (eq_by_cmp bytes_cmp key one.key.items)
 
 -- ---- both
 
 -- the first, or else the second
-unfoldable pub first_of : Option ℕ → Option ℕ → Option ℕ
-first_of None o = o
-first_of (Some x) o = Some x
+unfoldable pub first_number_of : Option ℕ → Option ℕ → Option ℕ
+first_number_of None o = o
+first_number_of (Some x) o = Some x
 
 unfoldable pub both_flat : List (ℤ × One) → List (ℤ × BTreeMap Key ℕ) → List ((ℤ × List ℕ) × ℕ)
 both_flat firsts numbers = flat_firsts firsts ++ flat numbers
@@ -68,4 +68,4 @@ both_flat firsts numbers = flat_firsts firsts ++ flat numbers
 -- what stands at the number and the key, first or among its other keys
 unfoldable pub at_either : List (ℤ × One) → List (ℤ × BTreeMap Key ℕ) → ℤ → List ℕ
     → Option ℕ
-at_either firsts numbers pid key = first_of (at_first firsts pid key) (at_pair numbers pid key)
+at_either firsts numbers pid key = first_number_of (at_first firsts pid key) (at_pair numbers pid key)

@@ -5,7 +5,7 @@ use lib.ListN.{get_elem?}
 use Rattle.atomic_table.specs.Table.{State, Me, Step}
 use Rattle.pgw_registry.specs.declared.numbers.Hand.{Hand}
 use Rattle.pgw_registry.specs.declared.share.Share.{Share}
-use Rattle.pgw_registry.specs.Shares.{IsWhole, everything, none, half, together, AddUp}
+use Rattle.pgw_registry.specs.Shares.{IsWholeShare, everything, none, half, together, AddUp}
 
 -- f of each, added up
 abbrev pub total : (Hand → ℕ) → List Hand → ℕ
@@ -46,12 +46,12 @@ abbrev pub newcomer : Hand → Hand
 newcomer v = hand v.begins [] 0 1 false (half v.share)
 
 -- a seat that another one took in
-abbrev pub spent : Hand
-spent = hand 0 [] 0 0 false none
+abbrev pub spent_hand : Hand
+spent_hand = hand 0 [] 0 0 false none
 
 -- the seat that was owed is made, so no seat is owed any more
-abbrev pub settled : Hand → Hand
-settled v = hand v.begins v.drawn v.seen v.seats false (half v.share)
+abbrev pub with_seat_made : Hand → Hand
+with_seat_made v = hand v.begins v.drawn v.seen v.seats false (half v.share)
 
 -- what two seats know together
 abbrev pub both_of : Hand → Hand → Hand
@@ -67,7 +67,7 @@ drew v n owes = hand v.begins (v.drawn ++ n ∷ []) n v.seats owes v.share
 
 -- with the whole share, all numbers from the first one up to n were drawn by it
 abbrev pub DrewAll : ℕ → List ℕ → Share → ℕ → Type 0
-DrewAll begins drawn share n = IsWhole share → n ≡ begins + length drawn
+DrewAll begins drawn share n = IsWholeShare share → n ≡ begins + length drawn
 
 -- a view without a share has drawn nothing, and the numbers of any other begin at the first
 abbrev pub IsIdleOrBegins : ℕ → Hand → Type 0
@@ -75,7 +75,7 @@ IsIdleOrBegins first v = ((v.share.parts ≡ 0) × (v.drawn ≡ [])) ⊎ ((0 < v
 
 -- The numbers from the first up to the word are drawn, each once, and no others.
 -- The seats made and the marks set are together at most one more than the process numbers drawn, and no view has more numbers above them than seats. So the word never wraps
-pub record Kept (first word : ℕ) (views : List Hand) : Type 0 where
+pub record KeepsProcessNumbers (first word : ℕ) (views : List Hand) : Type 0 where
   pub begins : first ≤ 2147483647
   pub grows : first ≤ word
   pub none : (x : ℕ) → (x < first) ⊎ (word ≤ x) → total (λ v. times x v.drawn) views ≡ 0
@@ -88,7 +88,7 @@ pub record Kept (first word : ℕ) (views : List Hand) : Type 0 where
   pub sharing : (i : ℕ) (v : Hand) → get_elem? views i ≡ some v → IsIdleOrBegins first v
 
 abbrev pub Ruled : ℕ → State (Unit {0}) Hand → Type 0
-Ruled first s = (length s.words ≡ 1) × Kept first (slice_index s.words 0) s.views
+Ruled first s = (length s.words ≡ 1) × KeepsProcessNumbers first (slice_index s.words 0) s.views
 
 abbrev Sat : Type 0
 Sat = Me (Unit {0}) Hand
@@ -102,8 +102,8 @@ abbrev pub Compared : Step (Unit {0}) → Sat → ℕ → Sat → Type 0
 Compared s m n w = (w.0 ≡ m.0) × (w.1 ≡ m.1) × IsDistinct m.0.drawn × NoneBelow m.0.begins m.0.drawn
 
 -- the number was drawn
-abbrev pub Drew : Step (Unit {0}) → Sat → ℕ → Sat → Type 0
-Drew s m n w = (w.0 ≡ drew m.0 n m.0.owes) × (w.1 ≡ m.1) × (m.0.seen ≤ n) × IsDistinct w.0.drawn × NoneBelow w.0.begins w.0.drawn × (m.0.begins ≤ n) × DrewAll m.0.begins m.0.drawn m.0.share n
+abbrev pub DrewNumber : Step (Unit {0}) → Sat → ℕ → Sat → Type 0
+DrewNumber s m n w = (w.0 ≡ drew m.0 n m.0.owes) × (w.1 ≡ m.1) × (m.0.seen ≤ n) × IsDistinct w.0.drawn × NoneBelow w.0.begins w.0.drawn × (m.0.begins ≤ n) × DrewAll m.0.begins m.0.drawn m.0.share n
 
 -- the number was drawn for a seat, which is owed where it is a process number
 abbrev pub DrewForSeat : Step (Unit {0}) → Sat → ℕ → Sat → Type 0

@@ -12,11 +12,11 @@ use Rattle.pgw_registry.specs.declared.error.RegistryError.{RegistryError}
 use Rattle.pgw_registry.specs.declared.error.RegistryError.TheVariants.{Gone, Exhausted, OutOfMemory}
 use Rattle.pgw_registry.specs.declared.error.LookError.{LookError}
 use Rattle.pgw_registry.specs.declared.error.LookError.TheVariants as look
-use Rattle.pgw_registry.specs.Sequential.{Book, Handles, next, reply_of}
+use Rattle.pgw_registry.specs.Sequential.{Book, ProcessHandles, next_book, reply_of}
 
 -- the call was made, with this reply
 abbrev pub Makes : Call → Reply → Book → Book → Type 0
-Makes c r b d = (b.events < 18446744073709551615) × (r ≡ reply_of b c) × (d ≡ next b c)
+Makes c r b d = (b.events < 18446744073709551615) × (r ≡ reply_of b c) × (d ≡ next_book b c)
 
 -- no event may be added, and nothing changes
 abbrev pub IsFull : Book → Book → Type 0
@@ -56,12 +56,12 @@ LookFails c look.Canceled b d = Makes c NoQuery b d
 LookFails c look.Exhausted b d = IsFull b d
 
 -- each handle has a holder, and no more of them than there were events and one
-abbrev pub FewHolders : Handles → ℕ → Type 0
+abbrev pub FewHolders : ProcessHandles → ℕ → Type 0
 FewHolders hs n = (k : ℕ) (x : Handle) → map.get hs k ≡ Some x → (0 < x.holders) × (x.holders ≤ n + 1)
 
-abbrev pub pair : ℤ → List ℕ → Pair
-pair pid key = record { pid = pid; key = key }
+abbrev pub cancel_key_pair : ℤ → List ℕ → Pair
+cancel_key_pair pid key = record { pid = pid; key = key }
 
 -- each pair is the one with which its handle was made
 abbrev pub NamesPairs : PairMap → map.FinMap nat_cmp Pair → ℕ → Type 0
-NamesPairs pairs names made = (pid : ℤ) (key : List ℕ) (h : ℕ) → map.get pairs (pid, key) ≡ Some h → (h ≤ made) × (map.get names h ≡ Some (pair pid key))
+NamesPairs pairs names made = (pid : ℤ) (key : List ℕ) (h : ℕ) → map.get pairs (pid, key) ≡ Some h → (h ≤ made) × (map.get names h ≡ Some (cancel_key_pair pid key))

@@ -6,8 +6,8 @@ abbrev pub share : ℕ → ℕ → Share
 share parts whole = record { parts = parts; whole = whole }
 
 -- the whole right
-abbrev pub IsWhole : Share → Type 0
-IsWhole s = s.parts ≡ s.whole
+abbrev pub IsWholeShare : Share → Type 0
+IsWholeShare s = s.parts ≡ s.whole
 
 abbrev pub everything : Share
 everything = share 1 1
@@ -19,16 +19,16 @@ abbrev pub half : Share → Share
 half s = share s.parts (s.whole + s.whole)
 
 -- it is no more than the right
-abbrev pub IsWithin : Share → Type 0
-IsWithin s = s.parts ≤ s.whole
+abbrev pub IsWithinWhole : Share → Type 0
+IsWithinWhole s = s.parts ≤ s.whole
 
 -- the sum of two
 abbrev pub together : Share → Share → Share
 together s t = share (s.parts * t.whole + t.parts * s.whole) (s.whole * t.whole)
 
 -- it is some part of the right
-abbrev pub IsPart : Share → Type 0
-IsPart s = (0 < s.parts) × (0 < s.whole)
+abbrev pub IsSomeShare : Share → Type 0
+IsSomeShare s = (0 < s.parts) × (0 < s.whole)
 
 -- where the right has k units, the share has n of them
 abbrev pub HasUnits : ℕ → ℕ → Share → Type 0

@@ -3,11 +3,11 @@
 ghost use Rattle.std.specs.Prelude.{◌≡◌, ◌⊎◌, ℕ, ◌+◌, ◌<◌, ◌≤◌, Bool, true, false, leb, List, [], ◌∷◌, ◌++◌, IsOk, IfOk, IfErr, Result, ℤ, pos, ◌≤ℤ◌};
 ghost use Rattle.pgw_types.specs.declared.context.ProtocolVersion.TheVariants.{PROTOCOL3_0};
 ghost use Rattle.pgw_registry.specs.declared.error.PidError.TheVariants.{PidsExhausted};
-ghost use Rattle.pgw_registry.specs.Numbers.{IsDistinct, NoneBelow, DrewAll, above, saw, drew, settled, newcomer, both_of};
+ghost use Rattle.pgw_registry.specs.Numbers.{IsDistinct, NoneBelow, DrewAll, above, saw, drew, with_seat_made, newcomer, both_of};
 ghost use Rattle.pgw_registry.specs.Seats.{Numbers as Listing};
-ghost use Rattle.pgw_registry.specs.Key.{key_of};
-ghost use Rattle.pgw_registry.specs.Shares.{IsPart, half};
-ghost use Rattle.pgw_registry.specs.Generator.{unused, cut_from, IsNext, NoNumber, Generates, NoSeat, met};
+ghost use Rattle.pgw_registry.specs.Key.{process_key};
+ghost use Rattle.pgw_registry.specs.Shares.{IsSomeShare, half};
+ghost use Rattle.pgw_registry.specs.Generator.{unused, cut_from, IsNext, NoNumber, Generates, NoSeat, joint_numbers};
 
 use crate::error::PidError;
 use crate::key::key_for;
@@ -161,7 +161,7 @@ impl PidSeat {
     ) -> Result<(), PidSeat>
         requires { (self.old.of ≡ generator.now) × (other.of ≡ generator.now) }
         ensures done { IsOk result }
-        ensures ok { IfOk result (λ _. (self.new ≡ met self.old other) × IsDistinct self.new.drawn
+        ensures ok { IfOk result (λ _. (self.new ≡ joint_numbers self.old other) × IsDistinct self.new.drawn
             × NoneBelow self.new.begins self.new.drawn) }
     {
         let PidSeat { place } = other;
@@ -219,7 +219,7 @@ fn cut(word: &Word, place: &mut Place) -> Place
         × (place.old.table_id ≡ word.now.shared.table_id) }
     requires owes { place.old.me.0.owes ≡ true }
     ensures place { (place.new.table_id ≡ place.old.table_id) × (place.new.me.1 ≡ place.old.me.1)
-        × (place.new.me.0 ≡ settled place.old.me.0) }
+        × (place.new.me.0 ≡ with_seat_made place.old.me.0) }
     ensures made { (result.table_id ≡ place.old.table_id) × (result.me.1 ≡ [])
         × (result.me.0 ≡ newcomer place.old.me.0) }
 {
@@ -232,7 +232,7 @@ fn take_in(word: &Word, place: &mut Place, other: Place)
         × (place.old.table_id ≡ word.now.shared.table_id)
         × (other.table_id ≡ word.now.shared.table_id) }
     requires other { other.me.1 ≡ [] }
-    requires parts { IsPart place.old.me.0.share × IsPart other.me.0.share }
+    requires parts { IsSomeShare place.old.me.0.share × IsSomeShare other.me.0.share }
     ensures place { (place.new.table_id ≡ place.old.table_id) × (place.new.me.1 ≡ place.old.me.1)
         × (place.new.me.0 ≡ both_of place.old.me.0 other.me.0) }
     ensures told { IsDistinct place.new.me.0.drawn

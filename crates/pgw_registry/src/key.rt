@@ -1,6 +1,6 @@
 //! Keys of connections.
 ghost use Rattle.std.specs.Prelude.{◌≡◌, IfOk, IsOk};
-ghost use Rattle.pgw_registry.specs.Key.{key_of};
+ghost use Rattle.pgw_registry.specs.Key.{process_key};
 ghost use Rattle.pgw_types.specs.declared.context.ProtocolVersion.TheVariants.{PROTOCOL3_0};
 
 use pgw_types::context::ProtocolVersion;
@@ -15,7 +15,7 @@ pub fn key_for(
     version: ProtocolVersion,
     words: &[u8; 32],
 ) -> Result<SecretKey, OutOfMemory>
-    ensures value { IfOk result (λ key. key ≡ key_of version words.now) }
+    ensures value { IfOk result (λ key. key ≡ process_key version words.now) }
     ensures free { version ≡ PROTOCOL3_0 → IsOk result }
 {
     match version {

@@ -4,7 +4,7 @@ ghost use Rattle.std.specs.Arc.{arc_value};
 ghost use Rattle.pgw_wire.specs.Keys.{key_bytes};
 ghost use Rattle.pgw_registry.specs.Shares.{half};
 ghost use Rattle.pgw_registry.specs.declared.error.RegistryError.TheVariants.{OutOfMemory as NoMemory};
-ghost use Rattle.pgw_registry.specs.Passes.{CountsAll, Known, Sees, Makes, mine, Refused, Grew, OnlyFull, Struck, NotLooked, Full, first_pass, halved, Meets};
+ghost use Rattle.pgw_registry.specs.Passes.{CountsAll, Known, Sees, Makes, mine, Refused, PassCannotGrow, OnlyFull, Struck, NotLooked, Full, first_pass, halved, TakesInView};
 ghost use Rattle.pgw_registry.specs.declared.call.Call.TheVariants.{Cancel, CancelHandle, StartQuery, NewHandle, CloseHandle, Look, Finish, Register, Release};
 ghost use Rattle.pgw_registry.specs.declared.call.Reply.TheVariants.{Canceled, Started, Handled, Done, Looked};
 
@@ -141,7 +141,7 @@ impl ConnectionManager {
         ensures ok { IfOk result (λ r. Makes (Register pid (key_bytes secret_key))
             (Handled r.0.number) pass.old pass.new × (r.1.pid ≡ pid)
             × (r.1.key ≡ key_bytes secret_key) × (arc_value r.1.manager ≡ arc_value manager.now)) }
-        ensures err { IfErr result (λ e. Grew e pass.old pass.new
+        ensures err { IfErr result (λ e. PassCannotGrow e pass.old pass.new
             ⊎ ((e ≡ NoMemory) × (pass.new ≡ pass.old))) }
     {
         let key = own_bytes(alloc, &secret_key)?;
@@ -165,7 +165,7 @@ impl ConnectionManager {
     ) -> Result<ConnectionHandle, RegistryError>
         requires { pass.old.of ≡ self.now }
         ensures ok { IfOk result (λ h. Makes NewHandle (Handled h.number) pass.old pass.new) }
-        ensures err { IfErr result (λ e. Grew e pass.old pass.new) }
+        ensures err { IfErr result (λ e. PassCannotGrow e pass.old pass.new) }
     {
         enter(rt, &self.desk, &mut pass.place);
         let mut registry = take_out(&self.desk, &mut pass.place);
@@ -248,7 +248,7 @@ impl ConnectionManager {
     ) -> Result<u64, RegistryError>
         requires { pass.old.of ≡ self.now }
         ensures ok { IfOk result (λ h. Makes (Register pid key.now) (Handled h) pass.old pass.new) }
-        ensures err { IfErr result (λ e. Grew e pass.old pass.new
+        ensures err { IfErr result (λ e. PassCannotGrow e pass.old pass.new
             ⊎ ((e ≡ NoMemory) × (pass.new ≡ pass.old))) }
     {
         let given = key.duplicate()?;
@@ -269,7 +269,7 @@ impl ConnectionManager {
         requires call { C.call ≡ Register pid key }
         requires copy { copy.items ≡ key }
         ensures ok { IfOk result (λ h. Makes (Register pid key) (Handled h) pass.old pass.new) }
-        ensures err { IfErr result (λ e. Grew e pass.old pass.new) }
+        ensures err { IfErr result (λ e. PassCannotGrow e pass.old pass.new) }
     {
         enter(rt, &self.desk, &mut pass.place);
         let mut registry = take_out(&self.desk, &mut pass.place);
@@ -459,7 +459,7 @@ impl Pass {
     pub fn meet(&mut self, manager: &ConnectionManager, other: Pass) -> Result<(), Pass>
         requires { (self.old.of ≡ manager.now) × (other.of ≡ manager.now) }
         ensures done { IsOk result }
-        ensures ok { IfOk result (λ _. Meets self.old other self.new) }
+        ensures ok { IfOk result (λ _. TakesInView self.old other self.new) }
     {
         let Pass { place } = other;
         take_in(&manager.desk, &mut self.place, place);

@@ -61,9 +61,9 @@ impl Play<(), Hand> for Compares {
 pub struct Draws;
 
 impl Play<(), Hand> for Draws {
-    ghost use Rattle.pgw_registry.specs.Numbers.{Drew};
+    ghost use Rattle.pgw_registry.specs.Numbers.{DrewNumber};
 
-    ghost then = { Drew };
+    ghost then = { DrewNumber };
 }
 
 /// Draws the number of the word for a seat.
@@ -79,17 +79,17 @@ impl Play<(), Hand> for DrawsForSeat {
 pub struct Seats;
 
 impl Split<Hand> for Seats {
-    ghost use Rattle.pgw_registry.specs.Numbers.{settled, newcomer};
+    ghost use Rattle.pgw_registry.specs.Numbers.{with_seat_made, newcomer};
 
-    ghost left = { settled };
+    ghost left = { with_seat_made };
 
     ghost right = { newcomer };
 }
 
 impl Join<Hand> for Seats {
-    ghost use Rattle.pgw_registry.specs.Numbers.{both_of, spent};
+    ghost use Rattle.pgw_registry.specs.Numbers.{both_of, spent_hand};
 
     ghost both = { both_of };
 
-    ghost spent = { spent };
+    ghost spent = { spent_hand };
 }

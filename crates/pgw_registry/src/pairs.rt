@@ -5,7 +5,7 @@ ghost use Rattle.std.specs.FinMap as map;
 ghost use Rattle.std.specs.BTreeMap.{IsOrdered, is_at};
 ghost use Rattle.std.specs.Map.{lookup};
 ghost use Rattle.pgw_registry.specs.Pairs.{bytes_cmp, pair_cmp};
-ghost use Rattle.pgw_registry.specs.Nested.{at_key, at_pair, NoneEmpty, in_one, at_first, at_either, is_other};
+ghost use Rattle.pgw_registry.specs.Nested.{at_key, at_pair, NoneEmpty, in_one, at_first, at_either, is_other_key};
 
 use pgw_types::memory::OutOfMemory;
 use pgw_types::octets::Octets;
@@ -151,7 +151,7 @@ fn find_first(firsts: &Firsts, pid: &i32, key: &[u8]) -> Option<u64>
 
 // Whether another key of the number stands first.
 fn has_other(firsts: &Firsts, pid: &i32, key: &[u8]) -> bool
-    ensures { result ≡ is_other (lookup (is_at (int_cmp pid.now)) firsts.now.entries) key.now }
+    ensures { result ≡ is_other_key (lookup (is_at (int_cmp pid.now)) firsts.now.entries) key.now }
 {
     match firsts.get(pid) {
         Some(one) => !is_key(one, key),

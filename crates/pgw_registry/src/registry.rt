@@ -1,7 +1,7 @@
 //! The registry of one thread.
 ghost use Rattle.std.specs.Prelude.{◌≡◌, ℕ, ◌+◌, ◌<◌, IfOk, IfErr, Some, None};
 ghost use Rattle.std.specs.FinMap as map;
-ghost use Rattle.pgw_registry.specs.Sequential.{nothing, next, reply_of, replaced, fired, handle_at, handle_of, let_go, held};
+ghost use Rattle.pgw_registry.specs.Sequential.{nothing, next_book, reply_of, replaced, fired, handle_at, handle_of, let_go, held};
 ghost use Rattle.pgw_registry.specs.Registry.{Makes, StartFails, GrowFails, StrikeFails, LookFails, ReleaseFails, NamesPairs};
 ghost use Rattle.pgw_registry.specs.Pairs.{without_handle};
 ghost use Rattle.pgw_registry.specs.declared.error.RegistryError.TheVariants.{OutOfMemory};
@@ -92,7 +92,7 @@ fn forget_pair(pairs: &mut Pairs, names: &mut Numbered<Pair>, number: u64)
     }
 }
 
-#[tactic(auto, unfolding(crate::specs::Sequential::next, crate::specs::Sequential::reply_of))]
+#[tactic(auto, unfolding(crate::specs::Sequential::next_book, crate::specs::Sequential::reply_of))]
 impl Registry {
     pub fn new(alloc: Global) -> Registry
         ensures { result ≡ nothing }

@@ -64,9 +64,9 @@ impl Asked for Brand {
 pub struct TakesTurn;
 
 impl Play<Option<Held>, Sight> for TakesTurn {
-    ghost use Rattle.pgw_registry.specs.History.{Took};
+    ghost use Rattle.pgw_registry.specs.History.{TookLog};
 
-    ghost then = { Took };
+    ghost then = { TookLog };
 }
 
 pub struct LeavesTurn;
@@ -88,9 +88,9 @@ impl Play<Option<Held>, Sight> for Looks {
 pub struct Names;
 
 impl Play<Option<Held>, Sight> for Names {
-    ghost use Rattle.pgw_registry.specs.History.{Named};
+    ghost use Rattle.pgw_registry.specs.History.{NamesProcess};
 
-    ghost then = { Named };
+    ghost then = { NamesProcess };
 }
 
 pub struct Appends<C> {
@@ -98,9 +98,9 @@ pub struct Appends<C> {
 }
 
 impl<C: Asked> Play<Option<Held>, Sight> for Appends<C> {
-    ghost use Rattle.pgw_registry.specs.History.{Appended};
+    ghost use Rattle.pgw_registry.specs.History.{AppendsToLog};
 
-    ghost then = { Appended C.call };
+    ghost then = { AppendsToLog C.call };
 }
 
 pub struct Passes;
@@ -114,9 +114,9 @@ impl Split<Sight> for Passes {
 }
 
 impl Join<Sight> for Passes {
-    ghost use Rattle.pgw_registry.specs.History.{both_of, spent};
+    ghost use Rattle.pgw_registry.specs.History.{both_of, spent_sight};
 
     ghost both = { both_of };
 
-    ghost spent = { spent };
+    ghost spent = { spent_sight };
 }

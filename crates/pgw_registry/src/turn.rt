@@ -1,9 +1,9 @@
 //! The steps of one pass on the turn, the slot and the count.
 ghost use Rattle.std.specs.Prelude.{◌≡◌, ℕ, ◌+◌, ◌<◌, true, false, [], ◌∷◌, ◌++◌, length, Some, None};
 ghost use Rattle.pgw_registry.specs.Sequential.{Book, nothing, state_after, IsLegal};
-ghost use Rattle.pgw_registry.specs.History.{Apart, Grown, Later, HasAll, Log, holding, at_rest, saw, halved, named, newcomer, both_of, appended, no_old, held, places};
+ghost use Rattle.pgw_registry.specs.History.{Apart, Grown, Later, HasAll, Log, holding, at_rest, saw, halved, with_process, newcomer, both_of, appended, no_old, held, places};
 ghost use Rattle.pgw_registry.specs.Passes.{IsDesk};
-ghost use Rattle.pgw_registry.specs.Shares.{IsPart};
+ghost use Rattle.pgw_registry.specs.Shares.{IsSomeShare};
 
 use crate::held::Held;
 use crate::registry::Registry;
@@ -114,7 +114,7 @@ pub(crate) fn cut(desk: &Desk, place: &mut Place) -> Place
     ensures desk { (place.new.table_id ≡ place.old.table_id)
         × (place.new.me.0 ≡ halved place.old.me.0) × (place.new.me.1 ≡ place.old.me.1) }
     ensures made { (result.table_id ≡ place.old.table_id) × (result.me.1 ≡ [])
-        × ((by : ℕ) × (result.me.0 ≡ named (newcomer place.old.me.0) by)
+        × ((by : ℕ) × (result.me.0 ≡ with_process (newcomer place.old.me.0) by)
         × (places (by ∷ []) place.old.me.0.seen ≡ [])) }
 {
     let mut made = desk.shared.split_seat::<Passes>(place);
@@ -128,7 +128,7 @@ pub(crate) fn take_in(desk: &Desk, place: &mut Place, other: Place)
         × (place.old.table_id ≡ desk.now.shared.table_id)
         × (other.table_id ≡ desk.now.shared.table_id) }
     requires idle { (place.old.me.0.turn ≡ false) × (other.me.0.turn ≡ false) × (other.me.1 ≡ []) }
-    requires parts { IsPart place.old.me.0.share × IsPart other.me.0.share }
+    requires parts { IsSomeShare place.old.me.0.share × IsSomeShare other.me.0.share }
     ensures desk { (place.new.table_id ≡ place.old.table_id) × (place.new.me.1 ≡ place.old.me.1) }
     ensures met { (log : Log) × Later (both_of place.old.me.0 other.me.0) log
         × (place.new.me.0 ≡ saw (both_of place.old.me.0 other.me.0) log)

@@ -27,17 +27,17 @@ impl RowCounter {
 
 impl SimpleQueryHandler for RowCounter {
     ghost use Rattle.std.specs.Prelude.{Ok, Err};
-    ghost use Rattle.pgw_row_counter.specs.Counting.{CountMeans, keeps_parameters, misplaces_notifications, passes_notices};
+    ghost use Rattle.pgw_row_counter.specs.Counting.{CountMeans, keeps_in_counter, counts_no_notifications, counter_passes_notices};
 
     type QueryResponse = u64;
 
     ghost means = { CountMeans };
 
-    ghost keeps = { keeps_parameters };
+    ghost keeps = { keeps_in_counter };
 
-    ghost passes = { passes_notices };
+    ghost passes = { counter_passes_notices };
 
-    ghost misplaces = { misplaces_notifications };
+    ghost misplaces = { counts_no_notifications };
 
     fn simple_query<C: ClientInfo + Outgoing>(
         &mut self,

@@ -6,7 +6,7 @@ use Rattle.pgw_query.specs.declared.data.DataRow.{DataRow}
 use Rattle.pgw_rows.specs.declared.unread.Unread.{Unread}
 use Rattle.pgw_rows.specs.declared.unread.RowPlace.{RowPlace}
 use Rattle.pgw_query.specs.Runs.{SpellsRows, row_end, row_in, rows_in, rows_of}
-use Rattle.pgw_rows.specs.Unread.{IsPlace, IsUnread, row_at}
+use Rattle.pgw_rows.specs.Unread.{IsRowPlace, IsUnread, row_at}
 use Rattle.pgw_query.proofs.RunLaws.{Begins, begins}
 
 -- the first row of the run
@@ -16,7 +16,7 @@ first_of u are some = begins u.left (drop u.at u.bytes) some are.1.0
 pub ends_within : (u : Unread) → IsUnread u → 0 < u.left → u.at + row_end (drop u.at u.bytes) ≤ length u.bytes
 ends_within u are some = let b = first_of u are some in omega (arith, b.head.1, are.0, length-drop u.at u.bytes)
 
-pub is_place : (u : Unread) (place : RowPlace) → IsUnread u → 0 < u.left → place.field_count ≡ (row_in (drop u.at u.bytes)).field_count → place.from ≡ u.at + 7 → place.to ≡ u.at + row_end (drop u.at u.bytes) → IsPlace u place
+pub is_place : (u : Unread) (place : RowPlace) → IsUnread u → 0 < u.left → place.field_count ≡ (row_in (drop u.at u.bytes)).field_count → place.from ≡ u.at + 7 → place.to ≡ u.at + row_end (drop u.at u.bytes) → IsRowPlace u place
 is_place u place are some count from to =
     let rest = drop u.at u.bytes in
     let end = row_end rest in

@@ -11,7 +11,7 @@ use Rattle.hex.specs.Hex.{IsBytes}
 use Rattle.hex.proofs.HexLemmas.{decode_of-encode_lower}
 use Rattle.pgw_query.specs.declared.pg_type.PgType.{PgType}
 use Rattle.pgw_query.specs.declared.pg_type.PgType.TheVariants as types
-use Rattle.pgw_rows.specs.Values.{integer_of_binary, integer_of_text, is_int2, is_int4, is_int8, or_bad_text, is_text, has_text, text_of, text_of_text, octets_of_text}
+use Rattle.pgw_rows.specs.Values.{integer_of_binary, integer_of_text, is_int2, is_int4, is_int8, or_bad_text, is_text, has_text, row_value_text, text_of_text, octets_of_text}
 use Rattle.pgw_rows.specs.Written.{integer_binary, octets_text, IsReadBack}
 use Rattle.pgw_rows.proofs.NumberLaws.{digits_are_read}
 
@@ -70,7 +70,7 @@ text_held types.Bpchar e = e
 text_held types.Varchar e = e
 text_held (types.Other oid) e = absurd cc
 
-pub texts : (ty : PgType) (x : List ℕ) → is_text ty ≡ true → IsUtf8 x → IsReadBack ty (λ (t : List ℕ). Some t) (λ (t : List ℕ). Some t) text_of text_of_text x
+pub texts : (ty : PgType) (x : List ℕ) → is_text ty ≡ true → IsUtf8 x → IsReadBack ty (λ (t : List ℕ). Some t) (λ (t : List ℕ). Some t) row_value_text text_of_text x
 texts ty x is h =
     let utf8 : is_utf8 x ≡ true = is_utf8-from_IsUtf8 x h in
     let held : has_text ty ≡ true = text_held ty is in

@@ -7,7 +7,7 @@ use Rattle.pgw_query.specs.declared.field_info.FieldInfo.{FieldInfo}
 use Rattle.pgw_query.specs.declared.row_error.RowError.{RowError}
 use Rattle.pgw_query.specs.declared.row_error.RowError.TheVariants as why
 use Rattle.pgw_rows.specs.declared.cut.Cut.{Cut}
-use Rattle.pgw_rows.specs.Rows.{value_at, standing_at}
+use Rattle.pgw_rows.specs.Rows.{value_at, row_standing}
 
 -- the length before a value
 abbrev pub HasLength : List ℕ → Option ℤ → Type 0
@@ -27,15 +27,15 @@ abbrev pub cut_of : List ℕ → Cut → List ℕ
 cut_of row cut = slice_range row cut.from cut.to
 
 -- a value was passed over
-pub record Passed (fields : List FieldInfo) (row : List ℕ) (old_passed old_at new_passed new_at : ℕ) (value : Option (List ℕ)) : Type 0 where
+pub record PassesValue (fields : List FieldInfo) (row : List ℕ) (old_passed old_at new_passed new_at : ℕ) (value : Option (List ℕ)) : Type 0 where
   pub column : old_passed < length fields
   pub counted : new_passed ≡ old_passed + 1
   pub within : new_at ≤ length row
   pub value_is : value_at (drop old_at row) ≡ Some (value, drop new_at row)
 
 -- what passing a value over answers
-abbrev pub Passes : List FieldInfo → List ℕ → ℕ → ℕ → ℕ → ℕ → Result (Option Cut) RowError → Type 0
-Passes fields row old_passed old_at new_passed new_at (Ok None) = Passed fields row old_passed old_at new_passed new_at None
-Passes fields row old_passed old_at new_passed new_at (Ok (Some cut)) = Passed fields row old_passed old_at new_passed new_at (Some (cut_of row cut)) × IsIn row cut
-Passes fields row old_passed old_at new_passed new_at (Err e) =
-    (e ≡ why.DataRowIndexOutOfBounds) × (new_passed ≡ old_passed) × (new_at ≡ old_at) × (standing_at (record { fields = fields; passed = old_passed; bytes = drop old_at row }) ≡ None)
+abbrev pub PassesCut : List FieldInfo → List ℕ → ℕ → ℕ → ℕ → ℕ → Result (Option Cut) RowError → Type 0
+PassesCut fields row old_passed old_at new_passed new_at (Ok None) = PassesValue fields row old_passed old_at new_passed new_at None
+PassesCut fields row old_passed old_at new_passed new_at (Ok (Some cut)) = PassesValue fields row old_passed old_at new_passed new_at (Some (cut_of row cut)) × IsIn row cut
+PassesCut fields row old_passed old_at new_passed new_at (Err e) =
+    (e ≡ why.DataRowIndexOutOfBounds) × (new_passed ≡ old_passed) × (new_at ≡ old_at) × (row_standing (record { fields = fields; passed = old_passed; bytes = drop old_at row }) ≡ None)

@@ -16,26 +16,26 @@ use Rattle.pgw_query.specs.declared.row_error.RowError.TheVariants as why
 -- ---- rows
 
 -- rows that wait to be read, and their columns
-pub record Waiting : Type 0 where
+pub record WaitingRows : Type 0 where
   pub fields : List FieldInfo
   pub rows : List DataRow
 
 -- a place in a row: the columns of the row, how many of its values are passed, and the bytes of the others
-pub record Place : Type 0 where
+pub record PlaceInRow : Type 0 where
   pub fields : List FieldInfo
   pub passed : ℕ
   pub bytes : List ℕ
 
-abbrev pub row_start : List FieldInfo → DataRow → Place
+abbrev pub row_start : List FieldInfo → DataRow → PlaceInRow
 row_start fields row = record { fields = fields; passed = 0; bytes = row.payload }
 
 -- the first row is given and no longer waits; none is, where none waits
-abbrev pub GivesFirst : Waiting → Option DataRow → Waiting → Type 0
+abbrev pub GivesFirst : WaitingRows → Option DataRow → WaitingRows → Type 0
 GivesFirst old None new = (old.rows ≡ []) × (new ≡ old)
 GivesFirst old (Some row) new = (old.rows ≡ row ∷ new.rows) × (new.fields ≡ old.fields)
 
 -- the rows behind the first
-abbrev pub others_of : Waiting → Waiting
+abbrev pub others_of : WaitingRows → WaitingRows
 others_of waiting = record waiting { rows = drop 1 waiting.rows }
 
 -- ---- values
@@ -45,46 +45,46 @@ abbrev pub value_at : List ℕ → Option (Option (List ℕ) × List ℕ)
 value_at bytes = result_ok (nullable_at bytes)
 
 -- what stands at a place: its column, the value and the bytes behind it
-abbrev pub Standing : Type 0
-Standing = FieldInfo × (Option (List ℕ) × List ℕ)
+abbrev pub RowPlaceValue : Type 0
+RowPlaceValue = FieldInfo × (Option (List ℕ) × List ℕ)
 
-abbrev pub both : {A B : Type 0} → Option A → Option B → Option (A × B)
-both (Some x) (Some y) = Some (x, y)
-both (Some x) None = None
-both None y = None
+abbrev pub both_values : {A B : Type 0} → Option A → Option B → Option (A × B)
+both_values (Some x) (Some y) = Some (x, y)
+both_values (Some x) None = None
+both_values None y = None
 
 -- none where no column is left, or the bytes end within the value
-abbrev pub standing_at : Place → Option Standing
-standing_at place = both (slice_get place.fields place.passed) (value_at place.bytes)
+abbrev pub row_standing : PlaceInRow → Option RowPlaceValue
+row_standing place = both_values (slice_get place.fields place.passed) (value_at place.bytes)
 
 -- the place behind a value
-abbrev pub behind : Place → List ℕ → Place
-behind place rest = record place { passed = place.passed + 1; bytes = rest }
+abbrev pub row_place_behind : PlaceInRow → List ℕ → PlaceInRow
+row_place_behind place rest = record place { passed = place.passed + 1; bytes = rest }
 
 -- ---- answers
 
 -- a call gave what the type reads, or memory ran out where it may
-abbrev pub Gives : {A : Type 0} → Type 0 → Result A SqlFault → Result A RowError → Type 0
-Gives Lacks read (Ok x) = read ≡ Ok x
-Gives Lacks read (Err (why.FromSqlError fault)) = read ≡ Err fault
-Gives Lacks read (Err why.OutOfMemory) = Lacks
-Gives Lacks read (Err e) = ⊥
+abbrev pub GivesValue : {A : Type 0} → Type 0 → Result A SqlFault → Result A RowError → Type 0
+GivesValue Lacks read (Ok x) = read ≡ Ok x
+GivesValue Lacks read (Err (why.FromSqlError fault)) = read ≡ Err fault
+GivesValue Lacks read (Err why.OutOfMemory) = Lacks
+GivesValue Lacks read (Err e) = ⊥
 
 abbrev pub some_of : {A : Type 0} → Result A SqlFault → Result (Option A) SqlFault
 some_of (Ok x) = Ok (Some x)
 some_of (Err fault) = Err fault
 
 -- where a call comes to that may be refused for want of memory, which leaves its place
-abbrev pub behind_unless : {A : Type 0} → Result A RowError → Place → List ℕ → Place
+abbrev pub behind_unless : {A : Type 0} → Result A RowError → PlaceInRow → List ℕ → PlaceInRow
 behind_unless (Err why.OutOfMemory) place rest = place
-behind_unless result place rest = behind place rest
+behind_unless result place rest = row_place_behind place rest
 
 -- a call answers what is read of the value at a place, and leaves the place behind it; NULL is none. Where no value
 -- stands it answers so and stays, and so it does where memory is wanting
-abbrev pub Answers : {A : Type 0} → Type 0 → (FieldInfo → List ℕ → Result A SqlFault) → Option Standing → Place → Place → Result (Option A) RowError → Type 0
-Answers Lacks read None old new result = (result ≡ Err why.DataRowIndexOutOfBounds) × (new ≡ old)
-Answers Lacks read (Some (field, (None, rest))) old new result = (result ≡ Ok None) × (new ≡ behind old rest)
-Answers Lacks read (Some (field, (Some raw, rest))) old new result = Gives Lacks (some_of (read field raw)) result × (new ≡ behind_unless result old rest)
+abbrev pub AnswersRowRead : {A : Type 0} → Type 0 → (FieldInfo → List ℕ → Result A SqlFault) → Option RowPlaceValue → PlaceInRow → PlaceInRow → Result (Option A) RowError → Type 0
+AnswersRowRead Lacks read None old new result = (result ≡ Err why.DataRowIndexOutOfBounds) × (new ≡ old)
+AnswersRowRead Lacks read (Some (field, (None, rest))) old new result = (result ≡ Ok None) × (new ≡ row_place_behind old rest)
+AnswersRowRead Lacks read (Some (field, (Some raw, rest))) old new result = GivesValue Lacks (some_of (read field raw)) result × (new ≡ behind_unless result old rest)
 
 abbrev pub in_format : {A : Type 0} → FieldFormat → A → A → A
 in_format formats.Binary binary text = binary
@@ -95,12 +95,12 @@ abbrev pub read_by : {A : Type 0} → (PgType → List ℕ → Result A SqlFault
 read_by of_binary of_text field raw = in_format field.format (of_binary field.datatype raw) (of_text field.datatype raw)
 
 -- an answer that lends bytes, as those bytes
-abbrev pub lent : Result (Option (Bor (List ℕ))) RowError → Result (Option (List ℕ)) RowError
-lent (Ok bytes) = Ok (option_copied bytes)
-lent (Err e) = Err e
+abbrev pub lent_row_value : Result (Option (Bor (List ℕ))) RowError → Result (Option (List ℕ)) RowError
+lent_row_value (Ok bytes) = Ok (option_copied bytes)
+lent_row_value (Err e) = Err e
 
 -- a call lends the value at a place, and leaves the place behind it; NULL is none. Where no value stands it answers so
 -- and stays
-abbrev pub Lends : Option Standing → Place → Place → Result (Option (List ℕ)) RowError → Type 0
-Lends None old new result = (result ≡ Err why.DataRowIndexOutOfBounds) × (new ≡ old)
-Lends (Some (field, (value, rest))) old new result = (result ≡ Ok value) × (new ≡ behind old rest)
+abbrev pub LendsRowValue : Option RowPlaceValue → PlaceInRow → PlaceInRow → Result (Option (List ℕ)) RowError → Type 0
+LendsRowValue None old new result = (result ≡ Err why.DataRowIndexOutOfBounds) × (new ≡ old)
+LendsRowValue (Some (field, (value, rest))) old new result = (result ≡ Ok value) × (new ≡ row_place_behind old rest)

@@ -84,11 +84,11 @@ is_text types.Name = true
 is_text types.Unknown = true
 is_text ty = false
 
-abbrev pub text_in : List ℕ → Option (List ℕ)
-text_in raw = if is_utf8 raw then Some raw else None
+abbrev pub value_text : List ℕ → Option (List ℕ)
+value_text raw = if is_utf8 raw then Some raw else None
 
-abbrev pub text_of : PgType → List ℕ → Result (List ℕ) SqlFault
-text_of ty raw = of_type (is_text ty) ty (or_bad_text (text_in raw))
+abbrev pub row_value_text : PgType → List ℕ → Result (List ℕ) SqlFault
+row_value_text ty raw = of_type (is_text ty) ty (or_bad_text (value_text raw))
 
 -- a type that no other type of a program reads, whose text form a text holds as it is, by its number in pg_type: json,
 -- real and double precision (8.1.3), date, time, timestamp without and with time zone, interval (8.5), numeric (8.1.2),
@@ -101,7 +101,7 @@ has_text (types.Other oid) = is_written_out oid
 has_text ty = is_text ty
 
 abbrev pub text_of_text : PgType → List ℕ → Result (List ℕ) SqlFault
-text_of_text ty text = of_type (has_text ty) ty (or_bad_text (text_in text))
+text_of_text ty text = of_type (has_text ty) ty (or_bad_text (value_text text))
 
 -- ---- bytea (8.4.1, bytea Hex Format): the bytes; or `\x` and two hex digits for each, in either case
 

@@ -1,8 +1,8 @@
 //! Where values stand in a row.
 ghost use Rattle.std.specs.Prelude.{◌≡◌, ◌⊎◌, ◌≤◌, length, take, IfSome};
 ghost use Rattle.std.specs.Option.{option_copied, option_map};
-ghost use Rattle.pgw_rows.specs.Cuts.{HasLength, IsIn, Locates, Passes, cut_of};
-ghost use Rattle.pgw_rows.specs.Rows.{Gives, read_by};
+ghost use Rattle.pgw_rows.specs.Cuts.{HasLength, IsIn, Locates, PassesCut, cut_of};
+ghost use Rattle.pgw_rows.specs.Rows.{GivesValue, read_by};
 
 use crate::from_sql::{FromSql, FromSqlText};
 use pgw_query::field_info::{FieldFormat, FieldInfo};
@@ -53,7 +53,7 @@ pub fn pass(
     at: &mut usize,
 ) -> RowResult<Option<Cut>>
     requires { at.old ≤ length row.now }
-    ensures { Passes fields.now row.now passed.old at.old passed.new at.new result }
+    ensures { PassesCut fields.now row.now passed.old at.old passed.new at.new result }
 {
     if *passed >= fields.len() {
         return Err(RowError::DataRowIndexOutOfBounds);
@@ -95,7 +95,7 @@ pub fn read_value<T: FromSql + FromSqlText>(
 ) -> RowResult<T>
     requires within { end ≤ length bytes.now }
     requires in_row { IsIn (take end bytes.now) cut }
-    ensures { Gives (T.FromSql.may_lack ⊎ T.FromSqlText.may_lack)
+    ensures { GivesValue (T.FromSql.may_lack ⊎ T.FromSqlText.may_lack)
         (read_by T.of_binary T.of_text field.now (cut_of (take end bytes.now) cut)) result }
 {
     match field.format {

@@ -1,6 +1,6 @@
 //! A row, read value by value.
 ghost use Rattle.std.specs.Prelude.{◌≡◌, ◌⊎◌, ◌≤◌, ◌==◌, length, slice_range};
-ghost use Rattle.pgw_rows.specs.Rows.{Answers, Lends, lent, read_by, row_start, standing_at};
+ghost use Rattle.pgw_rows.specs.Rows.{AnswersRowRead, LendsRowValue, lent_row_value, read_by, row_start, row_standing};
 
 use crate::cut::{cut_out, pass, read_value};
 use crate::from_sql::{FromSql, FromSqlText};
@@ -23,11 +23,11 @@ pub struct DataRowDecoder<'a> {
 }
 
 impl<'a> DataRowDecoder<'a> {
-    ghost use Rattle.pgw_rows.specs.Places.{place_of};
+    ghost use Rattle.pgw_rows.specs.Places.{row_place};
 
     /// A row whose values have these columns.
     pub fn new(fields: &'a [FieldInfo], row: &'a DataRow) -> DataRowDecoder<'a>
-        ensures { place_of result ≡ row_start fields.now row.now }
+        ensures { row_place result ≡ row_start fields.now row.now }
     {
         DataRowDecoder {
             fields,
@@ -47,7 +47,7 @@ impl<'a> DataRowDecoder<'a> {
     ) -> DataRowDecoder<'a>
         requires ordered { from ≤ to }
         requires within { to ≤ length bytes.now }
-        ensures { place_of result ≡ record {
+        ensures { row_place result ≡ record {
           fields = fields.now;
           passed = 0;
           bytes = slice_range bytes.now from to;
@@ -64,14 +64,14 @@ impl<'a> DataRowDecoder<'a> {
 
     /// How many columns are described, those that were read among them.
     pub fn len(&self) -> usize
-        ensures { result ≡ length (place_of self.now).fields }
+        ensures { result ≡ length (row_place self.now).fields }
     {
         self.fields.len()
     }
 
     /// Whether no column is described.
     pub fn is_empty(&self) -> bool
-        ensures { result ≡ (length (place_of self.now).fields == 0) }
+        ensures { result ≡ (length (row_place self.now).fields == 0) }
     {
         self.fields.is_empty()
     }
@@ -83,9 +83,9 @@ impl<'a> DataRowDecoder<'a> {
     /// this type is passed over. A `bool`, an `i16`, an `i32` and an `i64` take no memory; bytes in
     /// binary form share those of the row.
     pub fn next_value<T: FromSql + FromSqlText>(&mut self, alloc: Global) -> RowResult<Option<T>>
-        ensures { Answers (T.FromSql.may_lack ⊎ T.FromSqlText.may_lack)
-            (read_by T.of_binary T.of_text) (standing_at (place_of self.old))
-            (place_of self.old) (place_of self.new) result }
+        ensures { AnswersRowRead (T.FromSql.may_lack ⊎ T.FromSqlText.may_lack)
+            (read_by T.of_binary T.of_text) (row_standing (row_place self.old))
+            (row_place self.old) (row_place self.new) result }
     {
         let fields = self.fields;
         let index = self.passed;
@@ -115,8 +115,8 @@ impl<'a> DataRowDecoder<'a> {
     /// Lends the bytes of the next value, whatever its format; NULL is none. It takes no memory,
     /// and passes the value over and answers `DataRowIndexOutOfBounds` as `next_value` does.
     pub fn next_raw(&mut self) -> RowResult<Option<&'a [u8]>>
-        ensures { Lends (standing_at (place_of self.old))
-            (place_of self.old) (place_of self.new) (lent result) }
+        ensures { LendsRowValue (row_standing (row_place self.old))
+            (row_place self.old) (row_place self.new) (lent_row_value result) }
     {
         let bytes = &self.row.as_slice()[..self.end];
         let cut = pass(self.fields, bytes, &mut self.passed, &mut self.at)?;

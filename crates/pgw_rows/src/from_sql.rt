@@ -2,7 +2,7 @@
 ghost use Rattle.std.specs.Prelude.{◌≤◌, ℕ, List, Result, length, slice_range};
 ghost use Rattle.pgw_query.specs.declared.row_error.SqlFault.{SqlFault as TheFault};
 ghost use Rattle.pgw_query.specs.declared.pg_type.PgType.{PgType as TheType};
-ghost use Rattle.pgw_rows.specs.Rows.{Gives};
+ghost use Rattle.pgw_rows.specs.Rows.{GivesValue};
 
 use pgw_query::pg_type::PgType;
 use pgw_query::row_error::RowResult;
@@ -19,13 +19,13 @@ pub trait FromSql: Sized {
 
     /// Reads a value in binary form.
     fn from_sql(alloc: Global, ty: &PgType, raw: &[u8]) -> RowResult<Self>
-        ensures { Gives may_lack (of_binary ty.now raw.now) result };
+        ensures { GivesValue may_lack (of_binary ty.now raw.now) result };
 
     /// Reads the bytes from one place of a row to another. A value that can share them copies none.
     fn from_row(alloc: Global, ty: &PgType, row: &Octets, from: usize, to: usize) -> RowResult<Self>
         requires ordered { from ≤ to }
         requires within { to ≤ length row.now }
-        ensures { Gives may_lack (of_binary ty.now (slice_range row.now from to)) result }
+        ensures { GivesValue may_lack (of_binary ty.now (slice_range row.now from to)) result }
     {
         Self::from_sql(alloc, ty, &row.as_slice()[from..to])
     }
@@ -41,5 +41,5 @@ pub trait FromSqlText: Sized {
 
     /// Reads a value in text form.
     fn from_sql_text(alloc: Global, ty: &PgType, input: &[u8]) -> RowResult<Self>
-        ensures { Gives may_lack (of_text ty.now input.now) result };
+        ensures { GivesValue may_lack (of_text ty.now input.now) result };
 }

@@ -1,6 +1,6 @@
 //! Bytes.
 ghost use Rattle.std.specs.Prelude.{◌≡◌, ◌&&◌, ◌==◌, IsTrue, slice_index};
-ghost use Rattle.pgw_rows.specs.Rows.{Gives};
+ghost use Rattle.pgw_rows.specs.Rows.{GivesValue};
 ghost use Rattle.pgw_rows.specs.Values.{octets_in, octets_of_binary, octets_of_text, or_bad_text};
 
 use crate::from_sql::{FromSql, FromSqlText};
@@ -12,7 +12,7 @@ use std::alloc::Global;
 
 // The bytes that hex digits stand for, behind `\x`.
 fn hex_in(alloc: Global, text: &[u8]) -> RowResult<Octets>
-    ensures { Gives (Unit {0}) (or_bad_text (octets_in text.now)) result }
+    ensures { GivesValue (Unit {0}) (or_bad_text (octets_in text.now)) result }
 {
     let [b'\\', b'x', digits @ ..] = text else {
         return Err(RowError::FromSqlError(SqlFault::BadText));

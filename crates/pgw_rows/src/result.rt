@@ -2,7 +2,7 @@
 ghost use Rattle.std.specs.Prelude.{◌≡◌, [], slice_get, IfOk, OnErr};
 ghost use Rattle.std.specs.Option.{option_map};
 ghost use Rattle.std.specs.Borrow.{sem};
-ghost use Rattle.pgw_rows.specs.Places.{place_of};
+ghost use Rattle.pgw_rows.specs.Places.{row_place};
 ghost use Rattle.pgw_rows.specs.Rows.{GivesFirst, row_start};
 
 use crate::decoder::DataRowDecoder;
@@ -22,10 +22,10 @@ pub struct DataRowsReader {
 }
 
 impl Model for DataRowsReader {
-    ghost use Rattle.pgw_rows.specs.Rows.{Waiting};
+    ghost use Rattle.pgw_rows.specs.Rows.{WaitingRows};
     ghost use Rattle.pgw_rows.specs.Unread.{IsUnread, unread_rows};
 
-    ghost Value = { Waiting };
+    ghost Value = { WaitingRows };
 
     ghost view = { λ r. record { fields = r.unread.fields; rows = unread_rows r.unread } };
 
@@ -79,7 +79,7 @@ impl DataRowsReader {
     /// `DataRowDecoder::new` over the row with `fields`. It takes no memory.
     pub fn next_row(&mut self) -> Option<DataRowDecoder<'_>>
         ensures* left { sem 𝓛 (LeavesOthers self.entry) }
-        ensures first { option_map place_of result
+        ensures first { option_map row_place result
             ≡ option_map (row_start self.old.fields) (slice_get self.old.rows 0) }
     {
         self.unread.next_row()

@@ -1,7 +1,7 @@
 //! Texts.
 ghost use Rattle.std.specs.Prelude.{◌≡◌, IfOk};
-ghost use Rattle.pgw_rows.specs.Rows.{Gives};
-ghost use Rattle.pgw_rows.specs.Values.{has_text, is_text, of_type, or_bad_text, text_in, text_of, text_of_text};
+ghost use Rattle.pgw_rows.specs.Rows.{GivesValue};
+ghost use Rattle.pgw_rows.specs.Values.{has_text, is_text, of_type, or_bad_text, value_text, row_value_text, text_of_text};
 
 use crate::from_sql::{FromSql, FromSqlText};
 use pgw_query::pg_type::PgType;
@@ -11,7 +11,7 @@ use std::alloc::Global;
 
 // The text that bytes are in UTF-8.
 fn utf8_in(alloc: Global, raw: &[u8]) -> RowResult<Text>
-    ensures { Gives (Unit {0}) (or_bad_text (text_in raw.now)) result }
+    ensures { GivesValue (Unit {0}) (or_bad_text (value_text raw.now)) result }
 {
     let Ok(text) = str::from_utf8(raw) else {
         return Err(RowError::FromSqlError(SqlFault::BadText));
@@ -49,7 +49,7 @@ fn has_text(ty: &PgType) -> bool
 
 // The text, of a type that holds it.
 fn read(alloc: Global, ty: &PgType, holds: bool, raw: &[u8]) -> RowResult<Text>
-    ensures { Gives (Unit {0}) (of_type holds ty.now (or_bad_text (text_in raw.now))) result }
+    ensures { GivesValue (Unit {0}) (of_type holds ty.now (or_bad_text (value_text raw.now))) result }
 {
     if holds {
         return utf8_in(alloc, raw);
@@ -58,7 +58,7 @@ fn read(alloc: Global, ty: &PgType, holds: bool, raw: &[u8]) -> RowResult<Text>
 }
 
 impl FromSql for Text {
-    ghost of_binary = { text_of };
+    ghost of_binary = { row_value_text };
 
     ghost may_lack = { Unit {0} };
 

@@ -2,9 +2,9 @@
 ghost use Rattle.std.specs.Prelude.{◌≡◌, ◌<◌, slice_get};
 ghost use Rattle.std.specs.Option.{option_map};
 ghost use Rattle.pgw_query.specs.Runs.{AreRuns, rows_of};
-ghost use Rattle.pgw_rows.specs.Places.{place_of};
+ghost use Rattle.pgw_rows.specs.Places.{row_place};
 ghost use Rattle.pgw_rows.specs.Rows.{row_start};
-ghost use Rattle.pgw_rows.specs.Unread.{IsPlace, IsUnread, IsWithin, Opens, PassesRow, Steps, row_at, unread_rows};
+ghost use Rattle.pgw_rows.specs.Unread.{IsRowPlace, IsUnread, IsWithinBytes, FindsFirstRow, PassesRow, TakesFirstRow, row_at, unread_rows};
 
 use crate::decoder::DataRowDecoder;
 use bytes::Bytes;
@@ -68,7 +68,7 @@ impl Unread {
         requires { IsUnread self.old }
         ensures are { IsUnread self.new }
         ensures columns { self.new.fields ≡ self.old.fields }
-        ensures first { Opens self.old self.new result }
+        ensures first { FindsFirstRow self.old self.new result }
     {
         if self.left > 0 {
             return First::InRun;
@@ -89,7 +89,7 @@ impl Unread {
     pub fn place(&self) -> RowPlace
         requires are { IsUnread self.now }
         requires some { 0 < self.now.left }
-        ensures { IsPlace self.now result }
+        ensures { IsRowPlace self.now result }
     {
         let head = head_of(&self.bytes.as_slice()[self.at..]);
         RowPlace {
@@ -103,7 +103,7 @@ impl Unread {
     pub fn pass(&mut self, place: RowPlace)
         requires are { IsUnread self.old }
         requires some { 0 < self.old.left }
-        requires place { IsPlace self.old place }
+        requires place { IsRowPlace self.old place }
         ensures columns { self.new.fields ≡ self.old.fields }
         ensures passed { PassesRow self.old place self.new }
     {
@@ -119,7 +119,7 @@ impl Unread {
         ensures columns { self.new.fields ≡ self.old.fields }
         ensures rows { unread_rows self.new ≡ unread_rows self.old }
         ensures place { row_at self.new result ≡ row }
-        ensures within { IsWithin self.new.bytes result }
+        ensures within { IsWithinBytes self.new.bytes result }
     {
         let end = row.payload.len();
         self.bytes = row.payload;
@@ -136,7 +136,7 @@ impl Unread {
         requires { IsUnread self.old }
         ensures are { IsUnread self.new }
         ensures columns { self.new.fields ≡ self.old.fields }
-        ensures step { Steps self.old self.new result }
+        ensures step { TakesFirstRow self.old self.new result }
     {
         match self.open() {
             First::Nothing => None,
@@ -151,8 +151,8 @@ impl Unread {
 
     /// The place before the first value of a row that was passed over.
     pub fn begin(&self, place: RowPlace) -> DataRowDecoder<'_>
-        requires { IsWithin self.now.bytes place }
-        ensures { place_of result ≡ row_start self.now.fields (row_at self.now place) }
+        requires { IsWithinBytes self.now.bytes place }
+        ensures { row_place result ≡ row_start self.now.fields (row_at self.now place) }
     {
         DataRowDecoder::within(self.fields.as_slice(), &self.bytes, place.from, place.to)
     }
@@ -161,7 +161,7 @@ impl Unread {
     pub fn next_row(&mut self) -> Option<DataRowDecoder<'_>>
         requires { IsUnread self.old }
         ensures* left { sem 𝓛 (LeavesUnread self.entry) }
-        ensures first { option_map place_of result
+        ensures first { option_map row_place result
             ≡ option_map (row_start self.old.fields) (slice_get (unread_rows self.old) 0) }
     {
         let place = self.step()?;

@@ -5,8 +5,8 @@ use Rattle.pgw_sasl.specs.declared.scram.ScramAuth.{ScramAuth}
 use Rattle.pgw_sasl.specs.declared.methods.Method.{Method}
 use Rattle.pgw_sasl.specs.declared.methods.Method.TheVariants.{Scram, OauthBearer}
 
-abbrev pub method_of : List ℕ → Option Method
-method_of name =
+abbrev pub sasl_method : List ℕ → Option Method
+sasl_method name =
     if bytes_eq name (codes "SCRAM-SHA-256") || bytes_eq name (codes "SCRAM-SHA-256-PLUS") then Some Scram
     else (if bytes_eq name (codes "OAUTHBEARER") then Some OauthBearer else None)
 

@@ -60,15 +60,15 @@ data_of (family.Password m) = payload_of (as_initial_response (family.Password m
 data_of (family.SASLInitialResponse m) = Ok m.payload
 data_of (family.SASLResponse m) = Ok (Some m.payload)
 
-abbrev pub finished : Result (Unit {0}) PgWireError → Reply
-finished (Err e) = Err e
-finished (Ok done) = Ok (None, Finished)
+abbrev pub oauth_reply : Result (Unit {0}) PgWireError → Reply
+oauth_reply (Err e) = Err e
+oauth_reply (Ok done) = Ok (None, Finished)
 
 -- without a token the client is told where to get one
 abbrev pub ByToken : (List ℕ → List ℕ → List ℕ → List ℕ → Result ValidatorModuleResult PgWireError → Type 0) → List ℕ → List ℕ → Option (List ℕ) → Result (Option (List ℕ)) PgWireError → Reply → Type 0
 ByToken V issuer scope user (Err e) reply = reply ≡ Err e
 ByToken V issuer scope user (Ok None) reply = (text : List ℕ) × IsErrorText issuer scope text × (reply ≡ Ok (Some (auth.SASLContinue text), OauthStateError))
-ByToken V issuer scope user (Ok (Some token)) reply = (verdict : Result (Unit {0}) PgWireError) × Judged V issuer scope token user verdict × (reply ≡ finished verdict)
+ByToken V issuer scope user (Ok (Some token)) reply = (verdict : Result (Unit {0}) PgWireError) × Judged V issuer scope token user verdict × (reply ≡ oauth_reply verdict)
 
 -- without data the client is asked for it
 abbrev pub ByData : (List ℕ → List ℕ → List ℕ → List ℕ → Result ValidatorModuleResult PgWireError → Type 0) → List ℕ → List ℕ → Option (List ℕ) → Result (Option (List ℕ)) PgWireError → Reply → Type 0
@@ -78,9 +78,9 @@ ByData V issuer scope user (Ok (Some payload)) reply = ByToken V issuer scope us
 
 -- ---- the end of a login without a token: the client sends one byte 1
 
-abbrev pub ended : Result SASLResponse PgWireError → Reply
-ended (Err e) = Err e
-ended (Ok m) = if bytes_eq m.payload (1 ∷ []) then Err (OAuthAuthenticationFailed refusal.Ended) else Err (InvalidOauthMessage NotOneByte)
+abbrev pub oauth_end : Result SASLResponse PgWireError → Reply
+oauth_end (Err e) = Err e
+oauth_end (Ok m) = if bytes_eq m.payload (1 ∷ []) then Err (OAuthAuthenticationFailed refusal.Ended) else Err (InvalidOauthMessage NotOneByte)
 
 -- ---- both; or memory runs out
 
@@ -90,6 +90,6 @@ OauthReplies V issuer scope user message ScramClientFirstReceived reply = reply 
 OauthReplies V issuer scope user message (ScramServerFirstSent server) reply = reply ≡ Err InvalidSASLState
 OauthReplies V issuer scope user message (StoredServerFirstSent server) reply = reply ≡ Err InvalidSASLState
 OauthReplies V issuer scope user message OauthStateInit reply = (reply ≡ Err OutOfMemory) ⊎ ByData V issuer scope user (data_of message) reply
-OauthReplies V issuer scope user message OauthStateError reply = (reply ≡ Err OutOfMemory) ⊎ (reply ≡ ended (as_response message))
+OauthReplies V issuer scope user message OauthStateError reply = (reply ≡ Err OutOfMemory) ⊎ (reply ≡ oauth_end (as_response message))
 OauthReplies V issuer scope user message Finished reply = reply ≡ Err InvalidSASLState
 OauthReplies V issuer scope user message Failed reply = reply ≡ Err InvalidSASLState

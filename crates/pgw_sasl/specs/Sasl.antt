@@ -12,10 +12,10 @@ use Rattle.pgw_backend.specs.declared.backend.PgWireBackendMessage.TheVariants a
 use Rattle.pgw_frontend.specs.declared.frontend.PgWireFrontendMessage.{PgWireFrontendMessage}
 use Rattle.pgw_registry.specs.Passes.{Known}
 use Rattle.pgw_registry.specs.declared.error.RegistryError.{RegistryError}
-use Rattle.pgw_login.specs.Client.{Client}
+use Rattle.pgw_login.specs.Client.{LoginClient}
 use Rattle.pgw_login.specs.Login.{Login, login_seen}
-use Rattle.pgw_login.specs.Registered.{Pair}
-use Rattle.pgw_login.specs.Acts.{Standing, Answer, Then, Refuses, Passes, OrNoMemory, Marks, Sends, OrFails, with_sasl}
+use Rattle.pgw_login.specs.Registered.{HandlePair}
+use Rattle.pgw_login.specs.Acts.{Standing, Answer, Then, LoginRefuses, LoginStays, OrNoMemory, Marks, Sends, OrFails, with_sasl}
 use Rattle.pgw_login.specs.Opening.{Opens}
 use Rattle.pgw_login.specs.Finish.{Finishes}
 use Rattle.pgw_login.specs.Hearing.{heard}
@@ -27,7 +27,7 @@ use Rattle.pgw_sasl.specs.declared.methods.Method.{Method}
 use Rattle.pgw_sasl.specs.declared.methods.Method.TheVariants.{Scram, OauthBearer}
 use Rattle.pgw_sasl.specs.declared.oauth.Oauth.{Oauth}
 use Rattle.pgw_sasl.specs.declared.validator.ValidatorModuleResult.{ValidatorModuleResult}
-use Rattle.pgw_sasl.specs.Turns.{stage_of, turned, entered, is_finished}
+use Rattle.pgw_sasl.specs.Turns.{sasl_stage, turned, entered, is_finished}
 use Rattle.pgw_sasl.specs.Replies.{Reply, RefusesMethod}
 use Rattle.pgw_sasl.specs.Oauth.{OauthReplies}
 
@@ -58,33 +58,33 @@ ByTurn S O login state (Ok (method, message)) reply = By S O login method messag
 
 -- the message is read as the state has it; or memory runs out
 abbrev pub Replied : (scram oauth : Login → PasswordMessageFamily → List ℕ → SASLState → Reply → Type 0) → Login → LoginState → PasswordMessageFamily → Reply → Type 0
-Replied S O login state message reply = (reply ≡ Err OutOfMemory) ⊎ ByTurn S O login state (turned (stage_of state.started state.sasl) message) reply
+Replied S O login state message reply = (reply ≡ Err OutOfMemory) ⊎ ByTurn S O login state (turned (sasl_stage state.started state.sasl) message) reply
 
 -- ---- what comes of a reply
 
-abbrev pub told : Option Authentication → List Message
-told None = []
-told (Some m) = backend.Authentication m ∷ []
+abbrev pub sasl_messages : Option Authentication → List Message
+sasl_messages None = []
+sasl_messages (Some m) = backend.Authentication m ∷ []
 
 -- the login ends where the exchange has
-abbrev pub Ends : (Client → Option Held → Type 0) → (Option Known → ℤ → SecretKey → Option Known → Result (Option Pair) RegistryError → Type 0) → Bool → Standing → Standing → List Message → Answer → Type 0
-Ends P R false = Passes
-Ends P R true = Finishes P R
+abbrev pub EndsSaslLogin : (LoginClient → Option Held → Type 0) → (Option Known → ℤ → SecretKey → Option Known → Result (Option HandlePair) RegistryError → Type 0) → Bool → Standing → Standing → List Message → Answer → Type 0
+EndsSaslLogin P R false = LoginStays
+EndsSaslLogin P R true = Finishes P R
 
 -- the reply is sent, and the login is as far as the exchange
-abbrev pub RespondsBy : (Client → Option Held → Type 0) → (Option Known → ℤ → SecretKey → Option Known → Result (Option Pair) RegistryError → Type 0) → Reply → Standing → Standing → List Message → Answer → Type 0
-RespondsBy P R (Err e) = Refuses e
-RespondsBy P R (Ok (reply, next)) = Then (Sends (told reply)) (Then (Marks (with_sasl next)) (Ends P R (is_finished next)))
+abbrev pub RespondsBy : (LoginClient → Option Held → Type 0) → (Option Known → ℤ → SecretKey → Option Known → Result (Option HandlePair) RegistryError → Type 0) → Reply → Standing → Standing → List Message → Answer → Type 0
+RespondsBy P R (Err e) = LoginRefuses e
+RespondsBy P R (Ok (reply, next)) = Then (Sends (sasl_messages reply)) (Then (Marks (with_sasl next)) (EndsSaslLogin P R (is_finished next)))
 
-abbrev pub Responds : (scram oauth : Login → PasswordMessageFamily → List ℕ → SASLState → Reply → Type 0) → (Client → Option Held → Type 0) → (Option Known → ℤ → SecretKey → Option Known → Result (Option Pair) RegistryError → Type 0) → PasswordMessageFamily → Standing → Standing → List Message → Answer → Type 0
+abbrev pub Responds : (scram oauth : Login → PasswordMessageFamily → List ℕ → SASLState → Reply → Type 0) → (LoginClient → Option Held → Type 0) → (Option Known → ℤ → SecretKey → Option Known → Result (Option HandlePair) RegistryError → Type 0) → PasswordMessageFamily → Standing → Standing → List Message → Answer → Type 0
 Responds S O P R message before after sent answer =
     (reply : Reply) × Replied S O (login_seen before.client) before.login message reply × RespondsBy P R reply before after sent answer
 
 -- of the methods that are offered, what each replies
-abbrev pub SaslOn : List (List ℕ) → (scram oauth : Login → PasswordMessageFamily → List ℕ → SASLState → Reply → Type 0) → (Client → Option Held → Type 0) → (Option Known → ℤ → SecretKey → Option Known → Result (Option Pair) RegistryError → Type 0) → Heard → Standing → Standing → List Message → Answer → Type 0
+abbrev pub SaslOn : List (List ℕ) → (scram oauth : Login → PasswordMessageFamily → List ℕ → SASLState → Reply → Type 0) → (LoginClient → Option Held → Type 0) → (Option Known → ℤ → SecretKey → Option Known → Result (Option HandlePair) RegistryError → Type 0) → Heard → Standing → Standing → List Message → Answer → Type 0
 SaslOn methods S O P R (of.Startup s) = Then (Opens s) (Offers methods)
 SaslOn methods S O P R (of.Password m) = Responds S O P R m
-SaslOn methods S O P R of.Other = Passes
+SaslOn methods S O P R of.Other = LoginStays
 
-abbrev pub SaslMeans : List (List ℕ) → (scram oauth : Login → PasswordMessageFamily → List ℕ → SASLState → Reply → Type 0) → (Client → Option Held → Type 0) → (Option Known → ℤ → SecretKey → Option Known → Result (Option Pair) RegistryError → Type 0) → PgWireFrontendMessage → Standing → Standing → List Message → Answer → Type 0
+abbrev pub SaslMeans : List (List ℕ) → (scram oauth : Login → PasswordMessageFamily → List ℕ → SASLState → Reply → Type 0) → (LoginClient → Option Held → Type 0) → (Option Known → ℤ → SecretKey → Option Known → Result (Option HandlePair) RegistryError → Type 0) → PgWireFrontendMessage → Standing → Standing → List Message → Answer → Type 0
 SaslMeans methods S O P R m = OrFails (SaslOn methods S O P R (heard m))

@@ -14,7 +14,7 @@ use Rattle.pgw_startup.specs.declared.sasl.SASLResponse.{SASLResponse}
 use Rattle.pgw_scram.specs.Readers.{read_client_first}
 use Rattle.pgw_scram.specs.declared.messages.ClientFirst.{ClientFirst}
 use Rattle.pgw_scram.specs.declared.server.ScramServerAuth.{ScramServerAuth}
-use Rattle.pgw_secrets.specs.Server.{offered_to, Accepts}
+use Rattle.pgw_secrets.specs.Server.{stored_offer_to, AcceptsStored}
 use Rattle.pgw_secrets.specs.declared.secret.StoredSecret.{StoredSecret}
 use Rattle.pgw_secrets.specs.declared.server.StoredScramAuth.{StoredScramAuth}
 use Rattle.pgw_secrets.specs.declared.server.StoredScramWaiting.{StoredScramWaiting}
@@ -37,7 +37,7 @@ abbrev pub offered_by : List ℕ → StoredScramAuth → Result ClientFirst Scra
 offered_by name server (Err why) nonce = Err (InvalidScramMessage why)
 offered_by name server (Ok parts) nonce =
     if is_misnamed name parts.header then Err (InvalidScramMessage ChannelBinding)
-    else offered_to server parts nonce
+    else stored_offer_to server parts nonce
 
 -- the step of a method of this name: client-first's grammar, its header, and the server's step
 abbrev pub offered_under : List ℕ → StoredScramAuth → List ℕ → List ℕ
@@ -87,7 +87,7 @@ abbrev pub FinalBy : StoredScramWaiting → Result SASLResponse PgWireError
     → Result (Authentication × SASLState) PgWireError → Type 0
 FinalBy server (Err e) answer = answer ≡ Err e
 FinalBy server (Ok m) answer =
-    (judged : Result (List ℕ) PgWireError) × Accepts server m.payload judged
+    (judged : Result (List ℕ) PgWireError) × AcceptsStored server m.payload judged
     × (answer ≡ final_reply judged)
 
 -- the message is read as a further one; or memory runs out

@@ -14,19 +14,19 @@ use Rattle.pgw_sasl.specs.declared.methods.Method.{Method}
 use Rattle.pgw_sasl.specs.declared.methods.Method.TheVariants.{Scram, OauthBearer}
 use Rattle.pgw_sasl.specs.declared.turn.Stage.{Stage}
 use Rattle.pgw_sasl.specs.declared.turn.Stage.TheVariants.{First, Further, Over}
-use Rattle.pgw_sasl.specs.Methods.{method_of}
+use Rattle.pgw_sasl.specs.Methods.{sasl_method}
 
 -- a message may come once the login has begun, and until it has ended or failed
-abbrev pub stage_of : Bool → SASLState → Stage
-stage_of false state = Over
-stage_of true Initial = First
-stage_of true ScramClientFirstReceived = Further Scram
-stage_of true (ScramServerFirstSent server) = Further Scram
-stage_of true (StoredServerFirstSent server) = Further Scram
-stage_of true OauthStateInit = Further OauthBearer
-stage_of true OauthStateError = Further OauthBearer
-stage_of true Finished = Over
-stage_of true Failed = Over
+abbrev pub sasl_stage : Bool → SASLState → Stage
+sasl_stage false state = Over
+sasl_stage true Initial = First
+sasl_stage true ScramClientFirstReceived = Further Scram
+sasl_stage true (ScramServerFirstSent server) = Further Scram
+sasl_stage true (StoredServerFirstSent server) = Further Scram
+sasl_stage true OauthStateInit = Further OauthBearer
+sasl_stage true OauthStateError = Further OauthBearer
+sasl_stage true Finished = Over
+sasl_stage true Failed = Over
 
 -- ---- the method, and the message as it is read
 
@@ -34,9 +34,9 @@ abbrev pub named_by : Option Method → SASLInitialResponse → Result (Method �
 named_by None m = Err (UnsupportedSASLAuthMethod m.auth_method)
 named_by (Some method) m = Ok (method, family.SASLInitialResponse m)
 
-abbrev pub named : Result SASLInitialResponse PgWireError → Result (Method × PasswordMessageFamily) PgWireError
-named (Err e) = Err e
-named (Ok m) = named_by (method_of m.auth_method) m
+abbrev pub named_method : Result SASLInitialResponse PgWireError → Result (Method × PasswordMessageFamily) PgWireError
+named_method (Err e) = Err e
+named_method (Ok m) = named_by (sasl_method m.auth_method) m
 
 abbrev pub further : Method → Result SASLResponse PgWireError → Result (Method × PasswordMessageFamily) PgWireError
 further method (Err e) = Err e
@@ -44,18 +44,18 @@ further method (Ok m) = Ok (method, family.SASLResponse m)
 
 -- the first message names the method
 abbrev pub turned : Stage → PasswordMessageFamily → Result (Method × PasswordMessageFamily) PgWireError
-turned First message = named (as_initial_response message)
+turned First message = named_method (as_initial_response message)
 turned (Further method) message = further method (as_response message)
 turned Over message = Err InvalidSASLState
 
 -- ---- the state in which a method finds its message
 
-abbrev pub begun : Method → SASLState
-begun Scram = ScramClientFirstReceived
-begun OauthBearer = OauthStateInit
+abbrev pub sasl_start : Method → SASLState
+sasl_start Scram = ScramClientFirstReceived
+sasl_start OauthBearer = OauthStateInit
 
 abbrev pub entered : Method → SASLState → SASLState
-entered method state = if is_initial state then begun method else state
+entered method state = if is_initial state then sasl_start method else state
 
 -- the exchange has ended well
 abbrev pub is_finished : SASLState → Bool

@@ -2,14 +2,14 @@
 ghost use Rattle.std.specs.Prelude.{◌≡◌, ◌⊎◌, IfOk, OnOk, Some, None, is_some};
 ghost use Rattle.std.specs.Arc.{arc_value};
 ghost use Rattle.pgw_login.specs.Logins.{login_of};
-ghost use Rattle.pgw_login.specs.Acts.{standing, Did, Then, Sends, IsSameSource, IsReleasable};
-ghost use Rattle.pgw_login.specs.Client.{Client};
+ghost use Rattle.pgw_login.specs.Acts.{standing_in_login, Did, Then, Sends, IsSameSource, IsReleasable};
+ghost use Rattle.pgw_login.specs.Client.{LoginClient};
 ghost use Rattle.pgw_login.specs.Opening.{Opens};
 ghost use Rattle.pgw_login.specs.declared.state.LoginState.{LoginState as TheState};
 ghost use Rattle.pgw_sasl.specs.Methods.{scram_methods, offered_methods};
 ghost use Rattle.pgw_sasl.specs.Replies.{RefusesMethod};
 ghost use Rattle.pgw_sasl.specs.Scram.{ByScram};
-ghost use Rattle.pgw_sasl.specs.Sasl.{Offers, ByOauth, By, ByTurn, Replied, told, Ends, RespondsBy, Responds, SaslOn, SaslMeans};
+ghost use Rattle.pgw_sasl.specs.Sasl.{Offers, ByOauth, By, ByTurn, Replied, sasl_messages, EndsSaslLogin, RespondsBy, Responds, SaslOn, SaslMeans};
 
 use crate::methods::{
     Method, OAUTHBEARER_METHOD, SCRAM_SHA_256_METHOD, SCRAM_SHA_256_PLUS_METHOD, unsupported,
@@ -134,9 +134,9 @@ fn reply_by_oauth(
 
 // Sends a reply, if there is one.
 fn tell<O: Outbox>(out: &mut O, reply: Option<Authentication>) -> PgWireResult<()>
-    ensures told { (client : Client) (login : TheState) →
-        Did O.add (O.sent out.old) (O.sent out.new) (Sends (told reply))
-        (standing client login (O.faults out.old)) (standing client login (O.faults out.new))
+    ensures told { (client : LoginClient) (login : TheState) →
+        Did O.add (O.sent out.old) (O.sent out.new) (Sends (sasl_messages reply))
+        (standing_in_login client login (O.faults out.old)) (standing_in_login client login (O.faults out.new))
         result }
     ensures flushed { O.waiting out.old ≡ 0 → OnOk result (O.waiting out.new ≡ 0) }
 {
@@ -154,10 +154,10 @@ where
     M: Registers,
 {
     fn offer<O: Outbox>(&self, alloc: Global, out: &mut O) -> PgWireResult<()>
-        ensures offered { (client : Client) (login : TheState) →
+        ensures offered { (client : LoginClient) (login : TheState) →
             Did O.add (O.sent out.old) (O.sent out.new)
             (Offers (offered_methods self.now.scram self.now.oauth))
-            (standing client login (O.faults out.old)) (standing client login (O.faults out.new))
+            (standing_in_login client login (O.faults out.old)) (standing_in_login client login (O.faults out.new))
             result }
         ensures flushed { OnOk result (O.waiting out.new ≡ 0) }
     {
@@ -177,8 +177,8 @@ where
         ensures source { IsSameSource state.old state.new }
         ensures opened { Did O.add (O.sent out.old) (O.sent out.new)
             (Then (Opens startup.now) (Offers (offered_methods self.now.scram self.now.oauth)))
-            (standing (C.sight client.old) state.old (O.faults out.old))
-            (standing (C.sight client.new) state.new (O.faults out.new)) result }
+            (standing_in_login (C.sight client.old) state.old (O.faults out.old))
+            (standing_in_login (C.sight client.new) state.new (O.faults out.new)) result }
         ensures flushed { OnOk result (O.waiting out.new ≡ 0) }
     {
         open_login(alloc, client, out, state, startup)?;
@@ -243,9 +243,9 @@ where
             × M.fits self.now.registry state.new.pass }
         ensures releasable { IsReleasable state.old → IsReleasable state.new }
         ensures ended { Did O.add (O.sent out.old) (O.sent out.new)
-            (Ends (P.provides self.now.parameter_provider) (M.registers self.now.registry)
-            is_finished) (standing (C.sight client.old) state.old (O.faults out.old))
-            (standing (C.sight client.new) state.new (O.faults out.new)) result }
+            (EndsSaslLogin (P.provides self.now.parameter_provider) (M.registers self.now.registry)
+            is_finished) (standing_in_login (C.sight client.old) state.old (O.faults out.old))
+            (standing_in_login (C.sight client.new) state.new (O.faults out.new)) result }
         ensures flushed { O.waiting out.old ≡ 0 → OnOk result (O.waiting out.new ≡ 0) }
     {
         if !is_finished {
@@ -280,8 +280,8 @@ where
         ensures releasable { IsReleasable state.old → IsReleasable state.new }
         ensures done { Did O.add (O.sent out.old) (O.sent out.new)
             (RespondsBy (P.provides self.now.parameter_provider) (M.registers self.now.registry)
-            (Ok (reply, next))) (standing (C.sight client.old) state.old (O.faults out.old))
-            (standing (C.sight client.new) state.new (O.faults out.new)) result }
+            (Ok (reply, next))) (standing_in_login (C.sight client.old) state.old (O.faults out.old))
+            (standing_in_login (C.sight client.new) state.new (O.faults out.new)) result }
         ensures flushed { O.waiting out.old ≡ 0 → OnOk result (O.waiting out.new ≡ 0) }
     {
         tell(out, reply)?;
@@ -307,8 +307,8 @@ where
             (Responds (ByScram A.replies self.now.scram)
             (ByOauth self.now.oauth (λ o. validates o.validator))
             (P.provides self.now.parameter_provider) (M.registers self.now.registry) message)
-            (standing (C.sight client.old) state.old (O.faults out.old))
-            (standing (C.sight client.new) state.new (O.faults out.new)) result }
+            (standing_in_login (C.sight client.old) state.old (O.faults out.old))
+            (standing_in_login (C.sight client.new) state.new (O.faults out.new)) result }
         ensures flushed { O.waiting out.old ≡ 0 → OnOk result (O.waiting out.new ≡ 0) }
     {
         let (reply, next) = self.reply(
@@ -337,8 +337,8 @@ where
             (SaslOn (offered_methods self.now.scram self.now.oauth)
             (ByScram A.replies self.now.scram) (ByOauth self.now.oauth (λ o. validates o.validator))
             (P.provides self.now.parameter_provider) (M.registers self.now.registry) message)
-            (standing (C.sight client.old) state.old (O.faults out.old))
-            (standing (C.sight client.new) state.new (O.faults out.new)) result }
+            (standing_in_login (C.sight client.old) state.old (O.faults out.old))
+            (standing_in_login (C.sight client.new) state.new (O.faults out.new)) result }
         ensures flushed { O.waiting out.old ≡ 0 → OnOk result (O.waiting out.new ≡ 0) }
     {
         match message {

@@ -1,6 +1,6 @@
 //! The methods of SASL that a server may offer.
 ghost use Rattle.std.specs.Prelude.{◌≡◌, ◌⊎◌};
-ghost use Rattle.pgw_sasl.specs.Methods.{method_of};
+ghost use Rattle.pgw_sasl.specs.Methods.{sasl_method};
 ghost use Rattle.pgw_types.specs.declared.error.PgWireError.TheVariants.{OutOfMemory as NoMemory};
 
 use pgw_types::error::PgWireError;
@@ -24,7 +24,7 @@ pub enum Method {
 impl Method {
     /// What the method of this name asks for, if it is known.
     pub fn of(name: &str) -> Option<Method>
-        ensures { result ≡ method_of name.now }
+        ensures { result ≡ sasl_method name.now }
     {
         if name == SCRAM_SHA_256_METHOD || name == SCRAM_SHA_256_PLUS_METHOD {
             Some(Method::Scram)

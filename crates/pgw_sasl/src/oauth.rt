@@ -8,7 +8,7 @@ ghost use Rattle.pgw_login.specs.Logins.{login_of};
 ghost use Rattle.pgw_wire.specs.Reading.{lossy};
 ghost use Rattle.pgw_startup.specs.Password.{as_response};
 ghost use Rattle.pgw_sasl.specs.ErrorText.{IsErrorText};
-ghost use Rattle.pgw_sasl.specs.Oauth.{token_of, Judged, data_of, finished, ByToken, ByData, ended, OauthReplies};
+ghost use Rattle.pgw_sasl.specs.Oauth.{token_of, Judged, data_of, oauth_reply, ByToken, ByData, oauth_end, OauthReplies};
 
 use crate::error_text::error_text;
 use crate::validator::OauthValidator;
@@ -179,7 +179,7 @@ fn data_of(alloc: Global, message: PasswordMessageFamily) -> PgWireResult<Option
 
 // The end of a login without a token.
 fn ended(message: PasswordMessageFamily) -> PgWireResult<(Option<Authentication>, SASLState)>
-    ensures { (result ≡ Err NoMemory) ⊎ (result ≡ ended (as_response message)) }
+    ensures { (result ≡ Err NoMemory) ⊎ (result ≡ oauth_end (as_response message)) }
 {
     let message = message.into_sasl_response()?;
     if message.payload.as_slice() == [1].as_slice() {

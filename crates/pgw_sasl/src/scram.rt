@@ -7,7 +7,7 @@ ghost use Rattle.pgw_login.specs.declared.state.SASLState.{SASLState as TheState
 ghost use Rattle.pgw_startup.specs.declared.authentication.Authentication.{Authentication as TheReply};
 ghost use Rattle.pgw_startup.specs.declared.password.PasswordMessageFamily.{PasswordMessageFamily as TheMessage};
 ghost use Rattle.pgw_scram.specs.declared.server.ScramServerAuth.{ScramServerAuth as TheServer};
-ghost use Rattle.pgw_scram.specs.Answers.{Answers};
+ghost use Rattle.pgw_scram.specs.Answers.{IsScramAnswer};
 ghost use Rattle.pgw_sasl.specs.Scram.{binds, is_misnamed, offered_by, offered_under, first_reply, FirstReplies, FinalReplies, Exchanges};
 
 use crate::methods::SCRAM_SHA_256_PLUS_METHOD;
@@ -112,7 +112,7 @@ fn offered_by(
     parts: ClientFirst,
     nonce: &[u8; 18],
 ) -> PgWireResult<(Text, ScramServerAuthWaitingForClientFinal)>
-    ensures { Answers result (offered_by name.now server.now (Ok parts) kept.now nonce.now) }
+    ensures { IsScramAnswer result (offered_by name.now server.now (Ok parts) kept.now nonce.now) }
 {
     if is_misnamed(name, parts.header.as_str()) {
         return Err(PgWireError::InvalidScramMessage(ScramMessageFault::ChannelBinding));
@@ -129,7 +129,7 @@ fn offered_under(
     message: &[u8],
     nonce: &[u8; 18],
 ) -> PgWireResult<(Text, ScramServerAuthWaitingForClientFinal)>
-    ensures { Answers result (offered_under name.now server.now message.now kept.now nonce.now) }
+    ensures { IsScramAnswer result (offered_under name.now server.now message.now kept.now nonce.now) }
 {
     let parts = ClientFirst::read(alloc, message)?;
     offered_by(alloc, server, kept, name, parts, nonce)

@@ -2,7 +2,7 @@
 ghost use Rattle.std.specs.Prelude.{◌≡◌, ◌⊎◌, ◌≤◌, Err, IfOk};
 ghost use Rattle.pgw_types.specs.declared.error.PgWireError.TheVariants.{OutOfMemory as NoMemory};
 ghost use Rattle.pgw_login.specs.Logins.{login_of};
-ghost use Rattle.pgw_scram.specs.Answers.{Answers};
+ghost use Rattle.pgw_scram.specs.Answers.{IsScramAnswer};
 ghost use Rattle.pgw_sasl.specs.Stored.{over as server_over, offered_by, offered_under, first_reply, FirstReplies, FinalReplies};
 
 use crate::scram::{ScramSource, is_misnamed};
@@ -63,7 +63,7 @@ fn offered_by(
     parts: ClientFirst,
     nonce: &[u8; 18],
 ) -> PgWireResult<(Text, StoredScramWaiting)>
-    ensures { Answers result (offered_by name.now server.now (Ok parts) nonce.now) }
+    ensures { IsScramAnswer result (offered_by name.now server.now (Ok parts) nonce.now) }
 {
     if is_misnamed(name, parts.header.as_str()) {
         return Err(PgWireError::InvalidScramMessage(ScramMessageFault::ChannelBinding));
@@ -79,7 +79,7 @@ fn offered_under(
     message: &[u8],
     nonce: &[u8; 18],
 ) -> PgWireResult<(Text, StoredScramWaiting)>
-    ensures { Answers result (offered_under name.now server.now message.now nonce.now) }
+    ensures { IsScramAnswer result (offered_under name.now server.now message.now nonce.now) }
 {
     let parts = ClientFirst::read(alloc, message)?;
     offered_by(alloc, server, name, parts, nonce)

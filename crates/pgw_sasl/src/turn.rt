@@ -2,7 +2,7 @@
 ghost use Rattle.std.specs.Prelude.{◌≡◌, ◌⊎◌, Err};
 ghost use Rattle.pgw_types.specs.declared.error.PgWireError.TheVariants.{OutOfMemory as NoMemory};
 ghost use Rattle.pgw_login.specs.Acts.{is_initial};
-ghost use Rattle.pgw_sasl.specs.Turns.{stage_of, turned, begun, is_finished};
+ghost use Rattle.pgw_sasl.specs.Turns.{sasl_stage, turned, sasl_start, is_finished};
 
 use crate::methods::Method;
 use pgw_login::state::{LoginState, SASLState};
@@ -23,7 +23,7 @@ pub enum Stage {
 
 /// What a password message would be to a login now.
 pub fn stage_of(state: &LoginState) -> Stage
-    ensures { result ≡ stage_of state.now.started state.now.sasl }
+    ensures { result ≡ sasl_stage state.now.started state.now.sasl }
 {
     if !state.is_started() {
         return Stage::Over;
@@ -80,7 +80,7 @@ pub fn is_finished(state: &SASLState) -> bool
 
 /// The state in which a method finds its first message.
 pub fn begun(method: Method) -> SASLState
-    ensures { result ≡ begun method }
+    ensures { result ≡ sasl_start method }
 {
     match method {
         Method::Scram => SASLState::ScramClientFirstReceived,

@@ -3,12 +3,12 @@ use Rattle.std.proofs.Common.{◌≡◌, ℕ, ◌==◌, Bool, true, false, not, 
 use Rattle.std.specs.Option.{option_map}
 use Rattle.std.specs.List.{list_all}
 use Rattle.std.proofs.lemmas.Bool.{and_parts, eqb-true, eq-eqb, not-true}
-use Rattle.pgw_scram.specs.Attributes.{IsValue, behind, attribute}
+use Rattle.pgw_scram.specs.Attributes.{IsValue, more_attributes, attribute}
 use Rattle.pgw_scram.specs.Readers.{cut, onto_front, cut_last, behind_name, attribute_at}
 
 -- ---- the first comma
 
-pub cut_of : (value : List ℕ) (more : Option (List ℕ)) → IsValue value → cut (value ++ behind more) ≡ (value, more)
+pub cut_of : (value : List ℕ) (more : Option (List ℕ)) → IsValue value → cut (value ++ more_attributes more) ≡ (value, more)
 unfolding cut
 cut_of [] None h = refl
 cut_of [] (Some more) h = refl
@@ -17,13 +17,13 @@ cut_of (b ∷ value) more h =
     rw (not-true (b == 44) q.0, cut_of value more q.1) refl
 
 abbrev IsCut : List ℕ → List ℕ × Option (List ℕ) → Type 0
-IsCut text parts = (text ≡ parts.0 ++ behind parts.1) × IsValue parts.0
+IsCut text parts = (text ≡ parts.0 ++ more_attributes parts.1) × IsValue parts.0
 
 cut_by : (b : ℕ) (text : List ℕ) (parts : List ℕ × Option (List ℕ)) (comma : Bool) → (b == 44) ≡ comma → IsCut text parts → IsCut (b ∷ text) (cond comma ([], Some text) (b ∷ parts.0, parts.1))
 cut_by b text parts true e h = (ap (λ x. x ∷ text) (eqb-true b 44 e), refl)
 cut_by b text parts false e h = (ap (λ (l : List ℕ). b ∷ l) h.0, rw (e, h.1) refl)
 
-pub cut_is : (text : List ℕ) → (text ≡ (cut text).0 ++ behind (cut text).1) × IsValue (cut text).0
+pub cut_is : (text : List ℕ) → (text ≡ (cut text).0 ++ more_attributes (cut text).1) × IsValue (cut text).0
 unfolding cut
 cut_is [] = (refl, refl)
 cut_is (b ∷ text) = cut_by b text (cut text) (b == 44) refl (cut_is text)
@@ -79,7 +79,7 @@ behind_name_is (c ∷ name) (b ∷ text) rest found = name_by c b name text rest
 -- ---- attributes
 
 pub attribute_of : (name value : List ℕ) (more : Option (List ℕ)) → IsValue value → attribute_at name (attribute name value more) ≡ Some (value, more)
-attribute_of name value more h = rw (behind_name_of name (value ++ behind more), cut_of value more h) refl
+attribute_of name value more h = rw (behind_name_of name (value ++ more_attributes more), cut_of value more h) refl
 
 attribute_by : (name text : List ℕ) (found : Option (List ℕ)) (parts : List ℕ × Option (List ℕ)) → behind_name name text ≡ found → option_map cut found ≡ Some parts → (text ≡ attribute name parts.0 parts.1) × IsValue parts.0
 attribute_by name text None parts e is = cc

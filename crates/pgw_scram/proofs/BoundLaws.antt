@@ -17,7 +17,7 @@ use Rattle.pgw_scram.specs.Offers.{is_bound, names_end_point, is_misbound, chann
 use Rattle.pgw_scram.specs.Refusals.{begins_with}
 use Rattle.std.specs.Prelude.{codes, ◌++◌}
 use Rattle.pgw_scram.specs.Readers.{read_client_first, read_client_final}
-use Rattle.pgw_scram.specs.Server.{offered_with, offered_as, unless_misbound, accepted_as}
+use Rattle.pgw_scram.specs.Server.{offered_with, scram_offer_as, unless_misbound, accepted_as}
 use Rattle.pgw_scram.specs.Honest.{LetsIn, BoundTo}
 
 -- ---- the first step
@@ -61,7 +61,7 @@ pub bound_to : (server : ScramServerAuth) (password : Password) (nonce client_fi
     → is_bound run.first.header ≡ true → BoundTo hash run.first run.answer
 bound_to server password nonce client_first client_final hash own run binds =
     let parts = run.first in
-    let offers = sym (ap (λ (r : Result ClientFirst ScramMessageFault). offered_as server r password nonce) run.is_first) ∙ run.offers in
+    let offers = sym (ap (λ (r : Result ClientFirst ScramMessageFault). scram_offer_as server r password nonce) run.is_first) ∙ run.offers in
     let misbound : is_misbound server.certificate_hash parts.header ≡ false = suits (is_misbound server.certificate_hash parts.header) (InvalidScramMessage fault.ChannelBinding) _ _ offers in
     let with_hash : is_misbound (Some hash) parts.header ≡ false = sym (ap (λ (o : Option (List ℕ)). is_misbound o parts.header) own) ∙ misbound in
     let names : names_end_point parts.header ≡ true = names_by (begins_with parts.header (codes "y,")) (is_bound parts.header) (names_end_point parts.header) with_hash binds in

@@ -22,11 +22,11 @@ use Rattle.pgw_scram.specs.Readers.{read_client_first, read_server_first, read_c
 use Rattle.pgw_scram.specs.Refusals.{begins_with}
 use Rattle.pgw_hash.specs.Pbkdf2.{salted_password}
 use Rattle.pgw_hash.proofs.Prepared.{prepared_utf8}
-use Rattle.pgw_scram.specs.Binding.{header, channel_data, binding_text}
+use Rattle.pgw_scram.specs.Binding.{gs2_header, channel_data, binding_text}
 use Rattle.pgw_scram.specs.Formulas.{client_key, server_key, client_proof, server_signature}
-use Rattle.pgw_scram.specs.Client.{login_of, proved}
+use Rattle.pgw_scram.specs.Client.{scram_client_login, proved}
 use Rattle.pgw_scram.specs.Offers.{server_first, bound, is_misbound}
-use Rattle.pgw_scram.specs.Server.{waiting, accepted}
+use Rattle.pgw_scram.specs.Server.{scram_wait, accepted}
 use Rattle.pgw_scram.specs.declared.server.ScramServerAuthWaitingForClientFinal.{ScramServerAuthWaitingForClientFinal as WaitingForClientFinal}
 use Rattle.pgw_scram.specs.Honest.{Agree, AreHonest, BothAccept}
 use Rattle.pgw_scram.specs.declared.binding.ClientBinding.{ClientBinding}
@@ -47,12 +47,12 @@ same_bytes text = (bytes_eq-Decides text text).1 refl
 
 -- ---- client-first
 
-some_header : (b : ClientBinding) → IsHeader (header b)
+some_header : (b : ClientBinding) → IsHeader (gs2_header b)
 some_header binding.None = record { flag = codes "n"; authzid = []; written = refl; is_flag = not_supported; is_authzid = without_id }
 some_header binding.NotOffered = record { flag = codes "y"; authzid = []; written = refl; is_flag = not_offered; is_authzid = without_id }
 some_header (binding.EndPoint hash) = record { flag = codes "p=tls-server-end-point"; authzid = []; written = refl; is_flag = named (codes "tls-server-end-point") refl refl; is_authzid = without_id }
 
-header_utf8 : (b : ClientBinding) → IsUtf8 (header b)
+header_utf8 : (b : ClientBinding) → IsUtf8 (gs2_header b)
 header_utf8 binding.None = ascii_utf8 (codes "n,,") refl
 header_utf8 binding.NotOffered = ascii_utf8 (codes "y,,") refl
 header_utf8 (binding.EndPoint hash) = ascii_utf8 (codes "p=tls-server-end-point,,") refl
@@ -61,7 +61,7 @@ bare_written : (user nonce : List ℕ) → client_first_bare user nonce ≡ attr
 bare_written user nonce = ap (λ (l : List ℕ). codes "n=" ++ l) (append_assoc user (codes ",r=") nonce ∙ ap (λ (l : List ℕ). user ++ (codes ",r=" ++ l)) (sym (append-nil nonce)))
 
 abbrev first_parts : ClientLogin → ClientFirst
-first_parts login = record { header = header login.binding; bare = client_first_bare login.user login.nonce; user = login.user; nonce = login.nonce }
+first_parts login = record { header = gs2_header login.binding; bare = client_first_bare login.user login.nonce; user = login.user; nonce = login.nonce }
 
 bare_utf8 : (user nonce : List ℕ) → IsUtf8 user → IsUtf8 nonce → IsUtf8 (client_first_bare user nonce)
 bare_utf8 user nonce u n = IsUtf8-append (codes "n=" ++ user ++ codes ",r=") nonce (IsUtf8-append (codes "n=" ++ user) (codes ",r=") (IsUtf8-append (codes "n=") user (ascii_utf8 (codes "n=") refl) u) (ascii_utf8 (codes ",r=") refl)) n
@@ -70,13 +70,13 @@ pub reads_client_first : (login : ClientLogin) → IsUtf8 login.user → IsValue
 unfolding client_first
 reads_client_first login user_utf8 user_value nonce_utf8 nonce_value =
     let bare = client_first_bare login.user login.nonce in
-    let is : IsClientFirst (header login.binding ++ bare) (first_parts login) = record {
-      utf8 = IsUtf8-append (header login.binding) bare (header_utf8 login.binding) (bare_utf8 login.user login.nonce user_utf8 nonce_utf8);
+    let is : IsClientFirst (gs2_header login.binding ++ bare) (first_parts login) = record {
+      utf8 = IsUtf8-append (gs2_header login.binding) bare (header_utf8 login.binding) (bare_utf8 login.user login.nonce user_utf8 nonce_utf8);
       written = refl;
       header = some_header login.binding;
       bare = record { body = bare; more = None; skips = without; written = bare_written login.user login.nonce; user_value = user_value; nonce_value = nonce_value };
     } in
-    client_first_only (header login.binding ++ bare) (Ok (first_parts login)) is
+    client_first_only (gs2_header login.binding ++ bare) (Ok (first_parts login)) is
 
 -- ---- server-first
 
@@ -153,13 +153,13 @@ reads_client_final b nonce proof nonce_utf8 nonce_value proof_utf8 proof_value =
     client_final_only (before ++ codes ",p=" ++ proof) (Ok (final_parts b nonce proof)) is
 
 -- what the server awaits is what the client binds
-pub agreed_binding : (b : ClientBinding) (hash : Option (List ℕ)) → Agree b hash → bound (header b) hash ≡ header b ++ channel_data b
+pub agreed_binding : (b : ClientBinding) (hash : Option (List ℕ)) → Agree b hash → bound (gs2_header b) hash ≡ gs2_header b ++ channel_data b
 agreed_binding binding.None None agree = refl
 agreed_binding binding.None (Some hash) agree = refl
 agreed_binding binding.NotOffered hash agree = rw agree refl
 agreed_binding (binding.EndPoint own) hash agree = rw agree refl
 
-suits_server : (b : ClientBinding) (hash : Option (List ℕ)) → Agree b hash → is_misbound hash (header b) ≡ false
+suits_server : (b : ClientBinding) (hash : Option (List ℕ)) → Agree b hash → is_misbound hash (gs2_header b) ≡ false
 suits_server binding.None None agree = refl
 suits_server binding.None (Some hash) agree = refl
 suits_server binding.NotOffered hash agree = rw agree refl
@@ -196,12 +196,12 @@ accepts_by server login whole salt count binds is_nonce proves signs bare first 
 
 pub both_accept : (client : ScramClientAuth) (server : ScramServerAuth) (password : Password) (client_nonce server_nonce : List ℕ) → AreHonest client server password → BothAccept client server password client_nonce server_nonce
 both_accept client server password client_nonce server_nonce h =
-    let login = login_of client h.user (nonce_text client_nonce) in
+    let login = scram_client_login client h.user (nonce_text client_nonce) in
     let whole = nonce_text client_nonce ++ nonce_text server_nonce in
     let text = nonce_is_text client_nonce server_nonce in
     let first = server_first whole h.salt server.iterations in
     let sign = signed login whole h.salt server.iterations in
-    let waits = waiting server (first_parts login) h.salt password.password server_nonce in
+    let waits = scram_wait server (first_parts login) h.salt password.password server_nonce in
     record {
       client_first = client_first login;
       client_began = record { login = login };

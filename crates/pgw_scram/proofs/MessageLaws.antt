@@ -10,9 +10,9 @@ use Rattle.std.proofs.lemmas.Bool.Decides.{nat_tests}
 use Rattle.pgw_types.specs.declared.error.ScramMessageFault.{ScramMessageFault}
 use Rattle.pgw_types.specs.declared.error.ScramMessageFault.TheVariants as fault
 use Rattle.pgw_types.specs.Numbers.{number_in}
-use Rattle.pgw_scram.specs.Attributes.{IsValue, behind, attribute}
-use Rattle.pgw_scram.specs.Messages.{SkipsMext, without, with, IsFlag, not_supported, not_offered, named, IsAuthzid, without_id, with_id, IsHeader, IsClientFirst, HasServerFirst, IsServerFirst, IsClientFinal, IsServerFinal, verifier, server_error, IsReading, IsServerFirstReading}
-use Rattle.pgw_scram.specs.Readers.{cut, cut_last, behind_name, attribute_at, two_at, or_all, behind_mext, or_grammar, if_utf8, is_flag, is_authzid, bare_parts, header_parts, client_first_parts, read_client_first, server_first_parts, counted, with_count, read_server_first, without_proof_parts, client_final_parts, read_client_final, error_in, verifier_or, server_final_parts, read_server_final}
+use Rattle.pgw_scram.specs.Attributes.{IsValue, more_attributes, attribute}
+use Rattle.pgw_scram.specs.Messages.{SkipsMext, without, with, IsFlag, not_supported, not_offered, named, IsAuthzid, without_id, with_id, IsHeader, IsClientFirst, HasServerFirst, IsServerFirst, IsClientFinal, IsServerFinal, verifier, server_error, IsScramReading, IsServerFirstReading}
+use Rattle.pgw_scram.specs.Readers.{cut, cut_last, behind_name, attribute_at, two_at, or_all, behind_mext, or_grammar, if_utf8, is_flag, is_authzid, bare_parts, header_parts, client_first_parts, read_client_first, server_first_parts, first_by_count, first_with_count, read_server_first, without_proof_parts, client_final_parts, read_client_final, error_in, verifier_or, server_final_parts, read_server_final}
 use Rattle.pgw_scram.specs.declared.messages.ServerFirst.{ServerFirst}
 use Rattle.pgw_scram.specs.declared.messages.ClientFirst.{ClientFirst}
 use Rattle.pgw_scram.specs.declared.messages.ClientFinal.{ClientFinal}
@@ -123,7 +123,7 @@ server_first_of message nonce salt count h =
 
 -- ---- a reading of server-first
 
-counted_is : (message nonce salt count : List ℕ) (n : Option ℕ) → IsUtf8 message → HasServerFirst message nonce salt count → number_in 32 count ≡ n → IsServerFirstReading message (counted nonce salt n)
+counted_is : (message nonce salt count : List ℕ) (n : Option ℕ) → IsUtf8 message → HasServerFirst message nonce salt count → number_in 32 count ≡ n → IsServerFirstReading message (first_by_count nonce salt n)
 counted_is message nonce salt count None utf8 has e = record { utf8 = utf8; nonce = nonce; salt = salt; count = count; written = has; no_count = λ n is some. cc }
 counted_is message nonce salt count (Some n) utf8 has e = by (n == 0) refl
   where
@@ -131,11 +131,11 @@ counted_is message nonce salt count (Some n) utf8 has e = by (n == 0) refl
     by true is = record { utf8 = utf8; nonce = nonce; salt = salt; count = count; written = has; no_count = λ m found some. let same : n ≡ m = cc in grind (arith, nat_tests) }
     by false is = record { utf8 = utf8; count = count; written = has; counts = e; positive = grind (arith, nat_tests) }
 
-with_count_is : (message : List ℕ) (three : Option Three) → IsUtf8 message → server_first_parts message ≡ three → IsServerFirstReading message (with_count three)
+with_count_is : (message : List ℕ) (three : Option Three) → IsUtf8 message → server_first_parts message ≡ three → IsServerFirstReading message (first_with_count three)
 with_count_is message None utf8 e = (utf8, λ nonce salt count has. let found = server_first_of message nonce salt count has in cc)
 with_count_is message (Some (nonce, salt, count)) utf8 e = counted_is message nonce salt count (number_in 32 count) utf8 (server_first_is message (nonce, salt, count) e) refl
 
-server_first_by : (message : List ℕ) (text : Bool) → is_utf8 message ≡ text → IsServerFirstReading message (cond text (with_count (server_first_parts message)) (Err fault.NotUtf8))
+server_first_by : (message : List ℕ) (text : Bool) → is_utf8 message ≡ text → IsServerFirstReading message (cond text (first_with_count (server_first_parts message)) (Err fault.NotUtf8))
 server_first_by message true e = with_count_is message (server_first_parts message) (IsUtf8-from_is_utf8 message e) refl
 server_first_by message false e = λ utf8. let yes = is_utf8-from_IsUtf8 message utf8 in cc
 
@@ -147,7 +147,7 @@ server_first_form message parts e = subst (IsServerFirstReading message) e (serv
 
 -- there is one reading
 
-no_count_by : (nonce salt count : List ℕ) (n : Option ℕ) → number_in 32 count ≡ n → ((m : ℕ) → number_in 32 count ≡ Some m → 0 < m → ⊥) → counted nonce salt n ≡ Err fault.Count
+no_count_by : (nonce salt count : List ℕ) (n : Option ℕ) → number_in 32 count ≡ n → ((m : ℕ) → number_in 32 count ≡ Some m → 0 < m → ⊥) → first_by_count nonce salt n ≡ Err fault.Count
 no_count_by nonce salt count None e none = refl
 no_count_by nonce salt count (Some n) e none = by (n == 0) refl
   where
@@ -155,7 +155,7 @@ no_count_by nonce salt count (Some n) e none = by (n == 0) refl
     by true is = refl
     by false is = absurd (none n e (grind (arith, nat_tests)))
 
-no_form_by : (message : List ℕ) (three : Option Three) → server_first_parts message ≡ three → ((nonce salt count : List ℕ) → HasServerFirst message nonce salt count → ⊥) → with_count three ≡ Err fault.Grammar
+no_form_by : (message : List ℕ) (three : Option Three) → server_first_parts message ≡ three → ((nonce salt count : List ℕ) → HasServerFirst message nonce salt count → ⊥) → first_with_count three ≡ Err fault.Grammar
 no_form_by message None e none = refl
 no_form_by message (Some (nonce, salt, count)) e none = absurd (none nonce salt count (server_first_is message (nonce, salt, count) e))
 
@@ -172,17 +172,17 @@ server_first_only message (Err other) h = absurd h
 -- ---- a reading of the other messages
 
 or_grammar_is : {A : Type 0} (Is : List ℕ → A → Type 0) (message : List ℕ) (found whole : Option A) → whole ≡ found → IsUtf8 message → ((parts : A) → whole ≡ Some parts → Is message parts) → ((parts : A) → Is message parts → whole ≡ Some parts)
-    → IsReading Is message (or_grammar found)
+    → IsScramReading Is message (or_grammar found)
 or_grammar_is Is message None whole e utf8 sound complete = (utf8, λ parts is. let found = complete parts is in cc)
 or_grammar_is Is message (Some parts) whole e utf8 sound complete = sound parts e
 
 reads_by : {A : Type 0} (Is : List ℕ → A → Type 0) (message : List ℕ) (found : Option A) (text : Bool) → is_utf8 message ≡ text → (IsUtf8 message → (parts : A) → found ≡ Some parts → Is message parts) → ((parts : A) → Is message parts → found ≡ Some parts)
-    → IsReading Is message (cond text (or_grammar found) (Err fault.NotUtf8))
+    → IsScramReading Is message (cond text (or_grammar found) (Err fault.NotUtf8))
 reads_by Is message found true e sound complete = let utf8 = IsUtf8-from_is_utf8 message e in or_grammar_is Is message found found refl utf8 (sound utf8) complete
 reads_by Is message found false e sound complete = λ utf8. let yes = is_utf8-from_IsUtf8 message utf8 in cc
 
 reads : {A : Type 0} (Is : List ℕ → A → Type 0) (message : List ℕ) (found : Option A) → (IsUtf8 message → (parts : A) → found ≡ Some parts → Is message parts) → ((parts : A) → Is message parts → found ≡ Some parts)
-    → IsReading Is message (if_utf8 message (or_grammar found))
+    → IsScramReading Is message (if_utf8 message (or_grammar found))
 reads Is message found sound complete = reads_by Is message found (is_utf8 message) refl sound complete
 
 no_parts_by : {A : Type 0} (found whole : Option A) → whole ≡ found → ((parts : A) → whole ≡ Some parts → ⊥) → or_grammar found ≡ Err fault.Grammar
@@ -190,7 +190,7 @@ no_parts_by None whole e none = refl
 no_parts_by (Some parts) whole e none = absurd (none parts e)
 
 reads_only : {A : Type 0} (Is : List ℕ → A → Type 0) (message : List ℕ) (found : Option A) (reading : Result A ScramMessageFault) → ((parts : A) → Is message parts → IsUtf8 message) → (IsUtf8 message → (parts : A) → found ≡ Some parts → Is message parts)
-    → ((parts : A) → Is message parts → found ≡ Some parts) → IsReading Is message reading → if_utf8 message (or_grammar found) ≡ reading
+    → ((parts : A) → Is message parts → found ≡ Some parts) → IsScramReading Is message reading → if_utf8 message (or_grammar found) ≡ reading
 reads_only Is message found (Ok parts) utf8 sound complete h = rw (is_utf8-from_IsUtf8 message (utf8 parts h), complete parts h) refl
 reads_only Is message found (Err fault.NotUtf8) utf8 sound complete h = rw (not_utf8 message h) refl
 reads_only Is message found (Err fault.Grammar) utf8 sound complete h = rw (is_utf8-from_IsUtf8 message h.0) (no_parts_by found found refl (λ parts e. h.1 parts (sound h.0 parts e)))
@@ -245,7 +245,7 @@ both_if false b x y e = cc
 header_text : (flag authzid bare : List ℕ) → flag ++ 44 ∷ (authzid ++ 44 ∷ []) ++ bare ≡ flag ++ 44 ∷ (authzid ++ 44 ∷ bare)
 header_text flag authzid bare = append_assoc flag (44 ∷ (authzid ++ 44 ∷ [])) bare ∙ ap (λ (l : List ℕ). flag ++ 44 ∷ l) (append_assoc authzid (44 ∷ []) bare)
 
-header_joined : (flag authzid bare message rest : List ℕ) (one other : Option (List ℕ)) → message ≡ flag ++ behind one → one ≡ Some rest → rest ≡ authzid ++ behind other → other ≡ Some bare → message ≡ flag ++ 44 ∷ (authzid ++ 44 ∷ []) ++ bare
+header_joined : (flag authzid bare message rest : List ℕ) (one other : Option (List ℕ)) → message ≡ flag ++ more_attributes one → one ≡ Some rest → rest ≡ authzid ++ more_attributes other → other ≡ Some bare → message ≡ flag ++ 44 ∷ (authzid ++ 44 ∷ []) ++ bare
 header_joined flag authzid bare message rest one other is some next last = is ∙ rw (some, next, last) (sym (header_text flag authzid bare))
 
 header_is : (message : List ℕ) (two : Pair) → header_parts message ≡ Some two → (message ≡ two.0 ++ two.1) × IsHeader two.0
@@ -304,13 +304,13 @@ client_first_of message parts h =
     let two : header_parts message ≡ Some (parts.header, parts.bare) = ap header_parts h.written ∙ header_of parts.header parts.bare h.header in
     rw (two, skipped, two_of (codes "n=") (codes "r=") parts.user parts.nonce bare.more bare.user_value bare.nonce_value) refl
 
-pub client_first_reads : (message : List ℕ) → IsReading IsClientFirst message (read_client_first message)
+pub client_first_reads : (message : List ℕ) → IsScramReading IsClientFirst message (read_client_first message)
 client_first_reads message = reads IsClientFirst message (client_first_parts message) (λ utf8 parts. client_first_is message parts utf8) (client_first_of message)
 
 pub client_first_form : (message : List ℕ) (parts : ClientFirst) → read_client_first message ≡ Ok parts → IsClientFirst message parts
-client_first_form message parts e = subst (IsReading IsClientFirst message) e (client_first_reads message)
+client_first_form message parts e = subst (IsScramReading IsClientFirst message) e (client_first_reads message)
 
-pub client_first_only : (message : List ℕ) (reading : Result ClientFirst ScramMessageFault) → IsReading IsClientFirst message reading → read_client_first message ≡ reading
+pub client_first_only : (message : List ℕ) (reading : Result ClientFirst ScramMessageFault) → IsScramReading IsClientFirst message reading → read_client_first message ≡ reading
 client_first_only message reading = reads_only IsClientFirst message (client_first_parts message) reading (λ parts is. is.utf8) (λ utf8 parts. client_first_is message parts utf8) (client_first_of message)
 
 -- ---- client-final
@@ -347,13 +347,13 @@ client_final_of message parts h =
     ap without_proof_parts before.written ∙ two_of (codes "c=") (codes "r=") parts.binding parts.nonce before.more before.binding_value before.nonce_value in
     rw (two, behind_name_of (codes "p=") parts.proof, names) refl
 
-pub client_final_reads : (message : List ℕ) → IsReading IsClientFinal message (read_client_final message)
+pub client_final_reads : (message : List ℕ) → IsScramReading IsClientFinal message (read_client_final message)
 client_final_reads message = reads IsClientFinal message (client_final_parts message) (λ utf8 parts. client_final_is message parts utf8) (client_final_of message)
 
 pub client_final_form : (message : List ℕ) (parts : ClientFinal) → read_client_final message ≡ Ok parts → IsClientFinal message parts
-client_final_form message parts e = subst (IsReading IsClientFinal message) e (client_final_reads message)
+client_final_form message parts e = subst (IsScramReading IsClientFinal message) e (client_final_reads message)
 
-pub client_final_only : (message : List ℕ) (reading : Result ClientFinal ScramMessageFault) → IsReading IsClientFinal message reading → read_client_final message ≡ reading
+pub client_final_only : (message : List ℕ) (reading : Result ClientFinal ScramMessageFault) → IsScramReading IsClientFinal message reading → read_client_final message ≡ reading
 client_final_only message reading = reads_only IsClientFinal message (client_final_parts message) reading (λ parts is. is.utf8) (λ utf8 parts. client_final_is message parts utf8) (client_final_of message)
 
 -- ---- server-final
@@ -390,11 +390,11 @@ final_utf8 : (message : List ℕ) (parts : ServerFinal) → IsServerFinal messag
 final_utf8 message parts (verifier more utf8 is h) = utf8
 final_utf8 message parts (server_error more utf8 is h) = utf8
 
-pub server_final_reads : (message : List ℕ) → IsReading IsServerFinal message (read_server_final message)
+pub server_final_reads : (message : List ℕ) → IsScramReading IsServerFinal message (read_server_final message)
 server_final_reads message = reads IsServerFinal message (server_final_parts message) (λ utf8 parts. server_final_is message parts utf8) (server_final_parts_of message)
 
 pub server_final_form : (message : List ℕ) (parts : ServerFinal) → read_server_final message ≡ Ok parts → IsServerFinal message parts
-server_final_form message parts e = subst (IsReading IsServerFinal message) e (server_final_reads message)
+server_final_form message parts e = subst (IsScramReading IsServerFinal message) e (server_final_reads message)
 
-pub server_final_only : (message : List ℕ) (reading : Result ServerFinal ScramMessageFault) → IsReading IsServerFinal message reading → read_server_final message ≡ reading
+pub server_final_only : (message : List ℕ) (reading : Result ServerFinal ScramMessageFault) → IsScramReading IsServerFinal message reading → read_server_final message ≡ reading
 server_final_only message reading = reads_only IsServerFinal message (server_final_parts message) reading (final_utf8 message) (λ utf8 parts. server_final_is message parts utf8) (server_final_parts_of message)

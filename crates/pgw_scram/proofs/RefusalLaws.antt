@@ -6,26 +6,26 @@ use Rattle.pgw_types.specs.declared.error.PgWireError.TheVariants as wire
 use Rattle.pgw_types.specs.declared.error.ScramMessageFault.{ScramMessageFault}
 use Rattle.pgw_types.specs.declared.scram_error.ScramClientError.{ScramClientError}
 use Rattle.pgw_types.specs.declared.scram_error.ScramClientError.TheVariants as client
-use Rattle.pgw_types.specs.ScramErrors.{of_wire}
+use Rattle.pgw_types.specs.ScramErrors.{scram_of_wire}
 use Rattle.pgw_hash.specs.Pbkdf2.{salted_password}
 use Rattle.pgw_scram.specs.declared.messages.ServerFirst.{ServerFirst}
 use Rattle.pgw_scram.specs.declared.exchange.ClientLogin.{ClientLogin}
 use Rattle.pgw_scram.specs.declared.exchange.ClientReply.{ClientReply}
-use Rattle.pgw_scram.specs.Answers.{AnswersClient, unless, answer_of}
+use Rattle.pgw_scram.specs.Answers.{AnswersClient, unless, scram_result}
 use Rattle.pgw_scram.specs.Base64.{base64, salt_of}
 use Rattle.pgw_scram.specs.Formulas.{client_proof, server_signature}
 use Rattle.pgw_scram.specs.Exchange.{without_proof, exchanged, client_final, signature}
 use Rattle.pgw_scram.specs.Readers.{read_server_first}
 use Rattle.pgw_scram.specs.Refusals.{begins_with}
-use Rattle.pgw_scram.specs.Client.{replied}
+use Rattle.pgw_scram.specs.Client.{scram_reply}
 
 -- a reading that is answered is this one
-pub read_is : {A : Type 0} (reading : Result A ScramMessageFault) (parts : A) → answer_of reading ≡ Ok parts → reading ≡ Ok parts
+pub read_is : {A : Type 0} (reading : Result A ScramMessageFault) (parts : A) → scram_result reading ≡ Ok parts → reading ≡ Ok parts
 read_is (Ok found) parts e = cc
 read_is (Err why) parts e = cc
 
 refused_by : {A B : Type 0} (reading : Result B ScramMessageFault) (refusal : Option ScramClientError) (x : A) (e : PgWireError) (d : ScramClientError) → ((why : ScramMessageFault) → reading ≡ Err why → refusal ≡ Some (client.PgWireError (wire.InvalidScramMessage why)))
-    → answer_of reading ≡ Err e → d ≡ client.PgWireError e → unless refusal x ≡ Err d
+    → scram_result reading ≡ Err e → d ≡ client.PgWireError e → unless refusal x ≡ Err d
 refused_by (Ok parts) refusal x e d refuses read is = cc
 refused_by (Err why) refusal x e d refuses read is =
     let same : wire.InvalidScramMessage why ≡ e = cc in
@@ -33,8 +33,8 @@ refused_by (Err why) refusal x e d refuses read is =
 
 -- a message that is not read is refused so
 pub refused : {A B : Type 0} (reading : Result B ScramMessageFault) (refusal : Option ScramClientError) (x : A) (e : PgWireError) (r : Result A ScramClientError) → ((why : ScramMessageFault) → reading ≡ Err why → refusal ≡ Some (client.PgWireError (wire.InvalidScramMessage why)))
-    → (e ≢ wire.OutOfMemory → answer_of reading ≡ Err e) → IsErrAnd r (λ d. d ≡ of_wire e) → AnswersClient r (unless refusal x)
-unfolding of_wire
+    → (e ≢ wire.OutOfMemory → scram_result reading ≡ Err e) → IsErrAnd r (λ d. d ≡ scram_of_wire e) → AnswersClient r (unless refusal x)
+unfolding scram_of_wire
 refused reading refusal x e (Ok y) refuses read is = absurd is
 refused reading refusal x wire.OutOfMemory (Err d) refuses read is = λ other. absurd (other is)
 refused reading refusal x e (Err d) refuses read is = λ other. refused_by reading refusal x e d refuses (read (λ (same : e ≡ wire.OutOfMemory). cc)) is
@@ -42,7 +42,7 @@ refused reading refusal x e (Err d) refuses read is = λ other. refused_by readi
 -- the reply to a server-first that is accepted
 pub replied_is : (login : ClientLogin) (first salt : List ℕ) (parts : ServerFirst) (reply : ClientReply) → read_server_first first ≡ Ok parts → begins_with parts.nonce login.nonce ≡ true → salt_of parts.salt ≡ Some salt
     → reply.message ≡ without_proof login.binding parts.nonce ++ codes ",p=" ++ base64 (client_proof (salted_password login.password salt parts.count) (exchanged login first parts))
-    → reply.signature ≡ base64 (server_signature (salted_password login.password salt parts.count) (exchanged login first parts)) → replied login first ≡ Ok reply
+    → reply.signature ≡ base64 (server_signature (salted_password login.password salt parts.count) (exchanged login first parts)) → scram_reply login first ≡ Ok reply
 unfolding client_final signature
 replied_is login first salt parts reply read begins is_salt message text = rw (read, begins, is_salt, ← message, ← text) refl
 

@@ -7,9 +7,9 @@ use Rattle.pgw_types.specs.declared.scram_error.ScramClientError.{ScramClientErr
 use Rattle.pgw_types.specs.declared.scram_error.ScramClientError.TheVariants as client
 
 -- the answer is this value or this refusal, or memory ran out
-abbrev pub Answers : {A : Type 0} → Result A PgWireError → Result A PgWireError → Type 0
-Answers (Ok x) answer = answer ≡ Ok x
-Answers (Err e) answer = e ≢ OutOfMemory → answer ≡ Err e
+abbrev pub IsScramAnswer : {A : Type 0} → Result A PgWireError → Result A PgWireError → Type 0
+IsScramAnswer (Ok x) answer = answer ≡ Ok x
+IsScramAnswer (Err e) answer = e ≢ OutOfMemory → answer ≡ Err e
 
 -- the same of a client
 abbrev pub AnswersClient : {A : Type 0} → Result A ScramClientError → Result A ScramClientError → Type 0
@@ -31,6 +31,6 @@ first_of None second = second
 first_of (Some e) second = Some e
 
 -- a reading as an answer
-abbrev pub answer_of : {A : Type 0} → Result A ScramMessageFault → Result A PgWireError
-answer_of (Ok parts) = Ok parts
-answer_of (Err why) = Err (InvalidScramMessage why)
+abbrev pub scram_result : {A : Type 0} → Result A ScramMessageFault → Result A PgWireError
+scram_result (Ok parts) = Ok parts
+scram_result (Err why) = Err (InvalidScramMessage why)

@@ -6,7 +6,7 @@ use Rattle.pgw_scram.specs.declared.binding.ClientBinding.{ClientBinding}
 use Rattle.pgw_scram.specs.declared.exchange.ClientLogin.{ClientLogin}
 use Rattle.pgw_scram.specs.declared.messages.ServerFirst.{ServerFirst}
 use Rattle.pgw_scram.specs.Base64.{base64, salt_of}
-use Rattle.pgw_scram.specs.Binding.{header, binding_text}
+use Rattle.pgw_scram.specs.Binding.{gs2_header, binding_text}
 use Rattle.pgw_scram.specs.Readers.{read_server_first}
 use Rattle.pgw_scram.specs.Formulas.{auth_message, client_proof, server_signature}
 
@@ -16,7 +16,7 @@ client_first_bare user nonce = codes "n=" ++ user ++ codes ",r=" ++ nonce
 
 -- client-first-message: the header, and the bare message behind it
 unfoldable pub client_first : ClientLogin → List ℕ
-client_first login = header login.binding ++ client_first_bare login.user login.nonce
+client_first login = gs2_header login.binding ++ client_first_bare login.user login.nonce
 
 -- client-final-message-without-proof, of what is bound and the nonce in server-first
 unfoldable pub without_proof : ClientBinding → List ℕ → List ℕ

@@ -1,7 +1,7 @@
 -- Honest ends of an exchange.
 use Rattle.std.specs.Prelude.{◌≡◌, ◌<◌, ◌≤◌, ◌^◌, ℕ, List, ◌++◌, true, Option, Some, None, Ok, IsUtf8}
 use Rattle.base64.specs.GeneralPurpose.{IsBytes}
-use Rattle.pgw_hash.specs.Saslprep.{prepared}
+use Rattle.pgw_hash.specs.Saslprep.{saslprep}
 use Rattle.pgw_hash.specs.Pbkdf2.{salted_password}
 use Rattle.pgw_scram.specs.declared.binding.ClientBinding.{ClientBinding}
 use Rattle.pgw_scram.specs.declared.binding.ClientBinding.TheVariants as binding
@@ -18,7 +18,7 @@ use Rattle.pgw_scram.specs.Base64.{base64}
 use Rattle.pgw_scram.specs.Client.{began, proved, verified}
 use Rattle.pgw_scram.specs.Offers.{names_end_point}
 use Rattle.pgw_scram.specs.Readers.{read_client_first, read_client_final}
-use Rattle.pgw_scram.specs.Server.{offered, accepted}
+use Rattle.pgw_scram.specs.Server.{scram_offer, accepted}
 
 -- The ends agree on what is bound: to nothing; to nothing where the server has no certificate; or to the hash of the
 -- server's own.
@@ -34,7 +34,7 @@ pub record AreHonest (client : ScramClientAuth) (server : ScramServerAuth) (pass
   pub salt : List ℕ
   pub agree : Agree client.binding server.certificate_hash
   pub username_utf8 : IsUtf8 client.username
-  pub is_prepared : prepared client.username ≡ Some user
+  pub is_prepared : saslprep client.username ≡ Some user
   pub user_value : IsValue user
   pub has_salt : password.salt ≡ Some salt
   pub salt_bytes : IsBytes salt
@@ -52,7 +52,7 @@ pub record BothAccept (client : ScramClientAuth) (server : ScramServerAuth) (pas
   pub client_proved : ScramClientAuthWaitingForServerFinal
   pub server_final : List ℕ
   pub begins : began client client_nonce ≡ Ok (client_first, client_began)
-  pub offers : offered server client_first password server_nonce ≡ Ok (server_first, server_offered)
+  pub offers : scram_offer server client_first password server_nonce ≡ Ok (server_first, server_offered)
   pub proves : proved client_began server_first ≡ Ok (client_final, client_proved)
   pub accepts : accepted server_offered client_final ≡ Ok server_final
   pub verifies : verified client_proved server_final ≡ Ok tt
@@ -66,7 +66,7 @@ pub record LetsIn (server : ScramServerAuth) (password : Password) (nonce client
   pub server_final : List ℕ
   pub is_first : read_client_first client_first ≡ Ok first
   pub is_answer : read_client_final client_final ≡ Ok answer
-  pub offers : offered server client_first password nonce ≡ Ok (server_first, waits)
+  pub offers : scram_offer server client_first password nonce ≡ Ok (server_first, waits)
   pub accepts : accepted waits client_final ≡ Ok server_final
 
 -- the client names the server's certificate, and has bound its login to this hash of it

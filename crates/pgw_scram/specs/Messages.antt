@@ -38,7 +38,7 @@ pub record IsHeader (header : List ℕ) : Type 0 where
   pub is_authzid : IsAuthzid authzid
 
 -- client-first-message-bare = [reserved-mext ","] username "," nonce ["," extensions]
-pub record IsBare (bare user nonce : List ℕ) : Type 0 where
+pub record IsBareFirst (bare user nonce : List ℕ) : Type 0 where
   pub body : List ℕ
   pub more : Option (List ℕ)
   pub skips : SkipsMext bare body
@@ -51,7 +51,7 @@ pub record IsClientFirst (message : List ℕ) (parts : ClientFirst) : Type 0 whe
   pub utf8 : IsUtf8 message
   pub written : message ≡ parts.header ++ parts.bare
   pub header : IsHeader parts.header
-  pub bare : IsBare parts.bare parts.user parts.nonce
+  pub bare : IsBareFirst parts.bare parts.user parts.nonce
 
 -- ---- server-first-message
 
@@ -108,14 +108,14 @@ pub data IsServerFinal : List ℕ → ServerFinal → Type 0 where
 -- ---- what a reader answers
 
 -- the parts, or why there are none
-abbrev pub IsReading : {A : Type 0} → (List ℕ → A → Type 0) → List ℕ → Result A ScramMessageFault → Type 0
-IsReading Is message (Ok parts) = Is message parts
-IsReading Is message (Err fault.NotUtf8) = IsUtf8 message → ⊥
-IsReading {A} Is message (Err fault.Grammar) = IsUtf8 message × ((parts : A) → Is message parts → ⊥)
-IsReading Is message (Err other) = ⊥
+abbrev pub IsScramReading : {A : Type 0} → (List ℕ → A → Type 0) → List ℕ → Result A ScramMessageFault → Type 0
+IsScramReading Is message (Ok parts) = Is message parts
+IsScramReading Is message (Err fault.NotUtf8) = IsUtf8 message → ⊥
+IsScramReading {A} Is message (Err fault.Grammar) = IsUtf8 message × ((parts : A) → Is message parts → ⊥)
+IsScramReading Is message (Err other) = ⊥
 
 -- the same of server-first, where the form may be right and the count none
 abbrev pub IsServerFirstReading : List ℕ → Result ServerFirst ScramMessageFault → Type 0
 IsServerFirstReading message (Err fault.Count) = HasNoCount message
 IsServerFirstReading message (Err fault.Grammar) = IsUtf8 message × ((nonce salt count : List ℕ) → HasServerFirst message nonce salt count → ⊥)
-IsServerFirstReading message reading = IsReading IsServerFirst message reading
+IsServerFirstReading message reading = IsScramReading IsServerFirst message reading

@@ -74,5 +74,5 @@ answered_as offer (Err why) = Err (InvalidScramMessage why)
 answered_as offer (Ok parts) = unless (answer_refusal offer parts) parts
 
 -- the parts of client-final, where it answers the offer
-abbrev pub answered : Offer → List ℕ → Result ClientFinal PgWireError
-answered offer message = answered_as offer (read_client_final message)
+abbrev pub final_for_offer : Offer → List ℕ → Result ClientFinal PgWireError
+final_for_offer offer message = answered_as offer (read_client_final message)

@@ -102,16 +102,16 @@ server_first_parts message = do
   count ← attribute_at (codes "i=") rest
   Some (two.0, two.1, count.0)
 
-abbrev pub counted : List ℕ → List ℕ → Option ℕ → Result ServerFirst ScramMessageFault
-counted nonce salt None = Err fault.Count
-counted nonce salt (Some n) = if n == 0 then Err fault.Count else Ok (record { nonce = nonce; salt = salt; count = n })
+abbrev pub first_by_count : List ℕ → List ℕ → Option ℕ → Result ServerFirst ScramMessageFault
+first_by_count nonce salt None = Err fault.Count
+first_by_count nonce salt (Some n) = if n == 0 then Err fault.Count else Ok (record { nonce = nonce; salt = salt; count = n })
 
-abbrev pub with_count : Option (List ℕ × List ℕ × List ℕ) → Result ServerFirst ScramMessageFault
-with_count None = Err fault.Grammar
-with_count (Some (nonce, salt, count)) = counted nonce salt (number_in 32 count)
+abbrev pub first_with_count : Option (List ℕ × List ℕ × List ℕ) → Result ServerFirst ScramMessageFault
+first_with_count None = Err fault.Grammar
+first_with_count (Some (nonce, salt, count)) = first_by_count nonce salt (number_in 32 count)
 
 abbrev pub read_server_first : List ℕ → Result ServerFirst ScramMessageFault
-read_server_first message = if_utf8 message (with_count (server_first_parts message))
+read_server_first message = if_utf8 message (first_with_count (server_first_parts message))
 
 -- client-final: the proof behind the last comma, and what stands before it
 

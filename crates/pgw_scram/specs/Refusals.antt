@@ -28,8 +28,8 @@ parts_refusal nonce (Ok parts) =
     first_of (unless_so (begins_with parts.nonce nonce) (ScramError scram_fault.NonceMismatch))
     (unless_so (is_some (salt_of parts.salt)) (ScramError scram_fault.SaltNotBase64))
 
-abbrev pub first_refusal : List ℕ → List ℕ → Option ScramClientError
-first_refusal nonce first = parts_refusal nonce (read_server_first first)
+abbrev pub scram_first_refusal : List ℕ → List ℕ → Option ScramClientError
+scram_first_refusal nonce first = parts_refusal nonce (read_server_first first)
 
 -- server-final outside its grammar; or it tells a failure; or its signature is another
 abbrev pub verifier_refusal : List ℕ → Result ServerFinal ScramMessageFault → Option ScramClientError
@@ -37,5 +37,5 @@ verifier_refusal expected (Err why) = Some (PgWireError (InvalidScramMessage why
 verifier_refusal expected (Ok (Failed text)) = Some (ScramError (scram_fault.ServerError text))
 verifier_refusal expected (Ok (Signature text)) = unless_so (bytes_eq text expected) (ScramError scram_fault.SignatureMismatch)
 
-abbrev pub final_refusal : List ℕ → List ℕ → Option ScramClientError
-final_refusal expected final = verifier_refusal expected (read_server_final final)
+abbrev pub scram_refusal : List ℕ → List ℕ → Option ScramClientError
+scram_refusal expected final = verifier_refusal expected (read_server_final final)

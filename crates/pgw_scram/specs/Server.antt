@@ -12,22 +12,22 @@ use Rattle.pgw_scram.specs.declared.server.ScramServerAuthWaitingForClientFinal.
 use Rattle.pgw_scram.specs.Answers.{unless, unless_so}
 use Rattle.pgw_scram.specs.Base64.{base64}
 use Rattle.pgw_scram.specs.Formulas.{client_key, server_key, proof_by, signature_by}
-use Rattle.pgw_scram.specs.Offers.{offer_of, channel_refusal, exchanged, answered, server_final}
+use Rattle.pgw_scram.specs.Offers.{offer_of, channel_refusal, exchanged, final_for_offer, server_final}
 use Rattle.pgw_scram.specs.Readers.{read_client_first}
 
 -- ---- the first step
 
-abbrev pub waiting : ScramServerAuth → ClientFirst → List ℕ → List ℕ → List ℕ → WaitingForClientFinal
-waiting server parts salt salted own =
+abbrev pub scram_wait : ScramServerAuth → ClientFirst → List ℕ → List ℕ → List ℕ → WaitingForClientFinal
+scram_wait server parts salt salted own =
     record { offer = offer_of parts server.certificate_hash salt server.iterations own; client_key = client_key salted; server_key = server_key salted }
 
 -- with the server-first that it has sent
-abbrev pub saying : WaitingForClientFinal → List ℕ × WaitingForClientFinal
-saying server = (server.offer.server_first, server)
+abbrev pub with_server_first : WaitingForClientFinal → List ℕ × WaitingForClientFinal
+with_server_first server = (server.offer.server_first, server)
 
 abbrev pub offered_with : ScramServerAuth → ClientFirst → Option (List ℕ) → List ℕ → List ℕ → Result (List ℕ × WaitingForClientFinal) PgWireError
 offered_with server parts None salted own = Err SaltRequired
-offered_with server parts (Some salt) salted own = Ok (saying (waiting server parts salt salted own))
+offered_with server parts (Some salt) salted own = Ok (with_server_first (scram_wait server parts salt salted own))
 
 abbrev pub unless_misbound : {A : Type 0} → Option PgWireError → Result A PgWireError → Result A PgWireError
 unless_misbound None answer = answer
@@ -38,13 +38,13 @@ unless_misbound (Some e) answer = Err e
 abbrev pub offered_to : ScramServerAuth → ClientFirst → Password → List ℕ → Result (List ℕ × WaitingForClientFinal) PgWireError
 offered_to server parts password own = unless_misbound (channel_refusal server.certificate_hash parts) (offered_with server parts password.salt password.password own)
 
-abbrev pub offered_as : ScramServerAuth → Result ClientFirst ScramMessageFault → Password → List ℕ → Result (List ℕ × WaitingForClientFinal) PgWireError
-offered_as server (Err why) password own = Err (InvalidScramMessage why)
-offered_as server (Ok parts) password own = offered_to server parts password own
+abbrev pub scram_offer_as : ScramServerAuth → Result ClientFirst ScramMessageFault → Password → List ℕ → Result (List ℕ × WaitingForClientFinal) PgWireError
+scram_offer_as server (Err why) password own = Err (InvalidScramMessage why)
+scram_offer_as server (Ok parts) password own = offered_to server parts password own
 
 -- the same, of client-first
-abbrev pub offered : ScramServerAuth → List ℕ → Password → List ℕ → Result (List ℕ × WaitingForClientFinal) PgWireError
-offered server message password own = offered_as server (read_client_first message) password own
+abbrev pub scram_offer : ScramServerAuth → List ℕ → Password → List ℕ → Result (List ℕ × WaitingForClientFinal) PgWireError
+scram_offer server message password own = scram_offer_as server (read_client_first message) password own
 
 -- ---- the last step
 
@@ -58,4 +58,4 @@ accepted_as server (Ok parts) = unless (proof_refusal server parts) (server_fina
 
 -- server-final, of client-final
 abbrev pub accepted : WaitingForClientFinal → List ℕ → Result (List ℕ) PgWireError
-accepted server message = accepted_as server (answered server.offer message)
+accepted server message = accepted_as server (final_for_offer server.offer message)

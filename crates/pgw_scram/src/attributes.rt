@@ -2,7 +2,7 @@
 ghost use Rattle.std.specs.Prelude.{◌≡◌, option_map};
 ghost use Rattle.std.specs.Option.{option_copied};
 ghost use Rattle.pgw_scram.specs.Readers.{cut, cut_last, behind_name, attribute_at, two_at, behind_mext};
-ghost use Rattle.pgw_scram.specs.Shown.{shown, shown_two};
+ghost use Rattle.pgw_scram.specs.Shown.{attribute_parts, shown_two};
 
 /// The value of an attribute, and what stands behind the comma after it.
 #[derive(Clone, Copy, Drop)]
@@ -21,7 +21,7 @@ pub(crate) struct TwoAttributes<'a> {
 
 /// A value up to the first comma or the end.
 pub(crate) fn cut(text: &str) -> Attribute<'_>
-    ensures { shown result ≡ cut text.now }
+    ensures { attribute_parts result ≡ cut text.now }
 {
     match text.split_once(',') {
         Some((value, rest)) => Attribute {
@@ -50,7 +50,7 @@ pub(crate) fn behind_name<'a>(text: &'a str, name: &str) -> Option<&'a str>
 }
 
 pub(crate) fn attribute_at<'a>(text: &'a str, name: &str) -> Option<Attribute<'a>>
-    ensures { option_map shown result ≡ attribute_at name.now text.now }
+    ensures { option_map attribute_parts result ≡ attribute_at name.now text.now }
 {
     let value = behind_name(text, name)?;
     Some(cut(value))

@@ -1,6 +1,6 @@
 //! Channel binding (RFC 5802, section 6; RFC 5929, section 4).
 ghost use Rattle.std.specs.Prelude.{◌≡◌, IfOk};
-ghost use Rattle.pgw_scram.specs.Binding.{header, channel_data, binding_text};
+ghost use Rattle.pgw_scram.specs.Binding.{gs2_header, channel_data, binding_text};
 
 use crate::encoding::encode_joined;
 use pgw_types::listed::Duplicate;
@@ -23,7 +23,7 @@ pub enum ClientBinding {
 impl ClientBinding {
     /// What a client's first message begins with.
     pub fn header(&self) -> &str
-        ensures { result.now ≡ header self.now }
+        ensures { result.now ≡ gs2_header self.now }
     {
         match self {
             ClientBinding::None => "n,,",

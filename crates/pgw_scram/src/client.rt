@@ -1,7 +1,7 @@
 //! The client's end of an exchange (RFC 5802, section 5).
 ghost use Rattle.std.specs.Prelude.{◌≡◌, None, Ok};
 ghost use Rattle.pgw_scram.specs.Answers.{AnswersClient};
-ghost use Rattle.pgw_scram.specs.Refusals.{final_refusal};
+ghost use Rattle.pgw_scram.specs.Refusals.{scram_refusal};
 ghost use Rattle.pgw_scram.specs.Client.{began, proved, verified};
 
 use crate::binding::ClientBinding;
@@ -103,7 +103,7 @@ impl ScramClientAuthWaitingForServerFinal {
     /// server's words; `SignatureMismatch`. Only a server's error takes memory.
     pub fn verify_server_final(&self, alloc: Global, message: &[u8]) -> ScramClientResult<()>
         ensures value { AnswersClient result (verified self.now message.now) }
-        ensures right { final_refusal self.now.signature message.now ≡ None → result ≡ Ok tt }
+        ensures right { scram_refusal self.now.signature message.now ≡ None → result ≡ Ok tt }
     {
         match read_server_final(message) {
             Err(why) => Err(ScramClientError::PgWireError(PgWireError::InvalidScramMessage(why))),

@@ -6,7 +6,7 @@ ghost use Rattle.pgw_scram.specs.Formulas.{auth_message, client_proof, server_si
 ghost use Rattle.pgw_scram.specs.Exchange.{client_first_bare, client_first, without_proof, client_final, signature};
 ghost use Rattle.pgw_scram.specs.Answers.{AnswersClient};
 ghost use Rattle.pgw_scram.specs.Refusals.{begins_with};
-ghost use Rattle.pgw_scram.specs.Client.{replied};
+ghost use Rattle.pgw_scram.specs.Client.{scram_reply};
 ghost use Rattle.pgw_scram.specs.Readers.{read_server_first};
 
 use crate::binding::ClientBinding;
@@ -119,7 +119,7 @@ pub fn client_final(
     login: &ClientLogin,
     server_first: &[u8],
 ) -> ScramClientResult<ClientReply>
-    ensures { AnswersClient result (replied login.now server_first.now) }
+    ensures { AnswersClient result (scram_reply login.now server_first.now) }
 {
     let parts = ServerFirst::read(alloc, server_first)?;
     reply_to(alloc, login, server_first, &parts)
@@ -133,7 +133,7 @@ fn reply_to(
     parts: &ServerFirst,
 ) -> ScramClientResult<ClientReply>
     requires { read_server_first server_first.now ≡ Ok parts.now }
-    ensures { AnswersClient result (replied login.now server_first.now) }
+    ensures { AnswersClient result (scram_reply login.now server_first.now) }
 {
     if !begins_with(parts.nonce.as_str(), login.nonce.as_str()) {
         return Err(ScramClientError::ScramError(ScramFault::NonceMismatch));

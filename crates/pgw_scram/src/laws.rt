@@ -8,7 +8,7 @@ ghost use Rattle.pgw_scram.specs.declared.messages.ClientFirst.{ClientFirst};
 ghost use Rattle.pgw_scram.specs.declared.messages.ServerFirst.{ServerFirst};
 ghost use Rattle.pgw_scram.specs.declared.messages.ClientFinal.{ClientFinal};
 ghost use Rattle.pgw_scram.specs.declared.messages.ServerFinal.{ServerFinal};
-ghost use Rattle.pgw_scram.specs.Messages.{IsClientFirst, IsClientFinal, IsServerFinal, IsReading, IsServerFirstReading};
+ghost use Rattle.pgw_scram.specs.Messages.{IsClientFirst, IsClientFinal, IsServerFinal, IsScramReading, IsServerFirstReading};
 ghost use Rattle.pgw_scram.specs.Readers.{read_client_first, read_server_first, read_client_final, read_server_final};
 ghost use Rattle.pgw_scram.specs.Offers.{is_bound};
 ghost use Rattle.pgw_scram.specs.Honest.{AreHonest, BothAccept, LetsIn, BoundTo};
@@ -16,7 +16,7 @@ ghost use Rattle.pgw_scram.specs.Honest.{AreHonest, BothAccept, LetsIn, BoundTo}
 /// A message is read just as its form says, so in one way, or it has one fault.
 pub fn client_first_has_one_reading()
     ensures { (message : List ℕ) (reading : Result ClientFirst ScramMessageFault) →
-        (read_client_first message ≡ reading) ↔ IsReading IsClientFirst message reading }
+        (read_client_first message ≡ reading) ↔ IsScramReading IsClientFirst message reading }
 {}
 
 pub fn server_first_has_one_reading()
@@ -26,12 +26,12 @@ pub fn server_first_has_one_reading()
 
 pub fn client_final_has_one_reading()
     ensures { (message : List ℕ) (reading : Result ClientFinal ScramMessageFault) →
-        (read_client_final message ≡ reading) ↔ IsReading IsClientFinal message reading }
+        (read_client_final message ≡ reading) ↔ IsScramReading IsClientFinal message reading }
 {}
 
 pub fn server_final_has_one_reading()
     ensures { (message : List ℕ) (reading : Result ServerFinal ScramMessageFault) →
-        (read_server_final message ≡ reading) ↔ IsReading IsServerFinal message reading }
+        (read_server_final message ≡ reading) ↔ IsScramReading IsServerFinal message reading }
 {}
 
 /// Where the server keeps the SaltedPassword of the client's password and both agree on what is bound,

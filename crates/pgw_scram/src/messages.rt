@@ -3,7 +3,7 @@ ghost use Rattle.std.specs.Prelude.{◌≡◌, ◌∷◌, ◌++◌, [], IfOk, If
 ghost use Rattle.std.specs.Option.{option_copied};
 ghost use Rattle.std.specs.Str.{is_utf8};
 ghost use Rattle.pgw_types.specs.Numbers.{number_in};
-ghost use Rattle.pgw_scram.specs.Answers.{Answers, answer_of};
+ghost use Rattle.pgw_scram.specs.Answers.{IsScramAnswer, scram_result};
 ghost use Rattle.pgw_scram.specs.Messages.{IsClientFirst, IsServerFirst, IsClientFinal, IsServerFinal};
 ghost use Rattle.pgw_scram.specs.ShownMessages.{header_text, shown_header, shown_client_first, shown_server_first, shown_client_final, shown_server_final, result_map};
 ghost use Rattle.pgw_scram.specs.Readers.{is_flag, is_authzid, header_parts, client_first_parts, server_first_parts, client_final_parts, server_final_parts, read_client_first, read_server_first, read_client_final, read_server_final};
@@ -147,7 +147,7 @@ fn text_of(message: &[u8]) -> Option<&str>
 impl ClientFirst {
     /// The parts of a message, or what is wrong with it.
     pub fn read(alloc: Global, message: &[u8]) -> PgWireResult<ClientFirst>
-        ensures value { Answers result (answer_of (read_client_first message.now)) }
+        ensures value { IsScramAnswer result (scram_result (read_client_first message.now)) }
         ensures form { IfOk result (IsClientFirst message.now) }
     {
         let Some(text) = text_of(message) else {
@@ -195,7 +195,7 @@ fn number_in(text: &str) -> Option<u32>
 impl ServerFirst {
     /// The parts of a message, or what is wrong with it.
     pub fn read(alloc: Global, message: &[u8]) -> PgWireResult<ServerFirst>
-        ensures value { Answers result (answer_of (read_server_first message.now)) }
+        ensures value { IsScramAnswer result (scram_result (read_server_first message.now)) }
         ensures form { IfOk result (IsServerFirst message.now) }
     {
         let Some(text) = text_of(message) else {
@@ -245,7 +245,7 @@ fn client_final_in(text: &str) -> Option<ClientFinalIn<'_>>
 impl ClientFinal {
     /// The parts of a message, or what is wrong with it.
     pub fn read(alloc: Global, message: &[u8]) -> PgWireResult<ClientFinal>
-        ensures value { Answers result (answer_of (read_client_final message.now)) }
+        ensures value { IsScramAnswer result (scram_result (read_client_final message.now)) }
         ensures form { IfOk result (IsClientFinal message.now) }
     {
         let Some(text) = text_of(message) else {
@@ -297,7 +297,7 @@ pub(crate) fn read_server_final(message: &[u8]) -> Result<ServerFinalIn<'_>, Scr
 impl ServerFinal {
     /// The parts of a message, or what is wrong with it.
     pub fn read(alloc: Global, message: &[u8]) -> PgWireResult<ServerFinal>
-        ensures value { Answers result (answer_of (read_server_final message.now)) }
+        ensures value { IsScramAnswer result (scram_result (read_server_final message.now)) }
         ensures form { IfOk result (IsServerFinal message.now) }
     {
         match read_server_final(message) {

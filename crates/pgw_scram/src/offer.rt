@@ -1,9 +1,9 @@
 //! What a server offers, and what it checks of the answer (RFC 5802, section 5), whatever it keeps of a password.
 ghost use Rattle.std.specs.Prelude.{◌≡◌, ◌++◌, IfOk, codes, IsUtf8};
 ghost use Rattle.std.specs.Option.{option_copied};
-ghost use Rattle.pgw_scram.specs.Answers.{Answers};
+ghost use Rattle.pgw_scram.specs.Answers.{IsScramAnswer};
 ghost use Rattle.pgw_scram.specs.Base64.{base64, nonce_text};
-ghost use Rattle.pgw_scram.specs.Offers.{server_first, bound, is_bound, names_end_point, is_misbound, whole_nonce, offer_of, answered};
+ghost use Rattle.pgw_scram.specs.Offers.{server_first, bound, is_bound, names_end_point, is_misbound, whole_nonce, offer_of, final_for_offer};
 
 use crate::encoding::{encode, encode_joined};
 use crate::messages::{ClientFinal, ClientFirst};
@@ -141,7 +141,7 @@ impl Offer {
     /// The parts of the client's last message, whose proof is still to be checked.
     /// `InvalidScramMessage` for its form, then for its channel binding, then for its nonce.
     pub fn answer(&self, alloc: Global, message: &[u8]) -> PgWireResult<ClientFinal>
-        ensures { Answers result (answered self.now message.now) }
+        ensures { IsScramAnswer result (final_for_offer self.now message.now) }
     {
         let parts = ClientFinal::read(alloc, message)?;
         if parts.binding != self.binding {

@@ -1,8 +1,8 @@
 //! The server's end of an exchange (RFC 5802, section 5).
 ghost use Rattle.std.specs.Prelude.{◌≡◌, ◌≤◌, IfOk, OnOk, OnErr, Ok, Some, None};
 ghost use Rattle.std.specs.Option.{option_copied};
-ghost use Rattle.pgw_scram.specs.Answers.{Answers};
-ghost use Rattle.pgw_scram.specs.Server.{waiting, offered_to, offered, accepted_as, accepted};
+ghost use Rattle.pgw_scram.specs.Answers.{IsScramAnswer};
+ghost use Rattle.pgw_scram.specs.Server.{scram_wait, offered_to, scram_offer, accepted_as, accepted};
 
 use crate::messages::{ClientFinal, ClientFirst};
 use crate::offer::{Offer, is_misbound, server_final};
@@ -91,7 +91,7 @@ impl ScramServerAuth {
         password: &Password,
         nonce: &[u8; 18],
     ) -> PgWireResult<(Text, ScramServerAuthWaitingForClientFinal)>
-        ensures { Answers result (offered self.now message.now password.now nonce.now) }
+        ensures { IsScramAnswer result (scram_offer self.now message.now password.now nonce.now) }
     {
         let parts = ClientFirst::read(alloc, message)?;
         self.offer(alloc, parts, password, nonce)
@@ -105,7 +105,7 @@ impl ScramServerAuth {
         password: &Password,
         nonce: &[u8; 18],
     ) -> PgWireResult<(Text, ScramServerAuthWaitingForClientFinal)>
-        ensures { Answers result (offered_to self.now parts password.now nonce.now) }
+        ensures { IsScramAnswer result (offered_to self.now parts password.now nonce.now) }
     {
         if is_misbound(self.certificate_hash(), parts.header.as_str()) {
             return Err(PgWireError::InvalidScramMessage(ScramMessageFault::ChannelBinding));
@@ -128,7 +128,7 @@ impl ScramServerAuth {
         own: &[u8; 18],
     ) -> Result<ScramServerAuthWaitingForClientFinal, OutOfMemory>
         ensures { IfOk result (λ server. server
-            ≡ waiting self.now parts salt.now salted.now own.now) }
+            ≡ scram_wait self.now parts salt.now salted.now own.now) }
     {
         let offer = Offer::new(
             alloc,
@@ -151,7 +151,7 @@ impl ScramServerAuthWaitingForClientFinal {
     /// channel binding and for its nonce; `InvalidPassword` with the user name where the proof is
     /// another.
     pub fn on_client_final_message(&self, alloc: Global, message: &[u8]) -> PgWireResult<Text>
-        ensures { Answers result (accepted self.now message.now) }
+        ensures { IsScramAnswer result (accepted self.now message.now) }
     {
         let parts = self.offer.answer(alloc, message)?;
         self.accept(alloc, &parts)
@@ -159,7 +159,7 @@ impl ScramServerAuthWaitingForClientFinal {
 
     /// The server's last message (server-final), of the parts of the client's, or that its proof is another.
     pub fn accept(&self, alloc: Global, parts: &ClientFinal) -> PgWireResult<Text>
-        ensures { Answers result (accepted_as self.now (Ok parts.now)) }
+        ensures { IsScramAnswer result (accepted_as self.now (Ok parts.now)) }
     {
         let bare = self.offer.bare.as_str().as_bytes();
         let server_first = self.offer.server_first.as_str().as_bytes();

@@ -1,7 +1,7 @@
 -- What is read of a text is what the grammar says of it.
 use Rattle.std.proofs.Common.{◌≡◌, ◌∙◌, ◌↔◌, ℕ, suc, ◌+◌, List, [], ◌∷◌, ◌++◌, Bool, true, false, ◌&&◌, length, fold, Option, Some, None, Result, Ok, Err, refl, sym, ap, arith, if◌then◌else◌}
-use Rattle.pgw_script.specs.Form.{Form, lines_of, read_lines, read_script, step, going_on}
-use Rattle.pgw_script.specs.Grammar.{Say, in_order, last_place, IsScriptIn, MisplacedLine, Stuck, IsFaultIn, IsReadAs, HasOneReading}
+use Rattle.pgw_script.specs.Form.{Form, lines_of, read_lines, read_script, step, then_script_line}
+use Rattle.pgw_script.specs.Grammar.{Say, in_order, last_place, IsScriptIn, MisplacedLine, Stuck, IsFaultIn, IsScriptReadAs, HasOneReading}
 
 both : (a b : Bool) → (a && b) ≡ true → (a ≡ true) × (b ≡ true)
 both true b h = (refl, h)
@@ -44,7 +44,7 @@ module _ {L P S : Type 0} (form : Form L P S) where
   unstepped p s (Some l) h = rw h refl
 
   -- what is read is in the grammar
-  sound_at : (t : List ℕ) (texts : List (List ℕ)) (p : P) (s r : S) (n : ℕ) (l : L) (b : Bool) → form.line_of t ≡ Some l → form.may_follow p (form.place_of l) ≡ b → ((q : P) (u : S) → read_lines form q u (n + 1) texts ≡ Ok r → Behind form q u texts r) → going_on (if b then Some (form.place_of l, form.with_line s l) else None) (λ q u. read_lines form q u (n + 1) texts) (n + 1) ≡ Ok r → Behind form p s (t ∷ texts) r
+  sound_at : (t : List ℕ) (texts : List (List ℕ)) (p : P) (s r : S) (n : ℕ) (l : L) (b : Bool) → form.line_of t ≡ Some l → form.may_follow p (form.place_of l) ≡ b → ((q : P) (u : S) → read_lines form q u (n + 1) texts ≡ Ok r → Behind form q u texts r) → then_script_line (if b then Some (form.place_of l, form.with_line s l) else None) (λ q u. read_lines form q u (n + 1) texts) (n + 1) ≡ Ok r → Behind form p s (t ∷ texts) r
   sound_at t texts p s r n l false is f ih h = cc
   sound_at t texts p s r n l true is f ih h =
       let b = ih (form.place_of l) (form.with_line s l) h in
@@ -56,7 +56,7 @@ module _ {L P S : Type 0} (form : Form L P S) where
         means = b.means;
       }
 
-  sound_by : (t : List ℕ) (texts : List (List ℕ)) (p : P) (s r : S) (n : ℕ) (o : Option L) → form.line_of t ≡ o → ((q : P) (u : S) → read_lines form q u (n + 1) texts ≡ Ok r → Behind form q u texts r) → going_on (step form p s o) (λ q u. read_lines form q u (n + 1) texts) (n + 1) ≡ Ok r → Behind form p s (t ∷ texts) r
+  sound_by : (t : List ℕ) (texts : List (List ℕ)) (p : P) (s r : S) (n : ℕ) (o : Option L) → form.line_of t ≡ o → ((q : P) (u : S) → read_lines form q u (n + 1) texts ≡ Ok r → Behind form q u texts r) → then_script_line (step form p s o) (λ q u. read_lines form q u (n + 1) texts) (n + 1) ≡ Ok r → Behind form p s (t ∷ texts) r
   sound_by t texts p s r n None is ih h = cc
   sound_by t texts p s r n (Some l) is ih h = sound_at t texts p s r n l (form.may_follow p (form.place_of l)) is refl ih h
 
@@ -78,7 +78,7 @@ module _ {L P S : Type 0} (form : Form L P S) where
       rw (first, parts.0) (complete texts said (form.place_of l) (form.with_line s l) (n + 1) rest parts.1 ended)
 
   -- the line that is told is the first outside the grammar
-  fault_at : (t : List ℕ) (texts : List (List ℕ)) (p : P) (s : S) (n k : ℕ) (l : L) (b : Bool) → form.line_of t ≡ Some l → form.may_follow p (form.place_of l) ≡ b → ((q : P) (u : S) → read_lines form q u (n + 1) texts ≡ Err k → FaultBehind form q (n + 1) texts k) → going_on (if b then Some (form.place_of l, form.with_line s l) else None) (λ q u. read_lines form q u (n + 1) texts) (n + 1) ≡ Err k → FaultBehind form p n (t ∷ texts) k
+  fault_at : (t : List ℕ) (texts : List (List ℕ)) (p : P) (s : S) (n k : ℕ) (l : L) (b : Bool) → form.line_of t ≡ Some l → form.may_follow p (form.place_of l) ≡ b → ((q : P) (u : S) → read_lines form q u (n + 1) texts ≡ Err k → FaultBehind form q (n + 1) texts k) → then_script_line (if b then Some (form.place_of l, form.with_line s l) else None) (λ q u. read_lines form q u (n + 1) texts) (n + 1) ≡ Err k → FaultBehind form p n (t ∷ texts) k
   fault_at t texts p s n k l false is f ih h = record {
     front = [];
     behind = t ∷ texts;
@@ -102,7 +102,7 @@ module _ {L P S : Type 0} (form : Form L P S) where
         number = omega (arith, b.number);
       }
 
-  fault_by : (t : List ℕ) (texts : List (List ℕ)) (p : P) (s : S) (n k : ℕ) (o : Option L) → form.line_of t ≡ o → ((q : P) (u : S) → read_lines form q u (n + 1) texts ≡ Err k → FaultBehind form q (n + 1) texts k) → going_on (step form p s o) (λ q u. read_lines form q u (n + 1) texts) (n + 1) ≡ Err k → FaultBehind form p n (t ∷ texts) k
+  fault_by : (t : List ℕ) (texts : List (List ℕ)) (p : P) (s : S) (n k : ℕ) (o : Option L) → form.line_of t ≡ o → ((q : P) (u : S) → read_lines form q u (n + 1) texts ≡ Err k → FaultBehind form q (n + 1) texts k) → then_script_line (step form p s o) (λ q u. read_lines form q u (n + 1) texts) (n + 1) ≡ Err k → FaultBehind form p n (t ∷ texts) k
   fault_by t texts p s n k None is ih h = record {
     front = [];
     behind = t ∷ texts;
@@ -152,11 +152,11 @@ module _ {L P S : Type 0} (form : Form L P S) where
   )
 
   -- so a text is read as one thing
-  pub read_as : (text : List ℕ) (r : Result S ℕ) → read_script form text ≡ r → IsReadAs form text r
+  pub read_as : (text : List ℕ) (r : Result S ℕ) → read_script form text ≡ r → IsScriptReadAs form text r
   read_as text (Ok script) is = (scripts text script).0 is
   read_as text (Err n) is = (faults text n).0 is
 
-  pub is_read : (text : List ℕ) (r : Result S ℕ) → IsReadAs form text r → read_script form text ≡ r
+  pub is_read : (text : List ℕ) (r : Result S ℕ) → IsScriptReadAs form text r → read_script form text ≡ r
   is_read text (Ok script) is = (scripts text script).1 is
   is_read text (Err n) is = (faults text n).1 is
 

@@ -6,7 +6,7 @@ use Rattle.std.specs.Result.{result_ok}
 use Rattle.hex.specs.Hex.{◌>>=◌, decode_of, decode_pairs, digit_or_error, hex_digit_value}
 use Rattle.hex.specs.declared.error.FromHexError.{FromHexError}
 use Rattle.pgw_script.specs.Line.{bytes_in}
-use Rattle.pgw_script.specs.ServerBytes.{Adds, digits, followed_by}
+use Rattle.pgw_script.specs.ServerBytes.{AddsScriptBytes, digits, followed_by}
 
 abbrev pub digit_then : Option ℕ → (ℕ → Option (List ℕ)) → Option (List ℕ)
 digit_then None f = None
@@ -102,7 +102,7 @@ told_other start now text rest more h l t are none =
     let s : None ≡ pairs (digits text) = rw (are, not_paired (hex_digit_value h) (hex_digit_value l) (pairs more) none) at t.same in
     bytes_hex text ∙ sym s
 
-pub told_end : (start now text rest : List ℕ) → Told start now rest text → digits rest ≡ [] → Adds true text start now
+pub told_end : (start now text rest : List ℕ) → Told start now rest text → digits rest ≡ [] → AddsScriptBytes true text start now
 told_end start now text rest t none =
     let s : Some (t.added ++ []) ≡ pairs (digits text) = rw none at t.same in
     (t.added, bytes_hex text ∙ sym s ∙ ap Some (append-nil t.added), t.are)

@@ -8,14 +8,14 @@ use Rattle.std.proofs.lemmas.Str.Parse.{IsNumeralModel, numerals_by_value, tells
 use Rattle.std.proofs.lemmas.Bool.Decides.{nat_tests}
 use Rattle.std.proofs.lemmas.Fmt.{IsAscii-from_digits}
 use Rattle.std.specs.Result.{MatchResult, result_ok}
-use Rattle.pgw_script.specs.Line.{number_in}
+use Rattle.pgw_script.specs.Line.{script_number}
 use Rattle.pgw_script.specs.RequestLine.{text_in}
 
 own : IsNumeralModel (λ ds. all_ascii_digits ds ≡ true) (digits_value 10)
 own = numerals_by_value (λ ds. all_ascii_digits ds ≡ true) tells_all_ascii_digits
 
-pub number_parsed : (bs : List ℕ) (n : ℕ) → IsNumeral 10 (without_leading_plus bs) → digits_value 10 (without_leading_plus bs) < 2 ^ 64 → n ≡ digits_value 10 (without_leading_plus bs) → number_in bs ≡ Some n
-unfolding number_in
+pub number_parsed : (bs : List ℕ) (n : ℕ) → IsNumeral 10 (without_leading_plus bs) → digits_value 10 (without_leading_plus bs) < 2 ^ 64 → n ≡ digits_value 10 (without_leading_plus bs) → script_number bs ≡ Some n
+unfolding script_number
 number_parsed bs n h small is =
     let digits : all_ascii_digits (without_leading_plus bs) ≡ true = own.from (without_leading_plus bs) h.1 in
     let some : (length (without_leading_plus bs) == 0) ≡ false = grind (arith, nat_tests, h.0) in
@@ -31,14 +31,14 @@ none_unless P n true d v e not_so make = refl
 none_unless P n false false v e not_so make = refl
 none_unless P n false true v e not_so make = fit_unless P (nat_lt v (2 ^ 64)) v refl not_so (λ fits. make (grind (arith, nat_tests, e)) refl fits)
 
-pub number_none : (bs : List ℕ) → ¬ (IsNumeral 10 (without_leading_plus bs) × (digits_value 10 (without_leading_plus bs) < 2 ^ 64)) → number_in bs ≡ None
-unfolding number_in
+pub number_none : (bs : List ℕ) → ¬ (IsNumeral 10 (without_leading_plus bs) × (digits_value 10 (without_leading_plus bs) < 2 ^ 64)) → script_number bs ≡ None
+unfolding script_number
 number_none bs not_so =
     let ds = without_leading_plus bs in
     let P = IsNumeral 10 ds × (digits_value 10 ds < 2 ^ 64) in
     none_unless P (length ds) (length ds == 0) (all_ascii_digits ds) (digits_value 10 ds) refl not_so (λ some digits fits. ((some, own.to ds digits), fits))
 
-pub number_from : {E : Type 0} (bs : List ℕ) (r : Result ℕ E) (o : Option ℕ) → ParsesUnsigned 64 10 bs r → MatchResult r (λ n. o ≡ Some n) (λ e. o ≡ None) → o ≡ number_in bs
+pub number_from : {E : Type 0} (bs : List ℕ) (r : Result ℕ E) (o : Option ℕ) → ParsesUnsigned 64 10 bs r → MatchResult r (λ n. o ≡ Some n) (λ e. o ≡ None) → o ≡ script_number bs
 number_from bs (Ok n) o h is = is ∙ sym (number_parsed bs n h.0.0 h.0.1 h.1)
 number_from bs (Err e) o h is = is ∙ sym (number_none bs h)
 
@@ -51,7 +51,7 @@ plus_ascii : (bs : List ℕ) → IsAscii (without_leading_plus bs) → IsAscii b
 plus_ascii [] h = h
 plus_ascii (b ∷ bs) h = plus_by b bs (b == 43) refl h
 
-pub number_utf8 : (bs : List ℕ) → ¬ (IsUtf8 bs) → number_in bs ≡ None
+pub number_utf8 : (bs : List ℕ) → ¬ (IsUtf8 bs) → script_number bs ≡ None
 number_utf8 bs not_so = number_none bs (λ h. not_so (IsUtf8-from_ascii bs (plus_ascii bs (IsAscii-from_digits (without_leading_plus bs) h.0.1))))
 
 pub text_is : (bs t : List ℕ) → t ≡ bs → IsUtf8 bs → Some t ≡ text_in bs

@@ -4,7 +4,7 @@ use Rattle.std.proofs.lemmas.List.{append-nil, take_all}
 use Rattle.std.proofs.lemmas.Bool.{and_parts, cases_lt, eqb-true}
 use Rattle.std.proofs.lemmas.Bool.Decides.{nat_tests}
 use Rattle.hex.specs.Hex.{hex_digit_value}
-use Rattle.pgw_script.specs.ServerBytes.{Adds, AddsFront, digits, worth_of, followed_by}
+use Rattle.pgw_script.specs.ServerBytes.{AddsScriptBytes, AddsFront, digits, worth_of, followed_by}
 use Rattle.pgw_script.specs.Line.{bytes_in}
 use Rattle.pgw_script.specs.declared.hex_digits.TheConstants.{WORTHS}
 use Rattle.pgw_script.proofs.HexLaws.{bytes_hex, followed_by_none, followed_further}
@@ -100,7 +100,7 @@ space_taken (a ∷ more) text old now two so is =
     rw whole (so.0, so.1, so.2 ∙ ap (followed_by so.0) (a_space a more is))
 
 -- what is left is added behind
-pub front_then : (known : Bool) (rest text old mid new : List ℕ) → AddsFront rest text old mid → Adds known rest mid new → Adds known text old new
+pub front_then : (known : Bool) (rest text old mid new : List ℕ) → AddsFront rest text old mid → AddsScriptBytes known rest mid new → AddsScriptBytes known text old new
 front_then true rest text old mid new front more = (
   front.0 ++ more.0,
   front.2 ∙ ap (followed_by front.0) more.1,

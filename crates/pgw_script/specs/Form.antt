@@ -31,22 +31,22 @@ step form p s None = None
 step form p s (Some l) =
     if form.may_follow p (form.place_of l) then Some (form.place_of l, form.with_line s l) else None
 
-abbrev pub going_on : {P S : Type 0} → Option (P × S) → (P → S → Result S ℕ) → ℕ → Result S ℕ
-going_on None rest n = Err n
-going_on (Some next) rest n = rest next.0 next.1
+abbrev pub then_script_line : {P S : Type 0} → Option (P × S) → (P → S → Result S ℕ) → ℕ → Result S ℕ
+then_script_line None rest n = Err n
+then_script_line (Some next) rest n = rest next.0 next.1
 
 -- what the lines say from a place on, where n lines stood before; or the number of the first that may not stand there,
 -- one more than all where they end too early
 abbrev pub read_lines : {L P S : Type 0} → Form L P S → P → S → ℕ → List (List ℕ) → Result S ℕ
 read_lines form p s n [] = if form.may_end p then Ok s else Err (n + 1)
 read_lines form p s n (l ∷ ls) =
-    going_on (step form p s (form.line_of l)) (λ q t. read_lines form q t (n + 1) ls) (n + 1)
+    then_script_line (step form p s (form.line_of l)) (λ q t. read_lines form q t (n + 1) ls) (n + 1)
 
 unfoldable pub read_script : {L P S : Type 0} → Form L P S → List ℕ → Result S ℕ
 read_script form text = read_lines form form.start form.first 0 (lines_of text)
 
 -- the answer, but for want of memory
-abbrev pub Reads : {S : Type 0} → Result S ScriptFault → Result S ℕ → Type 0
-Reads (Ok s) r = r ≡ Ok s
-Reads (Err (fault.Line n)) r = r ≡ Err n
-Reads (Err fault.OutOfMemory) r = Unit {0}
+abbrev pub ReadsScript : {S : Type 0} → Result S ScriptFault → Result S ℕ → Type 0
+ReadsScript (Ok s) r = r ≡ Ok s
+ReadsScript (Err (fault.Line n)) r = r ≡ Err n
+ReadsScript (Err fault.OutOfMemory) r = Unit {0}

@@ -56,15 +56,15 @@ FaultsAreRead form =
     (text : List ℕ) (n : ℕ) → (read_script form text ≡ Err n) ↔ IsFaultIn form text n
 
 -- what a text is: a script, or one whose first line outside the grammar has this number
-abbrev pub IsReadAs : {L P S : Type 0} → Form L P S → List ℕ → Result S ℕ → Type 0
-IsReadAs form text (Ok script) = IsScriptIn form text script
-IsReadAs form text (Err n) = IsFaultIn form text n
+abbrev pub IsScriptReadAs : {L P S : Type 0} → Form L P S → List ℕ → Result S ℕ → Type 0
+IsScriptReadAs form text (Ok script) = IsScriptIn form text script
+IsScriptReadAs form text (Err n) = IsFaultIn form text n
 
 -- it is one of these, and in one way
 pub record HasOneReading {L P S : Type 0} (form : Form L P S) (text : List ℕ) : Type 0 where
   pub reading : Result S ℕ
-  pub is_read : IsReadAs form text reading
-  pub only : (other : Result S ℕ) → IsReadAs form text other → other ≡ reading
+  pub is_read : IsScriptReadAs form text reading
+  pub only : (other : Result S ℕ) → IsScriptReadAs form text other → other ≡ reading
 
 abbrev pub EachTextIsOne : {L P S : Type 0} → Form L P S → Type 0
 EachTextIsOne form = (text : List ℕ) → HasOneReading form text

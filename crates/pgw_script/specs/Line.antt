@@ -14,8 +14,8 @@ use Rattle.pgw_script.specs.declared.line.Line.{Line}
 use Rattle.pgw_script.specs.declared.line.Line.TheVariants as line
 
 -- digits, and a plus may stand before them; the number has 64 bits
-unfoldable pub number_in : List ℕ → Option ℕ
-number_in bytes =
+unfoldable pub script_number : List ℕ → Option ℕ
+script_number bytes =
     let digits = without_leading_plus bytes in
     if not (length digits == 0) && all_ascii_digits digits
     && nat_lt (digits_value 10 digits) (2 ^ 64)
@@ -43,7 +43,7 @@ within_cut None = None
 within_cut (Some n) = if nat_le 1 n && nat_le n 65536 then Some n else None
 
 unfoldable pub cut_in : List ℕ → Option ℕ
-cut_in value = within_cut (number_in value)
+cut_in value = within_cut (script_number value)
 
 -- hex digits, among which spaces may stand
 unfoldable pub bytes_in : List ℕ → Option (List ℕ)
@@ -52,15 +52,15 @@ bytes_in value = result_ok (decode_of (filter (λ b. not (b == 32)) value))
 -- fail read N, fail write N, server HEX, or a request
 unfoldable pub later_line_of : List ℕ → Option Line
 later_line_of bytes =
-    behind_or (behind_word (codes "fail read ") bytes) (λ v. known line.FailRead (number_in v))
-    (behind_or (behind_word (codes "fail write ") bytes) (λ v. known line.FailWrite (number_in v))
+    behind_or (behind_word (codes "fail read ") bytes) (λ v. known line.FailRead (script_number v))
+    (behind_or (behind_word (codes "fail write ") bytes) (λ v. known line.FailWrite (script_number v))
     (behind_or (behind_word (codes "server ") bytes) (λ v. known line.Server (bytes_in v))
     (known line.Request (request_in bytes))))
 
 -- limit N, cut N, or a later line
 unfoldable pub bound_of : List ℕ → Option Line
 bound_of bytes =
-    behind_or (behind_word (codes "limit ") bytes) (λ v. known line.Limit (number_in v))
+    behind_or (behind_word (codes "limit ") bytes) (λ v. known line.Limit (script_number v))
     (behind_or (behind_word (codes "cut ") bytes) (λ v. known line.Cut (cut_in v))
     (later_line_of bytes))
 
@@ -79,6 +79,6 @@ line_of bytes =
     (setting_of bytes)
 
 -- a cut lets a call move a byte
-abbrev pub Moves : Line → Type 0
-Moves (line.Cut n) = 0 < n
-Moves _ = Unit {0}
+abbrev pub CutMovesByte : Line → Type 0
+CutMovesByte (line.Cut n) = 0 < n
+CutMovesByte _ = Unit {0}

@@ -31,9 +31,9 @@ abbrev pub then_value : {A : Type 0}
 then_value None go = None
 then_value (Some v) go = go v.0 v.1
 
-abbrev pub made : {A B : Type 0} → (A → B) → Option A → Option B
-made make None = None
-made make (Some x) = Some (make x)
+abbrev pub make_line : {A B : Type 0} → (A → B) → Option A → Option B
+make_line make None = None
+make_line make (Some x) = Some (make x)
 
 -- text in UTF-8
 unfoldable pub text_in : List ℕ → Option (List ℕ)
@@ -49,11 +49,11 @@ word_in bytes = word_by (behind_mark 32 bytes) bytes
 
 -- or a hyphen for none
 unfoldable pub name_in : List ℕ → Option (Option (List ℕ))
-name_in bytes = if pointwise nat_eq bytes (codes "-") then Some None else made Some (word_in bytes)
+name_in bytes = if pointwise nat_eq bytes (codes "-") then Some None else make_line Some (word_in bytes)
 
 -- a whole number of so many bits: a plus, a minus or none, and decimal digits
-unfoldable pub signed_in : ℕ → List ℕ → Option ℤ
-signed_in bits bytes =
+unfoldable pub signed_in_line : ℕ → List ℕ → Option ℤ
+signed_in_line bits bytes =
     let digits = without_leading_sign bytes in
     if nat_lt 0 (length digits) && (list_all (λ c. is_digit c 10) digits
     && nat_lt (reach (signed_digits_value 10 bytes)) (2 ^ (bits - 1)))
@@ -71,7 +71,7 @@ hex_by (Some digits) = hex_in digits
 unfoldable pub parameter_in : List ℕ → Option (Option (List ℕ))
 parameter_in bytes =
     if pointwise nat_eq bytes (codes "null") then Some None
-    else made Some (hex_by (behind_word (codes "x") bytes))
+    else make_line Some (hex_by (behind_word (codes "x") bytes))
 
 -- a number in text
 abbrev pub read_in : {A : Type 0} → (List ℕ → Option A) → Option (List ℕ) → Option A
@@ -82,10 +82,10 @@ abbrev pub oid_in : List ℕ → Option ℕ
 oid_in bytes = read_in (number_in 32) (text_in bytes)
 
 abbrev pub format_in : List ℕ → Option ℤ
-format_in bytes = read_in (signed_in 16) (text_in bytes)
+format_in bytes = read_in (signed_in_line 16) (text_in bytes)
 
-abbrev pub rows_in : List ℕ → Option ℤ
-rows_in bytes = read_in (signed_in 32) (text_in bytes)
+abbrev pub row_limit_in : List ℕ → Option ℤ
+row_limit_in bytes = read_in (signed_in_line 32) (text_in bytes)
 
 -- elements with commas between them, or a hyphen for none
 abbrev pub list_in : {A : Type 0} → (List ℕ → Option A) → List ℕ → Option (List A)
@@ -136,28 +136,28 @@ execute_by _ _ = None
 
 unfoldable pub execute_in : List ℕ → Option Request
 execute_in text =
-    then_value (next_value text) (λ portal rows. execute_by (name_in portal) (rows_in rows))
+    then_value (next_value text) (λ portal rows. execute_by (name_in portal) (row_limit_in rows))
 
 -- s NAME for a statement, p NAME for a portal
 abbrev pub target_by : List ℕ → Option (Option (List ℕ)) → Option Target
 target_by kind name =
-    if pointwise nat_eq kind (codes "s") then made target.Statement name
-    else if pointwise nat_eq kind (codes "p") then made target.Portal name
+    if pointwise nat_eq kind (codes "s") then make_line target.Statement name
+    else if pointwise nat_eq kind (codes "p") then make_line target.Portal name
     else None
 
 unfoldable pub target_in : List ℕ → Option Target
 target_in text = then_value (next_value text) (λ kind name. target_by kind (name_in name))
 
 -- OIDS PARAMS SQL
-abbrev pub query_by :
+abbrev pub query_of_line :
     Option (List ℕ) → Option (List (Option (List ℕ))) → Option (List ℕ) → Option Request
-query_by (Some oids) (Some parameters) (Some sql) = Some (request.Query sql oids parameters)
-query_by _ _ _ = None
+query_of_line (Some oids) (Some parameters) (Some sql) = Some (request.Query sql oids parameters)
+query_of_line _ _ _ = None
 
 unfoldable pub query_in : List ℕ → Option Request
 query_in text =
     then_value (next_value text) (λ oids rest. then_value (next_value rest) (λ parameters sql.
-    query_by (oids_in oids) (parameters_in parameters) (text_in sql)))
+    query_of_line (oids_in oids) (parameters_in parameters) (text_in sql)))
 
 -- what the words say, the first that stands there
 abbrev pub behind_or : {A : Type 0} → Option (List ℕ) → (List ℕ → Option A) → Option A → Option A
@@ -175,7 +175,7 @@ extended_in line =
 -- simple SQL, describe .., close .., or another
 unfoldable pub request_in : List ℕ → Option Request
 request_in line =
-    behind_or (behind_word (codes "simple ") line) (λ sql. made request.Simple (text_in sql))
-    (behind_or (behind_word (codes "describe ") line) (λ v. made request.Describe (target_in v))
-    (behind_or (behind_word (codes "close ") line) (λ v. made request.Close (target_in v))
+    behind_or (behind_word (codes "simple ") line) (λ sql. make_line request.Simple (text_in sql))
+    (behind_or (behind_word (codes "describe ") line) (λ v. make_line request.Describe (target_in v))
+    (behind_or (behind_word (codes "close ") line) (λ v. make_line request.Close (target_in v))
     (extended_in line)))

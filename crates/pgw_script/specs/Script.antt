@@ -10,17 +10,17 @@ use Rattle.pgw_script.specs.Form.{Form}
 use Rattle.pgw_script.specs.Grammar.{IsScriptIn, IsFaultIn}
 use Rattle.pgw_script.specs.Line.{line_of}
 
-abbrev pub place_of : Line → Place
-place_of (line.Config text) = place.Config
-place_of (line.Protocol v) = place.Protocol
-place_of (line.Certificate hash) = place.Certificate
-place_of (line.Nonce n) = place.Nonce
-place_of (line.Limit n) = place.Limit
-place_of (line.Cut n) = place.Cut
-place_of (line.FailRead n) = place.Fail
-place_of (line.FailWrite n) = place.Fail
-place_of (line.Request q) = place.Request
-place_of (line.Server bs) = place.Server
+abbrev pub line_place : Line → Place
+line_place (line.Config text) = place.Config
+line_place (line.Protocol v) = place.Protocol
+line_place (line.Certificate hash) = place.Certificate
+line_place (line.Nonce n) = place.Nonce
+line_place (line.Limit n) = place.Limit
+line_place (line.Cut n) = place.Cut
+line_place (line.FailRead n) = place.Fail
+line_place (line.FailWrite n) = place.Fail
+line_place (line.Request q) = place.Request
+line_place (line.Server bs) = place.Server
 
 -- which kind of line may follow which
 abbrev pub may_follow : Place → Place → Bool
@@ -82,7 +82,7 @@ with_line s (line.Server bs) = record s { server = s.server ++ bs }
 abbrev pub session_form : Form Line Place Script
 session_form = record {
   line_of = line_of;
-  place_of = place_of;
+  place_of = line_place;
   may_follow = may_follow;
   may_end = may_end;
   start = place.Start;

@@ -4,9 +4,9 @@ use Rattle.std.specs.List.{filter}
 use Rattle.pgw_script.specs.Line.{bytes_in}
 
 -- the bytes of the text were added, or it is none of digits
-abbrev pub Adds : Bool → List ℕ → List ℕ → List ℕ → Type 0
-Adds true text old new = (bytes : List ℕ) × (bytes_in text ≡ Some bytes) × (new ≡ old ++ bytes)
-Adds false text old new = bytes_in text ≡ None
+abbrev pub AddsScriptBytes : Bool → List ℕ → List ℕ → List ℕ → Type 0
+AddsScriptBytes true text old new = (bytes : List ℕ) × (bytes_in text ≡ Some bytes) × (new ≡ old ++ bytes)
+AddsScriptBytes false text old new = bytes_in text ≡ None
 
 -- what a digit is worth, and 256 for none
 abbrev pub worth_of : Option ℕ → ℕ

@@ -1,6 +1,6 @@
 //! The lines of a session script.
 ghost use Rattle.std.specs.Prelude.{◌≡◌, ◌<◌, ◌&&◌, IfOk, IfSome, nat_le};
-ghost use Rattle.pgw_script.specs.Line.{version_in, nonce_in, cut_in, bytes_in, later_line_of, bound_of, setting_of, line_of, Moves};
+ghost use Rattle.pgw_script.specs.Line.{version_in, nonce_in, cut_in, bytes_in, later_line_of, bound_of, setting_of, line_of, CutMovesByte};
 
 use crate::number::read_number;
 use crate::request_line::{read_hex, read_request, read_text};
@@ -88,7 +88,7 @@ pub fn read_bytes(alloc: Global, value: &[u8]) -> Result<Option<Octets>, OutOfMe
 #[tactic(auto, unfolding(crate::specs::Line::later_line_of))]
 fn read_later_line(alloc: Global, line: &[u8]) -> Result<Option<Line>, OutOfMemory>
     ensures value { IfOk result (λ o. o ≡ later_line_of line.now) }
-    ensures moves { IfOk result (λ o. IfSome o Moves) }
+    ensures moves { IfOk result (λ o. IfSome o CutMovesByte) }
 {
     if let Some(value) = behind_word(b"fail read ", line) {
         return Ok(read_number(value).map(Line::FailRead));
@@ -106,7 +106,7 @@ fn read_later_line(alloc: Global, line: &[u8]) -> Result<Option<Line>, OutOfMemo
 #[tactic(auto, unfolding(crate::specs::Line::bound_of))]
 fn read_bound(alloc: Global, line: &[u8]) -> Result<Option<Line>, OutOfMemory>
     ensures value { IfOk result (λ o. o ≡ bound_of line.now) }
-    ensures moves { IfOk result (λ o. IfSome o Moves) }
+    ensures moves { IfOk result (λ o. IfSome o CutMovesByte) }
 {
     if let Some(value) = behind_word(b"limit ", line) {
         return Ok(read_number(value).map(Line::Limit));
@@ -121,7 +121,7 @@ fn read_bound(alloc: Global, line: &[u8]) -> Result<Option<Line>, OutOfMemory>
 #[tactic(auto, unfolding(crate::specs::Line::setting_of))]
 fn read_setting(alloc: Global, line: &[u8]) -> Result<Option<Line>, OutOfMemory>
     ensures value { IfOk result (λ o. o ≡ setting_of line.now) }
-    ensures moves { IfOk result (λ o. IfSome o Moves) }
+    ensures moves { IfOk result (λ o. IfSome o CutMovesByte) }
 {
     if let Some(value) = behind_word(b"protocol ", line) {
         return Ok(read_version(value).map(Line::Protocol));
@@ -139,7 +139,7 @@ fn read_setting(alloc: Global, line: &[u8]) -> Result<Option<Line>, OutOfMemory>
 #[tactic(auto, unfolding(crate::specs::Line::line_of))]
 pub fn read_line(alloc: Global, line: &[u8]) -> Result<Option<Line>, OutOfMemory>
     ensures value { IfOk result (λ o. o ≡ line_of line.now) }
-    ensures moves { IfOk result (λ o. IfSome o Moves) }
+    ensures moves { IfOk result (λ o. IfSome o CutMovesByte) }
 {
     if let Some(value) = behind_word(b"config ", line) {
         return Ok(read_text(alloc, value)?.map(Line::Config));

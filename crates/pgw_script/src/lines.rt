@@ -1,6 +1,6 @@
 //! Scripts of every kind, line by line.
 ghost use Rattle.std.specs.Prelude.{◌≡◌, ◌<◌, ◌∷◌, ◌==◌, Some, None, length, OnOk, IfOk, IfSome, position, if◌then◌else◌};
-ghost use Rattle.pgw_script.specs.Form.{Form, lines_of, step, read_script, Reads};
+ghost use Rattle.pgw_script.specs.Form.{Form, lines_of, step, read_script, ReadsScript};
 
 use memchr::memchr;
 use pgw_types::memory::OutOfMemory;
@@ -95,7 +95,7 @@ fn first_line(text: &[u8]) -> (&[u8], &[u8])
 
 /// Reads a whole script.
 pub fn read_whole<D: Draft>(alloc: Global, text: &[u8]) -> Result<D::Script, ScriptFault>
-    ensures exact { Reads result (read_script D.form text.now) }
+    ensures exact { ReadsScript result (read_script D.form text.now) }
     ensures holds { IfOk result D.Holds }
 {
     let mut draft = D::new(alloc);

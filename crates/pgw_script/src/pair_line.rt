@@ -1,6 +1,6 @@
 //! The lines of a pair script.
 ghost use Rattle.std.specs.Prelude.{◌≡◌, ◌<◌, ◌≤◌, ◌&&◌, nat_le, IfOk, IfSome};
-ghost use Rattle.pgw_script.specs.PairLine.{words_in, u32_in, event_in, behind_words, behind_texts, pair_line_of, Counts};
+ghost use Rattle.pgw_script.specs.PairLine.{words_in, u32_in, event_in, behind_words, behind_texts, pair_line_of, HasLineCount};
 
 use crate::line::read_nonce;
 use crate::number::read_number;
@@ -77,7 +77,7 @@ fn read_event(line: &[u8]) -> Option<Event>
 #[tactic(auto, unfolding(crate::specs::PairLine::behind_words))]
 fn read_behind_words(alloc: Global, line: &[u8]) -> Result<Option<PairLine>, OutOfMemory>
     ensures value { IfOk result (λ o. o ≡ behind_words line.now) }
-    ensures counts { IfOk result (λ o. IfSome o Counts) }
+    ensures counts { IfOk result (λ o. IfSome o HasLineCount) }
 {
     if let Some(value) = behind_word(b"client-hash ", line) {
         return Ok(read_hex(alloc, value)?.map(PairLine::ClientHash));
@@ -92,7 +92,7 @@ fn read_behind_words(alloc: Global, line: &[u8]) -> Result<Option<PairLine>, Out
 #[tactic(auto, unfolding(crate::specs::PairLine::behind_texts))]
 fn read_behind_texts(alloc: Global, line: &[u8]) -> Result<Option<PairLine>, OutOfMemory>
     ensures value { IfOk result (λ o. o ≡ behind_texts line.now) }
-    ensures counts { IfOk result (λ o. IfSome o Counts) }
+    ensures counts { IfOk result (λ o. IfSome o HasLineCount) }
 {
     if let Some(value) = behind_word(b"salt ", line) {
         return Ok(read_hex(alloc, value)?.map(PairLine::Salt));
@@ -116,7 +116,7 @@ fn read_behind_texts(alloc: Global, line: &[u8]) -> Result<Option<PairLine>, Out
 #[tactic(auto, unfolding(crate::specs::PairLine::pair_line_of))]
 pub fn read_pair_line(alloc: Global, line: &[u8]) -> Result<Option<PairLine>, OutOfMemory>
     ensures value { IfOk result (λ o. o ≡ pair_line_of line.now) }
-    ensures counts { IfOk result (λ o. IfSome o Counts) }
+    ensures counts { IfOk result (λ o. IfSome o HasLineCount) }
 {
     if let Some(value) = behind_word(b"user ", line) {
         return Ok(read_text(alloc, value)?.map(PairLine::User));

@@ -1,7 +1,7 @@
 //! Pair scripts.
 ghost use Rattle.std.specs.Prelude.{◌≡◌, ◌<◌, Some, None, OnOk, IfOk, if◌then◌else◌};
-ghost use Rattle.pgw_script.specs.Form.{step, read_script, Reads};
-ghost use Rattle.pgw_script.specs.PairLine.{Counts};
+ghost use Rattle.pgw_script.specs.Form.{step, read_script, ReadsScript};
+ghost use Rattle.pgw_script.specs.PairLine.{HasLineCount};
 ghost use Rattle.pgw_script.specs.PairScript.{pair_form, first_pair, with_pair_line, pair_place, pair_follows as follows, pair_may_end};
 
 use crate::lines::{Draft, ScriptFault, read_whole};
@@ -152,7 +152,7 @@ impl PairDraft {
     fn take(&mut self, line: PairLine) -> Result<bool, OutOfMemory>
         ensures step { IfOk result (λ went. step pair_form self.old.place self.old.script
             (Some line) ≡ (if went then Some (self.new.place, self.new.script) else None)) }
-        ensures counts { OnOk result (0 < self.old.script.count → Counts line →
+        ensures counts { OnOk result (0 < self.old.script.count → HasLineCount line →
             0 < self.new.script.count) }
     {
         let next = place_of(&line);
@@ -210,7 +210,7 @@ impl Draft for PairDraft {
 
 /// Reads a whole pair script.
 pub fn parse_pair(alloc: Global, text: &[u8]) -> Result<PairScript, ScriptFault>
-    ensures exact { Reads result (read_script pair_form text.now) }
+    ensures exact { ReadsScript result (read_script pair_form text.now) }
     ensures counts { IfOk result (λ s. 0 < s.count) }
 {
     read_whole::<PairDraft>(alloc, text)

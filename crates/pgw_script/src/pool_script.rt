@@ -1,6 +1,6 @@
 //! Pool scripts.
 ghost use Rattle.std.specs.Prelude.{◌≡◌, ◌<◌, Some, None, OnOk, IfOk, if◌then◌else◌};
-ghost use Rattle.pgw_script.specs.Form.{step, read_script, Reads};
+ghost use Rattle.pgw_script.specs.Form.{step, read_script, ReadsScript};
 ghost use Rattle.pgw_script.specs.PoolLine.{MovesPool};
 ghost use Rattle.pgw_script.specs.PoolScript.{pool_form, first_pool, with_pool_line, pool_place, pool_follows as follows, pool_may_end};
 
@@ -173,7 +173,7 @@ impl Draft for PoolDraft {
 
 /// Reads a whole pool script.
 pub fn parse_pool(alloc: Global, text: &[u8]) -> Result<PoolScript, ScriptFault>
-    ensures exact { Reads result (read_script pool_form text.now) }
+    ensures exact { ReadsScript result (read_script pool_form text.now) }
     ensures moves { IfOk result (λ s. 0 < s.cut) }
 {
     read_whole::<PoolDraft>(alloc, text)

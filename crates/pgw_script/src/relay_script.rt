@@ -1,8 +1,8 @@
 //! Relay scripts.
 ghost use Rattle.std.specs.Prelude.{◌≡◌, ◌<◌, Some, None, OnOk, IfOk, if◌then◌else◌};
-ghost use Rattle.pgw_script.specs.Form.{step, read_script, Reads};
+ghost use Rattle.pgw_script.specs.Form.{step, read_script, ReadsScript};
 ghost use Rattle.pgw_script.specs.Line.{bytes_in};
-ghost use Rattle.pgw_script.specs.RequestLine.{made};
+ghost use Rattle.pgw_script.specs.RequestLine.{make_line};
 ghost use Rattle.pgw_script.specs.RelayLine.{MovesBytes, relay_line_of};
 ghost use Rattle.pgw_script.specs.RelayScript.{relay_form, first_relay, with_relay_line, relay_place, relay_follows as follows, relay_may_end};
 
@@ -121,7 +121,7 @@ impl RelayDraft {
     // Takes a line of the client's bytes, where it may stand here and is in the grammar.
     fn take_client(&mut self, digits: &[u8]) -> Result<bool, OutOfMemory>
         ensures step { IfOk result (λ went. step relay_form self.old.place self.old.script
-            (made RelayLine.Client (bytes_in digits.now))
+            (make_line RelayLine.Client (bytes_in digits.now))
             ≡ (if went then Some (self.new.place, self.new.script) else None)) }
         ensures moves { OnOk result (0 < self.old.script.cut → 0 < self.new.script.cut) }
     {
@@ -138,7 +138,7 @@ impl RelayDraft {
     // The same of the server's.
     fn take_server(&mut self, digits: &[u8]) -> Result<bool, OutOfMemory>
         ensures step { IfOk result (λ went. step relay_form self.old.place self.old.script
-            (made RelayLine.Server (bytes_in digits.now))
+            (make_line RelayLine.Server (bytes_in digits.now))
             ≡ (if went then Some (self.new.place, self.new.script) else None)) }
         ensures moves { OnOk result (0 < self.old.script.cut → 0 < self.new.script.cut) }
     {
@@ -205,7 +205,7 @@ impl Draft for RelayDraft {
 
 /// Reads a whole relay script.
 pub fn parse_relay(alloc: Global, text: &[u8]) -> Result<RelayScript, ScriptFault>
-    ensures exact { Reads result (read_script relay_form text.now) }
+    ensures exact { ReadsScript result (read_script relay_form text.now) }
     ensures moves { IfOk result (λ s. 0 < s.cut) }
 {
     read_whole::<RelayDraft>(alloc, text)

@@ -4,7 +4,7 @@ ghost use Rattle.std.specs.Option.{option_copied};
 ghost use Rattle.pgw_types.specs.Numbers.{number_in};
 ghost use Rattle.pgw_config.specs.Pieces.{pushed, all_read};
 ghost use Rattle.pgw_types.specs.Marks.{before_mark, behind_mark, pieces_at as pieces_between};
-ghost use Rattle.pgw_script.specs.RequestLine.{text_in, hex_in, word_in, name_in, signed_in, oid_in, format_in, rows_in, parameter_in, oids_in, parameters_in, formats_in, prepare_in, bind_in, execute_in, target_in, query_in, extended_in, request_in};
+ghost use Rattle.pgw_script.specs.RequestLine.{text_in, hex_in, word_in, name_in, signed_in_line, oid_in, format_in, row_limit_in, parameter_in, oids_in, parameters_in, formats_in, prepare_in, bind_in, execute_in, target_in, query_in, extended_in, request_in};
 
 use hex::FromHexError;
 use pgw_session::types::{Request, Target};
@@ -65,13 +65,13 @@ fn parse_u32(text: &str) -> Option<u32>
 }
 
 fn parse_i16(text: &str) -> Option<i16>
-    ensures { result ≡ signed_in 16 text.now }
+    ensures { result ≡ signed_in_line 16 text.now }
 {
     text.parse::<i16>().ok()
 }
 
 fn parse_i32(text: &str) -> Option<i32>
-    ensures { result ≡ signed_in 32 text.now }
+    ensures { result ≡ signed_in_line 32 text.now }
 {
     text.parse::<i32>().ok()
 }
@@ -95,7 +95,7 @@ fn read_format(value: &[u8]) -> Option<i16>
 }
 
 fn read_rows(value: &[u8]) -> Option<i32>
-    ensures { result ≡ rows_in value.now }
+    ensures { result ≡ row_limit_in value.now }
 {
     match as_text(value) {
         Some(text) => parse_i32(text),

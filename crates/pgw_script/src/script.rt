@@ -1,8 +1,8 @@
 //! Session scripts.
 ghost use Rattle.std.specs.Prelude.{◌≡◌, ◌<◌, Some, None, OnOk, IfOk, if◌then◌else◌};
-ghost use Rattle.pgw_script.specs.Form.{step, read_script, Reads};
-ghost use Rattle.pgw_script.specs.Line.{Moves, bytes_in, known, line_of};
-ghost use Rattle.pgw_script.specs.Script.{session_form, first_script, with_line, place_of as place_for, may_follow as follows, may_end as ends};
+ghost use Rattle.pgw_script.specs.Form.{step, read_script, ReadsScript};
+ghost use Rattle.pgw_script.specs.Line.{CutMovesByte, bytes_in, known, line_of};
+ghost use Rattle.pgw_script.specs.Script.{session_form, first_script, with_line, line_place as place_for, may_follow as follows, may_end as ends};
 
 use crate::line::{Line, read_line};
 use crate::lines::{Draft, ScriptFault, read_whole};
@@ -141,7 +141,7 @@ impl ScriptDraft {
     fn take(&mut self, line: Line) -> Result<bool, OutOfMemory>
         ensures step { IfOk result (λ went. step session_form self.old.place self.old.script
             (Some line) ≡ (if went then Some (self.new.place, self.new.script) else None)) }
-        ensures moves { OnOk result (0 < self.old.script.cut → Moves line →
+        ensures moves { OnOk result (0 < self.old.script.cut → CutMovesByte line →
             0 < self.new.script.cut) }
     {
         let next = place_of(&line);
@@ -219,7 +219,7 @@ impl Draft for ScriptDraft {
 
 /// Reads a whole session script.
 pub fn parse(alloc: Global, text: &[u8]) -> Result<Script, ScriptFault>
-    ensures exact { Reads result (read_script session_form text.now) }
+    ensures exact { ReadsScript result (read_script session_form text.now) }
     ensures moves { IfOk result (λ s. 0 < s.cut) }
 {
     read_whole::<ScriptDraft>(alloc, text)

@@ -1,7 +1,7 @@
 //! What a script's server sends.
 ghost use Rattle.std.specs.Prelude.{◌≡◌, ◌<◌, ◌++◌, ◌∷◌, [], length, MatchOption, IfOk, IfSome, OnOk};
 ghost use Rattle.hex.specs.Hex.{hex_digit_value};
-ghost use Rattle.pgw_script.specs.ServerBytes.{Adds, AddsFront, digits};
+ghost use Rattle.pgw_script.specs.ServerBytes.{AddsScriptBytes, AddsFront, digits};
 
 use crate::hex_digits::pair_worth;
 use bytes::Bytes;
@@ -86,7 +86,7 @@ impl ServerBytes {
     /// Adds the bytes of a text of hex digits, among which spaces may stand; answers whether it is one. Of another text
     /// some bytes may have been added.
     pub fn add_hex(&mut self, text: &[u8]) -> Result<bool, OutOfMemory>
-        ensures { IfOk result (λ known. Adds known text.now self.old self.new) }
+        ensures { IfOk result (λ known. AddsScriptBytes known text.now self.old self.new) }
     {
         let rest = self.add_whole_pairs(text)?;
         self.add_spread_pairs(rest)
@@ -113,7 +113,7 @@ impl ServerBytes {
 
     // The same of any text of digits, digit by digit.
     fn add_spread_pairs(&mut self, text: &[u8]) -> Result<bool, OutOfMemory>
-        ensures { IfOk result (λ known. Adds known text.now self.old self.new) }
+        ensures { IfOk result (λ known. AddsScriptBytes known text.now self.old self.new) }
     {
         let mut rest = text;
         while let Some((first, behind)) = next_digit(rest) {

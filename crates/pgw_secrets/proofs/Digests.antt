@@ -10,7 +10,7 @@ use Rattle.pgw_hash.specs.Hmac.{hmac_sha256}
 use Rattle.pgw_hash.specs.Xor.{xor}
 use Rattle.pgw_hash.specs.Pbkdf2.{salted_password}
 use Rattle.pgw_scram.specs.Formulas.{client_key}
-use Rattle.pgw_secrets.specs.Secret.{IsKey, IsKept, made}
+use Rattle.pgw_secrets.specs.Secret.{IsScramKey, IsStoredSecret, secret_of}
 
 -- ---- bytes
 
@@ -40,15 +40,15 @@ unfolding digest_bytes
 digest_is_bytes h zero = no_bytes
 digest_is_bytes h (suc n) = bytes_append (digest_bytes h n) (to_be_bytes w32 (slice_index h n)) (digest_is_bytes h n) (word_bytes (slice_index h n))
 
-pub sha256_key : (m : List ℕ) → IsKey (sha256 m)
+pub sha256_key : (m : List ℕ) → IsScramKey (sha256 m)
 unfolding sha256
 sha256_key m = (length-sha256 m, digest_is_bytes (final_hash initial_hash_256 m) 8)
 
-pub hmac_key : (key text : List ℕ) → IsKey (hmac_sha256 key text)
+pub hmac_key : (key text : List ℕ) → IsScramKey (hmac_sha256 key text)
 unfolding hmac_sha256
 hmac_key key text = sha256_key _
 
-pub made_kept : (password salt : List ℕ) (count : ℕ) → 1 ≤ count → count < 2 ^ 32 → IsBytes salt → IsKept (made password salt count)
+pub made_kept : (password salt : List ℕ) (count : ℕ) → 1 ≤ count → count < 2 ^ 32 → IsBytes salt → IsStoredSecret (secret_of password salt count)
 made_kept password salt count least most bytes = record {
   at_least_one = least;
   in_32_bits = most;
@@ -83,5 +83,5 @@ xor_bytes (x ∷ xs) [] a b i = lit< tt
 xor_bytes (x ∷ xs) (y ∷ ys) a b zero = xor_lt 8 x y (a 0) (b 0)
 xor_bytes (x ∷ xs) (y ∷ ys) a b (suc i) = xor_bytes xs ys (λ k. a (suc k)) (λ k. b (suc k)) i
 
-pub xor_key : (xs ys : List ℕ) → IsKey xs → IsKey ys → IsKey (xor xs ys)
+pub xor_key : (xs ys : List ℕ) → IsScramKey xs → IsScramKey ys → IsScramKey (xor xs ys)
 xor_key xs ys a b = (xor_length xs ys (a.0 ∙ sym b.0) ∙ a.0, xor_bytes xs ys a.1 b.1)

@@ -8,25 +8,25 @@ use Rattle.std.proofs.lemmas.List.{take_all, length-drop}
 use Rattle.std.proofs.Math.Seq.{take-append_seam, drop-append-add}
 use Rattle.pgw_secrets.specs.declared.password_file.Field.{Field}
 use Rattle.pgw_secrets.specs.declared.password_file.Field.TheVariants.{Any, Is}
-use Rattle.pgw_secrets.specs.PasswordFile.{Writes, nothing, itself, escaped, is_colon, never, IsField, IsPassword, whole, stopped}
-use Rattle.pgw_secrets.specs.PasswordReader.{is_mark, is_escape, colon_from, value_from, field_of, IsCut}
+use Rattle.pgw_secrets.specs.PasswordFile.{WritesPassField, nothing, itself, escaped, is_colon, ends_no_password, IsPasswordField, IsPassword, whole, stopped}
+use Rattle.pgw_secrets.specs.PasswordReader.{is_mark, is_escape, colon_from, value_from, password_field, IsCutAtColon}
 
 -- ---- values
 
-pub value_is : (ends : ℕ → Bool) (text value : List ℕ) → Writes ends text value → value_from false text ≡ value
+pub value_is : (ends : ℕ → Bool) (text value : List ℕ) → WritesPassField ends text value → value_from false text ≡ value
 unfolding value_from
 value_is ends text value nothing = refl
 value_is ends text value (itself {b = b} {text = more} {value = rest} plain inside w) = rw plain (ap (λ (l : List ℕ). b ∷ l) (value_is ends more rest w))
 value_is ends text value (escaped {b = b} {text = more} {value = rest} w) = ap (λ (l : List ℕ). b ∷ l) (value_is ends more rest w)
 
-stopped_is : (body value : List ℕ) → Writes never body value → value_from false (body ++ 92 ∷ []) ≡ value
+stopped_is : (body value : List ℕ) → WritesPassField ends_no_password body value → value_from false (body ++ 92 ∷ []) ≡ value
 unfolding value_from
 stopped_is body value nothing = refl
 stopped_is body value (itself {b = b} {text = more} {value = rest} plain inside w) = rw plain (ap (λ (l : List ℕ). b ∷ l) (stopped_is more rest w))
 stopped_is body value (escaped {b = b} {text = more} {value = rest} w) = ap (λ (l : List ℕ). b ∷ l) (stopped_is more rest w)
 
 pub password_same : (text value : List ℕ) → IsPassword text value → value_from false text ≡ value
-password_same text value (whole w) = value_is never text value w
+password_same text value (whole w) = value_is ends_no_password text value w
 password_same text value (stopped {body = body} w) = stopped_is body value w
 
 password_more : (b : ℕ) (text value : List ℕ) → (b == 92) ≡ false → IsPassword text value → IsPassword (b ∷ text) (b ∷ value)
@@ -70,7 +70,7 @@ plain (b ∷ text) none = plain_by b text (b == 92) (list_any (λ y. y == 92) te
 some_more : (a b : ℕ) → a ≡ b → Some a ≡ Some b
 some_more a b e = ap (λ n. Some n) e
 
-pub colon_behind : (front rest value : List ℕ) (n : ℕ) → Writes is_colon front value → colon_from false n (front ++ 58 ∷ rest) ≡ Some (n + length front)
+pub colon_behind : (front rest value : List ℕ) (n : ℕ) → WritesPassField is_colon front value → colon_from false n (front ++ 58 ∷ rest) ≡ Some (n + length front)
 unfolding colon_from
 colon_behind front rest value n nothing = some_more n (n + 0) (omega arith)
 colon_behind front rest value n (itself {b = b} {text = more} {value = v} plain inside w) = rw (plain, inside) (colon_behind more rest v (n + 1) w ∙ some_more (n + 1 + length more) (n + length (b ∷ more)) (omega arith))
@@ -82,7 +82,7 @@ record Finds (before : List ℕ) (n : ℕ) (text : List ℕ) (m : ℕ) : Type 0 
   rest : List ℕ
   cut : text ≡ front ++ 58 ∷ rest
   at : m ≡ n + length front
-  writes : Writes is_colon (before ++ front) (value_from false (before ++ front))
+  writes : WritesPassField is_colon (before ++ front) (value_from false (before ++ front))
 
 finds_escaped : (b n : ℕ) (text : List ℕ) (m : ℕ) → Finds [] (n + 1) text m → Finds (92 ∷ []) n (b ∷ text) m
 unfolding value_from
@@ -94,7 +94,7 @@ finds_backslash b n text m e h = record {
   rest = h.rest;
   cut = ap (λ (l : List ℕ). b ∷ l) h.cut;
   at = omega (arith, h.at);
-  writes = subst (λ c. Writes is_colon (c ∷ h.front) (value_from false (c ∷ h.front))) (sym (eqb-true b 92 e)) h.writes;
+  writes = subst (λ c. WritesPassField is_colon (c ∷ h.front) (value_from false (c ∷ h.front))) (sym (eqb-true b 92 e)) h.writes;
 }
 
 finds_plain : (b n : ℕ) (text : List ℕ) (m : ℕ) → (b == 92) ≡ false → (b == 58) ≡ false → Finds [] (n + 1) text m → Finds [] n (b ∷ text) m
@@ -106,7 +106,7 @@ finds_plain b n text m e f h =
       rest = h.rest;
       cut = ap (λ (l : List ℕ). b ∷ l) h.cut;
       at = omega (arith, h.at);
-      writes = subst (Writes is_colon (b ∷ h.front)) (sym all) (itself e f h.writes);
+      writes = subst (WritesPassField is_colon (b ∷ h.front)) (sym all) (itself e f h.writes);
     }
 
 finds_here : (b n : ℕ) (text : List ℕ) (m : ℕ) → (b == 58) ≡ true → Some n ≡ Some m → Finds [] n (b ∷ text) m
@@ -145,23 +145,23 @@ colon_here text i s found below mark so_far =
 
 -- ---- a field is cut in one way
 
-pub cut_found : (text : List ℕ) (at : ℕ) → colon_from false 0 text ≡ Some at → IsCut text (take at text) (take (length text - (at + 1)) (drop (at + 1) text))
+pub cut_found : (text : List ℕ) (at : ℕ) → colon_from false 0 text ≡ Some at → IsCutAtColon text (take at text) (take (length text - (at + 1)) (drop (at + 1) text))
 cut_found text at e =
     let h = finds false 0 text at e in
     let is : at ≡ length h.front = omega (arith, h.at) in
     let front : take at text ≡ h.front = ap (λ n. take n text) is ∙ ap (take (length h.front)) h.cut ∙ take-append_seam h.front (58 ∷ h.rest) in
     let back : drop (at + 1) text ≡ h.rest = ap (λ n. drop (n + 1) text) is ∙ ap (drop (length h.front + 1)) h.cut ∙ drop-append-add h.front (58 ∷ h.rest) 1 in
     let all : take (length text - (at + 1)) (drop (at + 1) text) ≡ drop (at + 1) text = take_all (length text - (at + 1)) (drop (at + 1) text) (omega (arith, length-drop (at + 1) text)) in
-    let found : IsCut text h.front h.rest = record { cut = h.cut; writes = h.writes } in
-    subst (λ (l : List ℕ). IsCut text l (take (length text - (at + 1)) (drop (at + 1) text))) (sym front) (subst (IsCut text h.front) (sym (all ∙ back)) found)
+    let found : IsCutAtColon text h.front h.rest = record { cut = h.cut; writes = h.writes } in
+    subst (λ (l : List ℕ). IsCutAtColon text l (take (length text - (at + 1)) (drop (at + 1) text))) (sym front) (subst (IsCutAtColon text h.front) (sym (all ∙ back)) found)
 
 none_found : (m : ℕ) → None ≡ Some m → ⊥
 none_found m e = cc
 
-pub not_found : (text : List ℕ) → colon_from false 0 text ≡ None → (written behind value : List ℕ) → text ≡ written ++ 58 ∷ behind → Writes is_colon written value → ⊥
+pub not_found : (text : List ℕ) → colon_from false 0 text ≡ None → (written behind value : List ℕ) → text ≡ written ++ 58 ∷ behind → WritesPassField is_colon written value → ⊥
 not_found text e written behind value is w = none_found (0 + length written) (sym e ∙ ap (colon_from false 0) is ∙ colon_behind written behind value 0 w)
 
-pub field_once : (text f r v g s w : List ℕ) → text ≡ f ++ 58 ∷ r → Writes is_colon f v → text ≡ g ++ 58 ∷ s → Writes is_colon g w → (f ≡ g) × (r ≡ s)
+pub field_once : (text f r v g s w : List ℕ) → text ≡ f ++ 58 ∷ r → WritesPassField is_colon f v → text ≡ g ++ 58 ∷ s → WritesPassField is_colon g w → (f ≡ g) × (r ≡ s)
 field_once text f r v g s w a x b y =
     let one : Some (0 + length f) ≡ Some (0 + length g) = sym (colon_behind f r v 0 x) ∙ ap (colon_from false 0) (sym a ∙ b) ∙ colon_behind g s w 0 y in
     let places : 0 + length f ≡ 0 + length g = cc in
@@ -172,23 +172,23 @@ field_once text f r v g s w a x b y =
 
 -- ---- fields
 
-pub field_writes : (text : List ℕ) (field : Field) → IsField text field → Writes is_colon text (value_from false text)
+pub field_writes : (text : List ℕ) (field : Field) → IsPasswordField text field → WritesPassField is_colon text (value_from false text)
 unfolding value_from
-field_writes text Any h = subst (λ (l : List ℕ). Writes is_colon l (value_from false l)) (sym h) (itself refl refl nothing)
-field_writes text (Is value) h = subst (Writes is_colon text) (sym (value_is is_colon text value h.1)) h.1
+field_writes text Any h = subst (λ (l : List ℕ). WritesPassField is_colon l (value_from false l)) (sym h) (itself refl refl nothing)
+field_writes text (Is value) h = subst (WritesPassField is_colon text) (sym (value_is is_colon text value h.1)) h.1
 
-same_by : (text : List ℕ) (field : Field) (s : Bool) → bytes_eq text (codes "*") ≡ s → IsField text field → cond s Any (Is (value_from false text)) ≡ field
+same_by : (text : List ℕ) (field : Field) (s : Bool) → bytes_eq text (codes "*") ≡ s → IsPasswordField text field → cond s Any (Is (value_from false text)) ≡ field
 same_by text Any true e h = refl
 same_by text Any false e h = let is = (bytes_eq-Decides text (codes "*")).1 h in let both : true ≡ false = sym is ∙ e in absurd (cc)
 same_by text (Is value) true e h = absurd (h.0 ((bytes_eq-Decides text (codes "*")).0 e))
 same_by text (Is value) false e h = ap (λ (l : List ℕ). Is l) (value_is is_colon text value h.1)
 
-pub field_same : (text : List ℕ) (field : Field) → IsField text field → field_of text ≡ field
+pub field_same : (text : List ℕ) (field : Field) → IsPasswordField text field → password_field text ≡ field
 field_same text field h = same_by text field (bytes_eq text (codes "*")) refl h
 
-is_by : (text : List ℕ) (s : Bool) → bytes_eq text (codes "*") ≡ s → Writes is_colon text (value_from false text) → IsField text (cond s Any (Is (value_from false text)))
+is_by : (text : List ℕ) (s : Bool) → bytes_eq text (codes "*") ≡ s → WritesPassField is_colon text (value_from false text) → IsPasswordField text (cond s Any (Is (value_from false text)))
 is_by text true e w = (bytes_eq-Decides text (codes "*")).0 e
 is_by text false e w = (λ is. let yes = (bytes_eq-Decides text (codes "*")).1 is in let both : true ≡ false = sym yes ∙ e in cc, w)
 
-pub field_is : (text : List ℕ) → Writes is_colon text (value_from false text) → IsField text (field_of text)
+pub field_is : (text : List ℕ) → WritesPassField is_colon text (value_from false text) → IsPasswordField text (password_field text)
 field_is text w = is_by text (bytes_eq text (codes "*")) refl w

@@ -5,22 +5,22 @@ use Rattle.std.specs.Prelude.{slice_index}
 use Rattle.std.specs.List.{list_all}
 use Rattle.pgw_secrets.specs.declared.password_file.Entry.{Entry}
 use Rattle.std.specs.Result.{OnOk}
-use Rattle.pgw_secrets.specs.Lookup.{IsFirst}
+use Rattle.pgw_secrets.specs.Lookup.{IsFirstEntry}
 use Rattle.pgw_secrets.specs.PasswordFile.{IsEntry, AreEntries, ended, passed_over, taken}
-use Rattle.pgw_secrets.specs.PasswordReader.{value_from, IsCut, CutAt, Parts, AreParts, CutsIn, PartsIn, entry_of, Adds}
+use Rattle.pgw_secrets.specs.PasswordReader.{value_from, IsCutAtColon, CutAt, EntryParts, AreParts, CutsIn, PartsIn, entry_of, AddsPasswordEntry}
 use Rattle.pgw_secrets.proofs.Fields.{password_same, password_is, field_once, field_writes, field_same, field_is}
 
 -- ---- parts
 
-cut_once : (text f r g s : List ℕ) → IsCut text f r → IsCut text g s → (f ≡ g) × (r ≡ s)
+cut_once : (text f r g s : List ℕ) → IsCutAtColon text f r → IsCutAtColon text g s → (f ≡ g) × (r ≡ s)
 cut_once text f r g s a b = field_once text f r (value_from false f) g s (value_from false g) a.cut a.writes b.cut b.writes
 
-pub entry_parts : (line : List ℕ) (e : Entry) → IsEntry line e → (parts : Parts) × AreParts line parts × (entry_of parts ≡ e)
+pub entry_parts : (line : List ℕ) (e : Entry) → IsEntry line e → (parts : EntryParts) × AreParts line parts × (entry_of parts ≡ e)
 entry_parts line e h =
     let behind_database = h.user ++ 58 ∷ h.password in
     let behind_port = h.database ++ 58 ∷ behind_database in
     let behind_host = h.port ++ 58 ∷ behind_port in
-    let parts : Parts = record { host = h.host; port = h.port; database = h.database; user = h.user; password = h.password } in (
+    let parts : EntryParts = record { host = h.host; port = h.port; database = h.database; user = h.user; password = h.password } in (
       parts,
       record {
         behind_host = behind_host;
@@ -40,7 +40,7 @@ entry_parts line e h =
       },
     )
 
-pub parts_entry : (line : List ℕ) (parts : Parts) → (slice_index line 0 == 35) ≡ false → AreParts line parts → IsEntry line (entry_of parts)
+pub parts_entry : (line : List ℕ) (parts : EntryParts) → (slice_index line 0 == 35) ≡ false → AreParts line parts → IsEntry line (entry_of parts)
 parts_entry line parts plain h = record {
   host = parts.host;
   port = parts.port;
@@ -56,12 +56,12 @@ parts_entry line parts plain h = record {
   is_password = password_is parts.password;
 }
 
-parts_once : (line : List ℕ) (p q : Parts) → AreParts line p → AreParts line q → p ≡ q
+parts_once : (line : List ℕ) (p q : EntryParts) → AreParts line p → AreParts line q → p ≡ q
 parts_once line p q a b =
     let one = cut_once line p.host a.behind_host q.host b.behind_host a.first b.first in
-    let two = cut_once b.behind_host p.port a.behind_port q.port b.behind_port (subst (λ (l : List ℕ). IsCut l p.port a.behind_port) one.1 a.second) b.second in
-    let three = cut_once b.behind_port p.database a.behind_database q.database b.behind_database (subst (λ (l : List ℕ). IsCut l p.database a.behind_database) two.1 a.third) b.third in
-    let four = cut_once b.behind_database p.user p.password q.user q.password (subst (λ (l : List ℕ). IsCut l p.user p.password) three.1 a.fourth) b.fourth in
+    let two = cut_once b.behind_host p.port a.behind_port q.port b.behind_port (subst (λ (l : List ℕ). IsCutAtColon l p.port a.behind_port) one.1 a.second) b.second in
+    let three = cut_once b.behind_port p.database a.behind_database q.database b.behind_database (subst (λ (l : List ℕ). IsCutAtColon l p.database a.behind_database) two.1 a.third) b.third in
+    let four = cut_once b.behind_database p.user p.password q.user q.password (subst (λ (l : List ℕ). IsCutAtColon l p.user p.password) three.1 a.fourth) b.fourth in
     λ i. record { host = one.0 i; port = two.0 i; database = three.0 i; user = four.0 i; password = four.1 i }
 
 pub entry_once : (line : List ℕ) (a b : Entry) → IsEntry line a → IsEntry line b → a ≡ b
@@ -72,25 +72,25 @@ entry_once line a b x y =
 
 -- ---- where no part is found
 
-pub no_first : (line : List ℕ) → CutAt line None → (parts : Parts) → AreParts line parts → ⊥
+pub no_first : (line : List ℕ) → CutAt line None → (parts : EntryParts) → AreParts line parts → ⊥
 no_first line none parts h = none parts.host h.behind_host (value_from false parts.host) h.first.cut h.first.writes
 
-pub no_second : (line host behind : List ℕ) → IsCut line host behind → CutAt behind None → (parts : Parts) → AreParts line parts → ⊥
+pub no_second : (line host behind : List ℕ) → IsCutAtColon line host behind → CutAt behind None → (parts : EntryParts) → AreParts line parts → ⊥
 no_second line host behind first none parts h =
     let one = cut_once line parts.host h.behind_host host behind h.first first in
     none parts.port h.behind_port (value_from false parts.port) (sym one.1 ∙ h.second.cut) h.second.writes
 
-pub no_third : (line host behind port more : List ℕ) → IsCut line host behind → IsCut behind port more → CutAt more None → (parts : Parts) → AreParts line parts → ⊥
+pub no_third : (line host behind port more : List ℕ) → IsCutAtColon line host behind → IsCutAtColon behind port more → CutAt more None → (parts : EntryParts) → AreParts line parts → ⊥
 no_third line host behind port more first second none parts h =
     let one = cut_once line parts.host h.behind_host host behind h.first first in
-    let two = cut_once behind parts.port h.behind_port port more (subst (λ (l : List ℕ). IsCut l parts.port h.behind_port) one.1 h.second) second in
+    let two = cut_once behind parts.port h.behind_port port more (subst (λ (l : List ℕ). IsCutAtColon l parts.port h.behind_port) one.1 h.second) second in
     none parts.database h.behind_database (value_from false parts.database) (sym two.1 ∙ h.third.cut) h.third.writes
 
-pub no_fourth : (line host behind port more database rest : List ℕ) → IsCut line host behind → IsCut behind port more → IsCut more database rest → CutAt rest None → (parts : Parts) → AreParts line parts → ⊥
+pub no_fourth : (line host behind port more database rest : List ℕ) → IsCutAtColon line host behind → IsCutAtColon behind port more → IsCutAtColon more database rest → CutAt rest None → (parts : EntryParts) → AreParts line parts → ⊥
 no_fourth line host behind port more database rest first second third none parts h =
     let one = cut_once line parts.host h.behind_host host behind h.first first in
-    let two = cut_once behind parts.port h.behind_port port more (subst (λ (l : List ℕ). IsCut l parts.port h.behind_port) one.1 h.second) second in
-    let three = cut_once more parts.database h.behind_database database rest (subst (λ (l : List ℕ). IsCut l parts.database h.behind_database) two.1 h.third) third in
+    let two = cut_once behind parts.port h.behind_port port more (subst (λ (l : List ℕ). IsCutAtColon l parts.port h.behind_port) one.1 h.second) second in
+    let three = cut_once more parts.database h.behind_database database rest (subst (λ (l : List ℕ). IsCutAtColon l parts.database h.behind_database) two.1 h.third) third in
     none parts.user parts.password (value_from false parts.user) (sym three.1 ∙ h.fourth.cut) h.fourth.writes
 
 -- ---- a line
@@ -98,15 +98,15 @@ no_fourth line host behind port more database rest first second third none parts
 pub comment : (line : List ℕ) → (slice_index line 0 == 35) ≡ true → (e : Entry) → IsEntry line e → ⊥
 comment line hash e h = let both : true ≡ false = sym hash ∙ h.no_comment in cc
 
-pub in_parts : (line : List ℕ) (found : Option Parts) → (slice_index line 0 == 35) ≡ false → CutsIn line found → PartsIn line found
+pub in_parts : (line : List ℕ) (found : Option EntryParts) → (slice_index line 0 == 35) ≡ false → CutsIn line found → PartsIn line found
 in_parts line None plain none = λ e h. let p = entry_parts line e h in none p.0 p.1
 in_parts line (Some parts) plain h = (plain, h)
 
-pub adds_none : (line : List ℕ) (entries : List Entry) (found : Option Parts) → PartsIn line found → found ≡ None → Adds line entries entries
+pub adds_none : (line : List ℕ) (entries : List Entry) (found : Option EntryParts) → PartsIn line found → found ≡ None → AddsPasswordEntry line entries entries
 adds_none line entries None h e = inr (h, refl)
 adds_none line entries (Some parts) h e = cc
 
-pub adds_one : (line : List ℕ) (entries more : List Entry) (parts : Parts) (entry : Entry) → PartsIn line (Some parts) → entry ≡ entry_of parts → more ≡ entries ++ entry ∷ [] → Adds line entries more
+pub adds_one : (line : List ℕ) (entries more : List Entry) (parts : EntryParts) (entry : Entry) → PartsIn line (Some parts) → entry ≡ entry_of parts → more ≡ entries ++ entry ∷ [] → AddsPasswordEntry line entries more
 adds_one line entries more parts entry h is m = inl (entry, subst (IsEntry line) (sym is) (parts_entry line parts h.0 h.1), m)
 
 -- ---- lines
@@ -123,7 +123,7 @@ same_entries lines a b (taken {line = line} {lines = more} {entry = e} {entries 
 
 -- ---- a look-up
 
-pub found_first : (test : Entry → Bool) (entries : List Entry) (i : ℕ) (entry : Entry) → i < length entries → entry ≡ get_or entries i entry → list_all (λ e. not (test e)) (take i entries) ≡ true → test entry ≡ true → IsFirst test entries entry.password
+pub found_first : (test : Entry → Bool) (entries : List Entry) (i : ℕ) (entry : Entry) → i < length entries → entry ≡ get_or entries i entry → list_all (λ e. not (test e)) (take i entries) ≡ true → test entry ≡ true → IsFirstEntry test entries entry.password
 found_first test entries i entry below is none passes =
     let rest : drop i entries ≡ entry ∷ drop (i + 1) entries = rw add-one (drop-cons entries i entry below) ∙ ap (λ e. e ∷ drop (i + 1) entries) (sym is) in
     record {

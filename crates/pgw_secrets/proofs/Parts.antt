@@ -11,7 +11,7 @@ use Rattle.pgw_scram.specs.Base64.{base64}
 use Rattle.pgw_secrets.specs.declared.secret.StoredSecret.{StoredSecret}
 use Rattle.pgw_secrets.specs.declared.secret.SecretFault.{SecretFault}
 use Rattle.pgw_secrets.specs.declared.secret.SecretFault.TheVariants as fault
-use Rattle.pgw_secrets.specs.Text.{IsCounted, IsSalted, IsKeyed, IsLast, Named, Counted, Salted, Keyed, IsSecretText, HasName, HasCount, HasSalt, HasStoredKey, HasServerKey, IsReading, Reads}
+use Rattle.pgw_secrets.specs.Text.{IsCounted, IsSalted, IsKeyed, IsLastKey, HasSecretName, Counted, ReadsSalt, Keyed, IsSecretText, HasName, HasCount, HasSalt, HasStoredKey, HasServerKey, IsSecretReading, ReadsSecret}
 use Rattle.pgw_secrets.specs.Found.{Lacks, NameIn, CountOf, CountIn, BytesIn, KeyIn, SaltIn, StoredKeyIn}
 use Rattle.pgw_secrets.proofs.Marks.{same_cut, not_cut}
 use Rattle.pgw_secrets.proofs.Encodings.{base64_no_dollar, base64_no_colon, base64_same, number_no_colon}
@@ -51,7 +51,7 @@ keyed_once text s t x y a b =
     let cut = same_cut 58 (base64 s) (base64 t) x y (base64_no_colon s) (base64_no_colon t) (sym a.0 ∙ b.0) in
     (base64_same s t a.1.1 b.1.1 cut.0, cut.1)
 
-last_once : (text s t : List ℕ) → IsLast text s → IsLast text t → s ≡ t
+last_once : (text s t : List ℕ) → IsLastKey text s → IsLastKey text t → s ≡ t
 last_once text s t a b = base64_same s t a.1.1 b.1.1 (sym a.0 ∙ b.0)
 
 -- ---- a part that is not there
@@ -94,7 +94,7 @@ pub named : (text : List ℕ) (r : Option (Bor (List ℕ))) → MatchOption r (F
 named text None h = lacks_name text h
 named text (Some x) (n, (is_length, whole, boundary), rest, lengths) = rw rest whole
 
-named_once : (text x y : List ℕ) → Named text x → Named text y → x ≡ y
+named_once : (text x y : List ℕ) → HasSecretName text x → HasSecretName text y → x ≡ y
 named_once text x y a b = let both = sym a ∙ b in cc
 
 -- ---- up to a part
@@ -104,7 +104,7 @@ Counted_once text m n x y a b =
     let same = named_once text a.from b.from a.before b.before in
     counted_once b.from m n x y (subst (λ (l : List ℕ). IsCounted l m x) same a.part) b.part
 
-Salted_once : (text : List ℕ) (m n : ℕ) (s t x y : List ℕ) → Salted text m s x → Salted text n t y → (m ≡ n) × (s ≡ t) × (x ≡ y)
+Salted_once : (text : List ℕ) (m n : ℕ) (s t x y : List ℕ) → ReadsSalt text m s x → ReadsSalt text n t y → (m ≡ n) × (s ≡ t) × (x ≡ y)
 Salted_once text m n s t x y a b =
     let same = Counted_once text m n a.from b.from a.before b.before in
     let here = salted_once b.from s t x y (subst (λ (l : List ℕ). IsSalted l s x) same.1 a.part) b.part in
@@ -119,7 +119,7 @@ Keyed_once text m n s t k l x y a b =
 secret_once : (text : List ℕ) (s t : StoredSecret) → IsSecretText text s → IsSecretText text t → s ≡ t
 secret_once text s t a b =
     let same = Keyed_once text s.count t.count s.salt t.salt s.stored_key t.stored_key a.from b.from a.before b.before in
-    let here = last_once b.from s.server_key t.server_key (subst (λ (f : List ℕ). IsLast f s.server_key) same.3 a.part) b.part in
+    let here = last_once b.from s.server_key t.server_key (subst (λ (f : List ℕ). IsLastKey f s.server_key) same.3 a.part) b.part in
     λ i. record { count = same.0 i; salt = same.1 i; stored_key = same.2 i; server_key = here i }
 
 -- ---- what stands before a part
@@ -138,7 +138,7 @@ stored_of_server text (s, is) = (s.count, s.salt, s.stored_key, is.from, is.befo
 
 -- ---- one reading
 
-pub same_reading : (text : List ℕ) (r q : Result StoredSecret SecretFault) → IsReading text r → IsReading text q → r ≡ q
+pub same_reading : (text : List ℕ) (r q : Result StoredSecret SecretFault) → IsSecretReading text r → IsSecretReading text q → r ≡ q
 same_reading text (Err fault.Prefix) (Err fault.Prefix) a b = refl
 same_reading text (Err fault.Prefix) (Err fault.Count) a b = absurd (a b.0)
 same_reading text (Err fault.Prefix) (Err fault.Salt) a b = absurd (a (name_of_count text b.0))
@@ -183,32 +183,32 @@ same_reading text (Ok s) (Ok t) a b = ap (λ x. Ok x) (secret_once text s t a b)
 same_reading text (Ok s) (Err fault.OutOfMemory) a b = absurd b
 same_reading text (Err fault.OutOfMemory) other a b = absurd a
 
-pub only_reading : (text : List ℕ) (r q : Result StoredSecret SecretFault) → Reads text r → IsReading text q → (r ≡ Err fault.OutOfMemory) ⊎ (r ≡ q)
+pub only_reading : (text : List ℕ) (r q : Result StoredSecret SecretFault) → ReadsSecret text r → IsSecretReading text q → (r ≡ Err fault.OutOfMemory) ⊎ (r ≡ q)
 only_reading text r q (inl e) is = inl e
 only_reading text r q (inr h) is = inr (same_reading text r q h is)
 
 -- ---- where a reader stops
 
-pub stops_at_name : (text : List ℕ) (found : Option (List ℕ)) → NameIn text found → found ≡ None → Reads text (Err fault.Prefix)
+pub stops_at_name : (text : List ℕ) (found : Option (List ℕ)) → NameIn text found → found ≡ None → ReadsSecret text (Err fault.Prefix)
 stops_at_name text None h e = inr h
 stops_at_name text (Some x) h e = cc
 
-pub stops_at_count : (text behind : List ℕ) (found : Option (ℕ × List ℕ)) → Named text behind → CountIn behind found → found ≡ None → Reads text (Err fault.Count)
+pub stops_at_count : (text behind : List ℕ) (found : Option (ℕ × List ℕ)) → HasSecretName text behind → CountIn behind found → found ≡ None → ReadsSecret text (Err fault.Count)
 stops_at_count text behind None n h e =
     inr ((behind, n), λ (m, more, is). h m more (subst (λ (l : List ℕ). IsCounted l m more) (named_once text is.from behind is.before n) is.part))
 stops_at_count text behind (Some x) n h e = cc
 
-pub stops_at_salt : (text : List ℕ) (count : ℕ) (behind : List ℕ) (found : Option (List ℕ × List ℕ)) → Counted text count behind → SaltIn behind found → found ≡ None → Reads text (Err fault.Salt)
+pub stops_at_salt : (text : List ℕ) (count : ℕ) (behind : List ℕ) (found : Option (List ℕ × List ℕ)) → Counted text count behind → SaltIn behind found → found ≡ None → ReadsSecret text (Err fault.Salt)
 stops_at_salt text count behind None n h e =
     inr ((count, behind, n), λ (m, salt, more, is). h salt more (subst (λ (l : List ℕ). IsSalted l salt more) (Counted_once text m count is.from behind is.before n).1 is.part))
 stops_at_salt text count behind (Some x) n h e = cc
 
-pub stops_at_stored : (text : List ℕ) (count : ℕ) (salt behind : List ℕ) (found : Option (List ℕ × List ℕ)) → Salted text count salt behind → StoredKeyIn behind found → found ≡ None → Reads text (Err fault.StoredKey)
+pub stops_at_stored : (text : List ℕ) (count : ℕ) (salt behind : List ℕ) (found : Option (List ℕ × List ℕ)) → ReadsSalt text count salt behind → StoredKeyIn behind found → found ≡ None → ReadsSecret text (Err fault.StoredKey)
 stops_at_stored text count salt behind None n h e =
     inr ((count, salt, behind, n), λ (m, s, key, more, is). h key more (subst (λ (l : List ℕ). IsKeyed l key more) (Salted_once text m count s salt is.from behind is.before n).2 is.part))
 stops_at_stored text count salt behind (Some x) n h e = cc
 
-pub stops_at_server : (text : List ℕ) (count : ℕ) (salt key behind : List ℕ) (found : Option (List ℕ)) → Keyed text count salt key behind → KeyIn behind found → found ≡ None → Reads text (Err fault.ServerKey)
+pub stops_at_server : (text : List ℕ) (count : ℕ) (salt key behind : List ℕ) (found : Option (List ℕ)) → Keyed text count salt key behind → KeyIn behind found → found ≡ None → ReadsSecret text (Err fault.ServerKey)
 stops_at_server text count salt key behind None n h e =
     inr ((count, salt, key, behind, n), λ (s, is). h s.server_key (subst (λ (l : List ℕ). l ≡ base64 s.server_key) (Keyed_once text s.count count s.salt salt s.stored_key key is.from behind is.before n).3 is.part.0) is.part.1)
 stops_at_server text count salt key behind (Some x) n h e = cc

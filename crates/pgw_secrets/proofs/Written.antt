@@ -5,13 +5,13 @@ use Rattle.std.proofs.lemmas.List.{append_assoc}
 use Rattle.pgw_types.proofs.NumberLaws.{number_in-decimal}
 use Rattle.pgw_scram.specs.Base64.{base64}
 use Rattle.pgw_secrets.specs.declared.secret.StoredSecret.{StoredSecret}
-use Rattle.pgw_secrets.specs.Secret.{IsKept, text_of}
+use Rattle.pgw_secrets.specs.Secret.{IsStoredSecret, stored_secret_text}
 use Rattle.pgw_secrets.specs.Text.{IsSecretText}
 
 cut_at_parts : (count salt stored server : List ℕ) → codes "SCRAM-SHA-256$" ++ count ++ codes ":" ++ salt ++ codes "$" ++ stored ++ codes ":" ++ server ≡ codes "SCRAM-SHA-256$" ++ (count ++ 58 ∷ (salt ++ 36 ∷ (stored ++ 58 ∷ server)))
 cut_at_parts count salt stored server = simp (append_assoc) refl
 
-pub read_back : (s : StoredSecret) → IsKept s → IsSecretText (text_of s) s
+pub read_back : (s : StoredSecret) → IsStoredSecret s → IsSecretText (stored_secret_text s) s
 read_back s kept =
     let server : List ℕ = base64 s.server_key in
     let stored : List ℕ = base64 s.stored_key ++ 58 ∷ server in

@@ -8,19 +8,19 @@ use Rattle.pgw_scram.specs.declared.server.ScramServerAuthWaitingForClientFinal.
 use Rattle.pgw_scram.specs.Formulas.{stored_key}
 use Rattle.pgw_secrets.specs.declared.server.StoredScramAuth.{StoredScramAuth}
 use Rattle.pgw_secrets.specs.declared.server.StoredScramWaiting.{StoredScramWaiting}
-use Rattle.pgw_secrets.specs.Secret.{kept_of, IsKey}
+use Rattle.pgw_secrets.specs.Secret.{kept_secret, IsScramKey}
 
 -- a server with the same count and certificate, which keeps the secret of this SaltedPassword
 abbrev pub storing : ScramServerAuth → List ℕ → List ℕ → StoredScramAuth
 storing server salt salted =
     record {
-      secret = kept_of salted salt server.iterations;
+      secret = kept_secret salted salt server.iterations;
       certificate_hash = server.certificate_hash;
     }
 
 -- the other keeps the SaltedPassword itself
-abbrev pub keeping : List ℕ → List ℕ → Password
-keeping salt salted = record { salt = Some salt; password = salted }
+abbrev pub kept_password : List ℕ → List ℕ → Password
+kept_password salt salted = record { salt = Some salt; password = salted }
 
 -- what waits for client-final: StoredKey in the place of ClientKey
 abbrev pub stored_of : WaitingForClientFinal → StoredScramWaiting
@@ -38,4 +38,4 @@ in_its_place (Err e) = Err e
 
 -- no other 32 bytes hash to the same
 abbrev pub HashesAlone : List ℕ → Type 0
-HashesAlone key = (other : List ℕ) → IsKey other → sha256 other ≡ sha256 key → other ≡ key
+HashesAlone key = (other : List ℕ) → IsScramKey other → sha256 other ≡ sha256 key → other ≡ key

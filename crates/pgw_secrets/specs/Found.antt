@@ -4,8 +4,8 @@ use Rattle.std.specs.List.{list_all}
 use Rattle.base64.specs.GeneralPurpose.{IsBytes}
 use Rattle.pgw_types.specs.Numbers.{number_in}
 use Rattle.pgw_scram.specs.Base64.{base64}
-use Rattle.pgw_secrets.specs.Secret.{IsKey}
-use Rattle.pgw_secrets.specs.Text.{IsCounted, IsSalted, IsKeyed, Named, HasName}
+use Rattle.pgw_secrets.specs.Secret.{IsScramKey}
+use Rattle.pgw_secrets.specs.Text.{IsCounted, IsSalted, IsKeyed, HasSecretName, HasName}
 
 -- ---- base64
 
@@ -14,8 +14,8 @@ BytesIn text (Some bytes) = (text ≡ base64 bytes) × IsBytes bytes
 BytesIn text None = (bytes : List ℕ) → text ≡ base64 bytes → IsBytes bytes → ⊥
 
 abbrev pub KeyIn : List ℕ → Option (List ℕ) → Type 0
-KeyIn text (Some key) = (text ≡ base64 key) × IsKey key
-KeyIn text None = (key : List ℕ) → text ≡ base64 key → IsKey key → ⊥
+KeyIn text (Some key) = (text ≡ base64 key) × IsScramKey key
+KeyIn text None = (key : List ℕ) → text ≡ base64 key → IsScramKey key → ⊥
 
 -- ---- parts
 
@@ -29,7 +29,7 @@ CutAt mark text (Some (before, behind)) = (text ≡ before ++ mark ∷ behind) �
 CutAt mark text None = Lacks mark text
 
 abbrev pub NameIn : List ℕ → Option (List ℕ) → Type 0
-NameIn text (Some behind) = Named text behind
+NameIn text (Some behind) = HasSecretName text behind
 NameIn text None = HasName text → ⊥
 
 -- a whole number from 1 to 4294967295

@@ -21,7 +21,7 @@ abbrev pub answers_for : List ℕ → ℕ → List ℕ → List ℕ → Entry �
 answers_for host port database user = answers host (decimal port) database user
 
 -- the password of the first entry that passes a test
-pub record IsFirst (test : Entry → Bool) (entries : List Entry) (password : List ℕ) : Type 0 where
+pub record IsFirstEntry (test : Entry → Bool) (entries : List Entry) (password : List ℕ) : Type 0 where
   pub front : List Entry
   pub entry : Entry
   pub back : List Entry
@@ -32,5 +32,5 @@ pub record IsFirst (test : Entry → Bool) (entries : List Entry) (password : Li
 
 -- this, or none passes it
 abbrev pub IsFound : (Entry → Bool) → List Entry → Option (List ℕ) → Type 0
-IsFound test entries (Some password) = IsFirst test entries password
+IsFound test entries (Some password) = IsFirstEntry test entries password
 IsFound test entries None = list_all (λ e. not (test e)) entries ≡ true

@@ -16,35 +16,35 @@ abbrev pub without_return : List ℕ → List ℕ
 without_return line = if ends_in_return line then take (length line - 1) line else line
 
 -- what stands between the line feeds
-abbrev pub lines_of : List ℕ → List (List ℕ)
-lines_of file = map without_return (slice_split (λ b. b == 10) file)
+abbrev pub file_lines : List ℕ → List (List ℕ)
+file_lines file = map without_return (slice_split (λ b. b == 10) file)
 
 -- ---- values
 
 -- bytes that write a value: each stands for itself, but for one that ends it, and one behind a
 -- backslash stands for itself whatever it is
-pub data Writes (ends : ℕ → Bool) : List ℕ → List ℕ → Type 0 where
-  nothing : Writes ends [] []
+pub data WritesPassField (ends : ℕ → Bool) : List ℕ → List ℕ → Type 0 where
+  nothing : WritesPassField ends [] []
   itself : {b : ℕ} {text value : List ℕ} → (b == 92) ≡ false → ends b ≡ false
-      → Writes ends text value → Writes ends (b ∷ text) (b ∷ value)
-  escaped : {b : ℕ} {text value : List ℕ} → Writes ends text value
-      → Writes ends (92 ∷ b ∷ text) (b ∷ value)
+      → WritesPassField ends text value → WritesPassField ends (b ∷ text) (b ∷ value)
+  escaped : {b : ℕ} {text value : List ℕ} → WritesPassField ends text value
+      → WritesPassField ends (92 ∷ b ∷ text) (b ∷ value)
 
 abbrev pub is_colon : ℕ → Bool
 is_colon b = b == 58
 
-abbrev pub never : ℕ → Bool
-never b = false
+abbrev pub ends_no_password : ℕ → Bool
+ends_no_password b = false
 
 -- the one byte * matches everything, another field what it writes
-abbrev pub IsField : List ℕ → Field → Type 0
-IsField text Any = text ≡ 42 ∷ []
-IsField text (Is value) = (text ≡ 42 ∷ [] → ⊥) × Writes is_colon text value
+abbrev pub IsPasswordField : List ℕ → Field → Type 0
+IsPasswordField text Any = text ≡ 42 ∷ []
+IsPasswordField text (Is value) = (text ≡ 42 ∷ [] → ⊥) × WritesPassField is_colon text value
 
 -- in a password a colon stands for itself, and a backslash at the end for nothing
 pub data IsPassword : List ℕ → List ℕ → Type 0 where
-  whole : {text value : List ℕ} → Writes never text value → IsPassword text value
-  stopped : {body value : List ℕ} → Writes never body value → IsPassword (body ++ 92 ∷ []) value
+  whole : {text value : List ℕ} → WritesPassField ends_no_password text value → IsPassword text value
+  stopped : {body value : List ℕ} → WritesPassField ends_no_password body value → IsPassword (body ++ 92 ∷ []) value
 
 -- ---- entries
 
@@ -57,10 +57,10 @@ pub record IsEntry (line : List ℕ) (entry : Entry) : Type 0 where
   pub password : List ℕ
   pub cut : line ≡ host ++ 58 ∷ (port ++ 58 ∷ (database ++ 58 ∷ (user ++ 58 ∷ password)))
   pub no_comment : (slice_index line 0 == 35) ≡ false
-  pub is_host : IsField host entry.host
-  pub is_port : IsField port entry.port
-  pub is_database : IsField database entry.database
-  pub is_user : IsField user entry.user
+  pub is_host : IsPasswordField host entry.host
+  pub is_port : IsPasswordField port entry.port
+  pub is_database : IsPasswordField database entry.database
+  pub is_user : IsPasswordField user entry.user
   pub is_password : IsPassword password entry.password
 
 -- the entries of lines, in order; a line that is none is passed over
@@ -74,4 +74,4 @@ pub data AreEntries : List (List ℕ) → List Entry → Type 0 where
       → AreEntries (line ∷ lines) (entry ∷ entries)
 
 abbrev pub IsFile : List ℕ → List Entry → Type 0
-IsFile file entries = AreEntries (lines_of file) entries
+IsFile file entries = AreEntries (file_lines file) entries

@@ -4,10 +4,10 @@ use Rattle.pgw_secrets.specs.declared.password_file.Asked.{Asked}
 use Rattle.pgw_secrets.specs.declared.password_file.Entry.{Entry}
 use Rattle.pgw_secrets.specs.Lookup.{answers}
 use Rattle.pgw_secrets.specs.declared.password_line.Parts.{Parts as Borrowed}
-use Rattle.pgw_secrets.specs.PasswordReader.{Parts}
+use Rattle.pgw_secrets.specs.PasswordReader.{EntryParts}
 
-abbrev pub shown : Borrowed → Parts
-shown p = record {
+abbrev pub password_parts : Borrowed → EntryParts
+password_parts p = record {
   host = p.host.now;
   port = p.port.now;
   database = p.database.now;

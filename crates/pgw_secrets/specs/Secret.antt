@@ -8,8 +8,8 @@ use Rattle.pgw_scram.specs.Formulas.{client_key, stored_key, server_key}
 use Rattle.pgw_secrets.specs.declared.secret.StoredSecret.{StoredSecret}
 
 -- StoredKey and ServerKey of a SaltedPassword, with the salt and the count that made it
-abbrev pub kept_of : List ℕ → List ℕ → ℕ → StoredSecret
-kept_of salted salt count = record {
+abbrev pub kept_secret : List ℕ → List ℕ → ℕ → StoredSecret
+kept_secret salted salt count = record {
   count = count;
   salt = salt;
   stored_key = stored_key (client_key salted);
@@ -17,27 +17,27 @@ kept_of salted salt count = record {
 }
 
 -- the same of a password
-abbrev pub made : List ℕ → List ℕ → ℕ → StoredSecret
-made password salt count = kept_of (salted_password password salt count) salt count
+abbrev pub secret_of : List ℕ → List ℕ → ℕ → StoredSecret
+secret_of password salt count = kept_secret (salted_password password salt count) salt count
 
 -- 32 bytes
-abbrev pub IsKey : List ℕ → Type 0
-IsKey key = (length key ≡ 32) × IsBytes key
+abbrev pub IsScramKey : List ℕ → Type 0
+IsScramKey key = (length key ≡ 32) × IsBytes key
 
 -- a secret with a count, whose parts are bytes
-pub record IsKept (secret : StoredSecret) : Type 0 where
+pub record IsStoredSecret (secret : StoredSecret) : Type 0 where
   pub at_least_one : 1 ≤ secret.count
   pub in_32_bits : secret.count < 2 ^ 32
   pub salt_bytes : IsBytes secret.salt
-  pub stored_bytes : IsKey secret.stored_key
-  pub server_bytes : IsKey secret.server_key
+  pub stored_bytes : IsScramKey secret.stored_key
+  pub server_bytes : IsScramKey secret.server_key
 
 -- the text of a secret, of its parts: SCRAM-SHA-256$COUNT:SALT$STORED:SERVER
 -- (PostgreSQL, System Catalogs, "pg_authid")
-abbrev pub written : ℕ → List ℕ → List ℕ → List ℕ → List ℕ
-written count salt stored_key server_key =
+abbrev pub secret_text : ℕ → List ℕ → List ℕ → List ℕ → List ℕ
+secret_text count salt stored_key server_key =
     codes "SCRAM-SHA-256$" ++ decimal count ++ codes ":" ++ salt ++ codes "$" ++ stored_key
     ++ codes ":" ++ server_key
 
-abbrev pub text_of : StoredSecret → List ℕ
-text_of s = written s.count (base64 s.salt) (base64 s.stored_key) (base64 s.server_key)
+abbrev pub stored_secret_text : StoredSecret → List ℕ
+stored_secret_text s = secret_text s.count (base64 s.salt) (base64 s.stored_key) (base64 s.server_key)

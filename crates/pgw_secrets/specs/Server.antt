@@ -6,7 +6,7 @@ use Rattle.pgw_types.specs.declared.error.ScramMessageFault.{ScramMessageFault}
 use Rattle.pgw_scram.specs.declared.messages.ClientFirst.{ClientFirst}
 use Rattle.pgw_scram.specs.declared.messages.ClientFinal.{ClientFinal}
 use Rattle.pgw_scram.specs.Formulas.{signature_by}
-use Rattle.pgw_scram.specs.Offers.{offer_of, channel_refusal, exchanged, answered, server_final}
+use Rattle.pgw_scram.specs.Offers.{offer_of, channel_refusal, exchanged, final_for_offer, server_final}
 use Rattle.pgw_scram.specs.Readers.{read_client_first}
 use Rattle.pgw_scram.specs.Server.{unless_misbound}
 use Rattle.pgw_secrets.specs.declared.server.StoredScramAuth.{StoredScramAuth}
@@ -15,34 +15,34 @@ use Rattle.pgw_secrets.specs.Proof.{IsProof}
 
 -- ---- the first step
 
-abbrev pub waiting : StoredScramAuth → ClientFirst → List ℕ → StoredScramWaiting
-waiting server parts own = record {
+abbrev pub stored_wait : StoredScramAuth → ClientFirst → List ℕ → StoredScramWaiting
+stored_wait server parts own = record {
   offer = offer_of parts server.certificate_hash server.secret.salt server.secret.count own;
   stored_key = server.secret.stored_key;
   server_key = server.secret.server_key;
 }
 
 -- with the server-first that it has sent
-abbrev pub saying : StoredScramWaiting → List ℕ × StoredScramWaiting
-saying server = (server.offer.server_first, server)
+abbrev pub stored_with_first : StoredScramWaiting → List ℕ × StoredScramWaiting
+stored_with_first server = (server.offer.server_first, server)
 
 -- server-first, and a server that has sent it, of the parts of client-first and the bytes of the
 -- server's nonce
-abbrev pub offered_to : StoredScramAuth → ClientFirst → List ℕ
+abbrev pub stored_offer_to : StoredScramAuth → ClientFirst → List ℕ
     → Result (List ℕ × StoredScramWaiting) PgWireError
-offered_to server parts own =
+stored_offer_to server parts own =
     unless_misbound (channel_refusal server.certificate_hash parts)
-    (Ok (saying (waiting server parts own)))
+    (Ok (stored_with_first (stored_wait server parts own)))
 
-abbrev pub offered_as : StoredScramAuth → Result ClientFirst ScramMessageFault → List ℕ
+abbrev pub stored_offer_as : StoredScramAuth → Result ClientFirst ScramMessageFault → List ℕ
     → Result (List ℕ × StoredScramWaiting) PgWireError
-offered_as server (Err why) own = Err (InvalidScramMessage why)
-offered_as server (Ok parts) own = offered_to server parts own
+stored_offer_as server (Err why) own = Err (InvalidScramMessage why)
+stored_offer_as server (Ok parts) own = stored_offer_to server parts own
 
 -- the same, of client-first
-abbrev pub offered : StoredScramAuth → List ℕ → List ℕ
+abbrev pub stored_offer : StoredScramAuth → List ℕ → List ℕ
     → Result (List ℕ × StoredScramWaiting) PgWireError
-offered server message own = offered_as server (read_client_first message) own
+stored_offer server message own = stored_offer_as server (read_client_first message) own
 
 -- ---- the last step
 
@@ -65,10 +65,10 @@ AcceptsAs server (Err e) answer = answer ≡ Err e
 AcceptsAs server (Ok parts) answer = Judges server parts answer
 
 -- what is answered to client-final
-abbrev pub Accepts : StoredScramWaiting → List ℕ → Result (List ℕ) PgWireError → Type 0
-Accepts server message answer = AcceptsAs server (answered server.offer message) answer
+abbrev pub AcceptsStored : StoredScramWaiting → List ℕ → Result (List ℕ) PgWireError → Type 0
+AcceptsStored server message answer = AcceptsAs server (final_for_offer server.offer message) answer
 
 -- this, or memory ran out
-abbrev pub OrNoMemory : (Result (List ℕ) PgWireError → Type 0) → Result (List ℕ) PgWireError
+abbrev pub StoredOrNoMemory : (Result (List ℕ) PgWireError → Type 0) → Result (List ℕ) PgWireError
     → Type 0
-OrNoMemory Is answer = (answer ≡ Err OutOfMemory) ⊎ Is answer
+StoredOrNoMemory Is answer = (answer ≡ Err OutOfMemory) ⊎ Is answer

@@ -6,7 +6,7 @@ use Rattle.pgw_scram.specs.Base64.{base64}
 use Rattle.pgw_secrets.specs.declared.secret.StoredSecret.{StoredSecret}
 use Rattle.pgw_secrets.specs.declared.secret.SecretFault.{SecretFault}
 use Rattle.pgw_secrets.specs.declared.secret.SecretFault.TheVariants as fault
-use Rattle.pgw_secrets.specs.Secret.{IsKey}
+use Rattle.pgw_secrets.specs.Secret.{IsScramKey}
 
 -- ---- one part, and what stands behind it
 
@@ -23,26 +23,26 @@ IsSalted text salt behind = (text ≡ base64 salt ++ 36 ∷ behind) × IsBytes s
 
 -- 32 bytes in base64, and a colon
 abbrev pub IsKeyed : List ℕ → List ℕ → List ℕ → Type 0
-IsKeyed text key behind = (text ≡ base64 key ++ 58 ∷ behind) × IsKey key
+IsKeyed text key behind = (text ≡ base64 key ++ 58 ∷ behind) × IsScramKey key
 
 -- 32 bytes in base64, up to the end
-abbrev pub IsLast : List ℕ → List ℕ → Type 0
-IsLast text key = (text ≡ base64 key) × IsKey key
+abbrev pub IsLastKey : List ℕ → List ℕ → Type 0
+IsLastKey text key = (text ≡ base64 key) × IsScramKey key
 
 -- ---- a whole text, up to a part
 
 -- behind the name
-abbrev pub Named : List ℕ → List ℕ → Type 0
-Named text behind = text ≡ codes "SCRAM-SHA-256$" ++ behind
+abbrev pub HasSecretName : List ℕ → List ℕ → Type 0
+HasSecretName text behind = text ≡ codes "SCRAM-SHA-256$" ++ behind
 
 -- behind the count
 pub record Counted (text : List ℕ) (count : ℕ) (behind : List ℕ) : Type 0 where
   pub from : List ℕ
-  pub before : Named text from
+  pub before : HasSecretName text from
   pub part : IsCounted from count behind
 
 -- behind the salt
-pub record Salted (text : List ℕ) (count : ℕ) (salt behind : List ℕ) : Type 0 where
+pub record ReadsSalt (text : List ℕ) (count : ℕ) (salt behind : List ℕ) : Type 0 where
   pub from : List ℕ
   pub before : Counted text count from
   pub part : IsSalted from salt behind
@@ -50,26 +50,26 @@ pub record Salted (text : List ℕ) (count : ℕ) (salt behind : List ℕ) : Typ
 -- behind StoredKey
 pub record Keyed (text : List ℕ) (count : ℕ) (salt key behind : List ℕ) : Type 0 where
   pub from : List ℕ
-  pub before : Salted text count salt from
+  pub before : ReadsSalt text count salt from
   pub part : IsKeyed from key behind
 
 -- the whole of it, ServerKey to the end
 pub record IsSecretText (text : List ℕ) (secret : StoredSecret) : Type 0 where
   pub from : List ℕ
   pub before : Keyed text secret.count secret.salt secret.stored_key from
-  pub part : IsLast from secret.server_key
+  pub part : IsLastKey from secret.server_key
 
 -- ---- what a reader answers
 
 -- a text has a part where all parts up to it are well formed
 abbrev pub HasName : List ℕ → Type 0
-HasName text = (behind : List ℕ) × Named text behind
+HasName text = (behind : List ℕ) × HasSecretName text behind
 
 abbrev pub HasCount : List ℕ → Type 0
 HasCount text = (count : ℕ) × (behind : List ℕ) × Counted text count behind
 
 abbrev pub HasSalt : List ℕ → Type 0
-HasSalt text = (count : ℕ) × (salt : List ℕ) × (behind : List ℕ) × Salted text count salt behind
+HasSalt text = (count : ℕ) × (salt : List ℕ) × (behind : List ℕ) × ReadsSalt text count salt behind
 
 abbrev pub HasStoredKey : List ℕ → Type 0
 HasStoredKey text =
@@ -80,15 +80,15 @@ abbrev pub HasServerKey : List ℕ → Type 0
 HasServerKey text = (secret : StoredSecret) × IsSecretText text secret
 
 -- the secret, or the first faulty part from the left
-abbrev pub IsReading : List ℕ → Result StoredSecret SecretFault → Type 0
-IsReading text (Ok secret) = IsSecretText text secret
-IsReading text (Err fault.Prefix) = HasName text → ⊥
-IsReading text (Err fault.Count) = HasName text × (HasCount text → ⊥)
-IsReading text (Err fault.Salt) = HasCount text × (HasSalt text → ⊥)
-IsReading text (Err fault.StoredKey) = HasSalt text × (HasStoredKey text → ⊥)
-IsReading text (Err fault.ServerKey) = HasStoredKey text × (HasServerKey text → ⊥)
-IsReading text (Err fault.OutOfMemory) = ⊥
+abbrev pub IsSecretReading : List ℕ → Result StoredSecret SecretFault → Type 0
+IsSecretReading text (Ok secret) = IsSecretText text secret
+IsSecretReading text (Err fault.Prefix) = HasName text → ⊥
+IsSecretReading text (Err fault.Count) = HasName text × (HasCount text → ⊥)
+IsSecretReading text (Err fault.Salt) = HasCount text × (HasSalt text → ⊥)
+IsSecretReading text (Err fault.StoredKey) = HasSalt text × (HasStoredKey text → ⊥)
+IsSecretReading text (Err fault.ServerKey) = HasStoredKey text × (HasServerKey text → ⊥)
+IsSecretReading text (Err fault.OutOfMemory) = ⊥
 
 -- this, or memory ran out
-abbrev pub Reads : List ℕ → Result StoredSecret SecretFault → Type 0
-Reads text reading = (reading ≡ Err fault.OutOfMemory) ⊎ IsReading text reading
+abbrev pub ReadsSecret : List ℕ → Result StoredSecret SecretFault → Type 0
+ReadsSecret text reading = (reading ≡ Err fault.OutOfMemory) ⊎ IsSecretReading text reading

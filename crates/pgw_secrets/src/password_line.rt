@@ -1,8 +1,8 @@
 //! The lines of a file of passwords.
 ghost use Rattle.std.specs.Prelude.{◌≡◌, ◌<◌, ◌≤◌, ◌==◌, length, take, slice_index, false, IfOk, OnOk, IfSome, option_map};
 ghost use Rattle.pgw_secrets.specs.PasswordFile.{without_return, IsFile};
-ghost use Rattle.pgw_secrets.specs.PasswordReader.{Begins, EndsAt, SpecialAt, joined, is_special, is_mark, is_escape, colon_from, value_from, field_of, CutAt, CutsIn, PartsIn, Adds, entry_of};
-ghost use Rattle.pgw_secrets.specs.PasswordShown.{shown};
+ghost use Rattle.pgw_secrets.specs.PasswordReader.{BeginsFile, IsPasswordLineEnd, SpecialAt, passfile_line, is_special, is_mark, is_escape, colon_from, value_from, password_field, CutAt, CutsIn, PartsIn, AddsPasswordEntry, entry_of};
+ghost use Rattle.pgw_secrets.specs.PasswordShown.{password_parts};
 
 use crate::password_file::{Entry, Field};
 use pgw_types::listed::{Duplicate, Listed};
@@ -107,7 +107,7 @@ fn unescaped(alloc: Global, text: &[u8]) -> Result<Octets, OutOfMemory>
 
 // What is written at the front of a file's rest: a cut of the file where no backslash stands in it.
 fn value_of(alloc: Global, rest: &Octets, text: &[u8]) -> Result<Octets, OutOfMemory>
-    requires { Begins text.now rest.now }
+    requires { BeginsFile text.now rest.now }
     ensures { IfOk result (λ v. v ≡ value_from false text.now) }
 {
     if text.contains(&b'\\') {
@@ -117,8 +117,8 @@ fn value_of(alloc: Global, rest: &Octets, text: &[u8]) -> Result<Octets, OutOfMe
 }
 
 fn field_of(alloc: Global, rest: &Octets, text: &[u8]) -> Result<Field, OutOfMemory>
-    requires { Begins text.now rest.now }
-    ensures { IfOk result (λ f. f ≡ field_of text.now) }
+    requires { BeginsFile text.now rest.now }
+    ensures { IfOk result (λ f. f ≡ password_field text.now) }
 {
     if text == b"*".as_slice() {
         return Ok(Field::Any);
@@ -146,7 +146,7 @@ fn is_comment(line: &[u8]) -> bool
 
 // The parts of a line that is no comment.
 fn parts_of(line: &[u8]) -> Option<Parts<'_>>
-    ensures { CutsIn line.now (option_map shown result) }
+    ensures { CutsIn line.now (option_map password_parts result) }
 {
     let Some((host, line)) = cut_field(line) else {
         return None;
@@ -171,7 +171,7 @@ fn parts_of(line: &[u8]) -> Option<Parts<'_>>
 
 // The parts of an entry.
 fn parts_in(line: &[u8]) -> Option<Parts<'_>>
-    ensures { PartsIn line.now (option_map shown result) }
+    ensures { PartsIn line.now (option_map password_parts result) }
 {
     if is_comment(line) {
         return None;
@@ -181,8 +181,8 @@ fn parts_in(line: &[u8]) -> Option<Parts<'_>>
 
 // The entry of a line at the front of a file's rest.
 fn entry_of(alloc: Global, rest: &Octets, parts: &Parts<'_>) -> Result<Entry, OutOfMemory>
-    requires { Begins (joined (shown parts.now)) rest.now }
-    ensures { IfOk result (λ e. e ≡ entry_of (shown parts.now)) }
+    requires { BeginsFile (passfile_line (password_parts parts.now)) rest.now }
+    ensures { IfOk result (λ e. e ≡ entry_of (password_parts parts.now)) }
 {
     let mut rest = rest.duplicate()?;
     let host = field_of(alloc, &rest, parts.host)?;
@@ -217,7 +217,7 @@ fn without_return(line: &[u8]) -> &[u8]
 
 // The place of the first line feed.
 fn line_end(text: &[u8]) -> Option<usize>
-    ensures { EndsAt text.now result }
+    ensures { IsPasswordLineEnd text.now result }
 {
     for (i, byte) in text.iter().enumerate() {
         if *byte == b'\n' {
@@ -243,7 +243,7 @@ fn add_line(
     end: usize,
 ) -> Result<(), OutOfMemory>
     requires { end ≤ length rest.now }
-    ensures { OnOk result (Adds (without_return (take end rest.now)) entries.old entries.new) }
+    ensures { OnOk result (AddsPasswordEntry (without_return (take end rest.now)) entries.old entries.new) }
 {
     let line = line_up_to(rest.as_slice(), end);
     let Some(parts) = parts_in(line) else {

@@ -3,8 +3,8 @@ ghost use Rattle.std.specs.Prelude.{◌≡◌, ◌≤◌, ◌⊎◌, ◌↔◌, 
 ghost use Rattle.pgw_scram.specs.Base64.{base64};
 ghost use Rattle.pgw_scram.specs.Formulas.{auth_message, signature_by};
 ghost use Rattle.pgw_secrets.specs.Proof.{IsProof};
-ghost use Rattle.pgw_secrets.specs.Secret.{kept_of, made, written, text_of};
-ghost use Rattle.pgw_secrets.specs.Text.{IsReading, Reads};
+ghost use Rattle.pgw_secrets.specs.Secret.{kept_secret, secret_of, secret_text, stored_secret_text};
+ghost use Rattle.pgw_secrets.specs.Text.{IsSecretReading, ReadsSecret};
 
 use crate::keys::{encode, is_proof};
 use crate::text::read_text;
@@ -72,7 +72,7 @@ fn kept_of(
     salt: &[u8],
     count: u32,
 ) -> Result<StoredSecret, OutOfMemory>
-    ensures { IfOk result (λ s. s ≡ kept_of salted.now salt.now count) }
+    ensures { IfOk result (λ s. s ≡ kept_secret salted.now salt.now count) }
 {
     let key = client_key(salted);
     Ok(StoredSecret {
@@ -91,7 +91,7 @@ fn written(
     stored_key: &str,
     server_key: &str,
 ) -> Result<Text, OutOfMemory>
-    ensures { IfOk result (λ text. text ≡ written count salt.now stored_key.now server_key.now) }
+    ensures { IfOk result (λ text. text ≡ secret_text count salt.now stored_key.now server_key.now) }
 {
     let mut digits = Buffer::new();
     let mut text = String::from_str(alloc, "SCRAM-SHA-256$")?;
@@ -115,7 +115,7 @@ impl StoredSecret {
         count: u32,
     ) -> Result<StoredSecret, OutOfMemory>
         requires { 1 ≤ count }
-        ensures { IfOk result (λ s. s ≡ made password.now salt.now count) }
+        ensures { IfOk result (λ s. s ≡ secret_of password.now salt.now count) }
     {
         let salted = gen_salted_password(alloc, password, salt, count)?;
         kept_of(alloc, &salted, salt, count)
@@ -123,9 +123,9 @@ impl StoredSecret {
 
     /// The secret that a text tells, or the first faulty part of it from the left.
     pub fn read(alloc: Global, text: &str) -> Result<StoredSecret, SecretFault>
-        ensures value { Reads text.now result }
+        ensures value { ReadsSecret text.now result }
         // A text has one reading.
-        ensures only { (other : Result StoredSecret SecretFault) → IsReading text.now other
+        ensures only { (other : Result StoredSecret SecretFault) → IsSecretReading text.now other
             → (result ≡ Err SecretFault.OutOfMemory) ⊎ (result ≡ other) }
     {
         read_text(alloc, text)
@@ -133,7 +133,7 @@ impl StoredSecret {
 
     /// Its text, as `SCRAM-SHA-256$4096:..$..:..`.
     pub fn to_text(&self, alloc: Global) -> Result<Text, OutOfMemory>
-        ensures { IfOk result (λ text. text ≡ text_of self.now) }
+        ensures { IfOk result (λ text. text ≡ stored_secret_text self.now) }
     {
         let salt = encode(alloc, self.salt.as_slice())?;
         let stored_key = encode(alloc, &self.stored_key)?;

@@ -1,8 +1,8 @@
 //! The server's end of an exchange (RFC 5802, section 5), of a secret in place of a password.
 ghost use Rattle.std.specs.Prelude.{◌≡◌, ◌≤◌, ◌↔◌, IfOk, IsTrue, OnOk, OnErr, Ok, Some, None};
 ghost use Rattle.std.specs.Option.{option_copied};
-ghost use Rattle.pgw_scram.specs.Answers.{Answers};
-ghost use Rattle.pgw_secrets.specs.Server.{waiting, offered_to, offered, Proves, Judges, Accepts, OrNoMemory};
+ghost use Rattle.pgw_scram.specs.Answers.{IsScramAnswer};
+ghost use Rattle.pgw_secrets.specs.Server.{stored_wait, stored_offer_to, stored_offer, Proves, Judges, AcceptsStored, StoredOrNoMemory};
 
 use crate::keys::is_proof;
 use crate::secret::StoredSecret;
@@ -72,7 +72,7 @@ impl StoredScramAuth {
         message: &[u8],
         nonce: &[u8; 18],
     ) -> PgWireResult<(Text, StoredScramWaiting)>
-        ensures { Answers result (offered self.now message.now nonce.now) }
+        ensures { IsScramAnswer result (stored_offer self.now message.now nonce.now) }
     {
         let parts = ClientFirst::read(alloc, message)?;
         self.offer(alloc, parts, nonce)
@@ -85,7 +85,7 @@ impl StoredScramAuth {
         parts: ClientFirst,
         nonce: &[u8; 18],
     ) -> PgWireResult<(Text, StoredScramWaiting)>
-        ensures { Answers result (offered_to self.now parts nonce.now) }
+        ensures { IsScramAnswer result (stored_offer_to self.now parts nonce.now) }
     {
         if is_misbound(self.certificate_hash(), parts.header.as_str()) {
             return Err(PgWireError::InvalidScramMessage(ScramMessageFault::ChannelBinding));
@@ -102,7 +102,7 @@ impl StoredScramAuth {
         parts: ClientFirst,
         own: &[u8; 18],
     ) -> Result<StoredScramWaiting, OutOfMemory>
-        ensures { IfOk result (λ server. server ≡ waiting self.now parts own.now) }
+        ensures { IfOk result (λ server. server ≡ stored_wait self.now parts own.now) }
     {
         let salt = self.secret.salt.as_slice();
         let count = self.secret.count;
@@ -121,7 +121,7 @@ impl StoredScramWaiting {
     /// The server's last message. In this order: `InvalidScramMessage` for the message's form, for its channel binding and
     /// for its nonce; `InvalidPassword` with the user name where the proof is none of the secret.
     pub fn on_client_final_message(&self, alloc: Global, message: &[u8]) -> PgWireResult<Text>
-        ensures { OrNoMemory (Accepts self.now message.now) result }
+        ensures { StoredOrNoMemory (AcceptsStored self.now message.now) result }
     {
         let parts = self.offer.answer(alloc, message)?;
         self.judge(alloc, &parts)
@@ -129,7 +129,7 @@ impl StoredScramWaiting {
 
     // The server's last message, of the parts of the client's.
     fn judge(&self, alloc: Global, parts: &ClientFinal) -> PgWireResult<Text>
-        ensures { OrNoMemory (Judges self.now parts.now) result }
+        ensures { StoredOrNoMemory (Judges self.now parts.now) result }
     {
         if !self.proves(alloc, parts)? {
             return Err(PgWireError::InvalidPassword(self.offer.user.duplicate()?));

@@ -3,7 +3,7 @@ ghost use Rattle.std.specs.Prelude.{◌≡◌, ◌<◌, IfOk, option_map};
 ghost use Rattle.pgw_secrets.specs.Found.{NameIn, CutAt, CountOf, CountIn, SaltIn, StoredKeyIn};
 ghost use Rattle.std.specs.Option.{option_copied};
 ghost use Rattle.pgw_types.specs.Numbers.{number_in};
-ghost use Rattle.pgw_secrets.specs.Text.{Reads};
+ghost use Rattle.pgw_secrets.specs.Text.{ReadsSecret};
 
 use crate::keys::{decode, decode_32};
 use crate::secret::{SecretFault, StoredSecret};
@@ -84,7 +84,7 @@ fn key_at(alloc: Global, text: &str) -> Result<Option<([u8; 32], &str)>, OutOfMe
 
 /// The secret that a text tells, or the first faulty part of it from the left.
 pub(crate) fn read_text(alloc: Global, text: &str) -> Result<StoredSecret, SecretFault>
-    ensures { Reads text.now result }
+    ensures { ReadsSecret text.now result }
 {
     let Some(behind) = behind_name(text) else {
         return Err(SecretFault::Prefix);

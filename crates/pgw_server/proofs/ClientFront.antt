@@ -10,8 +10,8 @@ use Rattle.pgw_types.specs.declared.context.ProtocolVersion.{ProtocolVersion}
 use Rattle.pgw_types.specs.declared.context.DecodeContext.{DecodeContext}
 use Rattle.pgw_wire.specs.declared.framing.Framing.{Framing}
 use Rattle.pgw_wire.specs.declared.framing.Framing.TheVariants.{Typed, Untyped, Opening, Code}
-use Rattle.pgw_wire.specs.Reading.{◌>>=◌, Refuses}
-use Rattle.pgw_wire.specs.Framing.{code_in, sign_extended, stated_length, length_frame, frame, framed, front, as_one_of, Decodes}
+use Rattle.pgw_wire.specs.Reading.{◌>>=◌, IsReadRefusal}
+use Rattle.pgw_wire.specs.Framing.{code_in, sign_extended, stated_length, length_frame, frame, framed, wire_front, as_one_of, Decodes}
 use Rattle.pgw_wire.proofs.Laws.{bind_ok, chosen}
 use Rattle.pgw_wire.proofs.MessageLaws.{some_is, framed_found}
 use Rattle.pgw_wire.proofs.Stable.{Ends, Stable, bind_err, front_stable, stable_choice, stable_refusal}
@@ -31,7 +31,7 @@ use Rattle.pgw_frontend.specs.declared.frontend.PgWireFrontendMessage.TheVariant
 use Rattle.pgw_frontend.specs.Frontend.{negotiation_front, first_front, frontend_by, typed_front, frontend_front}
 use Rattle.pgw_frontend.specs.FrontendSpells.{SpellsFrontend}
 use Rattle.pgw_course.specs.Course.{More, Bad, Whole, IsReading}
-use Rattle.pgw_server.specs.Front.{phase, asks_for_none, or_first, typed_within, client_front, met}
+use Rattle.pgw_server.specs.Front.{phase, asks_for_none, or_first_message, typed_within, client_front, server_front}
 
 -- which way a test goes
 either : (b : Bool) → (b ≡ true) ⊎ (b ≡ false)
@@ -96,8 +96,8 @@ at_most n a = omega (arith, length-take n a)
 
 -- so many bytes where its body has so many
 untyped_long : {M : Type 0} (k limit : ℕ) (read : List ℕ → Result M PgWireError) → ((body : List ℕ) (m : M) → read body ≡ Ok m → k ≤ length body)
-    → (a : List ℕ) (m : M) (rest : List ℕ) → front Untyped limit read a ≡ Ok (Some (m, rest)) → length rest + (k + 4) ≤ length a
-unfolding front frame
+    → (a : List ℕ) (m : M) (rest : List ℕ) → wire_front Untyped limit read a ≡ Ok (Some (m, rest)) → length rest + (k + 4) ≤ length a
+unfolding wire_front frame
 untyped_long k limit read law a m rest e =
     let h = bind_ok (length_frame 0 limit a) (framed read a) (Some (m, rest)) e in
     let f = framed_found read a m rest h.0 h.2 in
@@ -120,27 +120,27 @@ cancel_body_long ctx body m e = elim (chosen (ltb (length body) 12) _ _ _ e) [
   | inr h ↦ omega (arith, ltb-false _ _ h.0)
 ]
 
-untyped_stable : {M : Type 0} (read : List ℕ → Result M PgWireError) → ((body : List ℕ) (m : M) → read body ≡ Ok m → 4 ≤ length body) → Stable 8 (front Untyped 10000 read)
-untyped_stable read law = stable_longer 4 8 (front Untyped 10000 read) (front_stable Untyped 10000 read tt) (untyped_long 4 10000 read law)
+untyped_stable : {M : Type 0} (read : List ℕ → Result M PgWireError) → ((body : List ℕ) (m : M) → read body ≡ Ok m → 4 ≤ length body) → Stable 8 (wire_front Untyped 10000 read)
+untyped_stable read law = stable_longer 4 8 (wire_front Untyped 10000 read) (front_stable Untyped 10000 read tt) (untyped_long 4 10000 read law)
 
 -- with its code, a CancelRequest stands as a message without a type byte does
-opening_is : {M : Type 0} (code limit : ℕ) (read : List ℕ → Result M PgWireError) (b : List ℕ) → ltb (length b) 8 ≡ false → eqb (code_in b) code ≡ true → front (Opening code) limit read b ≡ front Untyped limit read b
-unfolding front frame
+opening_is : {M : Type 0} (code limit : ℕ) (read : List ℕ → Result M PgWireError) (b : List ℕ) → ltb (length b) 8 ≡ false → eqb (code_in b) code ≡ true → wire_front (Opening code) limit read b ≡ wire_front Untyped limit read b
+unfolding wire_front frame
 opening_is code limit read b long is = rw (long, is) refl
 
 -- ---- what may stand first, by its code
 
 ssl : ProtocolVersion → List ℕ → Result (Option (Message × List ℕ)) PgWireError
-ssl v b = as_one_of (λ m. frontend.SslNegotiation (negotiation.PostgresSsl m)) (front Code 10000 (ssl_request_of (phase true true v)) b)
+ssl v b = as_one_of (λ m. frontend.SslNegotiation (negotiation.PostgresSsl m)) (wire_front Code 10000 (ssl_request_of (phase true true v)) b)
 
 gss : ProtocolVersion → List ℕ → Result (Option (Message × List ℕ)) PgWireError
-gss v b = as_one_of (λ m. frontend.SslNegotiation (negotiation.PostgresGss m)) (front Code 10000 (gss_enc_request_of (phase true true v)) b)
+gss v b = as_one_of (λ m. frontend.SslNegotiation (negotiation.PostgresGss m)) (wire_front Code 10000 (gss_enc_request_of (phase true true v)) b)
 
 cancel : ProtocolVersion → List ℕ → Result (Option (Message × List ℕ)) PgWireError
-cancel v b = as_one_of frontend.CancelRequest (front Untyped 10000 (cancel_request_of (phase false true v)) b)
+cancel v b = as_one_of frontend.CancelRequest (wire_front Untyped 10000 (cancel_request_of (phase false true v)) b)
 
 startup : ProtocolVersion → List ℕ → Result (Option (Message × List ℕ)) PgWireError
-startup v b = as_one_of frontend.Startup (front Untyped 10000 (startup_of (phase false true v)) b)
+startup v b = as_one_of frontend.Startup (wire_front Untyped 10000 (startup_of (phase false true v)) b)
 
 by_code : ProtocolVersion → ℕ → List ℕ → Result (Option (Message × List ℕ)) PgWireError
 by_code v code b = cond (eqb code 80877103) (ssl v b) (cond (eqb code 80877104) (gss v b) (cond (eqb code 80877102) (cancel v b) (startup v b)))
@@ -148,13 +148,13 @@ by_code v code b = cond (eqb code 80877103) (ssl v b) (cond (eqb code 80877104) 
 by_code_stable : (v : ProtocolVersion) (code : ℕ) → Stable 8 (by_code v code)
 unfolding by_code ssl gss cancel startup
 by_code_stable v code =
-    stable_choice 8 (eqb code 80877103) _ _ (stable_as (λ m. frontend.SslNegotiation (negotiation.PostgresSsl m)) 8 (front Code 10000 (ssl_request_of (phase true true v))) (front_stable Code 10000 (ssl_request_of (phase true true v)) tt))
-    (stable_choice 8 (eqb code 80877104) _ _ (stable_as (λ m. frontend.SslNegotiation (negotiation.PostgresGss m)) 8 (front Code 10000 (gss_enc_request_of (phase true true v))) (front_stable Code 10000 (gss_enc_request_of (phase true true v)) tt))
-    (stable_choice 8 (eqb code 80877102) _ _ (stable_as frontend.CancelRequest 8 (front Untyped 10000 (cancel_request_of (phase false true v))) (untyped_stable (cancel_request_of (phase false true v)) (cancel_body_long (phase false true v))))
-    (stable_as frontend.Startup 8 (front Untyped 10000 (startup_of (phase false true v))) (untyped_stable (startup_of (phase false true v)) (startup_body_long (phase false true v))))))
+    stable_choice 8 (eqb code 80877103) _ _ (stable_as (λ m. frontend.SslNegotiation (negotiation.PostgresSsl m)) 8 (wire_front Code 10000 (ssl_request_of (phase true true v))) (front_stable Code 10000 (ssl_request_of (phase true true v)) tt))
+    (stable_choice 8 (eqb code 80877104) _ _ (stable_as (λ m. frontend.SslNegotiation (negotiation.PostgresGss m)) 8 (wire_front Code 10000 (gss_enc_request_of (phase true true v))) (front_stable Code 10000 (gss_enc_request_of (phase true true v)) tt))
+    (stable_choice 8 (eqb code 80877102) _ _ (stable_as frontend.CancelRequest 8 (wire_front Untyped 10000 (cancel_request_of (phase false true v))) (untyped_stable (cancel_request_of (phase false true v)) (cancel_body_long (phase false true v))))
+    (stable_as frontend.Startup 8 (wire_front Untyped 10000 (startup_of (phase false true v))) (untyped_stable (startup_of (phase false true v)) (startup_body_long (phase false true v))))))
 
 -- what asks for something is what was found
-asked : {A : Type 0} (v : ProtocolVersion) (make : A → Message) (r : Result (Option (A × List ℕ)) PgWireError) → ((x : A) → asks_for_none (make x) ≡ false) → or_first v (as_one_of make r) ≡ as_one_of make r
+asked : {A : Type 0} (v : ProtocolVersion) (make : A → Message) (r : Result (Option (A × List ℕ)) PgWireError) → ((x : A) → asks_for_none (make x) ≡ false) → or_first_message v (as_one_of make r) ≡ as_one_of make r
 asked v make (Err e) law = refl
 asked v make (Ok None) law = refl
 asked v make (Ok (Some x)) law = rw (law x.0) refl
@@ -166,9 +166,9 @@ opening_none bound v b short = rw short refl
 opening_by_code : (bound : Option ℕ) (v : ProtocolVersion) (b : List ℕ) → ltb (length b) 8 ≡ false → client_front false bound v b ≡ by_code v (code_in b) b
 unfolding frontend_front negotiation_front first_front by_code ssl gss cancel startup
 opening_by_code bound v b long = elim (either (eqb (code_in b) 80877103)) [
-  | inl s ↦ rw (long, s) (asked v (λ m. frontend.SslNegotiation (negotiation.PostgresSsl m)) (front Code 10000 (ssl_request_of (phase true true v)) b) (λ x. refl))
+  | inl s ↦ rw (long, s) (asked v (λ m. frontend.SslNegotiation (negotiation.PostgresSsl m)) (wire_front Code 10000 (ssl_request_of (phase true true v)) b) (λ x. refl))
   | inr s ↦ elim (either (eqb (code_in b) 80877104)) [
-    | inl g ↦ rw (long, s, g) (asked v (λ m. frontend.SslNegotiation (negotiation.PostgresGss m)) (front Code 10000 (gss_enc_request_of (phase true true v)) b) (λ x. refl))
+    | inl g ↦ rw (long, s, g) (asked v (λ m. frontend.SslNegotiation (negotiation.PostgresGss m)) (wire_front Code 10000 (gss_enc_request_of (phase true true v)) b) (λ x. refl))
     | inr g ↦ elim (either (eqb (code_in b) 80877102)) [
       | inl c ↦ rw (long, s, g, long, c) (ap (as_one_of frontend.CancelRequest) (opening_is 80877102 10000 (cancel_request_of (phase false true v)) b long c))
       | inr c ↦ rw (long, s, g, long, c) refl
@@ -205,8 +205,8 @@ opening_stable bound v = record {
 
 -- ---- messages with a type byte
 
-one : {A : Type 0} (make : A → Message) (byte limit : ℕ) (read : List ℕ → Result A PgWireError) → Stable 5 (λ bytes. as_one_of make (front (Typed byte) limit read bytes))
-one make byte limit read = stable_as make 5 (front (Typed byte) limit read) (front_stable (Typed byte) limit read tt)
+one : {A : Type 0} (make : A → Message) (byte limit : ℕ) (read : List ℕ → Result A PgWireError) → Stable 5 (λ bytes. as_one_of make (wire_front (Typed byte) limit read bytes))
+one make byte limit read = stable_as make 5 (wire_front (Typed byte) limit read) (front_stable (Typed byte) limit read tt)
 
 by_stable : (byte : ℕ) (ctx : DecodeContext) → Stable 5 (frontend_by byte ctx)
 by_stable byte ctx =
@@ -405,11 +405,11 @@ pub decodes_within : (bound : ℕ) (v : ProtocolVersion) (b new : List ℕ) (y :
 decodes_within bound v b new y r within d =
     subst (λ (f : Result (Option (Message × List ℕ)) PgWireError). Decodes r b new f) (sym (found_within bound v b y within)) d
 
-pub refused_beyond : (bound : ℕ) (v : ProtocolVersion) (b : List ℕ) (x : Option (Message × List ℕ)) (e : PgWireError) → frontend_front (phase false false v) (take 5 b) ≡ Ok x → Refuses e (frame (Typed 0) bound b) → Refuses e (typed_within (Some bound) v b)
+pub refused_beyond : (bound : ℕ) (v : ProtocolVersion) (b : List ℕ) (x : Option (Message × List ℕ)) (e : PgWireError) → frontend_front (phase false false v) (take 5 b) ≡ Ok x → IsReadRefusal e (frame (Typed 0) bound b) → IsReadRefusal e (typed_within (Some bound) v b)
 unfolding typed_at frame
 refused_beyond bound v b x e header beyond ne = within_beyond bound v b x e header (beyond ne)
 
-pub refused_header : (bound : ℕ) (v : ProtocolVersion) (b : List ℕ) (e : PgWireError) → Refuses e (frontend_front (phase false false v) (take 5 b)) → Refuses e (typed_within (Some bound) v b)
+pub refused_header : (bound : ℕ) (v : ProtocolVersion) (b : List ℕ) (e : PgWireError) → IsReadRefusal e (frontend_front (phase false false v) (take 5 b)) → IsReadRefusal e (typed_within (Some bound) v b)
 unfolding typed_at
 refused_header bound v b e header ne = within_refused bound v b e (header ne)
 
@@ -425,7 +425,7 @@ within_none (Some bound) v = within_is bound v [] None None (typed_none v [] ref
 
 -- ---- a reading
 
-met_whole : {M : Type 0} (bytes : List ℕ) (r : Result (Option (M × List ℕ)) PgWireError) (m : M) (n : ℕ) → met bytes r ≡ Whole m n → (rest : List ℕ) × (r ≡ Ok (Some (m, rest))) × (length bytes - length rest ≡ n)
+met_whole : {M : Type 0} (bytes : List ℕ) (r : Result (Option (M × List ℕ)) PgWireError) (m : M) (n : ℕ) → server_front bytes r ≡ Whole m n → (rest : List ℕ) × (r ≡ Ok (Some (m, rest))) × (length bytes - length rest ≡ n)
 met_whole bytes (Err e) m n is = absurd cc
 met_whole bytes (Ok None) m n is = absurd cc
 met_whole {M} bytes (Ok (Some x)) m n is =
@@ -433,20 +433,20 @@ met_whole {M} bytes (Ok (Some x)) m n is =
     let two : length bytes - length x.1 ≡ n = cc in
     (x.1, ap (λ (k : M). Ok (Some (k, x.1))) one, two)
 
-met_bad : {M : Type 0} (bytes : List ℕ) (r : Result (Option (M × List ℕ)) PgWireError) (why : PgWireError) → met bytes r ≡ Bad why → r ≡ Err why
+met_bad : {M : Type 0} (bytes : List ℕ) (r : Result (Option (M × List ℕ)) PgWireError) (why : PgWireError) → server_front bytes r ≡ Bad why → r ≡ Err why
 met_bad bytes (Err e) why is = cc
 met_bad bytes (Ok None) why is = absurd cc
 met_bad bytes (Ok (Some x)) why is = absurd cc
 
 -- a message that takes so many bytes
-whole_of : {M : Type 0} (bytes : List ℕ) (r : Result (Option (M × List ℕ)) PgWireError) (m : M) (n : ℕ) → n ≤ length bytes → r ≡ Ok (Some (m, drop n bytes)) → met bytes r ≡ Whole m n
+whole_of : {M : Type 0} (bytes : List ℕ) (r : Result (Option (M × List ℕ)) PgWireError) (m : M) (n : ℕ) → n ≤ length bytes → r ≡ Ok (Some (m, drop n bytes)) → server_front bytes r ≡ Whole m n
 whole_of {M} bytes r m n le is =
     let size : length bytes - length (drop n bytes) ≡ n = omega (arith, length-drop n bytes, le) in
-    ap (met bytes) is ∙ ap (λ (k : ℕ). Whole m k) size
+    ap (server_front bytes) is ∙ ap (λ (k : ℕ). Whole m k) size
 
-steady_of : {M : Type 0} (least : ℕ) (at : List ℕ → Result (Option (M × List ℕ)) PgWireError) → Stable least at → at [] ≡ Ok None → IsReading (λ bytes. met bytes (at bytes))
+steady_of : {M : Type 0} (least : ℕ) (at : List ℕ → Result (Option (M × List ℕ)) PgWireError) → Stable least at → at [] ≡ Ok None → IsReading (λ bytes. server_front bytes (at bytes))
 steady_of least at stable none = record {
-  none = ap (met []) none;
+  none = ap (server_front []) none;
   within = λ bytes m len e.
       let p = met_whole bytes (at bytes) m len e in
       omega (arith, p.2);
@@ -459,22 +459,22 @@ steady_of least at stable none = record {
       let long : len ≤ length (take len bytes ++ more) = omega (arith, cut, length-append (take len bytes) more) in
       whole_of (take len bytes ++ more) (at (take len bytes ++ more)) m len long
       (ends.again (take len bytes ++ more) same (omega (arith, size, long)) ∙ ap (λ (k : ℕ). Ok (Some (m, drop k (take len bytes ++ more)))) size);
-  bad = λ bytes more why e. ap (met (bytes ++ more)) (stable.bad bytes more why (met_bad bytes (at bytes) why e));
+  bad = λ bytes more why e. ap (server_front (bytes ++ more)) (stable.bad bytes more why (met_bad bytes (at bytes) why e));
 }
 
-pub steady : (started : Bool) (bound : Option ℕ) (v : ProtocolVersion) → IsReading (λ bytes. met bytes (client_front started bound v bytes))
+pub steady : (started : Bool) (bound : Option ℕ) (v : ProtocolVersion) → IsReading (λ bytes. server_front bytes (client_front started bound v bytes))
 steady false bound v = steady_of 8 (client_front false bound v) (opening_stable bound v) (opening_none bound v [] refl)
 steady true bound v = steady_of 5 (client_front true bound v) (within_stable bound v) (within_none bound v)
 
 -- what a decoder took
 pub taken_of : {M : Type 0} (least : ℕ) (at : List ℕ → Result (Option (M × List ℕ)) PgWireError) → Stable least at → 1 ≤ least → (bytes : List ℕ) (m : M) (rest : List ℕ) → at bytes ≡ Ok (Some (m, rest))
-    → (n : ℕ) × (met bytes (at bytes) ≡ Whole m n) × (rest ≡ drop n bytes) × (length rest < length bytes)
+    → (n : ℕ) × (server_front bytes (at bytes) ≡ Whole m n) × (rest ≡ drop n bytes) × (length rest < length bytes)
 taken_of {M} least at stable some bytes m rest e =
     let ends = stable.whole bytes m rest e in
     (ends.len, whole_of bytes (at bytes) m ends.len ends.within (e ∙ ap (λ (l : List ℕ). Ok (Some (m, l))) ends.left), ends.left, omega (arith, ap length ends.left, length-drop ends.len bytes, ends.within, ends.some, some))
 
 pub taken : (started : Bool) (bound : Option ℕ) (v : ProtocolVersion) (bytes : List ℕ) (m : Message) (rest : List ℕ) → client_front started bound v bytes ≡ Ok (Some (m, rest))
-    → (n : ℕ) × (met bytes (client_front started bound v bytes) ≡ Whole m n) × (rest ≡ drop n bytes) × (length rest < length bytes)
+    → (n : ℕ) × (server_front bytes (client_front started bound v bytes) ≡ Whole m n) × (rest ≡ drop n bytes) × (length rest < length bytes)
 taken false bound v bytes m rest e = taken_of 8 (client_front false bound v) (opening_stable bound v) (omega arith) bytes m rest e
 taken true bound v bytes m rest e = taken_of 5 (client_front true bound v) (within_stable bound v) (omega arith) bytes m rest e
 
@@ -484,12 +484,12 @@ pub first_instead : (bound : Option ℕ) (v : ProtocolVersion) (old mid new : Li
 unfolding SpellsFrontend
 first_instead bound v old mid new r found spelled h =
     let same : old ≡ mid = spelled.1 ∙ ap (λ (g : List ℕ). g ++ mid) spelled.2 in
-    let is : client_front false bound v old ≡ frontend_front (phase false true v) mid = ap (or_first v) found in
+    let is : client_front false bound v old ≡ frontend_front (phase false true v) mid = ap (or_first_message v) found in
     subst (λ (f : Result (Option (Message × List ℕ)) PgWireError). Decodes r old new f) (sym is) (subst (λ (l : List ℕ). Decodes r l new (frontend_front (phase false true v) mid)) (sym same) h)
 
 -- ---- how much waits
 
-met_more : {M : Type 0} (bytes : List ℕ) (r : Result (Option (M × List ℕ)) PgWireError) → met bytes r ≡ More → r ≡ Ok None
+met_more : {M : Type 0} (bytes : List ℕ) (r : Result (Option (M × List ℕ)) PgWireError) → server_front bytes r ≡ More → r ≡ Ok None
 met_more bytes (Err e) is = absurd cc
 met_more bytes (Ok None) is = refl
 met_more bytes (Ok (Some x)) is = absurd cc
@@ -505,8 +505,8 @@ framed_none read bytes (Some f) is =
     let h = bind_ok (read (slice_range bytes f.0 f.1)) (λ m. Ok (Some (m, drop f.1 bytes))) None is in
     absurd cc
 
-front_none : {M : Type 0} (framing : Framing) (limit : ℕ) (read : List ℕ → Result M PgWireError) (bytes : List ℕ) → front framing limit read bytes ≡ Ok None → frame framing limit bytes ≡ Ok None
-unfolding front
+front_none : {M : Type 0} (framing : Framing) (limit : ℕ) (read : List ℕ → Result M PgWireError) (bytes : List ℕ) → wire_front framing limit read bytes ≡ Ok None → frame framing limit bytes ≡ Ok None
+unfolding wire_front
 front_none framing limit read bytes is =
     let h = bind_ok (frame framing limit bytes) (framed read bytes) None is in
     h.1 ∙ ap (λ (o : Option (ℕ × ℕ)). Ok o) (framed_none read bytes h.0 h.2)
@@ -531,7 +531,7 @@ frame_none at limit a four is = elim (chosen (ltb (length a) (at + 4)) _ _ _ is)
   ]
 ]
 
-code_never : {M : Type 0} {Q : Type 0} (limit : ℕ) (read : List ℕ → Result M PgWireError) (bytes : List ℕ) → ltb (length bytes) 8 ≡ false → front Code limit read bytes ≡ Ok None → Q
+code_never : {M : Type 0} {Q : Type 0} (limit : ℕ) (read : List ℕ → Result M PgWireError) (bytes : List ℕ) → ltb (length bytes) 8 ≡ false → wire_front Code limit read bytes ≡ Ok None → Q
 unfolding frame
 code_never limit read bytes long is =
     let none = front_none Code limit read bytes is in
@@ -539,7 +539,7 @@ code_never limit read bytes long is =
     let both = sym some ∙ none in
     absurd cc
 
-untyped_waits : {M : Type 0} (read : List ℕ → Result M PgWireError) (bytes : List ℕ) → front Untyped 10000 read bytes ≡ Ok None → length bytes ≤ 10000
+untyped_waits : {M : Type 0} (read : List ℕ → Result M PgWireError) (bytes : List ℕ) → wire_front Untyped 10000 read bytes ≡ Ok None → length bytes ≤ 10000
 unfolding frame
 untyped_waits read bytes is =
     let w = frame_none 0 10000 bytes (omega arith) (front_none Untyped 10000 read bytes is) in
@@ -553,12 +553,12 @@ opening_waits bound v b is = elim (either (ltb (length b) 8)) [
   | inr long ↦
       let by : by_code v (code_in b) b ≡ Ok None = sym (opening_by_code bound v b long) ∙ is in
       elim (chosen (eqb (code_in b) 80877103) _ _ _ by) [
-        | inl s ↦ code_never 10000 (ssl_request_of (phase true true v)) b long (as_none (λ m. frontend.SslNegotiation (negotiation.PostgresSsl m)) (front Code 10000 (ssl_request_of (phase true true v)) b) s.1)
+        | inl s ↦ code_never 10000 (ssl_request_of (phase true true v)) b long (as_none (λ m. frontend.SslNegotiation (negotiation.PostgresSsl m)) (wire_front Code 10000 (ssl_request_of (phase true true v)) b) s.1)
         | inr s ↦ elim (chosen (eqb (code_in b) 80877104) _ _ _ s.1) [
-          | inl g ↦ code_never 10000 (gss_enc_request_of (phase true true v)) b long (as_none (λ m. frontend.SslNegotiation (negotiation.PostgresGss m)) (front Code 10000 (gss_enc_request_of (phase true true v)) b) g.1)
+          | inl g ↦ code_never 10000 (gss_enc_request_of (phase true true v)) b long (as_none (λ m. frontend.SslNegotiation (negotiation.PostgresGss m)) (wire_front Code 10000 (gss_enc_request_of (phase true true v)) b) g.1)
           | inr g ↦ elim (chosen (eqb (code_in b) 80877102) _ _ _ g.1) [
-            | inl c ↦ untyped_waits (cancel_request_of (phase false true v)) b (as_none frontend.CancelRequest (front Untyped 10000 (cancel_request_of (phase false true v)) b) c.1)
-            | inr c ↦ untyped_waits (startup_of (phase false true v)) b (as_none frontend.Startup (front Untyped 10000 (startup_of (phase false true v)) b) c.1)
+            | inl c ↦ untyped_waits (cancel_request_of (phase false true v)) b (as_none frontend.CancelRequest (wire_front Untyped 10000 (cancel_request_of (phase false true v)) b) c.1)
+            | inr c ↦ untyped_waits (startup_of (phase false true v)) b (as_none frontend.Startup (wire_front Untyped 10000 (startup_of (phase false true v)) b) c.1)
           ]
         ]
       ]
@@ -568,9 +568,9 @@ opening_waits bound v b is = elim (either (ltb (length b) 8)) [
 abbrev WaitsForBody : List ℕ → Type 0
 WaitsForBody b = ltb (length b) 5 ≡ false → length b < 1 + stated_length 1 b
 
-one_waits : {A : Type 0} (make : A → Message) (byte limit : ℕ) (read : List ℕ → Result A PgWireError) (b : List ℕ) → 4 ≤ limit → as_one_of make (front (Typed byte) limit read b) ≡ Ok None → WaitsForBody b
+one_waits : {A : Type 0} (make : A → Message) (byte limit : ℕ) (read : List ℕ → Result A PgWireError) (b : List ℕ) → 4 ≤ limit → as_one_of make (wire_front (Typed byte) limit read b) ≡ Ok None → WaitsForBody b
 unfolding frame
-one_waits make byte limit read b four is = (frame_none 1 limit b four (front_none (Typed byte) limit read b (as_none make (front (Typed byte) limit read b) is))).1
+one_waits make byte limit read b four is = (frame_none 1 limit b four (front_none (Typed byte) limit read b (as_none make (wire_front (Typed byte) limit read b) is))).1
 
 or_waits : (c : Bool) (p q : Result (Option (Message × List ℕ)) PgWireError) (b : List ℕ) → (p ≡ Ok None → WaitsForBody b) → (q ≡ Ok None → WaitsForBody b) → cond c p q ≡ Ok None → WaitsForBody b
 or_waits true p q b hp hq is = hp is
@@ -624,7 +624,7 @@ within_waits bound v b is =
           omega (arith, less, most)
     ]
 
-pub front_waits : (started : Bool) (bound : ℕ) (v : ProtocolVersion) (b : List ℕ) → met b (client_front started (Some bound) v b) ≡ More → length b ≤ max 10000 bound
+pub front_waits : (started : Bool) (bound : ℕ) (v : ProtocolVersion) (b : List ℕ) → server_front b (client_front started (Some bound) v b) ≡ More → length b ≤ max 10000 bound
 front_waits false bound v b is = let few = opening_waits (Some bound) v b (met_more b (client_front false (Some bound) v b) is) in omega (arith, few)
 front_waits true bound v b is = within_waits bound v b (met_more b (client_front true (Some bound) v b) is)
 
@@ -637,10 +637,10 @@ frame_beyond bound b long more =
     let two : ltb bound (stated_length 1 b) ≡ true = lt-ltb _ _ more in
     rw (one, two) refl
 
-pub beyond_refused : (bound : ℕ) (v : ProtocolVersion) (b : List ℕ) (x : Option (Message × List ℕ)) → 5 ≤ length b → bound < stated_length 1 b → frontend_front (phase false false v) (take 5 b) ≡ Ok x → met b (client_front true (Some bound) v b) ≡ Bad (MessageTooLarge bound (stated_length 1 b))
+pub beyond_refused : (bound : ℕ) (v : ProtocolVersion) (b : List ℕ) (x : Option (Message × List ℕ)) → 5 ≤ length b → bound < stated_length 1 b → frontend_front (phase false false v) (take 5 b) ≡ Ok x → server_front b (client_front true (Some bound) v b) ≡ Bad (MessageTooLarge bound (stated_length 1 b))
 unfolding typed_at
-beyond_refused bound v b x long more header = ap (met b) (within_beyond bound v b x (MessageTooLarge bound (stated_length 1 b)) header (frame_beyond bound b long more))
+beyond_refused bound v b x long more header = ap (server_front b) (within_beyond bound v b x (MessageTooLarge bound (stated_length 1 b)) header (frame_beyond bound b long more))
 
-pub header_refused : (bound : ℕ) (v : ProtocolVersion) (b : List ℕ) (e : PgWireError) → frontend_front (phase false false v) (take 5 b) ≡ Err e → met b (client_front true (Some bound) v b) ≡ Bad e
+pub header_refused : (bound : ℕ) (v : ProtocolVersion) (b : List ℕ) (e : PgWireError) → frontend_front (phase false false v) (take 5 b) ≡ Err e → server_front b (client_front true (Some bound) v b) ≡ Bad e
 unfolding typed_at
-header_refused bound v b e header = ap (met b) (within_refused bound v b e header)
+header_refused bound v b e header = ap (server_front b) (within_refused bound v b e header)

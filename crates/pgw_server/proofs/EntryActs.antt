@@ -15,13 +15,13 @@ use Rattle.pgw_backend.specs.declared.backend.PgWireBackendMessage.{PgWireBacken
 use Rattle.pgw_registry.specs.Passes.{Known}
 use Rattle.pgw_registry.specs.declared.error.RegistryError.{RegistryError}
 use Rattle.pgw_registry.specs.declared.error.RegistryError.TheVariants as registry
-use Rattle.pgw_login.specs.Client.{Client, with_state, with_metadata, with_version}
+use Rattle.pgw_login.specs.Client.{LoginClient, with_state, with_metadata, with_version}
 use Rattle.pgw_login.specs.Login.{Login, login_seen}
-use Rattle.pgw_login.specs.Registered.{Pair}
-use Rattle.pgw_login.specs.Acts.{Standing, standing, Answer, Act, Then, halts, Refuses, Passes, Tells, Sets, Marks, Sends, OrFails, OrNoMemory, Starts, StartsFrom, StartsAt, is_initial, Awaits, AwaitsAt, awaits, with_sasl, with_started, failed}
+use Rattle.pgw_login.specs.Registered.{HandlePair}
+use Rattle.pgw_login.specs.Acts.{Standing, standing_in_login, Answer, Act, Then, halts, LoginRefuses, LoginStays, AnswersLogin, Sets, Marks, Sends, OrFails, OrNoMemory, StartsLogin, StartsFrom, StartsLoginAt, is_initial, LoginAwaits, AwaitsAt, awaits, with_sasl, with_started, failed}
 use Rattle.pgw_login.specs.Acts as acts
-use Rattle.pgw_login.specs.Opening.{Begins, Opens, Negotiates, Settles, negotiation, by_minor, told, Saves, saved, offer}
-use Rattle.pgw_login.specs.Finish.{Draws, Entered, Enrolls, EnrollsAt, Accepts, Introduces, introduction, ready, Readies, FinishesAuthentication, Finishes}
+use Rattle.pgw_login.specs.Opening.{BeginsLogin, Opens, Negotiates, LoginSettlesVersion, negotiation, by_minor, offered_messages, Saves, saved, offer}
+use Rattle.pgw_login.specs.Finish.{Draws, Entered, Enrolls, EnrollsAt, AcceptsLogin, Introduces, introduction, login_ready, Readies, FinishesAuthentication, Finishes}
 use Rattle.pgw_login.specs.declared.client_info.PgWireConnectionState.TheVariants.{ReadyForQuery, AuthenticationInProgress}
 use Rattle.pgw_login.specs.declared.state.LoginState.{LoginState}
 use Rattle.pgw_login.specs.declared.state.SASLState.{SASLState}
@@ -81,16 +81,16 @@ pub quiet_memory : (act : Act) → Quiet act → Quiet (OrNoMemory act)
 quiet_memory act q before after sent answer (inl h) = nothing_said sent h.1
 quiet_memory act q before after sent answer (inr h) = q before after sent answer h
 
-pub quiet_refuses : (e : PgWireError) → Quiet (Refuses e)
+pub quiet_refuses : (e : PgWireError) → Quiet (LoginRefuses e)
 quiet_refuses e before after sent answer h = nothing_said sent h.1
 
-pub quiet_passes : Quiet Passes
+pub quiet_passes : Quiet LoginStays
 quiet_passes before after sent answer h = nothing_said sent h.1
 
-pub quiet_tells : (P : Standing → Answer → Type 0) → Quiet (Tells P)
+pub quiet_tells : (P : Standing → Answer → Type 0) → Quiet (AnswersLogin P)
 quiet_tells P before after sent answer h = nothing_said sent h.1
 
-pub quiet_sets : (f : Client → Client) → Quiet (Sets f)
+pub quiet_sets : (f : LoginClient → LoginClient) → Quiet (Sets f)
 quiet_sets f before after sent answer h = nothing_said sent h.1
 
 pub quiet_marks : (f : LoginState → LoginState) → Quiet (Marks f)
@@ -100,30 +100,30 @@ quiet_starts_from : (b : Bool) → Quiet (StartsFrom b)
 quiet_starts_from true before after sent answer h = nothing_said sent h.1
 quiet_starts_from false before after sent answer h = nothing_said sent h.1
 
-quiet_starts_at : (b : Bool) → Quiet (StartsAt b)
+quiet_starts_at : (b : Bool) → Quiet (StartsLoginAt b)
 quiet_starts_at true before after sent answer h = nothing_said sent h.1
 quiet_starts_at false before after sent answer h =
     quiet_starts_from (is_initial before.login.sasl) before after sent answer h
 
-quiet_starts : Quiet Starts
+quiet_starts : Quiet StartsLogin
 quiet_starts before after sent answer h = quiet_starts_at before.login.started before after sent answer h
 
 quiet_awaits_at : (b : Bool) → Quiet (AwaitsAt b)
 quiet_awaits_at true before after sent answer h = nothing_said sent h.1
 quiet_awaits_at false before after sent answer h = nothing_said sent h.1
 
-pub quiet_awaits : Quiet Awaits
+pub quiet_awaits : Quiet LoginAwaits
 quiet_awaits before after sent answer h = quiet_awaits_at (awaits before.login) before after sent answer h
 
 -- it offers a version at the most
 abbrev offers_at_most : Result (ProtocolVersion × Option Backend) PgWireError → Type 0
 offers_at_most (Err e) = Unit {0}
-offers_at_most (Ok (version, offered)) = list_any lets_in (told offered) ≡ false
+offers_at_most (Ok (version, offered)) = list_any lets_in (offered_messages offered) ≡ false
 
-quiet_settles : (r : Result (ProtocolVersion × Option Backend) PgWireError) → offers_at_most r → Quiet (Settles r)
+quiet_settles : (r : Result (ProtocolVersion × Option Backend) PgWireError) → offers_at_most r → Quiet (LoginSettlesVersion r)
 quiet_settles (Err e) none = quiet_refuses e
-quiet_settles (Ok (version, offered)) none = quiet_then (Sends (told offered)) (Sets (with_version version))
-    (quiet_sends (told offered) none) (quiet_sets (with_version version))
+quiet_settles (Ok (version, offered)) none = quiet_then (Sends (offered_messages offered)) (Sets (with_version version))
+    (quiet_sends (offered_messages offered) none) (quiet_sets (with_version version))
 
 offers_by : (zero two : Bool) → offers_at_most (Ok (if zero then (PROTOCOL3_0, None) else (if two then (
   PROTOCOL3_2,
@@ -139,13 +139,13 @@ offers_in : (three : Bool) (s : Startup) → offers_at_most
 offers_in true s = offers_by (s.protocol_number_minor == 0) (s.protocol_number_minor == 2)
 offers_in false s = tt
 
-quiet_begins : (s : Startup) → Quiet (Begins s)
-quiet_begins s = quiet_then Starts (Then (Negotiates s) (Saves s)) quiet_starts
+quiet_begins : (s : Startup) → Quiet (BeginsLogin s)
+quiet_begins s = quiet_then StartsLogin (Then (Negotiates s) (Saves s)) quiet_starts
     (quiet_then (Negotiates s) (Saves s) (quiet_settles (negotiation s) (offers_in (s.protocol_number_major == 3) s))
     (quiet_memory (Sets _) (quiet_sets _)))
 
 pub quiet_opens : (s : Startup) → Quiet (Opens s)
-quiet_opens s = quiet_then (Begins s) (Sets (with_state AuthenticationInProgress)) (quiet_begins s)
+quiet_opens s = quiet_then (BeginsLogin s) (Sets (with_state AuthenticationInProgress)) (quiet_begins s)
     (quiet_sets (with_state AuthenticationInProgress))
 
 -- ---- acts that keep who logs in
@@ -177,13 +177,13 @@ pub roots_memory : (act : Act) → Roots act → Roots (OrNoMemory act)
 roots_memory act r before after sent answer (inl h) = ap root h.0
 roots_memory act r before after sent answer (inr h) = r before after sent answer h
 
-pub roots_refuses : (e : PgWireError) → Roots (Refuses e)
+pub roots_refuses : (e : PgWireError) → Roots (LoginRefuses e)
 roots_refuses e before after sent answer h = ap root h.0
 
-pub roots_passes : Roots Passes
+pub roots_passes : Roots LoginStays
 roots_passes before after sent answer h = ap root h.0
 
-pub roots_tells : (P : Standing → Answer → Type 0) → Roots (Tells P)
+pub roots_tells : (P : Standing → Answer → Type 0) → Roots (AnswersLogin P)
 roots_tells P before after sent answer h = ap root h.0
 
 pub roots_marked : (sasl : SASLState) → Roots (Marks (with_sasl sasl))
@@ -196,22 +196,22 @@ roots_awaits_at : (b : Bool) → Roots (AwaitsAt b)
 roots_awaits_at true before after sent answer h = ap root h.0
 roots_awaits_at false before after sent answer h = ap root h.0
 
-pub roots_awaits : Roots Awaits
+pub roots_awaits : Roots LoginAwaits
 roots_awaits before after sent answer h = roots_awaits_at (awaits before.login) before after sent answer h
 
 roots_draws : Roots Draws
 roots_draws before after sent (Ok done) h = ap root h.1.3
 roots_draws before after sent (Err e) h = ap root h.1
 
-roots_entered : (got : Result (Option Pair) RegistryError) (pass : Option Known) (before after : Standing)
+roots_entered : (got : Result (Option HandlePair) RegistryError) (pass : Option Known) (before after : Standing)
     (answer : Answer) → Entered got pass before after answer → root after ≡ root before
 roots_entered (Ok pair) pass before after answer h = ap root h.0
 roots_entered (Err registry.Gone) pass before after answer h = absurd h
 roots_entered (Err registry.Exhausted) pass before after answer h = ap root h.0
 roots_entered (Err registry.OutOfMemory) pass before after answer h = ap root h.0
 
-module _ (P : Client → Option Held → Type 0) (R : Option Known → ℤ → SecretKey → Option Known
-    → Result (Option Pair) RegistryError → Type 0) where
+module _ (P : LoginClient → Option Held → Type 0) (R : Option Known → ℤ → SecretKey → Option Known
+    → Result (Option HandlePair) RegistryError → Type 0) where
   roots_enrolls_at : (b : Bool) → Roots (EnrollsAt b R)
   roots_enrolls_at true before after sent answer h = ap root h.0
   roots_enrolls_at false before after sent answer h = roots_entered h.1.1 h.1.0 before after answer h.1.3
@@ -226,21 +226,21 @@ module _ (P : Client → Option Held → Type 0) (R : Option Known → ℤ → S
       answer h.2
 
   pub roots_finishes : Roots (Finishes P R)
-  roots_finishes = roots_then (Accepts R) (Then (FinishesAuthentication P) (Marks (with_sasl Finished)))
+  roots_finishes = roots_then (AcceptsLogin R) (Then (FinishesAuthentication P) (Marks (with_sasl Finished)))
       (roots_then Draws (Enrolls R) roots_draws roots_enrolls)
-      (roots_then (FinishesAuthentication P) (Marks (with_sasl Finished)) (roots_then (Introduces P) (Readies ready)
-      roots_introduces (roots_then (Sends (ready ∷ [])) (Sets (with_state ReadyForQuery)) (roots_sends (ready ∷
+      (roots_then (FinishesAuthentication P) (Marks (with_sasl Finished)) (roots_then (Introduces P) (Readies login_ready)
+      roots_introduces (roots_then (Sends (login_ready ∷ [])) (Sets (with_state ReadyForQuery)) (roots_sends (login_ready ∷
       [])) roots_set)) (roots_marked Finished))
 
 -- ---- how a login begins
 
 settled_client : (r : Result (ProtocolVersion × Option Backend) PgWireError) (before after : Standing)
-    (sent : List Backend) (answer : Answer) → Settles r before after sent answer → answer ≡ Ok tt
+    (sent : List Backend) (answer : Answer) → LoginSettlesVersion r before after sent answer → answer ≡ Ok tt
     → (after.client.metadata ≡ before.client.metadata) × (after.client.host ≡ before.client.host)
     × (after.login ≡ before.login)
 settled_client (Err e) before after sent answer h ok = absurd (not_both answer e h.2 ok)
 settled_client (Ok (version, offered)) before after sent answer h ok =
-    let b = then_both (Sends (told offered)) (Sets (with_version version)) before after sent answer h ok in (
+    let b = then_both (Sends (offered_messages offered)) (Sets (with_version version)) before after sent answer h ok in (
       ap (λ s. s.client.metadata) b.4.0 ∙ ap (λ s. s.client.metadata) b.3.0,
       ap (λ s. s.client.host) b.4.0
           ∙ ap (λ s. s.client.host) b.3.0,
@@ -261,13 +261,13 @@ started_from true before after sent answer h ok = h.0
 started_from false before after sent answer h ok = absurd (not_both answer _ h.2 ok)
 
 started_at : (b : Bool) (before after : Standing) (sent : List Backend) (answer : Answer)
-    → StartsAt b before after sent answer → answer ≡ Ok tt → (b ≡ false)
+    → StartsLoginAt b before after sent answer → answer ≡ Ok tt → (b ≡ false)
     × (after ≡ record before { login = with_started before.login })
 started_at true before after sent answer h ok = absurd (not_both answer _ h.2 ok)
 started_at false before after sent answer h ok =
     (refl, started_from (is_initial before.login.sasl) before after sent answer h ok)
 
-seen_same : (c d : Client) → c.metadata ≡ d.metadata → c.host ≡ d.host → login_seen c ≡ login_seen d
+seen_same : (c d : LoginClient) → c.metadata ≡ d.metadata → c.host ≡ d.host → login_seen c ≡ login_seen d
 seen_same c d metadata host =
     ap (λ (m : Held). record {
       user = finite.get m (codes "user");
@@ -293,8 +293,8 @@ pub record IsOpened (s : Startup) (before after : Standing) : Type 0 where
 pub opened : (s : Startup) (before after : Standing) (sent : List Backend) (answer : Answer)
     → Opens s before after sent answer → answer ≡ Ok tt → IsOpened s before after
 opened s before after sent answer h ok =
-    let outer = then_both (Begins s) (Sets (with_state AuthenticationInProgress)) before after sent answer h ok in
-    let begun = then_both Starts (Then (Negotiates s) (Saves s)) before outer.0 outer.1 (Ok tt) outer.3 refl in
+    let outer = then_both (BeginsLogin s) (Sets (with_state AuthenticationInProgress)) before after sent answer h ok in
+    let begun = then_both StartsLogin (Then (Negotiates s) (Saves s)) before outer.0 outer.1 (Ok tt) outer.3 refl in
     let on = started_at before.login.started before begun.0 begun.1 (Ok tt) begun.3 refl in
     let inner = then_both (Negotiates s) (Saves s) begun.0 outer.0 begun.2 (Ok tt) begun.4 refl in
     let settled = settled_client (negotiation s) begun.0 inner.0 inner.1 (Ok tt) inner.3 refl in

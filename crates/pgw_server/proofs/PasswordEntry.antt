@@ -18,23 +18,23 @@ use Rattle.pgw_frontend.specs.declared.frontend.PgWireFrontendMessage.TheVariant
 use Rattle.pgw_backend.specs.declared.backend.PgWireBackendMessage.{PgWireBackendMessage as Backend}
 use Rattle.pgw_registry.specs.Passes.{Known}
 use Rattle.pgw_registry.specs.declared.error.RegistryError.{RegistryError}
-use Rattle.pgw_login.specs.Client.{Client, with_metadata}
+use Rattle.pgw_login.specs.Client.{LoginClient, with_metadata}
 use Rattle.pgw_login.specs.Login.{Login, login_seen}
-use Rattle.pgw_login.specs.Registered.{Pair}
-use Rattle.pgw_login.specs.Acts.{Standing, Answer, Act, Then, halts, Passes, Tells, Marks, Sends, OrFails, Awaits, AwaitsAt, awaits, is_initial}
+use Rattle.pgw_login.specs.Registered.{HandlePair}
+use Rattle.pgw_login.specs.Acts.{Standing, Answer, Act, Then, halts, LoginStays, AnswersLogin, Marks, Sends, OrFails, LoginAwaits, AwaitsAt, awaits, is_initial}
 use Rattle.pgw_login.specs.Acts as acts
 use Rattle.pgw_login.specs.Opening.{Opens, saved}
 use Rattle.pgw_login.specs.Finish.{Finishes}
 use Rattle.pgw_login.specs.Hearing.{heard}
-use Rattle.pgw_login.specs.Cleartext.{cleartext_request, compared, ComparedTo, CheckedBy, Checked, CleartextOn, CleartextMeans, wrong_password}
-use Rattle.pgw_login.specs.Md5.{md5_request, salt_of, with_salt, Salted, with_kept, ChallengedBy, Challenges, MatchedTo, MatchedBy, Matched, Md5On, Md5Means}
+use Rattle.pgw_login.specs.Cleartext.{cleartext_request, compared, ComparedTo, CheckedBy, ChecksPassword, CleartextOn, CleartextMeans, wrong_password}
+use Rattle.pgw_login.specs.Md5.{md5_request, kept_salt, md5_with_salt, AsksForSalt, with_kept, ChallengedBy, Challenges, MatchedTo, MatchedBy, Matched, Md5On, Md5Means}
 use Rattle.pgw_login.specs.declared.handler.Heard.{Heard}
 use Rattle.pgw_login.specs.declared.handler.Heard.TheVariants as of
 use Rattle.pgw_login.specs.declared.client_info.PgWireConnectionState.TheVariants.{ReadyForQuery, AuthenticationInProgress}
 use Rattle.pgw_login.specs.declared.state.LoginState.{LoginState}
 use Rattle.pgw_server.specs.Server.{Stage, begins_within}
 use Rattle.pgw_server.specs.Taken.{Taken}
-use Rattle.pgw_server.specs.Entry.{lets_in, LetsInBy, IsNamed, IsPassword, ProvesCleartext, IsChallenged, ProvesMd5}
+use Rattle.pgw_server.specs.Entry.{lets_in, LetsInBy, IsNamed, IsPasswordMessage, ProvesCleartext, IsChallenged, ProvesMd5}
 use Rattle.pgw_server.proofs.EntryActs.{not_both, then_both, Quiet, nothing_said, quiet_both, quiet_then, quiet_sends, quiet_opens, quiet_refuses, quiet_marks, root, Roots, roots_then, roots_tells, roots_awaits, roots_finishes, IsOpened, opened}
 use Rattle.pgw_server.proofs.EntryLaws.{IsKnown, Goes, guarded, still_named, still_proven, now_proven}
 
@@ -56,7 +56,7 @@ quiet_says sent none says = let both : true ≡ false = sym says ∙ none in abs
 
 -- ---- who logs in
 
-pub named_now : (first : Client) (ts : List Taken) (t : Taken) (s : Startup) (before after : Standing)
+pub named_now : (first : LoginClient) (ts : List Taken) (t : Taken) (s : Startup) (before after : Standing)
     → t.message ≡ frontend.Startup s → before.client ≡ first
     → login_seen after.client ≡ login_seen (with_metadata (saved before.client.metadata s.parameters) before.client)
     → IsNamed first (ts ++ t ∷ []) (login_seen after.client)
@@ -65,16 +65,16 @@ named_now first ts t s before after is same who = record {
   opening = t;
   came = Contains-push ts t;
   is_startup = is;
-  names = who ∙ ap (λ (c : Client). login_seen (with_metadata (saved c.metadata s.parameters) c)) same;
+  names = who ∙ ap (λ (c : LoginClient). login_seen (with_metadata (saved c.metadata s.parameters) c)) same;
 }
 
-not_ready : {A : Type 0} (client : Client) → client.state ≡ AuthenticationInProgress → client.state ≡ ReadyForQuery → A
+not_ready : {A : Type 0} (client : LoginClient) → client.state ≡ AuthenticationInProgress → client.state ≡ ReadyForQuery → A
 not_ready client is ready = let both : AuthenticationInProgress ≡ ReadyForQuery = sym is ∙ ready in absurd cc
 
 pub on_and_off : {A : Type 0} (b : Bool) → b ≡ true → b ≡ false → A
 on_and_off b on off = let both : true ≡ false = sym on ∙ off in absurd cc
 
-module _ (Proves : List Taken → Taken → Type 0) (Keeps : List Taken → Login → LoginState → Type 0) (first : Client)
+module _ (Proves : List Taken → Taken → Type 0) (Keeps : List Taken → Login → LoginState → Type 0) (first : LoginClient)
   where
     -- a login began
     pub known_begun : (ts : List Taken) (t : Taken) (s : Startup) (before mid after : Standing)
@@ -152,21 +152,21 @@ awaited : (b : Bool) (before after : Standing) (sent : List Backend) (answer : A
 awaited true before after sent answer h ok = (refl, h.0, h.1)
 awaited false before after sent answer h ok = absurd (not_both answer _ h.2 ok)
 
-module _ (Q : Standing → Answer → Type 0) (P : Client → Option Held → Type 0)
-    (R : Option Known → ℤ → SecretKey → Option Known → Result (Option Pair) RegistryError → Type 0) where
-  roots_checked : Roots (Then Awaits (Then (Tells Q) (Finishes P R)))
-  roots_checked = roots_then Awaits (Then (Tells Q) (Finishes P R)) roots_awaits
-      (roots_then (Tells Q) (Finishes P R) (roots_tells Q) (roots_finishes P R))
+module _ (Q : Standing → Answer → Type 0) (P : LoginClient → Option Held → Type 0)
+    (R : Option Known → ℤ → SecretKey → Option Known → Result (Option HandlePair) RegistryError → Type 0) where
+  roots_checked : Roots (Then LoginAwaits (Then (AnswersLogin Q) (Finishes P R)))
+  roots_checked = roots_then LoginAwaits (Then (AnswersLogin Q) (Finishes P R)) roots_awaits
+      (roots_then (AnswersLogin Q) (Finishes P R) (roots_tells Q) (roots_finishes P R))
 
   -- the check comes first: nothing lets in, and it is refused, unless the password was awaited and passed
   checked_first : (before after : Standing) (sent : List Backend) (answer : Answer)
-      → Then (Tells Q) (Finishes P R) before after sent answer
+      → Then (AnswersLogin Q) (Finishes P R) before after sent answer
       → ((list_any lets_in sent ≡ false) × (answer ≡ Ok tt → ⊥)) ⊎ Q before (Ok tt)
   checked_first before after sent answer (halts b a s e h) = inl (nothing_said s h.1, λ ok. not_both (Err e) e refl ok)
   checked_first before after sent answer (acts.goes b mid a front back r x y) = inr x.2
 
   awaited_first : (before after : Standing) (sent : List Backend) (answer : Answer)
-      → Then Awaits (Then (Tells Q) (Finishes P R)) before after sent answer
+      → Then LoginAwaits (Then (AnswersLogin Q) (Finishes P R)) before after sent answer
       → ((list_any lets_in sent ≡ false) × (answer ≡ Ok tt → ⊥)) ⊎ ((before.login.started ≡ true) × Q before (Ok tt))
   awaited_first before after sent answer (halts b a s e h) = inl
       (quiet_halt (awaits b.login) b a s e h, λ ok. not_both (Err e) e refl ok)
@@ -204,20 +204,20 @@ module _ (A : Login → Result Kept PgWireError → Type 0) where
 
   checked_by : (m : PasswordMessageFamily) (read : Result Password PgWireError) (login : Login) (answer : Answer)
       → as_password m ≡ read → CheckedBy A read login answer → answer ≡ Ok tt → (kept : Kept) × A login (Ok kept)
-      × IsPassword (frontend.PasswordMessageFamily m) kept.password
+      × IsPasswordMessage (frontend.PasswordMessageFamily m) kept.password
   checked_by m (Err e) login answer is h ok = absurd (not_both answer e h ok)
   checked_by m (Ok p) login answer is h ok =
       let c = compared_to p.password login h.0 answer h.1 h.2 ok in
       (c.0, c.1, (m, p, refl, is, c.2))
 
-  checked : (m : PasswordMessageFamily) (login : Login) (answer : Answer) → Checked A m login answer → answer ≡ Ok tt
-      → (kept : Kept) × A login (Ok kept) × IsPassword (frontend.PasswordMessageFamily m) kept.password
+  checked : (m : PasswordMessageFamily) (login : Login) (answer : Answer) → ChecksPassword A m login answer → answer ≡ Ok tt
+      → (kept : Kept) × A login (Ok kept) × IsPasswordMessage (frontend.PasswordMessageFamily m) kept.password
   checked m login answer (inl h) ok = absurd (not_both answer _ h ok)
   checked m login answer (inr h) ok = checked_by m (as_password m) login answer refl h ok
 
-  proves_cleartext : (begin : Stage) (ts : List Taken) (t : Taken) (m : PasswordMessageFamily) (client : Client)
+  proves_cleartext : (begin : Stage) (ts : List Taken) (t : Taken) (m : PasswordMessageFamily) (client : LoginClient)
       → t.message ≡ frontend.PasswordMessageFamily m → IsNamed begin.client ts (login_seen client)
-      → Checked A m (login_seen client) (Ok tt) → ProvesCleartext A begin ts t
+      → ChecksPassword A m (login_seen client) (Ok tt) → ProvesCleartext A begin ts t
   proves_cleartext begin ts t m client is named h =
       let c = checked m (login_seen client) (Ok tt) h refl in
       record {
@@ -226,14 +226,14 @@ module _ (A : Login → Result Kept PgWireError → Type 0) where
         named = named;
         answered = c.1;
         proof = subst
-            (λ (x : Message). IsPassword x c.0.password) (sym is) c.2;
+            (λ (x : Message). IsPasswordMessage x c.0.password) (sym is) c.2;
       }
 
 abbrev pub NothingMore : List Taken → Login → LoginState → Type 0
 NothingMore ts login state = Unit {0}
 
-module _ (A : Login → Result Kept PgWireError → Type 0) (P : Client → Option Held → Type 0)
-    (R : Option Known → ℤ → SecretKey → Option Known → Result (Option Pair) RegistryError → Type 0) (begin : Stage)
+module _ (A : Login → Result Kept PgWireError → Type 0) (P : LoginClient → Option Held → Type 0)
+    (R : Option Known → ℤ → SecretKey → Option Known → Result (Option HandlePair) RegistryError → Type 0) (begin : Stage)
   where
     cleartext_on : (ts : List Taken) (t : Taken) (m : Message) (h : Heard) (before after : Standing)
         (sent : List Backend) (answer : Answer) → IsKnown (ProvesCleartext A begin) NothingMore begin.client ts
@@ -248,8 +248,8 @@ module _ (A : Login → Result Kept PgWireError → Type 0) (P : Client → Opti
           (ap (λ x. login_seen x.client) b.4.0) (ap (λ x. x.login.started) b.4.0) (ap (λ x. x.client.state) b.4.0) tt;
     }
     cleartext_on ts t m (of.Password p) before after sent answer k is hears h =
-        let same = roots_checked (λ s a. Checked A p (login_seen s.client) a) P R before after sent answer h in
-        elim (awaited_first (λ s a. Checked A p (login_seen s.client) a) P R before after sent answer h) [
+        let same = roots_checked (λ s a. ChecksPassword A p (login_seen s.client) a) P R before after sent answer h in
+        elim (awaited_first (λ s a. ChecksPassword A p (login_seen s.client) a) P R before after sent answer h) [
           | inl none ↦ record { says = λ says. quiet_says sent none.0 says; keeps = λ ok. absurd (none.1 ok) }
           | inr on ↦
               let proves : ProvesCleartext A begin ts t = proves_cleartext A begin ts t p before.client
@@ -276,11 +276,11 @@ module _ (A : Login → Result Kept PgWireError → Type 0) (P : Client → Opti
         let g = cleartext_on ts t m (heard m) before h.0 sent (Err e) k is refl h.1 in
         record { says = g.says; keeps = λ ok. absurd (not_both (Err e) e refl ok) }
 
-pub never_ready : {A : Type 0} (client : Client) → client.state ≢ ReadyForQuery → client.state ≡ ReadyForQuery → A
+pub never_ready : {A : Type 0} (client : LoginClient) → client.state ≢ ReadyForQuery → client.state ≡ ReadyForQuery → A
 never_ready client not is = absurd (not is)
 
-pub cleartext_lets_in : (A : Login → Result Kept PgWireError → Type 0) (P : Client → Option Held → Type 0)
-    (R : Option Known → ℤ → SecretKey → Option Known → Result (Option Pair) RegistryError → Type 0)
+pub cleartext_lets_in : (A : Login → Result Kept PgWireError → Type 0) (P : LoginClient → Option Held → Type 0)
+    (R : Option Known → ℤ → SecretKey → Option Known → Result (Option HandlePair) RegistryError → Type 0)
     → LetsInBy (CleartextMeans A P R) (ProvesCleartext A)
 cleartext_lets_in A P R bound client login given course new way =
     guarded (CleartextMeans A P R) (ProvesCleartext A (begins_within bound client login)) NothingMore client
@@ -350,7 +350,7 @@ module _ (A : Login → Result Kept PgWireError → Type 0) where
     gave : (kept : Kept) → A login (Ok kept) → kept.salt ≡ Some salt → kept.password ≡ text → Gave salt text login
 
   salt_with : (kept : Kept) (own : Option (List ℕ)) (salt text : List ℕ) (login : Login) → kept.salt ≡ own
-      → Ok (salt, text) ≡ with_salt own kept.password → A login (Ok kept) → Gave salt text login
+      → Ok (salt, text) ≡ md5_with_salt own kept.password → A login (Ok kept) → Gave salt text login
   salt_with kept None salt text login is h a = absurd cc
   salt_with kept (Some own) salt text login is h a =
       let both : ◌≡◌ {A = List ℕ × List ℕ} (salt, text) (own, kept.password) = cc in
@@ -358,16 +358,16 @@ module _ (A : Login → Result Kept PgWireError → Type 0) where
       (sym (ap (λ (p : List ℕ × List ℕ). p.1) both))
 
   salt_given : (given : Result Kept PgWireError) (salt text : List ℕ) (login : Login) → A login given
-      → Ok (salt, text) ≡ salt_of given → Gave salt text login
+      → Ok (salt, text) ≡ kept_salt given → Gave salt text login
   salt_given (Err e) salt text login a h = absurd cc
   salt_given (Ok kept) salt text login a h = salt_with kept kept.salt salt text login refl h a
 
-  salted_by : (salt text : List ℕ) (login : Login) → Salted A login (Ok (salt, text)) → Gave salt text login
+  salted_by : (salt text : List ℕ) (login : Login) → AsksForSalt A login (Ok (salt, text)) → Gave salt text login
   salted_by salt text login (inl h) = absurd cc
   salted_by salt text login (inr h) = salt_given h.0 salt text login h.1 h.2
 
   challenged_by : (salted : Result (List ℕ × List ℕ) PgWireError) (before after : Standing) (sent : List Backend)
-      (answer : Answer) → Salted A (login_seen before.client) salted → ChallengedBy salted before after sent answer
+      (answer : Answer) → AsksForSalt A (login_seen before.client) salted → ChallengedBy salted before after sent answer
       → answer ≡ Ok tt → Salting before after sent
   challenged_by (Err e) before after sent answer s h ok = absurd (not_both answer e h.2 ok)
   challenged_by (Ok (salt, text)) before after sent answer s h ok =
@@ -405,7 +405,7 @@ module _ (A : Login → Result Kept PgWireError → Type 0) where
           came = Contains-push ts t;
           told = subst (λ (l : List Backend). Contains l (md5_request s.salt)) (sym said)
               (Contains-append_right front sent (md5_request s.salt) s.told);
-          answered = subst (λ (c : Client). A (login_seen c) (Ok s.kept)) (sym s.client) s.answered;
+          answered = subst (λ (c : LoginClient). A (login_seen c) (Ok s.kept)) (sym s.client) s.answered;
           salted = s.salted;
         },
       )
@@ -420,7 +420,7 @@ module _ (A : Login → Result Kept PgWireError → Type 0) where
 
   matched_by : (m : PasswordMessageFamily) (read : Result Password PgWireError) (kept : Option (List ℕ))
       (login : Login) (answer : Answer) → as_password m ≡ read → MatchedBy read kept login answer → answer ≡ Ok tt
-      → (text : List ℕ) × (kept ≡ Some text) × IsPassword (frontend.PasswordMessageFamily m) text
+      → (text : List ℕ) × (kept ≡ Some text) × IsPasswordMessage (frontend.PasswordMessageFamily m) text
   matched_by m (Err e) kept login answer is h ok = absurd (not_both answer e h ok)
   matched_by m (Ok p) kept login answer is h ok = (
     p.password,
@@ -436,11 +436,11 @@ module _ (A : Login → Result Kept PgWireError → Type 0) where
 
   matched : (m : PasswordMessageFamily) (kept : Option (List ℕ)) (login : Login) (answer : Answer)
       → Matched m kept login answer → answer ≡ Ok tt → (text : List ℕ) × (kept ≡ Some text)
-      × IsPassword (frontend.PasswordMessageFamily m) text
+      × IsPasswordMessage (frontend.PasswordMessageFamily m) text
   matched m kept login answer (inl h) ok = absurd (not_both answer _ h ok)
   matched m kept login answer (inr h) ok = matched_by m (as_password m) kept login answer refl h ok
 
-  proves_md5 : (begin : Stage) (ts : List Taken) (t : Taken) (m : PasswordMessageFamily) (client : Client)
+  proves_md5 : (begin : Stage) (ts : List Taken) (t : Taken) (m : PasswordMessageFamily) (client : LoginClient)
       (state : LoginState) → t.message ≡ frontend.PasswordMessageFamily m → IsNamed begin.client ts (login_seen client)
       → KeepsText ts (login_seen client) state → Matched m state.kept (login_seen client) (Ok tt)
       → ProvesMd5 A begin ts t
@@ -454,11 +454,11 @@ module _ (A : Login → Result Kept PgWireError → Type 0) where
         named = named;
         challenged = k.2;
         proof = subst
-            (IsPassword t.message) (sym k.1) (subst (λ (x : Message). IsPassword x c.0) (sym is) c.2);
+            (IsPasswordMessage t.message) (sym k.1) (subst (λ (x : Message). IsPasswordMessage x c.0) (sym is) c.2);
       }
 
-module _ (A : Login → Result Kept PgWireError → Type 0) (P : Client → Option Held → Type 0)
-    (R : Option Known → ℤ → SecretKey → Option Known → Result (Option Pair) RegistryError → Type 0) (begin : Stage)
+module _ (A : Login → Result Kept PgWireError → Type 0) (P : LoginClient → Option Held → Type 0)
+    (R : Option Known → ℤ → SecretKey → Option Known → Result (Option HandlePair) RegistryError → Type 0) (begin : Stage)
   where
     md5_on : (ts : List Taken) (t : Taken) (m : Message) (h : Heard) (before after : Standing) (sent : List Backend)
         (answer : Answer) → IsKnown (ProvesMd5 A begin) (KeepsText A) begin.client ts before.client before.login
@@ -471,8 +471,8 @@ module _ (A : Login → Result Kept PgWireError → Type 0) (P : Client → Opti
           let g = challenged_by A b.4.0 b.0 after b.2 (Ok tt) b.4.1 b.4.2 refl in
           known_begun (ProvesMd5 A begin) (KeepsText A) begin.client ts t s before b.0 after k
           (is ∙ heard_startup m s hears) (opened s before b.0 b.1 (Ok tt) b.3 refl)
-          (ap (λ (c : Client). login_seen c) g.client) (ap (λ (l : LoginState). l.started) g.login)
-          (ap (λ (c : Client). c.state) g.client) (keeps_challenged A ts t b.0 after b.1 b.2 (said ∙ b.5) g);
+          (ap (λ (c : LoginClient). login_seen c) g.client) (ap (λ (l : LoginState). l.started) g.login)
+          (ap (λ (c : LoginClient). c.state) g.client) (keeps_challenged A ts t b.0 after b.1 b.2 (said ∙ b.5) g);
     }
     md5_on ts t m (of.Password p) before after sent answer k is said hears h =
         let same = roots_checked (λ s a. Matched p s.login.kept (login_seen s.client) a) P R before after sent answer h in
@@ -506,8 +506,8 @@ module _ (A : Login → Result Kept PgWireError → Type 0) (P : Client → Opti
         let g = md5_on ts t m (heard m) before h.0 sent (Err e) k is said refl h.1 in
         record { says = g.says; keeps = λ ok. absurd (not_both (Err e) e refl ok) }
 
-pub md5_lets_in : (A : Login → Result Kept PgWireError → Type 0) (P : Client → Option Held → Type 0)
-    (R : Option Known → ℤ → SecretKey → Option Known → Result (Option Pair) RegistryError → Type 0)
+pub md5_lets_in : (A : Login → Result Kept PgWireError → Type 0) (P : LoginClient → Option Held → Type 0)
+    (R : Option Known → ℤ → SecretKey → Option Known → Result (Option HandlePair) RegistryError → Type 0)
     → LetsInBy (Md5Means A P R) (ProvesMd5 A)
 unfolding KeepsText
 md5_lets_in A P R bound client login given course new way =

@@ -14,21 +14,21 @@ use Rattle.pgw_backend.specs.declared.backend.PgWireBackendMessage.{PgWireBacken
 use Rattle.pgw_backend.specs.declared.backend.PgWireBackendMessage.TheVariants as backend
 use Rattle.pgw_course.specs.Course.{Course, Waits, Over, sent_of}
 use Rattle.pgw_course.specs.Play.{Leads}
-use Rattle.pgw_login.specs.Client.{Client, with_metadata}
+use Rattle.pgw_login.specs.Client.{LoginClient, with_metadata}
 use Rattle.pgw_login.specs.Login.{Login, login_seen}
 use Rattle.pgw_login.specs.Opening.{saved}
 use Rattle.pgw_login.specs.Md5.{md5_request}
 use Rattle.pgw_login.specs.declared.client_info.PgWireConnectionState.TheVariants.{ReadyForQuery}
 use Rattle.pgw_login.specs.declared.state.LoginState.{LoginState}
 use Rattle.pgw_login.specs.declared.state.SASLState.TheVariants.{Initial}
-use Rattle.pgw_server.specs.Server.{Stage, Ending, begins_within, serving}
+use Rattle.pgw_server.specs.Server.{Stage, ServerEnding, begins_within, serving}
 use Rattle.pgw_server.specs.Taken.{Acts, Taken, taken_in, Accounts}
 
 -- ---- to let a client in
 
 -- nothing came of this client yet
-abbrev pub IsNew : Client → LoginState → Type 0
-IsNew client login = (client.state ≢ ReadyForQuery) × (login.started ≡ false)
+abbrev pub IsNewClient : LoginClient → LoginState → Type 0
+IsNewClient client login = (client.state ≢ ReadyForQuery) × (login.started ≡ false)
     × (login.sasl ≡ Initial) × (login.kept ≡ None)
 
 -- AuthenticationOk and ReadyForQuery let a client in
@@ -37,7 +37,7 @@ lets_in (backend.Authentication auth.Ok) = true
 lets_in (backend.ReadyForQuery m) = true
 lets_in m = false
 
-abbrev pub MayAsk : Course Stage Ending → Type 0
+abbrev pub MayAsk : Course Stage ServerEnding → Type 0
 MayAsk (Waits stage out pending) = stage.client.state ≡ ReadyForQuery
 MayAsk (Over ending out) = ⊥
 
@@ -46,7 +46,7 @@ abbrev pub Proving : Type 1
 Proving = List Taken → Taken → Type 0
 
 -- A client is let in only in answer to such a message; and where it may ask, one was taken.
-pub record IsGuarded (Proves : Proving) (taken : List Taken) (course : Course Stage Ending) : Type 0
+pub record IsGuarded (Proves : Proving) (taken : List Taken) (course : Course Stage ServerEnding) : Type 0
   where
     pub said : (earlier later : List Taken) (t : Taken) → taken ≡ earlier ++ t ∷ later
         → list_any lets_in t.said ≡ true → Proves earlier t
@@ -55,15 +55,15 @@ pub record IsGuarded (Proves : Proving) (taken : List Taken) (course : Course St
 
 -- the messages taken account for the bytes, and the client is let in only so
 abbrev pub IsGuardedWay : (means : Acts) (Proves : Proving) (begin : Stage) (given : List ℕ)
-    (course : Course Stage Ending) → Leads (serving means) begin given course → Type 0
+    (course : Course Stage ServerEnding) → Leads (serving means) begin given course → Type 0
 IsGuardedWay means Proves begin given course way =
     let taken = taken_in means begin given course way in
     Accounts taken given (sent_of course) × IsGuarded Proves taken course
 
 -- whatever a new client sends
 abbrev pub LetsInBy : Acts → (Stage → Proving) → Type 0
-LetsInBy means Proves = (bound : Option ℕ) (client : Client) (login : LoginState) (given : List ℕ)
-    (course : Course Stage Ending) → IsNew client login
+LetsInBy means Proves = (bound : Option ℕ) (client : LoginClient) (login : LoginState) (given : List ℕ)
+    (course : Course Stage ServerEnding) → IsNewClient client login
     → (way : Leads (serving means) (begins_within bound client login) given course)
     → IsGuardedWay means (Proves (begins_within bound client login)) (begins_within bound client login)
     given course way
@@ -71,7 +71,7 @@ LetsInBy means Proves = (bound : Option ℕ) (client : Client) (login : LoginSta
 -- ---- who logs in
 
 -- the one that a startup message taken before names
-pub record IsNamed (client : Client) (earlier : List Taken) (login : Login) : Type 0 where
+pub record IsNamed (client : LoginClient) (earlier : List Taken) (login : Login) : Type 0 where
   pub startup : Startup
   pub opening : Taken
   pub came : Contains earlier opening
@@ -85,8 +85,8 @@ abbrev pub Source : Type 1
 Source = Login → Result Kept PgWireError → Type 0
 
 -- the message is a password message, with this text
-abbrev pub IsPassword : Message → List ℕ → Type 0
-IsPassword message text = (m : PasswordMessageFamily) × (read : Password)
+abbrev pub IsPasswordMessage : Message → List ℕ → Type 0
+IsPasswordMessage message text = (m : PasswordMessageFamily) × (read : Password)
     × (message ≡ frontend.PasswordMessageFamily m) × (as_password m ≡ Ok read)
     × (read.password ≡ text)
 
@@ -97,7 +97,7 @@ pub record ProvesCleartext (A : Source) (begin : Stage) (earlier : List Taken) (
     pub kept : Kept
     pub named : IsNamed begin.client earlier login
     pub answered : A login (Ok kept)
-    pub proof : IsPassword t.message kept.password
+    pub proof : IsPasswordMessage t.message kept.password
 
 -- the source answered for who logs in with a salt, which the client was told
 pub record IsChallenged (A : Source) (earlier : List Taken) (login : Login) (kept : Kept) : Type 0
@@ -116,4 +116,4 @@ pub record ProvesMd5 (A : Source) (begin : Stage) (earlier : List Taken) (t : Ta
   pub kept : Kept
   pub named : IsNamed begin.client earlier login
   pub challenged : IsChallenged A earlier login kept
-  pub proof : IsPassword t.message kept.password
+  pub proof : IsPasswordMessage t.message kept.password

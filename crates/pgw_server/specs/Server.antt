@@ -8,29 +8,29 @@ use Rattle.pgw_frontend.specs.declared.frontend.PgWireFrontendMessage.TheVariant
 use Rattle.pgw_backend.specs.declared.backend.PgWireBackendMessage.{PgWireBackendMessage as Backend}
 use Rattle.pgw_course.specs.Course.{Front, Move, On, Ends}
 use Rattle.pgw_course.specs.Play.{Play}
-use Rattle.pgw_login.specs.Client.{Client}
+use Rattle.pgw_login.specs.Client.{LoginClient}
 use Rattle.pgw_login.specs.Sending.{and_encoding}
-use Rattle.pgw_login.specs.Acts.{Standing, standing, Answer}
+use Rattle.pgw_login.specs.Acts.{Standing, standing_in_login, Answer}
 use Rattle.pgw_login.specs.declared.client_info.PgWireConnectionState.{PgWireConnectionState}
 use Rattle.pgw_login.specs.declared.client_info.PgWireConnectionState.TheVariants.{ReadyForQuery}
 use Rattle.pgw_login.specs.declared.state.LoginState.{LoginState}
-use Rattle.pgw_server.specs.Front.{client_front, met}
+use Rattle.pgw_server.specs.Front.{client_front, server_front}
 
 -- ---- where a connection is, and how it ends
 
 -- what is seen of the client, its login, whether its startup message was taken, and the most bytes that a message may
 -- say it has until the client may ask, if that is bounded
 pub record Stage : Type 0 where
-  pub client : Client
+  pub client : LoginClient
   pub login : LoginState
   pub started : Bool
   pub bound : Option ℕ
 
-abbrev pub begins_within : Option ℕ → Client → LoginState → Stage
+abbrev pub begins_within : Option ℕ → LoginClient → LoginState → Stage
 begins_within bound client login =
     record { client = client; login = login; started = false; bound = bound }
 
-abbrev pub begins : Client → LoginState → Stage
+abbrev pub begins : LoginClient → LoginState → Stage
 begins = begins_within None
 
 -- the bound falls where the client may ask
@@ -46,48 +46,48 @@ pub data Cause : Type 0 where
   Refused : (why : PgWireError) → Cause
   Asked : (request : CancelRequest) → Cause
 
-pub record Ending : Type 0 where
+pub record ServerEnding : Type 0 where
   pub cause : Cause
   pub stage : Stage
 
-abbrev pub ended : Cause → Stage → Ending
-ended cause stage = record { cause = cause; stage = stage }
+abbrev pub server_ending : Cause → Stage → ServerEnding
+server_ending cause stage = record { cause = cause; stage = stage }
 
 -- ---- what a message does
 
 -- the encodings of the messages, one after the other, where each has one
-abbrev pub encodings : List Backend → Result (List ℕ) PgWireError
-encodings ms = fold and_encoding (Ok []) ms
+abbrev pub server_encodings : List Backend → Result (List ℕ) PgWireError
+server_encodings ms = fold and_encoding (Ok []) ms
 
-abbrev pub after : Standing → Bool → Stage → Stage
-after s started stage = record stage { client = s.client; login = s.login; started = started }
+abbrev pub stage_after : Standing → Bool → Stage → Stage
+stage_after s started stage = record stage { client = s.client; login = s.login; started = started }
 
 -- a handler's answer: it goes on, and the startup message was taken; or it is refused
-abbrev pub moved : Answer → Standing → Stage → List ℕ → Move Stage Ending
-moved (Ok done) s stage out = On (after s true stage) out
-moved (Err e) s stage out = Ends (ended (Refused e) (after s stage.started stage)) out
+abbrev pub answer_move : Answer → Standing → Stage → List ℕ → Move Stage ServerEnding
+answer_move (Ok done) s stage out = On (stage_after s true stage) out
+answer_move (Err e) s stage out = Ends (server_ending (Refused e) (stage_after s stage.started stage)) out
 
 -- the handler's act, with the encodings of what it sends put out; no call of a core's outbox fails
-abbrev pub Handles : (Message → Standing → Standing → List Backend → Answer → Type 0) → Stage → Message → Move Stage Ending → Type 0
+abbrev pub Handles : (Message → Standing → Standing → List Backend → Answer → Type 0) → Stage → Message → Move Stage ServerEnding → Type 0
 Handles means stage m move = (to : Standing) × (sent : List Backend) × (answer : Answer) × (out : List ℕ)
-    × means m (standing stage.client stage.login 0) to sent answer × (encodings sent ≡ Ok out) × (move ≡ moved answer to stage out) × (to.faults ≡ 0)
+    × means m (standing_in_login stage.client stage.login 0) to sent answer × (server_encodings sent ≡ Ok out) × (move ≡ answer_move answer to stage out) × (to.faults ≡ 0)
 
 -- A request for encryption is refused by the byte `N`, and a request to cancel ends the connection. All else is the handler's.
-abbrev pub Steps : (Message → Standing → Standing → List Backend → Answer → Type 0) → Stage → Message → Move Stage Ending → Type 0
+abbrev pub Steps : (Message → Standing → Standing → List Backend → Answer → Type 0) → Stage → Message → Move Stage ServerEnding → Type 0
 Steps means stage (frontend.SslNegotiation m) move = move ≡ On stage (78 ∷ [])
-Steps means stage (frontend.CancelRequest r) move = move ≡ Ends (ended (Asked r) stage) []
+Steps means stage (frontend.CancelRequest r) move = move ≡ Ends (server_ending (Asked r) stage) []
 Steps means stage m move = Handles means stage m move
 
 -- ---- the machine
 
-abbrev pub reading : Stage → List ℕ → Front Message PgWireError
-reading stage bytes = met bytes (client_front stage.started (bound_at stage) stage.client.protocol_version bytes)
+abbrev pub stage_front : Stage → List ℕ → Front Message PgWireError
+stage_front stage bytes = server_front bytes (client_front stage.started (bound_at stage) stage.client.protocol_version bytes)
 
 -- what is refused at the front ends it, and so may want of memory at any time
-abbrev pub serving : (Message → Standing → Standing → List Backend → Answer → Type 0) → Play Stage Ending Message PgWireError
+abbrev pub serving : (Message → Standing → Standing → List Backend → Answer → Type 0) → Play Stage ServerEnding Message PgWireError
 serving means = record {
-  read = reading;
+  read = stage_front;
   Steps = Steps means;
-  Refuses = λ stage why ending. ending ≡ ended (Refused why) stage;
-  Breaks = λ stage ending. ending ≡ ended (Refused OutOfMemory) stage;
+  Refuses = λ stage why ending. ending ≡ server_ending (Refused why) stage;
+  Breaks = λ stage ending. ending ≡ server_ending (Refused OutOfMemory) stage;
 }

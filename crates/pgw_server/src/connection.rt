@@ -1,11 +1,11 @@
 //! A server's side of a login: bytes go in as they come, and those to be sent come out.
 ghost use Rattle.std.specs.Prelude.{◌≡◌, ◌≢◌, ◌≤◌, ◌++◌, ℕ, max, List, [], length, true, false, Some, None, Ok, OnOk, IfErr, ◌∷◌};
 ghost use Rattle.pgw_course.specs.Course.{Course, More};
-ghost use Rattle.pgw_login.specs.DefaultClients.{seen};
+ghost use Rattle.pgw_login.specs.DefaultClients.{login_client};
 ghost use Rattle.pgw_login.specs.declared.client_info.PgWireConnectionState.TheVariants.{ReadyForQuery};
-ghost use Rattle.pgw_server.specs.Server.{Stage, Ending, begins, begins_within, bound_in, reading};
-ghost use Rattle.pgw_server.specs.Stands.{stage_of, phase_at, IsAt, Stands, Arrives, WentOn};
-ghost use Rattle.pgw_server.specs.Steps.{is_end, DidHear, DidStep, Advanced, Comes};
+ghost use Rattle.pgw_server.specs.Server.{Stage, ServerEnding, begins, begins_within, bound_in, stage_front};
+ghost use Rattle.pgw_server.specs.Stands.{stage_of, phase_at, IsAt, ServerStands, Arrives, WentOn};
+ghost use Rattle.pgw_server.specs.Steps.{is_end, DidHear, DidStep, AdvancesServer, ServerTakesAll};
 
 use crate::front::next_message;
 use bytes::BytesMut;
@@ -64,7 +64,7 @@ impl<H: StartupHandler> ServerCore<H> {
         ensures kept { (result.handler ≡ handler) × (result.client ≡ client)
             × (result.login ≡ state) × (result.bound ≡ None) }
         // It stands for no bytes given and none put out.
-        ensures stands { Stands (H.means handler) (begins (seen client) state) result [] [] }
+        ensures stands { ServerStands (H.means handler) (begins (login_client client) state) result [] [] }
     {
         ServerCore::begin(alloc, handler, client, state, None)
     }
@@ -84,7 +84,7 @@ impl<H: StartupHandler> ServerCore<H> {
         ensures going { result.over ≡ false }
         ensures kept { (result.handler ≡ handler) × (result.client ≡ client)
             × (result.login ≡ state) × (result.bound ≡ Some bound) }
-        ensures stands { Stands (H.means handler) (begins_within (Some bound) (seen client) state)
+        ensures stands { ServerStands (H.means handler) (begins_within (Some bound) (login_client client) state)
             result [] [] }
     {
         ServerCore::begin(alloc, handler, client, state, Some(bound))
@@ -102,7 +102,7 @@ impl<H: StartupHandler> ServerCore<H> {
         ensures going { result.over ≡ false }
         ensures kept { (result.handler ≡ handler) × (result.client ≡ client)
             × (result.login ≡ state) × (result.bound ≡ bound) }
-        ensures stands { Stands (H.means handler) (begins_within bound (seen client) state) result
+        ensures stands { ServerStands (H.means handler) (begins_within bound (login_client client) state) result
             [] [] }
     {
         ServerCore {
@@ -130,16 +130,16 @@ impl<H: StartupHandler> ServerCore<H> {
         ensures kept { (self.new.handler ≡ self.old.handler) × (self.new.bound ≡ self.old.bound) }
         // For all bytes given and put out that it stood for, it stands for them with the piece and what is appended.
         ensures stands { (begin : Stage) (given put : List ℕ) →
-            Stands (H.means self.old.handler) begin self.old given put →
+            ServerStands (H.means self.old.handler) begin self.old given put →
             (more : List ℕ) × (out.new.items ≡ out.old.items ++ more)
-            × Stands (H.means self.old.handler) begin self.new (given ++ piece.now) (put ++ more) }
+            × ServerStands (H.means self.old.handler) begin self.new (given ++ piece.now) (put ++ more) }
         // From wherever it was, the piece leads to where it is.
-        ensures continues { (course : Course Stage Ending) (put : List ℕ) →
+        ensures continues { (course : Course Stage ServerEnding) (put : List ℕ) →
             IsAt self.old put course → WentOn (H.means self.old.handler) self.old self.new put
             piece.now out.old.items out.new.items course result }
         // What it answers is what that place tells,
         ensures answers { self.old.over ≡ false → (begin : Stage) (given put : List ℕ) →
-            Stands (H.means self.old.handler) begin self.old given put →
+            ServerStands (H.means self.old.handler) begin self.old given put →
             (more : List ℕ) × (out.new.items ≡ out.old.items ++ more)
             × Arrives (H.means self.old.handler) begin self.new (given ++ piece.now) (put ++ more)
             result }
@@ -147,7 +147,7 @@ impl<H: StartupHandler> ServerCore<H> {
         ensures over { self.old.over ≡ true → (self.new ≡ self.old)
             × (out.new.items ≡ out.old.items) × (result ≡ Err PgWireError.InvalidSASLState) }
         // Where it waits, nothing whole stands at the front of what waits in it.
-        ensures more { self.new.over ≡ false → reading (stage_of self.new) self.new.inbox.items
+        ensures more { self.new.over ≡ false → stage_front (stage_of self.new) self.new.inbox.items
             ≡ More }
         // Under a bound, until the client may ask, no more waits than the bound says, or 10000 bytes.
         ensures little { (bound : ℕ) → self.new.bound ≡ Some bound → self.new.over ≡ false →
@@ -188,7 +188,7 @@ impl<H: StartupHandler> ServerCore<H> {
         ensures fits { H.fits self.new.handler self.new.login }
         ensures kept { (self.new.handler ≡ self.old.handler) × (self.new.over ≡ self.old.over)
             × (self.new.bound ≡ self.old.bound) }
-        ensures comes { Comes (H.means self.old.handler) (stage_of self.old)
+        ensures comes { ServerTakesAll (H.means self.old.handler) (stage_of self.old)
             (self.old.inbox.items ++ piece.now) (stage_of self.new) self.new.inbox.items
             out.old.items out.new.items result }
     {
@@ -204,7 +204,7 @@ impl<H: StartupHandler> ServerCore<H> {
         ensures fits { H.fits self.new.handler self.new.login }
         ensures kept { (self.new.handler ≡ self.old.handler) × (self.new.over ≡ self.old.over)
             × (self.new.bound ≡ self.old.bound) }
-        ensures comes { Comes (H.means self.old.handler) (stage_of self.old) self.old.inbox.items
+        ensures comes { ServerTakesAll (H.means self.old.handler) (stage_of self.old) self.old.inbox.items
             (stage_of self.new) self.new.inbox.items out.old.items out.new.items result }
     {
         let buffer = replace(out, BytesMut::new(alloc));
@@ -221,7 +221,7 @@ impl<H: StartupHandler> ServerCore<H> {
         ensures fits { H.fits self.new.handler self.new.login }
         ensures kept { (self.new.handler ≡ self.old.handler) × (self.new.over ≡ self.old.over)
             × (self.new.bound ≡ self.old.bound) }
-        ensures comes { Comes (H.means self.old.handler) (stage_of self.old) self.old.inbox.items
+        ensures comes { ServerTakesAll (H.means self.old.handler) (stage_of self.old) self.old.inbox.items
             (stage_of self.new) self.new.inbox.items out.old.buffer.items out.new.buffer.items
             result }
     {
@@ -240,7 +240,7 @@ impl<H: StartupHandler> ServerCore<H> {
         ensures fits { H.fits self.new.handler self.new.login }
         ensures kept { (self.new.handler ≡ self.old.handler) × (self.new.over ≡ self.old.over)
             × (self.new.bound ≡ self.old.bound) }
-        ensures advanced { Advanced (H.means self.old.handler) (stage_of self.old)
+        ensures advanced { AdvancesServer (H.means self.old.handler) (stage_of self.old)
             self.old.inbox.items (stage_of self.new) self.new.inbox.items out.old.buffer.items
             out.new.buffer.items result }
     {

@@ -1,6 +1,6 @@
 //! The message at the front of what came from a client.
 ghost use Rattle.std.specs.Prelude.{◌≡◌, ℕ, List, take, false, true, Option, Some, Ok, IsNone, IfSome};
-ghost use Rattle.pgw_wire.specs.Reading.{Refuses};
+ghost use Rattle.pgw_wire.specs.Reading.{IsReadRefusal};
 ghost use Rattle.pgw_wire.specs.Framing.{Decodes};
 ghost use Rattle.pgw_frontend.specs.Frontend.{frontend_front};
 ghost use Rattle.pgw_frontend.specs.declared.frontend.PgWireFrontendMessage.{PgWireFrontendMessage as TheMessage};
@@ -37,7 +37,7 @@ fn header_of(bytes: &[u8]) -> &[u8]
 fn header_refusal(alloc: Global, header: &[u8], version: ProtocolVersion) -> Option<PgWireError>
     ensures none { IsNone result → (found : Option (TheMessage × List ℕ))
         × (frontend_front (phase false false version) header.now ≡ Ok found) }
-    ensures some { IfSome result (λ e. Refuses e
+    ensures some { IfSome result (λ e. IsReadRefusal e
         (frontend_front (phase false false version) header.now)) }
 {
     let mut buffer = BytesMut::new(alloc);
@@ -51,7 +51,7 @@ fn header_refusal(alloc: Global, header: &[u8], version: ProtocolVersion) -> Opt
 fn refusal_of(alloc: Global, buffer: &mut BytesMut, version: ProtocolVersion) -> Option<PgWireError>
     ensures none { IsNone result → (found : Option (TheMessage × List ℕ))
         × (frontend_front (phase false false version) buffer.old.items ≡ Ok found) }
-    ensures some { IfSome result (λ e. Refuses e
+    ensures some { IfSome result (λ e. IsReadRefusal e
         (frontend_front (phase false false version) buffer.old.items)) }
 {
     match PgWireFrontendMessage::decode(alloc, buffer, &phase(false, false, version)) {

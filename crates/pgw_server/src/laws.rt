@@ -7,7 +7,7 @@ ghost use Rattle.pgw_wire.specs.Framing.{stated_length};
 ghost use Rattle.pgw_frontend.specs.declared.frontend.PgWireFrontendMessage.{PgWireFrontendMessage as Message};
 ghost use Rattle.pgw_course.specs.Course.{Course, Waits, More, Bad, IsReading, sent_of};
 ghost use Rattle.pgw_course.specs.Play.{Leads, Continues};
-ghost use Rattle.pgw_login.specs.Acts.{Passes};
+ghost use Rattle.pgw_login.specs.Acts.{LoginStays};
 ghost use Rattle.pgw_login.specs.Cleartext.{CleartextMeans};
 ghost use Rattle.pgw_login.specs.Md5.{Md5Means};
 ghost use Rattle.pgw_login.specs.Noop.{NoopMeans};
@@ -15,7 +15,7 @@ ghost use Rattle.pgw_server.specs.Bound.{IsBounded, header_front};
 ghost use Rattle.pgw_server.specs.Entry.{LetsInBy, ProvesCleartext, ProvesMd5};
 ghost use Rattle.pgw_server.specs.Lasting.{IsReady, KeepsReady, StaysReady};
 ghost use Rattle.pgw_server.specs.Pieces.{LeadOn};
-ghost use Rattle.pgw_server.specs.Server.{Stage, Ending, reading, serving};
+ghost use Rattle.pgw_server.specs.Server.{Stage, ServerEnding, stage_front, serving};
 ghost use Rattle.pgw_server.specs.Taken.{taken_in, Accounts};
 ghost use Rattle.pgw_server.specs.Unregistered.{Nowhere, StaysUnregistered};
 
@@ -27,7 +27,7 @@ use pgw_login::source::AuthSource;
 /// What stands whole at the front of a client's bytes, or is refused there, stays so whatever bytes follow. So it does
 /// not matter how they are cut.
 pub fn a_server_reads_steadily()
-    ensures { (stage : Stage) → IsReading (reading stage) }
+    ensures { (stage : Stage) → IsReading (stage_front stage) }
 {}
 
 /// It does not matter how bytes are cut: which places they may lead to hangs on the bytes alone. Behind an end a piece
@@ -35,20 +35,20 @@ pub fn a_server_reads_steadily()
 pub fn pieces_join<H: StartupHandler>()
     // Bytes and a piece lead to a place just where the bytes lead to one from which the piece leads there.
     ensures one { (handler : H) (begin : Stage) (given piece : List ℕ)
-        (there : Course Stage Ending) →
+        (there : Course Stage ServerEnding) →
         Leads (serving (H.means handler)) begin (given ++ piece) there
-        ↔ ((course : Course Stage Ending) × Leads (serving (H.means handler)) begin given course
+        ↔ ((course : Course Stage ServerEnding) × Leads (serving (H.means handler)) begin given course
         × Continues (serving (H.means handler)) course piece there) }
     // One piece after the other leads to the places to which they lead together, and to no other.
     ensures all { (handler : H) (begin : Stage) (piece : List ℕ) (pieces : List (List ℕ))
-        (there : Course Stage Ending) →
+        (there : Course Stage ServerEnding) →
         LeadOn (H.means handler) (Waits begin [] []) (piece ∷ pieces) there
         ↔ Leads (serving (H.means handler)) begin (concat (piece ∷ pieces)) there }
 {}
 
 /// Once the client may ask, it may ask until a message is refused, where its handler keeps it so.
 pub fn a_finished_login_stays<H: StartupHandler>()
-    ensures { (handler : H) (begin : Stage) (bytes : List ℕ) (course : Course Stage Ending) →
+    ensures { (handler : H) (begin : Stage) (bytes : List ℕ) (course : Course Stage ServerEnding) →
         KeepsReady (H.means handler) → IsReady begin.client begin.login →
         Leads (serving (H.means handler)) begin bytes course → StaysReady course }
 {}
@@ -60,13 +60,13 @@ pub fn handlers_keep_a_finished_login<A: AuthSource, P: ServerParameterProvider,
         (M.registers registry)) }
     ensures md5 { (source : A) (provider : P) (registry : M) →
         KeepsReady (Md5Means (A.answers source) (P.provides provider) (M.registers registry)) }
-    ensures noop { (registry : M) → KeepsReady (NoopMeans (λ m. Passes) (M.registers registry)) }
+    ensures noop { (registry : M) → KeepsReady (NoopMeans (λ m. LoginStays) (M.registers registry)) }
 {}
 
 /// What a server takes stands at the front of the bytes given, one message behind the other; and what it puts out are the
 /// encodings of what it says to each, with `N` for each request for encryption.
 pub fn a_server_accounts_for_its_bytes<H: StartupHandler>()
-    ensures { (handler : H) (begin : Stage) (given : List ℕ) (course : Course Stage Ending)
+    ensures { (handler : H) (begin : Stage) (given : List ℕ) (course : Course Stage ServerEnding)
         (way : Leads (serving (H.means handler)) begin given course) →
         Accounts (taken_in (H.means handler) begin given course way) given (sent_of course) }
 {}
@@ -90,15 +90,15 @@ pub fn a_bound_holds_until_the_login()
         (found : Option (Message × List ℕ)) →
         IsBounded stage bound → stage.started ≡ true → 5 ≤ length bytes → bound
         < stated_length 1 bytes →
-        header_front stage bytes ≡ Ok found → reading stage bytes
+        header_front stage bytes ≡ Ok found → stage_front stage bytes
         ≡ Bad (MessageTooLarge bound (stated_length 1 bytes)) }
     // unless its header alone is refused for something else.
     ensures header { (stage : Stage) (bound : ℕ) (bytes : List ℕ) (why : PgWireError) →
         IsBounded stage bound → stage.started ≡ true → header_front stage bytes ≡ Err why →
-        reading stage bytes ≡ Bad why }
+        stage_front stage bytes ≡ Bad why }
     // What waits has no more bytes than the bound says, or 10000.
     ensures little { (stage : Stage) (bound : ℕ) (bytes : List ℕ) →
-        IsBounded stage bound → reading stage bytes ≡ More → length bytes ≤ max 10000 bound }
+        IsBounded stage bound → stage_front stage bytes ≡ More → length bytes ≤ max 10000 bound }
 {}
 
 /// Where a handler registers nothing, a login that is registered nowhere stays so, also at an end, and its pass is the one
@@ -108,5 +108,5 @@ pub fn a_login_without_a_registry_keeps_its_pass<A: AuthSource, P: ServerParamet
         StaysUnregistered (CleartextMeans (A.answers source) (P.provides provider) Nowhere) }
     ensures md5 { (source : A) (provider : P) →
         StaysUnregistered (Md5Means (A.answers source) (P.provides provider) Nowhere) }
-    ensures noop { StaysUnregistered (NoopMeans (λ m. Passes) Nowhere) }
+    ensures noop { StaysUnregistered (NoopMeans (λ m. LoginStays) Nowhere) }
 {}

@@ -23,7 +23,7 @@ use Rattle.pgw_scram.specs.Refusals.{parts_refusal, begins_with}
 use Rattle.pgw_session.specs.Bound.{LogsInBound, LetsNoneIn, bound_exchange, binding_first, binding_last}
 use Rattle.pgw_session.specs.Events.{Event, Sent, Got, sents}
 use Rattle.pgw_session.specs.Input.{Input}
-use Rattle.pgw_session.specs.Logins.{Login, Unasked, Cleartext, Md5, Scram, login_events, must_bind, is_required, takes_by, takes_method, offers, method_of, scram_login, first_message, final_message, IsAccepted}
+use Rattle.pgw_session.specs.Logins.{SessionLogin, Unasked, Cleartext, Md5, Scram, login_events, must_bind, is_required, takes_by, takes_method, offers, method_of, scram_login, first_message, final_message, IsAccepted}
 use Rattle.pgw_session.specs.Segments.{AreAll, IsGreeting, IsStartupSegment, IsUpToReady, is_early, is_news, startup_message}
 use Rattle.pgw_session.proofs.Hears.{sents_append}
 use Rattle.pgw_session.proofs.Events.{sents_gots}
@@ -107,7 +107,7 @@ required input es is s = go g.login g.are g.accepted
     before : List Event
     before = Sent (startup_message input) ∷ map Got g.news
 
-    go : (login : Login) → s.0 ≡ map Got g.news ++ (login_events input login ++ g.rest) → IsAccepted input login
+    go : (login : SessionLogin) → s.0 ≡ map Got g.news ++ (login_events input login ++ g.rest) → IsAccepted input login
         → (hash : List ℕ) × ((input.config).certificate_hash ≡ Some hash) × (before : List Event) × LetsNoneIn before × LogsInBound input hash before es
     go Unasked are accepted = absurd (let e : true ≡ false = sym must ∙ accepted in cc)
     go Cleartext are accepted = absurd (let e : true ≡ false = sym must ∙ accepted in cc)
@@ -197,7 +197,7 @@ offered input es before later methods hash s own allowed asked offer = go g.logi
     rest_none : AsksNone g.rest
     rest_none = ready_none g.rest g.ends
 
-    go : (login : Login) → IsAccepted input login → (mid : List Event) → before ≡ front ++ mid → login_events input login ++ g.rest ≡ mid ++ e ∷ later → LogsInBound input hash before es
+    go : (login : SessionLogin) → IsAccepted input login → (mid : List Event) → before ≡ front ++ mid → login_events input login ++ g.rest ≡ mid ++ e ∷ later → LogsInBound input hash before es
     go Unasked accepted mid at are = absurd (nowhere g.rest mid later e rest_none refl are)
     go Cleartext accepted mid at are =
         let none : AsksNone (login_events input Cleartext ++ g.rest) = (refl, (refl, rest_none)) in

@@ -13,14 +13,14 @@ use Rattle.pgw_session.specs.declared.standing.Standing.{Standing}
 use Rattle.pgw_session.specs.declared.tally.Tally.{Tally}
 use Rattle.pgw_session.specs.declared.stage.Next.{Next}
 use Rattle.pgw_session.specs.declared.stage.Next.TheVariants.{Goes, Closes, Wrong, Refuses, PassesOver}
-use Rattle.pgw_session.specs.Events.{Event, Sent, Got, joined, sents}
+use Rattle.pgw_session.specs.Events.{Event, Sent, Got, all_events, sents}
 use Rattle.pgw_session.specs.Standings.{standing_of, standing_at, standing_by, first_standing}
 use Rattle.pgw_session.specs.Requests.{sends_of}
 use Rattle.pgw_session.specs.Segments.{is_ready, sends}
 use Rattle.pgw_session.specs.Answers.{tally_of, tally_at, tally_after}
 use Rattle.pgw_session.specs.Transcript.{SpellsGot}
 use Rattle.pgw_course.specs.Course.{Move, On, Ends}
-use Rattle.pgw_session.specs.Table.{after, stage_for}
+use Rattle.pgw_session.specs.Table.{next_after, stage_for}
 use Rattle.pgw_session.specs.Machine.{sending}
 use Rattle.pgw_session.proofs.Moves.{opens, moves, passing, turn}
 use Rattle.pgw_session.specs.Talk.{Talk, Ending, said, heard_of, talk_book, talk_rules}
@@ -28,17 +28,17 @@ use Rattle.pgw_session.proofs.ReadingLaws.{steady_by}
 use Rattle.pgw_session.proofs.Hears.{Follows, sents_append, sents_sends}
 use Rattle.pgw_session.specs.Input.{Input}
 
-pub joined_more : (segments : List (List Event)) (es : List Event) → joined (segments ++ es ∷ []) ≡ joined segments ++ es
+pub joined_more : (segments : List (List Event)) (es : List Event) → all_events (segments ++ es ∷ []) ≡ all_events segments ++ es
 joined_more [] es = append-nil es
-joined_more (first ∷ segments) es = ap (λ (l : List Event). first ++ l) (joined_more segments es) ∙ sym (append_assoc first (joined segments) es)
+joined_more (first ∷ segments) es = ap (λ (l : List Event). first ++ l) (joined_more segments es) ∙ sym (append_assoc first (all_events segments) es)
 
 -- a joined list, cut in one of its segments
-pub joined_cut : (closed : List (List Event)) (part rest : List Event) (later : List (List Event)) → joined (closed ++ (part ++ rest) ∷ later) ≡ (joined closed ++ part) ++ (rest ++ joined later)
-joined_cut [] part rest later = append_assoc part rest (joined later)
+pub joined_cut : (closed : List (List Event)) (part rest : List Event) (later : List (List Event)) → all_events (closed ++ (part ++ rest) ∷ later) ≡ (all_events closed ++ part) ++ (rest ++ all_events later)
+joined_cut [] part rest later = append_assoc part rest (all_events later)
 joined_cut (first ∷ closed) part rest later =
     ap (λ (l : List Event). first ++ l) (joined_cut closed part rest later)
-    ∙ sym (append_assoc first (joined closed ++ part) (rest ++ joined later))
-    ∙ ap (λ (l : List Event). l ++ (rest ++ joined later)) (sym (append_assoc first (joined closed) part))
+    ∙ sym (append_assoc first (all_events closed ++ part) (rest ++ all_events later))
+    ∙ ap (λ (l : List Event). l ++ (rest ++ all_events later)) (sym (append_assoc first (all_events closed) part))
 
 standing_sends : (r : Standing) (fs : List Frontend) → fold standing_at r (map Sent fs) ≡ r
 standing_sends r [] = refl
@@ -118,16 +118,16 @@ sending_grown : (before behind : Talk) (es : List Event) (fs : List Frontend) (o
 sending_grown before behind es fs (Err e) is are = tt
 sending_grown before behind es fs (Ok out) is are = (fs, are, is)
 
-pub opens_grown : (input : Input) (closed : List (List Event)) (q : Option Request) → Grown (joined closed) (opens input closed q)
+pub opens_grown : (input : Input) (closed : List (List Event)) (q : Option Request) → Grown (all_events closed) (opens input closed q)
 opens_grown input closed None = tt
-opens_grown input closed (Some q) = sending_grown _ (record { closed = closed; open_events = map Sent (sends_of q); stage = stage_for q; passed = [] }) (joined closed) (sends_of q) (encodings (sends_of q)) refl (append-nil _)
+opens_grown input closed (Some q) = sending_grown _ (record { closed = closed; open_events = map Sent (sends_of q); stage = stage_for q; passed = [] }) (all_events closed) (sends_of q) (encodings (sends_of q)) refl (append-nil _)
 
 moves_grown : (input : Input) (t : Talk) (m : Backend) (n : Next) → t.passed ≡ [] → Grown (said t ++ Got m ∷ []) (moves input t m n)
 moves_grown input t m (Goes stage reply) none =
     sending_grown _ (record { closed = t.closed; open_events = t.open_events ++ Got m ∷ map Sent (sends reply); stage = stage; passed = [] }) (said t ++ Got m ∷ []) (sends reply) (encodings (sends reply)) refl
-    (append-nil _ ∙ sym (append_assoc (joined t.closed) t.open_events (Got m ∷ map Sent (sends reply))) ∙ sym (append_assoc (said t) (Got m ∷ []) (map Sent (sends reply))))
+    (append-nil _ ∙ sym (append_assoc (all_events t.closed) t.open_events (Got m ∷ map Sent (sends reply))) ∙ sym (append_assoc (said t) (Got m ∷ []) (map Sent (sends reply))))
 moves_grown input t m Closes none =
-    subst (λ (es : List Event). Grown es (moves input t m Closes)) (joined_more t.closed (t.open_events ++ Got m ∷ []) ∙ sym (append_assoc (joined t.closed) t.open_events (Got m ∷ [])))
+    subst (λ (es : List Event). Grown es (moves input t m Closes)) (joined_more t.closed (t.open_events ++ Got m ∷ []) ∙ sym (append_assoc (all_events t.closed) t.open_events (Got m ∷ [])))
     (opens_grown input _ (slice_get input.requests (length t.closed)))
 moves_grown input t m Wrong none = tt
 moves_grown input t m (Refuses e) none = tt
@@ -139,7 +139,7 @@ passing_grown input t first m false = ([], ap (λ (l : List Event). said t ++ l)
 
 pub turn_grown : (input : Input) (t : Talk) (m : Backend) (passed : List Backend) → t.passed ≡ passed → Grown (heard_of t ++ Got m ∷ []) (turn input t m passed)
 turn_grown input t m [] none =
-    subst (λ (l : List Event). Grown (l ++ Got m ∷ []) (turn input t m [])) (sym (append-nil (said t)) ∙ ap (λ (ms : List Backend). said t ++ map Got ms) (sym none)) (moves_grown input t m (after input t.stage m) none)
+    subst (λ (l : List Event). Grown (l ++ Got m ∷ []) (turn input t m [])) (sym (append-nil (said t)) ∙ ap (λ (ms : List Backend). said t ++ map Got ms) (sym none)) (moves_grown input t m (next_after input t.stage m) none)
 turn_grown input t m (first ∷ rest) some = passing_grown input t first m (is_ready m)
 
 pub sents_gots : (es : List Event) (ms : List Backend) → sents (es ++ map Got ms) ≡ sents es

@@ -7,11 +7,11 @@ use Rattle.pgw_backend.specs.declared.client_error.PgWireClientError.{PgWireClie
 use Rattle.pgw_backend.specs.Front.{front}
 use Rattle.pgw_frontend.specs.Frontend.{encodings}
 use Rattle.pgw_query.specs.declared.response.ErrorResponse.{ErrorResponse}
-use Rattle.pgw_session.specs.Events.{Event, Got, joined}
+use Rattle.pgw_session.specs.Events.{Event, Got, all_events}
 use Rattle.pgw_session.specs.Standings.{first_standing, standing_of}
 use Rattle.pgw_session.specs.Answers.{tally_of}
 use Rattle.pgw_session.specs.Transcript.{IsLegalPrefix, SpellsGot, EncodesSent, Completed, report_of}
-use Rattle.pgw_session.specs.Failures.{IsServersTurn, RefusedAt, at_once, at_ready, at_the_end, HasNoPlace, NextAtStartup, WaitsAt, LeftWith, Unreadable, Unsendable, IsHopeless, IsUnfinished, FailsAtStartup, EndsAs, WaitsStill, Told, complete, misplaced, unreadable, unsendable, refused, waiting}
+use Rattle.pgw_session.specs.Failures.{IsServersTurn, RefusedAt, at_once, at_ready, at_the_end, HasNoPlace, NextAtStartup, WaitsAt, LeftWith, Unreadable, Unsendable, IsHopeless, IsUnfinished, FailsAtStartup, EndsAs, WaitsStill, BytesTell, complete, misplaced, unreadable, unsendable, refused, waiting}
 use Rattle.pgw_course.specs.Course.{Course, Waits, Over, run, sent_of}
 use Rattle.pgw_session.specs.Machine.{Outcome, Complete, Unencoded, Unexpected, Unread, Refused, end_with}
 use Rattle.pgw_session.specs.Talk.{Talk, Ending, said, heard_of, first_passed, talk_rules, beginning, conversation, whole_talk}
@@ -49,7 +49,7 @@ complete_is_completed input taken sent ending is whole =
     let final = ended input taken sent ending is in
     let cause = cause_at input taken sent ending Complete final whole in
     let talk = ending.notes in
-    let all : heard_of talk ≡ joined talk.closed = sym (clean_heard talk cause.2) ∙ ap (λ (o : List Event). joined talk.closed ++ o) cause.1 ∙ append-nil (joined talk.closed) in
+    let all : heard_of talk ≡ all_events talk.closed = sym (clean_heard talk cause.2) ∙ ap (λ (o : List Event). all_events talk.closed ++ o) cause.1 ∙ append-nil (all_events talk.closed) in
     record {
       segments = talk.closed;
       transcript = cause.0;
@@ -119,7 +119,7 @@ next_at_startup : (input : Input) (taken sent : List ℕ) (ending : Ending) (fin
     → NextAtStartup input taken sent (ending.notes).open_events m
 next_at_startup input taken sent ending final m is_open cause =
     let t = ending.notes in
-    let all : said t ≡ t.open_events = ap (λ (c : List (List Event)). joined c ++ t.open_events) cause.2 in
+    let all : said t ≡ t.open_events = ap (λ (c : List (List Event)). all_events c ++ t.open_events) cause.2 in
     record {
       awaits = subst (λ (c : List (List Event)). IsServersTurn input c t.open_events) cause.2 (open_awaits input t is_open);
       spelled = final.done;
@@ -252,17 +252,17 @@ ends_as input taken sent pending t is = end_by input taken sent pending t (first
 pub waits_still : (input : Input) (taken sent pending : List ℕ) (t : Talk) → conversation input taken ≡ Waits t sent pending → WaitsStill input taken sent
 waits_still input taken sent pending t is = ((t.closed, t.open_events, t.passed, waits_at input taken sent pending t is), unfinished input taken sent pending t is)
 
-told_at_end : (input : Input) (taken sent : List ℕ) (ending : Ending) (o : Outcome) → conversation input taken ≡ Over ending sent → ending.outcome ≡ o → Told input taken sent
+told_at_end : (input : Input) (taken sent : List ℕ) (ending : Ending) (o : Outcome) → conversation input taken ≡ Over ending sent → ending.outcome ≡ o → BytesTell input taken sent
 told_at_end input taken sent ending Complete is why = complete (report_of input (ending.notes).closed) (complete_is_completed input taken sent ending is why)
 told_at_end input taken sent ending (Unencoded e) is why = unsendable e (unencoded input taken sent ending e is why).0
 told_at_end input taken sent ending (Unexpected m) is why = misplaced m (ended_misplaced input ⊥ taken sent ending m is why).0
 told_at_end input taken sent ending (Unread e) is why = unreadable e (ended_unread input taken sent ending e is why).0
 told_at_end input taken sent ending (Refused e) is why = refused e (ended_refused input taken sent ending e is why).0
 
-told_by : (input : Input) (taken : List ℕ) (c : Course Talk Ending) → conversation input taken ≡ c → Told input taken (sent_of c)
+told_by : (input : Input) (taken : List ℕ) (c : Course Talk Ending) → conversation input taken ≡ c → BytesTell input taken (sent_of c)
 told_by input taken (Waits t sent pending) is = waiting (waits_still input taken sent pending t is)
 told_by input taken (Over e sent) is = told_at_end input taken sent e e.outcome is refl
 
 -- what the bytes taken tell
-pub told : (input : Input) (taken : List ℕ) → Told input taken (sent_of (conversation input taken))
+pub told : (input : Input) (taken : List ℕ) → BytesTell input taken (sent_of (conversation input taken))
 told input taken = told_by input taken (conversation input taken) refl

@@ -24,7 +24,7 @@ use Rattle.pgw_frontend.specs.Frontend.{encoding, encodings, both}
 use Rattle.pgw_scram.specs.declared.messages.ServerFirst.{ServerFirst}
 use Rattle.pgw_scram.specs.declared.messages.ServerFinal.{ServerFinal}
 use Rattle.pgw_scram.specs.declared.messages.ServerFinal.TheVariants.{Signature, Failed}
-use Rattle.pgw_hash.specs.Saslprep.{prepared}
+use Rattle.pgw_hash.specs.Saslprep.{saslprep}
 use Rattle.pgw_scram.specs.Base64.{nonce_text, salt_of}
 use Rattle.pgw_types.specs.declared.scram_error.ScramClientError.{ScramClientError}
 use Rattle.pgw_types.specs.declared.scram_error.ScramClientError.TheVariants as scram
@@ -39,7 +39,7 @@ use Rattle.pgw_session.specs.Requests.{sends_of}
 use Rattle.pgw_session.specs.Logins.{user_of, password_of, scram_login, takes_method, methods_refusal, expected_of}
 use Rattle.pgw_scram.specs.Answers.{unless_so, first_of}
 use Rattle.pgw_scram.specs.Refusals.{begins_with, parts_refusal, verifier_refusal}
-use Rattle.pgw_session.specs.Failures.{Place, Before, AtFirst, AtFinal, Behind, refusal_at, Unreadable, Unsendable, FailsAtStartup}
+use Rattle.pgw_session.specs.Failures.{LoginPlace, Before, AtFirst, AtFinal, Behind, refusal_at, Unreadable, Unsendable, FailsAtStartup}
 use Rattle.pgw_session.specs.Faults.{IsByteFault, IsDueFault, IsStartupError}
 use Rattle.pgw_session.proofs.ReadFaults.{front_fault}
 use Rattle.pgw_session.proofs.SentLaws.{AreSent, MaySend, due_sent}
@@ -167,7 +167,7 @@ first_scram false e rest is more = is
 
 methods_startup : (input : Input) (methods : List (List ℕ)) → StartupIf (methods_refusal input methods)
 methods_startup input methods =
-    let has_form = is_some (prepared (user_of input)) in
+    let has_form = is_some (saslprep (user_of input)) in
     let form = option_map of_scram (unless_so has_form (scram.InvalidConfig (codes "user"))) in
     first_startup (takes_method input methods) (client.UnsupportedSASLAuthMethods methods)
     (first_of (unless_so (is_utf8 (password_of input)) (client.ScramError scram_fault.PasswordNotUtf8)) form) tt
@@ -184,7 +184,7 @@ proof_startup expected (Err why) = tt
 proof_startup expected (Ok (Failed text)) = tt
 proof_startup expected (Ok (Signature text)) = unless_scram (bytes_eq text expected) (scram.ScramError scram_fault.SignatureMismatch) tt
 
-refusal_startup : (input : Input) (p : Place) (m : Backend) → StartupIf (refusal_at input p m)
+refusal_startup : (input : Input) (p : LoginPlace) (m : Backend) → StartupIf (refusal_at input p m)
 refusal_startup input p (backend.ErrorResponse e) = tt
 refusal_startup input Before (backend.Authentication (authentication.SASL methods)) = methods_startup input methods
 refusal_startup input (AtFirst methods) (backend.Authentication (authentication.SASLContinue first)) = parts_startup (nonce_text input.nonce) (read_server_first first)

@@ -24,13 +24,13 @@ use Rattle.pgw_scram.specs.declared.exchange.ClientLogin.{ClientLogin}
 use Rattle.pgw_session.specs.Input.{Input}
 use Rattle.pgw_session.specs.Events.{Event, Sent, Got}
 use Rattle.pgw_session.specs.Transcript.{IsEarly}
-use Rattle.pgw_session.specs.Logins.{Login, Unasked, Cleartext, Md5, Scram, login_events, must_bind, IsAccepted, cleartext_message, md5_message, scram_login, first_message, final_message, methods_refusal, first_refusal, expected_of, final_refusal}
+use Rattle.pgw_session.specs.Logins.{SessionLogin, Unasked, Cleartext, Md5, Scram, login_events, must_bind, IsAccepted, cleartext_message, md5_message, scram_login, first_message, final_message, methods_refusal, first_refusal, expected_of, final_refusal}
 use Rattle.pgw_session.specs.declared.stage.Role.{Role}
 use Rattle.pgw_session.specs.declared.stage.Role.TheVariants.{Taken, Closing, Completing, Failing, Misplaced}
 use Rattle.pgw_session.specs.Requests.{sends_of, passes_over, role}
 use Rattle.pgw_session.specs.Segments.{IsStartupSegment, AreAll, IsUpToReady, is_ready, is_other, is_news, is_early, IsBegun, startup_message, IsPassedOver, IsGreeting, AreTaken, IsEnd, IsAnswer, IsSimple, sends}
-use Rattle.pgw_session.specs.Table.{after, news_or, by_login, unless_bound, by_welcome, by_first, by_final, by_role, by_ready, unless, misplaced, stage_for}
-use Rattle.pgw_session.specs.Failures.{Place, Before, AtFirst, AtFinal, Behind, place_at, place_of, refusal_at}
+use Rattle.pgw_session.specs.Table.{next_after, news_or, by_login, unless_bound, by_welcome, by_first, by_final, by_role, by_ready, next_unless, misplaced, stage_for}
+use Rattle.pgw_session.specs.Failures.{LoginPlace, Before, AtFirst, AtFinal, Behind, place_at, place_of, refusal_at}
 use Rattle.pgw_session.proofs.LoginTexts.{some_first, some_final}
 
 -- server-final in its place, and the welcome
@@ -105,16 +105,16 @@ unasked_by : (input : Input) (m : Backend) (es : List Event) (b : Bool) → must
 unasked_by input m es true free r = (es, refl, record { news = []; login = Unasked; rest = es; are = refl; all = tt; accepted = free; ends = r })
 unasked_by input m es false free r = subst (λ x. RestBy input (by_login input x) es) (sym r.1) (subst (λ b. RestBy input (unless_bound b Closes) es) (sym free) r.2)
 
-unless_by : (input : Input) (o : Option ClientError) (n : Next) (es : List Event) → o ≡ None → RestBy input n es → RestBy input (unless o n) es
-unless_by input o n es none r = subst (λ x. RestBy input (unless x n) es) (sym none) r
+unless_by : (input : Input) (o : Option ClientError) (n : Next) (es : List Event) → o ≡ None → RestBy input n es → RestBy input (next_unless o n) es
+unless_by input o n es none r = subst (λ x. RestBy input (next_unless x n) es) (sym none) r
 
 unless_free : (input : Input) (n : Next) (es : List Event) → must_bind input ≡ false → RestBy input n es → RestBy input (unless_bound (must_bind input) n) es
 unless_free input n es free r = subst (λ b. RestBy input (unless_bound b n) es) (sym free) r
 
-greeting_by : (input : Input) (m : Backend) (es : List Event) → IsGreeting input (Got m ∷ es) → RestBy input (after input Starting m) es
+greeting_by : (input : Input) (m : Backend) (es : List Event) → IsGreeting input (Got m ∷ es) → RestBy input (next_after input Starting m) es
 greeting_by input m es g = go g.news g.login g.are g.all g.accepted
   where
-    go : (news : List Backend) (login : Login) → Got m ∷ es ≡ map Got news ++ (login_events input login ++ g.rest) → AreAll (is_early (must_bind input)) news → IsAccepted input login → RestBy input (after input Starting m) es
+    go : (news : List Backend) (login : SessionLogin) → Got m ∷ es ≡ map Got news ++ (login_events input login ++ g.rest) → AreAll (is_early (must_bind input)) news → IsAccepted input login → RestBy input (next_after input Starting m) es
     go (x ∷ news) login are all accepted =
         let same : x ≡ m = cc in
         let rest : es ≡ map Got news ++ (login_events input login ++ g.rest) = cc in
@@ -126,15 +126,15 @@ greeting_by input m es g = go g.news g.login g.are g.all g.accepted
     go [] Cleartext are all accepted =
         let same : m ≡ backend.Authentication authentication.CleartextPassword = cc in
         let rest : es ≡ Sent _ ∷ g.rest = cc in
-        subst (λ x. RestBy input (after input Starting x) es) (sym same) (unless_free input (Goes Admitted (Some (cleartext_message input))) es accepted (g.rest, rest, g.ends))
+        subst (λ x. RestBy input (next_after input Starting x) es) (sym same) (unless_free input (Goes Admitted (Some (cleartext_message input))) es accepted (g.rest, rest, g.ends))
     go [] (Md5 salt) are all accepted =
         let same : m ≡ backend.Authentication (authentication.MD5Password salt) = cc in
         let rest : es ≡ Sent _ ∷ g.rest = cc in
-        subst (λ x. RestBy input (after input Starting x) es) (sym same) (unless_free input (Goes Admitted (Some (md5_message input salt))) es accepted (g.rest, rest, g.ends))
+        subst (λ x. RestBy input (next_after input Starting x) es) (sym same) (unless_free input (Goes Admitted (Some (md5_message input salt))) es accepted (g.rest, rest, g.ends))
     go [] (Scram methods first final) are all accepted =
         let same : m ≡ backend.Authentication (authentication.SASL methods) = cc in
         let rest : es ≡ Sent _ ∷ Got (backend.Authentication (authentication.SASLContinue first)) ∷ Sent (final_message (scram_login input methods) first) ∷ Got (backend.Authentication (authentication.SASLFinal final)) ∷ g.rest = cc in
-        subst (λ x. RestBy input (after input Starting x) es) (sym same)
+        subst (λ x. RestBy input (next_after input Starting x) es) (sym same)
         (unless_by input (methods_refusal input methods) _ es accepted.0 (_, rest, (first, _, refl, accepted.1, (final, g.rest, refl, accepted.2, g.ends))))
 
 answer_by : (input : Input) (k : Kind) (rows : Bool) (m : Backend) (es : List Event) → IsAnswer k rows (Got m ∷ es) → RestBy input (by_role k (role k rows m)) es
@@ -162,7 +162,7 @@ passing_by : (input : Input) (m : Backend) (es : List Event) (b : Bool) → IsUp
 passing_by input m es true r = r.2
 passing_by input m es false r = (es, refl, r)
 
-pub rest_by : (input : Input) (s : Stage) (m : Backend) (es : List Event) → Rest input s (Got m ∷ es) → RestBy input (after input s m) es
+pub rest_by : (input : Input) (s : Stage) (m : Backend) (es : List Event) → Rest input s (Got m ∷ es) → RestBy input (next_after input s m) es
 rest_by input Starting m es r = greeting_by input m es r
 rest_by input (Challenged login) m es r =
     let same : m ≡ backend.Authentication (authentication.SASLContinue r.0) = let are = r.2 in cc in
@@ -182,7 +182,7 @@ abbrev IfGoes : Input → (s : Stage) → Backend → List Event → Option Clie
 IfGoes input s m es None n = RestBy input n es → Rest input s (Got m ∷ es)
 IfGoes input s m es (Some e) n = Unit {0}
 
-by_unless : (input : Input) (s : Stage) (m : Backend) (es : List Event) (o : Option ClientError) (n : Next) → (o ≡ None → RestBy input n es → Rest input s (Got m ∷ es)) → RestBy input (unless o n) es → Rest input s (Got m ∷ es)
+by_unless : (input : Input) (s : Stage) (m : Backend) (es : List Event) (o : Option ClientError) (n : Next) → (o ≡ None → RestBy input n es → Rest input s (Got m ∷ es)) → RestBy input (next_unless o n) es → Rest input s (Got m ∷ es)
 by_unless input s m es None n f r = f refl r
 by_unless input s m es (Some e) n f r = absurd r
 
@@ -251,7 +251,7 @@ by_passing : (input : Input) (m : Backend) (es : List Event) → RestBy input (b
 by_passing input (backend.ReadyForQuery ready) es r = up_last is_other ready es r
 by_passing input m es r = up_more is_other m es refl (subst IsPassedOver (sym r.1) r.2)
 
-pub by_rest : (input : Input) (s : Stage) (m : Backend) (es : List Event) → RestBy input (after input s m) es → Rest input s (Got m ∷ es)
+pub by_rest : (input : Input) (s : Stage) (m : Backend) (es : List Event) → RestBy input (next_after input s m) es → Rest input s (Got m ∷ es)
 by_rest input Starting m es r =
     news_by input Starting m es (is_early (must_bind input) m) (is_early (must_bind input) m) (by_login input m) refl
     (λ is g. record { news = m ∷ g.news; login = g.login; rest = g.rest; are = ap (λ (l : List Event). Got m ∷ l) g.are; all = (is, g.all); accepted = g.accepted; ends = g.ends }) (asked_by input m es) r
@@ -333,7 +333,7 @@ got_up p es r = subst BeginsGot (sym r.are) (go r.ms)
 got_greeting : (input : Input) (es : List Event) → IsGreeting input es → BeginsGot es
 got_greeting input es g = subst BeginsGot (sym g.are) (go g.news g.login)
   where
-    go : (ms : List Backend) (login : Login) → BeginsGot (map Got ms ++ (login_events input login ++ g.rest))
+    go : (ms : List Backend) (login : SessionLogin) → BeginsGot (map Got ms ++ (login_events input login ++ g.rest))
     go (m ∷ ms) login = tt
     go [] Unasked = got_up is_news g.rest g.ends
     go [] Cleartext = tt
@@ -375,7 +375,7 @@ simple_behind (Got x ∷ es) m more l = l
 simple_behind (Sent (frontend.Query q) ∷ es) m more l = tt
 simple_behind (Sent f ∷ es) m more l = l
 
-place_sends : (p : Place) (fs : List Frontend) → fold place_at p (map Sent fs) ≡ p
+place_sends : (p : LoginPlace) (fs : List Frontend) → fold place_at p (map Sent fs) ≡ p
 place_sends p [] = refl
 place_sends p (f ∷ fs) = place_sends p fs
 
@@ -383,7 +383,7 @@ place_more : (es : List Event) (m : Backend) (fs : List Frontend) → place_of (
 place_more es m fs = fold-append place_at Before es (Got m ∷ map Sent fs) ∙ place_sends _ fs
 
 -- the startup segment, with its login block at a place
-abbrev Logs : List (List Event) → List Event → Place → Type 0
+abbrev Logs : List (List Event) → List Event → LoginPlace → Type 0
 Logs closed es p = (closed ≡ []) × (place_of es ≡ p) × (IsSimple es → ⊥)
 
 -- what is known of the closed segments and the open one's events at a stage
@@ -415,16 +415,16 @@ StandsBy input closed es m Wrong = (IsSimple es → ⊥) × (closed ≡ [] → r
 StandsBy input closed es m (Refuses e) = (closed ≡ []) × (refusal_at input (place_of es) m ≡ Some e)
 StandsBy input closed es m PassesOver = IsSimple es
 
-logs_on : (closed : List (List Event)) (es : List Event) (p q : Place) (m : Backend) (fs : List Frontend) → Logs closed es p → place_at p (Got m) ≡ q → Logs closed (es ++ Got m ∷ map Sent fs) q
+logs_on : (closed : List (List Event)) (es : List Event) (p q : LoginPlace) (m : Backend) (fs : List Frontend) → Logs closed es p → place_at p (Got m) ≡ q → Logs closed (es ++ Got m ∷ map Sent fs) q
 logs_on closed es p q m fs l is = (l.0, place_more es m fs ∙ ap (λ x. place_at x (Got m)) l.1 ∙ is, λ simple. l.2 (simple_before es m (map Sent fs) simple))
 
-logs_wrong : (input : Input) (closed : List (List Event)) (es : List Event) (p : Place) (m : Backend) → Logs closed es p → refusal_at input p m ≡ None → StandsBy input closed es m Wrong
+logs_wrong : (input : Input) (closed : List (List Event)) (es : List Event) (p : LoginPlace) (m : Backend) → Logs closed es p → refusal_at input p m ≡ None → StandsBy input closed es m Wrong
 logs_wrong input closed es p m l is = (l.2, λ none. ap (λ x. refusal_at input x m) l.1 ∙ is)
 
-logs_refused : (input : Input) (closed : List (List Event)) (es : List Event) (p : Place) (m : Backend) (e : ClientError) → Logs closed es p → refusal_at input p m ≡ Some e → StandsBy input closed es m (Refuses e)
+logs_refused : (input : Input) (closed : List (List Event)) (es : List Event) (p : LoginPlace) (m : Backend) (e : ClientError) → Logs closed es p → refusal_at input p m ≡ Some e → StandsBy input closed es m (Refuses e)
 logs_refused input closed es p m e l is = (l.0, ap (λ x. refusal_at input x m) l.1 ∙ is)
 
-logs_unless : (input : Input) (closed : List (List Event)) (es : List Event) (p : Place) (m : Backend) (o : Option ClientError) (n : Next) → Logs closed es p → refusal_at input p m ≡ o → StandsBy input closed es m n → StandsBy input closed es m (unless o n)
+logs_unless : (input : Input) (closed : List (List Event)) (es : List Event) (p : LoginPlace) (m : Backend) (o : Option ClientError) (n : Next) → Logs closed es p → refusal_at input p m ≡ o → StandsBy input closed es m n → StandsBy input closed es m (next_unless o n)
 logs_unless input closed es p m None n l is s = s
 logs_unless input closed es p m (Some e) n l is s = logs_refused input closed es p m e l is
 
@@ -459,7 +459,7 @@ early_front input (x ∷ xs) ys b =
         let f = fronts xs news rest all.1 in
         (n ∷ f.0, ap (λ (e : Event). e ∷ xs) same ∙ ap (λ (l : List Event). Got n ∷ l) f.1, (all.0, f.2))
 
-known_place : (p : Place) (m : Backend) → is_news m ≡ true → place_at p (Got m) ≡ p
+known_place : (p : LoginPlace) (m : Backend) → is_news m ≡ true → place_at p (Got m) ≡ p
 known_place p (backend.Authentication authentication.Ok) is = refl
 known_place p (backend.Authentication a) is = cc
 known_place p m is = refl
@@ -507,7 +507,7 @@ role_stands input closed es k rows m Misplaced s = go (passes_over k) refl
     go true is = s.2 is
     go false is = (λ simple. let passes = s.1 simple in cc, λ none. absurd (s.0 none))
 
-pub stands_by : (input : Input) (closed : List (List Event)) (es : List Event) (s : Stage) (m : Backend) → StandsAt input closed es s → StandsBy input closed es m (after input s m)
+pub stands_by : (input : Input) (closed : List (List Event)) (es : List Event) (s : Stage) (m : Backend) → StandsAt input closed es s → StandsBy input closed es m (next_after input s m)
 stands_by input closed es Starting m l = go (is_early (must_bind input) m) refl
   where
     go : (b : Bool) → is_early (must_bind input) m ≡ b → StandsBy input closed es m (news_or b Starting (by_login input m))
@@ -541,13 +541,13 @@ stands_first input (request.Query query types parameters) closed some = (some, �
 
 -- ---- the startup segment is the same whatever is requested
 
-events_same : (input : Input) (qs : List Request) (login : Login) → login_events (record input { requests = qs }) login ≡ login_events input login
+events_same : (input : Input) (qs : List Request) (login : SessionLogin) → login_events (record input { requests = qs }) login ≡ login_events input login
 events_same input qs Unasked = refl
 events_same input qs Cleartext = refl
 events_same input qs (Md5 salt) = refl
 events_same input qs (Scram methods first final) = refl
 
-accepted_same : (input : Input) (qs : List Request) (login : Login) → IsAccepted input login → IsAccepted (record input { requests = qs }) login
+accepted_same : (input : Input) (qs : List Request) (login : SessionLogin) → IsAccepted input login → IsAccepted (record input { requests = qs }) login
 accepted_same input qs Unasked a = a
 accepted_same input qs Cleartext a = a
 accepted_same input qs (Md5 salt) a = a

@@ -20,7 +20,7 @@ use Rattle.pgw_scram.specs.declared.exchange.ClientLogin.{ClientLogin}
 use Rattle.pgw_scram.specs.declared.binding.ClientBinding.{ClientBinding}
 use Rattle.pgw_scram.specs.declared.binding.ClientBinding.TheVariants as binding
 use Rattle.pgw_scram.specs.declared.messages.ServerFirst.{ServerFirst}
-use Rattle.pgw_scram.specs.Binding.{header, binding_text}
+use Rattle.pgw_scram.specs.Binding.{gs2_header, binding_text}
 use Rattle.pgw_scram.specs.Exchange.{exchanged, client_first_bare, client_first, client_final, without_proof}
 use Rattle.pgw_scram.specs.Formulas.{client_proof}
 use Rattle.pgw_hash.specs.Pbkdf2.{salted_password}
@@ -91,7 +91,7 @@ bound_final input methods hash first salt parts own allowed offered read is_salt
 
 pub names_end : (login : ClientLogin) (hash : List ℕ) → login.binding ≡ binding.EndPoint hash → NamesEndPoint (client_first login)
 unfolding client_first
-names_end login hash is = (client_first_bare login.user login.nonce, ap (λ (b : ClientBinding). header b ++ client_first_bare login.user login.nonce) is)
+names_end login hash is = (client_first_bare login.user login.nonce, ap (λ (b : ClientBinding). gs2_header b ++ client_first_bare login.user login.nonce) is)
 
 -- ---- MD5
 

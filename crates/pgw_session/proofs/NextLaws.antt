@@ -5,11 +5,11 @@ use Rattle.pgw_backend.specs.declared.backend.PgWireBackendMessage.{PgWireBacken
 use Rattle.pgw_backend.specs.Front.{front, More, Spells}
 use Rattle.pgw_session.specs.declared.stage.Next.{Next}
 use Rattle.pgw_session.specs.declared.stage.Next.TheVariants.{Goes, Closes, Wrong, Refuses, PassesOver}
-use Rattle.pgw_session.specs.Events.{Event, Got, joined}
+use Rattle.pgw_session.specs.Events.{Event, Got, all_events}
 use Rattle.pgw_session.specs.Standings.{standing_of}
 use Rattle.pgw_session.specs.Transcript.{IsTranscript, IsLegalPrefix}
 use Rattle.pgw_course.specs.Course.{Waits, onto, run}
-use Rattle.pgw_session.specs.Table.{after}
+use Rattle.pgw_session.specs.Table.{next_after}
 use Rattle.pgw_session.proofs.ReadingLaws.{reads_more, reads_whole, steady_by}
 use Rattle.pgw_session.proofs.Moves.{moves, turn}
 use Rattle.pgw_session.specs.Talk.{Talk, said, heard_of, talk_book, talk_rules, beginning, conversation, HasRefused}
@@ -21,7 +21,7 @@ use Rattle.pgw_session.proofs.Sound.{conversation_sound, SoundAt, Open, some_seg
 use Rattle.pgw_session.specs.Input.{Input}
 
 -- a message behind which the segment can end makes a legal prefix
-got_legal : (input : Input) (t : Talk) (m : Backend) (es : List Event) → Open input t → RestBy input (after input t.stage m) es → IsLegalPrefix input (said t ++ Got m ∷ [])
+got_legal : (input : Input) (t : Talk) (m : Backend) (es : List Event) → Open input t → RestBy input (next_after input t.stage m) es → IsLegalPrefix input (said t ++ Got m ∷ [])
 got_legal input t m es is_open rest =
     let later = some_segments input (drop (length t.closed) input.requests) in
     let transcript = is_open.completes (Got m ∷ es) later.0 (by_rest input t.stage m es rest) later.1 in
@@ -30,16 +30,16 @@ got_legal input t m es is_open rest =
       part = t.open_events ++ Got m ∷ [];
       rest = es;
       later = later.0;
-      are = append_assoc (joined t.closed) t.open_events (Got m ∷ []);
+      are = append_assoc (all_events t.closed) t.open_events (Got m ∷ []);
       transcript = subst (λ (l : List Event). IsTranscript input (t.closed ++ l ∷ later.0)) (sym (append_assoc t.open_events (Got m ∷ []) es)) transcript;
       opening = inr (is_open.begins.0 ++ Got m ∷ [], ap (λ (l : List Event). l ++ Got m ∷ []) is_open.begins.1 ∙ append_assoc _ is_open.begins.0 (Got m ∷ []));
     }))
 
 -- a message that makes none is refused
-refused_by : (input : Input) (t : Talk) (sent : List ℕ) (m : Backend) (n : Next) → t.passed ≡ [] → after input t.stage m ≡ n → Open input t → (IsLegalPrefix input (said t ++ Got m ∷ []) → ⊥)
+refused_by : (input : Input) (t : Talk) (sent : List ℕ) (m : Backend) (n : Next) → t.passed ≡ [] → next_after input t.stage m ≡ n → Open input t → (IsLegalPrefix input (said t ++ Got m ∷ []) → ⊥)
     → HasRefused (onto sent (moves input t m n))
 refused_by input t sent m (Goes stage reply) clean is is_open illegal =
-    absurd (illegal (subst (IsLegalPrefix input) (sym (append_assoc (joined t.closed) t.open_events (Got m ∷ []))) (reply_legal input t m stage reply is is_open).0))
+    absurd (illegal (subst (IsLegalPrefix input) (sym (append_assoc (all_events t.closed) t.open_events (Got m ∷ []))) (reply_legal input t m stage reply is is_open).0))
 refused_by input t sent m Closes clean is is_open illegal = absurd (illegal (got_legal input t m [] is_open (subst (λ n. RestBy input n []) (sym is) refl)))
 refused_by input t sent m Wrong clean is is_open illegal = tt
 refused_by input t sent m (Refuses e) clean is is_open illegal = tt
@@ -47,7 +47,7 @@ refused_by input t sent m PassesOver clean is is_open illegal = (m, [], ap (λ (
 
 -- where the conversation waits with nothing passed over, and a message is whole then
 message_taken : (input : Input) (taken sent pending more : List ℕ) (t : Talk) (m : Backend) → conversation input taken ≡ Waits t sent pending → t.passed ≡ [] → Spells (standing_of input.config (said t)).version m (pending ++ more)
-    → front (standing_of input.config (heard_of t)).version pending ≡ More → conversation input (taken ++ more) ≡ onto sent (moves input t m (after input t.stage m))
+    → front (standing_of input.config (heard_of t)).version pending ≡ More → conversation input (taken ++ more) ≡ onto sent (moves input t m (next_after input t.stage m))
 unfolding conversation
 message_taken input taken sent pending more t m waits clean spells part =
     let rules = talk_rules input in
@@ -65,5 +65,5 @@ refused_exactly input taken sent pending more t m waits clean spells =
     let at = subst (SoundAt input taken) waits (conversation_sound input taken) in
     let course = message_taken input taken sent pending more t m waits clean spells at.3 in (
       λ refused. no_place input t sent m clean at.2.heard (subst HasRefused course refused),
-      λ illegal. subst HasRefused (sym course) (refused_by input t sent m (after input t.stage m) clean refl at.2.is_open illegal),
+      λ illegal. subst HasRefused (sym course) (refused_by input t sent m (next_after input t.stage m) clean refl at.2.is_open illegal),
     )

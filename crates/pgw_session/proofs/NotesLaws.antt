@@ -8,11 +8,11 @@ use Rattle.pgw_session.specs.declared.types.Request.{Request}
 use Rattle.pgw_session.specs.declared.stage.Stage.{Stage}
 use Rattle.pgw_session.specs.declared.stage.Stage.TheVariants.{Starting}
 use Rattle.pgw_session.specs.Input.{Input}
-use Rattle.pgw_session.specs.Events.{Event, Sent, Got, joined}
+use Rattle.pgw_session.specs.Events.{Event, Sent, Got, all_events}
 use Rattle.pgw_session.specs.Standings.{standing_of, standing_at, standing_by, first_standing}
 use Rattle.pgw_session.specs.Answers.{tally_of, tally_at, tally_after, no_tally, answer_of, answers_of}
-use Rattle.pgw_session.specs.Machine.{answered, ended, rules_by, beginning_by}
-use Rattle.pgw_course.specs.Course.{run, seen}
+use Rattle.pgw_session.specs.Machine.{open_request, map_end, rules_by, beginning_by}
+use Rattle.pgw_course.specs.Course.{run, map_course}
 use Rattle.pgw_session.specs.declared.types.Answer.{Answer}
 use Rattle.pgw_session.specs.declared.tally.Tally.{Tally}
 use Rattle.pgw_config.specs.declared.config.Config.{Config}
@@ -57,7 +57,7 @@ answers_more [] (first ∷ closed) es = refl
 answers_more (q ∷ qs) [] es = refl
 answers_more (q ∷ qs) (first ∷ closed) es = ap (λ (l : List Answer). answer_of q first ∷ l) (answers_more qs closed es)
 
-answers_on : (input : Input) (closed : List (List Event)) (es : List Event) → answers_of input.requests (drop 1 (closed ++ es ∷ [])) ≡ answers_of input.requests (drop 1 closed) ++ answer_for (answered input (length closed)) (tally_of es)
+answers_on : (input : Input) (closed : List (List Event)) (es : List Event) → answers_of input.requests (drop 1 (closed ++ es ∷ [])) ≡ answers_of input.requests (drop 1 closed) ++ answer_for (open_request input (length closed)) (tally_of es)
 answers_on input [] es = sym (append-nil (answers_of input.requests []))
 answers_on input (first ∷ closed) es = answers_more input.requests closed es
 
@@ -67,11 +67,11 @@ takes_view : (input : Input) (t : Talk) (m : Backend) (fs : List Frontend) (s : 
 takes_view input t m fs s none =
     let clean = none_passed t.passed none in
     let tally = tally_more t.open_events m fs in
-    let standing : standing_of input.config ((joined t.closed ++ (t.open_events ++ Got m ∷ map Sent fs)) ++ []) ≡ standing_by (standing_of input.config (heard_of t)) m =
-    ap (standing_of input.config) (append-nil _ ∙ sym (append_assoc (joined t.closed) t.open_events (Got m ∷ map Sent fs)) ∙ sym (append_assoc (said t) (Got m ∷ []) (map Sent fs)) ∙ ap (λ (l : List Event). (l ++ Got m ∷ []) ++ map Sent fs) (clean_heard t clean)) ∙ standing_more input.config (heard_of t) m fs in
+    let standing : standing_of input.config ((all_events t.closed ++ (t.open_events ++ Got m ∷ map Sent fs)) ++ []) ≡ standing_by (standing_of input.config (heard_of t)) m =
+    ap (standing_of input.config) (append-nil _ ∙ sym (append_assoc (all_events t.closed) t.open_events (Got m ∷ map Sent fs)) ∙ sym (append_assoc (said t) (Got m ∷ []) (map Sent fs)) ∙ ap (λ (l : List Event). (l ++ Got m ∷ []) ++ map Sent fs) (clean_heard t clean)) ∙ standing_more input.config (heard_of t) m fs in
     cc
 
-closes_view : (input : Input) (t : Talk) (m : Backend) → first_passed t.passed ≡ None → notes_book.closes (view input t) m (answered input (length t.closed)) ≡ view input ((talk_book input).closes t m (answered input (length t.closed)))
+closes_view : (input : Input) (t : Talk) (m : Backend) → first_passed t.passed ≡ None → notes_book.closes (view input t) m (open_request input (length t.closed)) ≡ view input ((talk_book input).closes t m (open_request input (length t.closed)))
 closes_view input t m none =
     let clean = none_passed t.passed none in
     let es = t.open_events ++ Got m ∷ [] in
@@ -80,8 +80,8 @@ closes_view input t m none =
     let answers = answers_on input t.closed es in
     let count = length_push t.closed es in
     let one : length t.closed + 1 ≡ suc (length t.closed) = omega arith in
-    let standing : standing_of input.config ((joined (t.closed ++ es ∷ []) ++ []) ++ []) ≡ standing_by (standing_of input.config (heard_of t)) m =
-    ap (standing_of input.config) (append-nil _ ∙ append-nil _ ∙ joined_more t.closed es ∙ sym (append_assoc (joined t.closed) t.open_events (Got m ∷ [])) ∙ ap (λ (l : List Event). l ++ Got m ∷ []) (clean_heard t clean)) ∙ standing_one input.config (heard_of t) m in
+    let standing : standing_of input.config ((all_events (t.closed ++ es ∷ []) ++ []) ++ []) ≡ standing_by (standing_of input.config (heard_of t)) m =
+    ap (standing_of input.config) (append-nil _ ∙ append-nil _ ∙ joined_more t.closed es ∙ sym (append_assoc (all_events t.closed) t.open_events (Got m ∷ [])) ∙ ap (λ (l : List Event). l ++ Got m ∷ []) (clean_heard t clean)) ∙ standing_one input.config (heard_of t) m in
     cc
 
 passes_view : (input : Input) (t : Talk) (m : Backend) → notes_book.passes (view input t) m ≡ view input ((talk_book input).passes t m)
@@ -94,8 +94,8 @@ passes_view input t m =
 opens_view : (input : Input) (t : Talk) (fs : List Frontend) (s : Stage) → notes_book.opens (view input t) fs s ≡ view input ((talk_book input).opens t fs s)
 opens_view input t fs s =
     let tally = tally_sends t.open_events fs in
-    let standing : standing_of input.config ((joined t.closed ++ (t.open_events ++ map Sent fs)) ++ map Got t.passed) ≡ standing_of input.config (heard_of t) =
-    ap (λ (l : List Event). standing_of input.config (l ++ map Got t.passed)) (sym (append_assoc (joined t.closed) t.open_events (map Sent fs))) ∙ standing_inside input.config (said t) (map Got t.passed) fs in
+    let standing : standing_of input.config ((all_events t.closed ++ (t.open_events ++ map Sent fs)) ++ map Got t.passed) ≡ standing_of input.config (heard_of t) =
+    ap (λ (l : List Event). standing_of input.config (l ++ map Got t.passed)) (sym (append_assoc (all_events t.closed) t.open_events (map Sent fs))) ∙ standing_inside input.config (said t) (map Got t.passed) fs in
     cc
 
 notes_view : (input : Input) → IsBookView input (talk_book input) notes_book (view input)
@@ -119,7 +119,7 @@ first_view input = go input.requests
     go (q ∷ qs) = refl
 
 -- what a client notes of the bytes is a view of their conversation
-pub notes_tell : (input : Input) (bytes : List ℕ) → noted_of input bytes ≡ seen (view input) (ended (view input)) (conversation input bytes)
+pub notes_tell : (input : Input) (bytes : List ℕ) → noted_of input bytes ≡ map_course (view input) (map_end (view input)) (conversation input bytes)
 unfolding noted_of conversation
 notes_tell input bytes =
     ap (λ n. run (rules_by notes_book input) (beginning_by notes_book input n) bytes) (first_view input)

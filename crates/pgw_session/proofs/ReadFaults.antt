@@ -8,15 +8,15 @@ use Rattle.pgw_types.specs.declared.context.ProtocolVersion.{ProtocolVersion}
 use Rattle.pgw_types.specs.declared.context.ProtocolVersion.TheVariants.{PROTOCOL3_0, PROTOCOL3_2, PROTOCOL3_9999}
 use Rattle.pgw_wire.specs.declared.framing.Framing.{Framing}
 use Rattle.pgw_wire.specs.declared.framing.Framing.TheVariants.{Typed, Untyped, Opening, Code, OneByte}
-use Rattle.pgw_wire.specs.Reading.{◌>>=◌, nat_at, int_at, cut_at, text_at, name_at, octets_at, rest_at, ended, all_of, extended_count, counted, many_at, list_at, marked, up_to_mark, marked_list_at}
+use Rattle.pgw_wire.specs.Reading.{◌>>=◌, nat_at, int_at, cut_at, text_at, name_at, octets_at, rest_at, read_end, all_of, extended_count, elements_fit, many_at, list_at, marked, up_to_mark, marked_list_at}
 use Rattle.pgw_wire.specs.Formats.{pair_at, made_at, counted_at, tried_at}
 use Rattle.pgw_wire.specs.Counted.{counted16_at}
 use Rattle.pgw_wire.specs.Codes.{code_at}
 use Rattle.pgw_wire.specs.Keys.{is_no_key, key_by, key_of}
-use Rattle.pgw_wire.specs.Framing.{length_frame, frame, framed, front, stated_length, as_one_of}
+use Rattle.pgw_wire.specs.Framing.{length_frame, frame, framed, wire_front, stated_length, as_one_of}
 use Rattle.pgw_startup.specs.Login.{by_code, authentication_of, parameter_status_of, backend_key_data_of, negotiate_of}
 use Rattle.pgw_startup.specs.Response.{ssl_reply, gss_reply, ssl_response_of, gss_enc_response_of}
-use Rattle.pgw_query.specs.Rows.{status_of, ready_for_query_of, command_complete_of, empty_query_response_of, codes_at, error_response_of, notice_response_of, field_at, row_description_of, data_row_of, parameter_description_of, no_data_of, notification_response_of}
+use Rattle.pgw_query.specs.Rows.{status_of_byte, ready_for_query_of, command_complete_of, empty_query_response_of, codes_at, error_response_of, notice_response_of, field_at, row_description_of, data_row_of, parameter_description_of, no_data_of, notification_response_of}
 use Rattle.pgw_ext.specs.Rows.{parse_complete_of, bind_complete_of, close_complete_of, portal_suspended_of}
 use Rattle.pgw_copy.specs.Rows.{copy_data_of, copy_done_of, copy_fail_of, columns_at, copy_in_response_of, copy_out_response_of, copy_both_response_of}
 use Rattle.pgw_backend.specs.declared.backend.PgWireBackendMessage.{PgWireBackendMessage}
@@ -71,12 +71,12 @@ rest_fine : IsFine rest_at
 unfolding rest_at
 rest_fine bytes = tt
 
-ended_fine : IsFine ended
-unfolding ended
+ended_fine : IsFine read_end
+unfolding read_end
 ended_fine bytes = either (length bytes == 0) _ _ tt tt
 
 all_fine : {A : Type 0} (read : Result (A × List ℕ) PgWireError) → Fine read → Fine (all_of read)
-all_fine read fine = then read _ fine (λ x. then (ended x.1) _ (ended_fine x.1) (λ u. tt))
+all_fine read fine = then read _ fine (λ x. then (read_end x.1) _ (ended_fine x.1) (λ u. tt))
 
 pair_fine : {A B : Type 0} (p : List ℕ → Result (A × List ℕ) PgWireError) (q : List ℕ → Result (B × List ℕ) PgWireError) → IsFine p → IsFine q → IsFine (pair_at p q)
 pair_fine p q f g bytes = then (p bytes) _ (f bytes) (λ x. then (q x.1) _ (g x.1) (λ y. tt))
@@ -89,8 +89,8 @@ tried_fine try p t f bytes = then (p bytes) _ (f bytes) (λ x. then (try x.0) _ 
 
 -- ---- lists
 
-counted_fine : (count least : ℕ) → IsFine (counted count least)
-unfolding counted
+counted_fine : (count least : ℕ) → IsFine (elements_fit count least)
+unfolding elements_fit
 counted_fine count least bytes = either (nat_lt (length bytes) _) _ _ tt tt
 
 many_fine : {A : Type 0} (kind : List ℕ → Result (A × List ℕ) PgWireError) → IsFine kind → (n : ℕ) → IsFine (many_at kind n)
@@ -99,7 +99,7 @@ many_fine kind f zero bytes = tt
 many_fine kind f (suc n) bytes = then (kind bytes) _ (f bytes) (λ x. then (many_at kind n x.1) _ (many_fine kind f n x.1) (λ y. tt))
 
 list_fine : {A : Type 0} (kind : List ℕ → Result (A × List ℕ) PgWireError) → IsFine kind → (least count : ℕ) → IsFine (list_at kind least count)
-list_fine kind f least count bytes = then (counted count least bytes) _ (counted_fine count least bytes) (λ u. many_fine kind f count bytes)
+list_fine kind f least count bytes = then (elements_fit count least bytes) _ (counted_fine count least bytes) (λ u. many_fine kind f count bytes)
 
 counted_list_fine : {A : Type 0} (w : Width) (least : ℕ) (kind : List ℕ → Result (A × List ℕ) PgWireError) → IsFine kind → IsFine (counted_at w least kind)
 counted_list_fine w least kind f bytes = then (int_at w bytes) _ (int_fine w bytes) (λ c. list_fine kind f least (extended_count c.0) c.1)
@@ -166,8 +166,8 @@ unfolding gss_enc_response_of gss_reply
 gss_fine ctx bytes = all_fine _ (tried_fine gss_reply (nat_at w8) (λ b. either (b == 71) _ _ tt (either (b == 78) _ _ tt tt)) (nat_fine w8) bytes)
 
 ready_fine : (ctx : DecodeContext) → IsFine (ready_for_query_of ctx)
-unfolding ready_for_query_of status_of
-ready_fine ctx bytes = all_fine _ (made_fine _ _ (tried_fine status_of (nat_at w8) (λ b. either (b == 73) _ _ tt (either (b == 84) _ _ tt (either (b == 69) _ _ tt tt))) (nat_fine w8)) bytes)
+unfolding ready_for_query_of status_of_byte
+ready_fine ctx bytes = all_fine _ (made_fine _ _ (tried_fine status_of_byte (nat_at w8) (λ b. either (b == 73) _ _ tt (either (b == 84) _ _ tt (either (b == 69) _ _ tt tt))) (nat_fine w8)) bytes)
 
 command_complete_fine : (ctx : DecodeContext) → IsFine (command_complete_of ctx)
 unfolding command_complete_of
@@ -233,31 +233,31 @@ copy_both_fine ctx bytes = all_fine _ (made_fine _ columns_at columns_fine bytes
 -- messages without a body
 empty_query_fine : (ctx : DecodeContext) → IsFine (empty_query_response_of ctx)
 unfolding empty_query_response_of
-empty_query_fine ctx bytes = then (ended bytes) _ (ended_fine bytes) (λ u. tt)
+empty_query_fine ctx bytes = then (read_end bytes) _ (ended_fine bytes) (λ u. tt)
 
 no_data_fine : (ctx : DecodeContext) → IsFine (no_data_of ctx)
 unfolding no_data_of
-no_data_fine ctx bytes = then (ended bytes) _ (ended_fine bytes) (λ u. tt)
+no_data_fine ctx bytes = then (read_end bytes) _ (ended_fine bytes) (λ u. tt)
 
 parse_complete_fine : (ctx : DecodeContext) → IsFine (parse_complete_of ctx)
 unfolding parse_complete_of
-parse_complete_fine ctx bytes = then (ended bytes) _ (ended_fine bytes) (λ u. tt)
+parse_complete_fine ctx bytes = then (read_end bytes) _ (ended_fine bytes) (λ u. tt)
 
 bind_complete_fine : (ctx : DecodeContext) → IsFine (bind_complete_of ctx)
 unfolding bind_complete_of
-bind_complete_fine ctx bytes = then (ended bytes) _ (ended_fine bytes) (λ u. tt)
+bind_complete_fine ctx bytes = then (read_end bytes) _ (ended_fine bytes) (λ u. tt)
 
 close_complete_fine : (ctx : DecodeContext) → IsFine (close_complete_of ctx)
 unfolding close_complete_of
-close_complete_fine ctx bytes = then (ended bytes) _ (ended_fine bytes) (λ u. tt)
+close_complete_fine ctx bytes = then (read_end bytes) _ (ended_fine bytes) (λ u. tt)
 
 suspended_fine : (ctx : DecodeContext) → IsFine (portal_suspended_of ctx)
 unfolding portal_suspended_of
-suspended_fine ctx bytes = then (ended bytes) _ (ended_fine bytes) (λ u. tt)
+suspended_fine ctx bytes = then (read_end bytes) _ (ended_fine bytes) (λ u. tt)
 
 copy_done_fine : (ctx : DecodeContext) → IsFine (copy_done_of ctx)
 unfolding copy_done_of
-copy_done_fine ctx bytes = then (ended bytes) _ (ended_fine bytes) (λ u. tt)
+copy_done_fine ctx bytes = then (read_end bytes) _ (ended_fine bytes) (λ u. tt)
 
 -- ---- the front
 
@@ -286,9 +286,9 @@ framed_fine : {M : Type 0} (read : List ℕ → Result M PgWireError) → IsFine
 framed_fine read f bytes None = tt
 framed_fine read f bytes (Some at) = then (read (slice_range bytes at.0 at.1)) _ (f (slice_range bytes at.0 at.1)) (λ m. tt)
 
-as_one_fine : {A : Type 0} (make : A → PgWireBackendMessage) (framing : Framing) → IsOfServer framing → (limit : ℕ) (read : List ℕ → Result A PgWireError) → IsFine read → (bytes : List ℕ) → Fine (as_one_of make (front framing limit read bytes))
-unfolding front
-as_one_fine make framing of limit read f bytes = then (front framing limit read bytes) _ (then (frame framing limit bytes) _ (frame_fine framing limit of bytes) (λ o. framed_fine read f bytes o)) (λ o. tt)
+as_one_fine : {A : Type 0} (make : A → PgWireBackendMessage) (framing : Framing) → IsOfServer framing → (limit : ℕ) (read : List ℕ → Result A PgWireError) → IsFine read → (bytes : List ℕ) → Fine (as_one_of make (wire_front framing limit read bytes))
+unfolding wire_front
+as_one_fine make framing of limit read f bytes = then (wire_front framing limit read bytes) _ (then (frame framing limit bytes) _ (frame_fine framing limit of bytes) (λ o. framed_fine read f bytes o)) (λ o. tt)
 
 copy_by_fine : (byte : ℕ) (ctx : DecodeContext) (bytes : List ℕ) → Fine (copy_by byte ctx bytes)
 copy_by_fine byte ctx bytes =

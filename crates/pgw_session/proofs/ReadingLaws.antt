@@ -8,33 +8,33 @@ use Rattle.pgw_backend.specs.declared.backend.PgWireBackendMessage.{PgWireBacken
 use Rattle.pgw_backend.proofs.FrontLaws.{front_nil, front_whole, front_take, front_whole_more, front_bad_more}
 use Rattle.pgw_course.specs.Course.{More, Bad, Whole, IsReading, IsSteady}
 use Rattle.pgw_session.specs.Input.{Input}
-use Rattle.pgw_session.specs.Reading.{met, reading}
+use Rattle.pgw_session.specs.Reading.{session_front, version_front}
 use Rattle.pgw_session.specs.Machine.{Notebook, rules_by}
 
 -- ---- the front as the messages have it, and as a machine reads it
 
-pub reads_more : (v : ProtocolVersion) (bytes : List ℕ) → front v bytes ≡ message.More → reading v bytes ≡ More
-reads_more v bytes e = ap met e
+pub reads_more : (v : ProtocolVersion) (bytes : List ℕ) → front v bytes ≡ message.More → version_front v bytes ≡ More
+reads_more v bytes e = ap session_front e
 
-pub reads_bad : (v : ProtocolVersion) (bytes : List ℕ) (why : PgWireError) → front v bytes ≡ message.Bad why → reading v bytes ≡ Bad why
-reads_bad v bytes why e = ap met e
+pub reads_bad : (v : ProtocolVersion) (bytes : List ℕ) (why : PgWireError) → front v bytes ≡ message.Bad why → version_front v bytes ≡ Bad why
+reads_bad v bytes why e = ap session_front e
 
-pub reads_whole : (v : ProtocolVersion) (bytes : List ℕ) (m : Backend) (len : ℕ) → front v bytes ≡ message.Whole m len → reading v bytes ≡ Whole m len
-reads_whole v bytes m len e = ap met e
+pub reads_whole : (v : ProtocolVersion) (bytes : List ℕ) (m : Backend) (len : ℕ) → front v bytes ≡ message.Whole m len → version_front v bytes ≡ Whole m len
+reads_whole v bytes m len e = ap session_front e
 
-met_bad : (f : message.Front) (why : PgWireError) → met f ≡ Bad why → f ≡ message.Bad why
+met_bad : (f : message.BackendFront) (why : PgWireError) → session_front f ≡ Bad why → f ≡ message.Bad why
 met_bad message.More why e = absurd cc
 met_bad (message.Bad other) why e = let same : other ≡ why = cc in ap message.Bad same
 met_bad (message.Whole m len) why e = absurd cc
 
-met_whole : (f : message.Front) (m : Backend) (len : ℕ) → met f ≡ Whole m len → f ≡ message.Whole m len
+met_whole : (f : message.BackendFront) (m : Backend) (len : ℕ) → session_front f ≡ Whole m len → f ≡ message.Whole m len
 met_whole message.More m len e = absurd cc
 met_whole (message.Bad why) m len e = absurd cc
 met_whole (message.Whole n size) m len e = let same : n ≡ m = cc in let long : size ≡ len = cc in cc
 
 -- ---- the laws of a reading
 
-pub steady : (v : ProtocolVersion) → IsReading (reading v)
+pub steady : (v : ProtocolVersion) → IsReading (version_front v)
 steady v = record {
   none = reads_more v [] (front_nil v);
   within = λ bytes m len e. (front_whole v bytes m len (met_whole (front v bytes) m len e)).1;

@@ -18,12 +18,12 @@ use Rattle.pgw_session.specs.declared.stage.Role.{Role}
 use Rattle.pgw_session.specs.declared.stage.Role.TheVariants.{Taken, Closing, Completing, Failing, Misplaced}
 use Rattle.pgw_scram.specs.declared.exchange.ClientLogin.{ClientLogin}
 use Rattle.pgw_session.specs.Input.{Input}
-use Rattle.pgw_session.specs.Events.{Event, Sent, Got, joined, sents}
+use Rattle.pgw_session.specs.Events.{Event, Sent, Got, all_events, sents}
 use Rattle.pgw_session.specs.Logins.{must_bind, cleartext_message, md5_message, scram_login, first_message, final_message, methods_refusal, first_refusal, final_refusal}
 use Rattle.pgw_session.specs.Requests.{sends_of, sync, behind_error, passes_over, role}
 use Rattle.pgw_session.specs.Segments.{IsRequestSegment, startup_message, is_news, is_early, is_ready, sends}
 use Rattle.pgw_session.specs.Transcript.{AreSegments, IsTranscript, IsLegalPrefix}
-use Rattle.pgw_session.specs.Table.{after, stage_for, news_or, unless, unless_bound, by_welcome, by_login, by_first, by_final, by_role, by_ready, misplaced}
+use Rattle.pgw_session.specs.Table.{next_after, stage_for, news_or, next_unless, unless_bound, by_welcome, by_login, by_first, by_final, by_role, by_ready, misplaced}
 use Rattle.pgw_session.proofs.Hears.{sents_append, sents_sends}
 use Rattle.pgw_session.proofs.Events.{joined_cut, sents_gots}
 use Rattle.pgw_session.proofs.Grammar.{Rest, RestBy, rest_by, rest_sent}
@@ -61,7 +61,7 @@ abbrev ReplySent : (Frontend → Type 0) → Next → Type 0
 ReplySent P (Goes s reply) = AreSent P (sends reply)
 ReplySent P n = Unit {0}
 
-unless_sent : (P : Frontend → Type 0) (o : Option ClientError) (n : Next) → ReplySent P n → ReplySent P (unless o n)
+unless_sent : (P : Frontend → Type 0) (o : Option ClientError) (n : Next) → ReplySent P n → ReplySent P (next_unless o n)
 unless_sent P None n r = r
 unless_sent P (Some e) n r = tt
 
@@ -127,7 +127,7 @@ ready_sent : (P : Frontend → Type 0) (b : Bool) → ReplySent P (by_ready b)
 ready_sent P true = tt
 ready_sent P false = tt
 
-reply_sent : (input : Input) (P : Frontend → Type 0) (s : Stage) (m : Backend) → MaySend input P → ReplySent P (after input s m)
+reply_sent : (input : Input) (P : Frontend → Type 0) (s : Stage) (m : Backend) → MaySend input P → ReplySent P (next_after input s m)
 reply_sent input P Starting m may = news_sent P (is_early (must_bind input) m) Starting _ (login_sent input P m may)
 reply_sent input P (Challenged login) m may = first_sent input P login m may
 reply_sent input P (Proving expected) m may = last_sent P expected m
@@ -158,26 +158,26 @@ rest_sent_by : (input : Input) (P : Frontend → Type 0) (n : ℕ) → MaySend i
 rest_sent_by input P n may s [] le rest = tt
 rest_sent_by input P n may s (Sent m ∷ es) le rest = absurd (rest_sent input s m es rest)
 rest_sent_by input P zero may s (Got m ∷ es) le rest = absurd (omega (arith, le))
-rest_sent_by input P (suc n) may s (Got m ∷ es) le rest = behind_sent input P n (rest_sent_by input P n may) (after input s m) es (reply_sent input P s m may) (omega (arith, le)) (rest_by input s m es rest)
+rest_sent_by input P (suc n) may s (Got m ∷ es) le rest = behind_sent input P n (rest_sent_by input P n may) (next_after input s m) es (reply_sent input P s m may) (omega (arith, le)) (rest_by input s m es rest)
 
 segment_sent : (input : Input) (P : Frontend → Type 0) (q : Request) (es : List Event) → MaySend input P → AreSent P (sends_of q) → IsRequestSegment q es → AreSent P (sents es)
 segment_sent input P q es may opening seg =
     subst (λ (l : List Event). AreSent P (sents l)) (sym seg.1) (sends_parts P (sends_of q) seg.0 opening (rest_sent_by input P (length seg.0) may (stage_for q) seg.0 (omega arith) seg.2))
 
-segments_sent : (input : Input) (P : Frontend → Type 0) (qs : List Request) (segments : List (List Event)) → MaySend input P → All (λ q. AreSent P (sends_of q)) qs → AreSegments qs segments → AreSent P (sents (joined segments))
+segments_sent : (input : Input) (P : Frontend → Type 0) (qs : List Request) (segments : List (List Event)) → MaySend input P → All (λ q. AreSent P (sends_of q)) qs → AreSegments qs segments → AreSent P (sents (all_events segments))
 segments_sent input P [] [] may all segs = tt
 segments_sent input P [] (es ∷ segments) may all segs = absurd segs
 segments_sent input P (q ∷ qs) [] may all segs = absurd segs
 segments_sent input P (q ∷ qs) (es ∷ segments) may all segs =
-    sents_parts P es (joined segments) (segment_sent input P q es may (All-head (λ q. AreSent P (sends_of q)) q qs all) segs.0) (segments_sent input P qs segments may (All-tail (λ q. AreSent P (sends_of q)) q qs all) segs.1)
+    sents_parts P es (all_events segments) (segment_sent input P q es may (All-head (λ q. AreSent P (sends_of q)) q qs all) segs.0) (segments_sent input P qs segments may (All-tail (λ q. AreSent P (sends_of q)) q qs all) segs.1)
 
 -- each message sent in a transcript has the property
-pub transcript_sent : (input : Input) (P : Frontend → Type 0) (segments : List (List Event)) → MaySend input P → IsTranscript input segments → AreSent P (sents (joined segments))
+pub transcript_sent : (input : Input) (P : Frontend → Type 0) (segments : List (List Event)) → MaySend input P → IsTranscript input segments → AreSent P (sents (all_events segments))
 transcript_sent input P [] may transcript = absurd transcript
 transcript_sent input P (es ∷ segments) may transcript =
     let start = transcript.0 in
     let first = sends_parts P (startup_message input ∷ []) start.0 (may.startup, tt) (rest_sent_by input P (length start.0) may Starting start.0 (omega arith) start.2) in
-    sents_parts P es (joined segments) (subst (λ (l : List Event). AreSent P (sents l)) (sym start.1) first) (segments_sent input P input.requests segments may may.sends transcript.1)
+    sents_parts P es (all_events segments) (subst (λ (l : List Event). AreSent P (sents l)) (sym start.1) first) (segments_sent input P input.requests segments may may.sends transcript.1)
 
 -- so does each message sent in a legal prefix
 pub prefix_sent : (input : Input) (P : Frontend → Type 0) (es : List Event) → MaySend input P → IsLegalPrefix input es → AreSent P (sents es)
@@ -186,9 +186,9 @@ prefix_sent input P es may (inr (inr (inl none))) = subst (λ (l : List Event). 
 prefix_sent input P es may (inr (inr (inr b))) =
     subst (λ (l : List Event). AreSent P (sents l)) (sym b.1) (may.startup, subst (AreSent P) (sym (sents_gots [] b.0)) tt)
 prefix_sent input P es may (inr (inl p)) =
-    sent_front P (sents es) (sents (p.rest ++ joined p.later))
-    (subst (AreSent P) (sents_append es (p.rest ++ joined p.later))
-    (subst (λ (l : List Event). AreSent P (sents l)) (joined_cut p.closed p.part p.rest p.later ∙ ap (λ (l : List Event). l ++ (p.rest ++ joined p.later)) (sym p.are)) (transcript_sent input P _ may p.transcript)))
+    sent_front P (sents es) (sents (p.rest ++ all_events p.later))
+    (subst (AreSent P) (sents_append es (p.rest ++ all_events p.later))
+    (subst (λ (l : List Event). AreSent P (sents l)) (joined_cut p.closed p.part p.rest p.later ∙ ap (λ (l : List Event). l ++ (p.rest ++ all_events p.later)) (sym p.are)) (transcript_sent input P _ may p.transcript)))
 
 -- and each that is due behind one
 pub due_sent : (input : Input) (P : Frontend → Type 0) (es : List Event) (due : List Frontend) → MaySend input P → IsLegalPrefix input (es ++ map Sent due) → AreSent P due

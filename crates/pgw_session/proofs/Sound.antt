@@ -8,7 +8,7 @@ use Rattle.pgw_backend.specs.declared.backend.PgWireBackendMessage.{PgWireBacken
 use Rattle.pgw_backend.specs.declared.backend.PgWireBackendMessage.TheVariants as backend
 use Rattle.pgw_frontend.specs.declared.frontend.PgWireFrontendMessage.{PgWireFrontendMessage as Frontend}
 use Rattle.pgw_query.specs.declared.response.ReadyForQuery.{ReadyForQuery}
-use Rattle.pgw_backend.specs.Front.{front, Front, More, Bad, Whole, Spells}
+use Rattle.pgw_backend.specs.Front.{front, BackendFront, More, Bad, Whole, Spells}
 use Rattle.pgw_frontend.specs.Frontend.{encodings}
 use Rattle.pgw_backend.proofs.FrontLaws.{front_nil, front_whole, front_whole_more, front_bad_more, front_take, front_spells, spells_front}
 use Rattle.pgw_session.specs.declared.types.Request.{Request}
@@ -16,15 +16,15 @@ use Rattle.pgw_session.specs.declared.stage.Stage.{Stage}
 use Rattle.pgw_session.specs.declared.stage.Stage.TheVariants.{Starting}
 use Rattle.pgw_session.specs.declared.stage.Next.{Next}
 use Rattle.pgw_session.specs.declared.stage.Next.TheVariants.{Goes, Closes, Wrong, Refuses, PassesOver}
-use Rattle.pgw_session.specs.Events.{Event, Sent, Got, joined}
+use Rattle.pgw_session.specs.Events.{Event, Sent, Got, all_events}
 use Rattle.pgw_session.specs.Standings.{first_standing, standing_of}
 use Rattle.pgw_session.specs.Requests.{sends_of}
 use Rattle.pgw_session.specs.Segments.{IsBegun, IsQuiet, IsSimple, startup_message, is_ready, is_other, sends}
-use Rattle.pgw_session.specs.Transcript.{AreSegments, IsTranscript, IsLegalPrefix, SpellsGot, EncodesSent, opening_at, opened_by}
+use Rattle.pgw_session.specs.Transcript.{AreSegments, IsTranscript, IsLegalPrefix, SpellsGot, EncodesSent, opening_at, segment_opening}
 use Rattle.pgw_session.specs.Failures.{IsServersTurn, ArePassedOver, place_of, refusal_at}
 use Rattle.pgw_course.specs.Course.{Move, On, Ends, Course, Waits, Over, onto, eat, feed, run}
-use Rattle.pgw_session.specs.Reading.{met}
-use Rattle.pgw_session.specs.Table.{after, stage_for}
+use Rattle.pgw_session.specs.Reading.{session_front}
+use Rattle.pgw_session.specs.Table.{next_after, stage_for}
 use Rattle.pgw_session.specs.Machine.{Outcome, Complete, Unencoded, Unexpected, Unread, Refused, sending}
 use Rattle.pgw_session.proofs.Moves.{moves, opens, opening, passing, turn}
 use Rattle.pgw_session.specs.Talk.{Talk, Ending, between, said, heard_of, talk_rules, beginning, conversation, HasRefused}
@@ -49,8 +49,8 @@ some_segments input (q ∷ qs) =
     ((map Sent (sends_of q) ++ answer.0) ∷ later.0, ((answer.0, refl, answer.1), later.1))
 
 -- what has begun is early
-pub begun_said : (input : Input) (closed : List (List Event)) (es : List Event) → (closed ≡ []) × IsBegun input es → IsBegun input (joined closed ++ es)
-begun_said input closed es b = subst (λ (c : List (List Event)). IsBegun input (joined c ++ es)) (sym b.0) b.1
+pub begun_said : (input : Input) (closed : List (List Event)) (es : List Event) → (closed ≡ []) × IsBegun input es → IsBegun input (all_events closed ++ es)
+begun_said input closed es b = subst (λ (c : List (List Event)). IsBegun input (all_events c ++ es)) (sym b.0) b.1
 
 pub open_legal : (input : Input) (t : Talk) → Open input t → IsLegalPrefix input (said t)
 open_legal input t is_open =
@@ -71,7 +71,7 @@ open_legal input t is_open =
     ]
 
 -- a message that is taken leads to a stage that can end, or that has begun
-pub reply_comes : (input : Input) (t : Talk) (m : Backend) (stage : Stage) (reply : Option Frontend) → after input t.stage m ≡ Goes stage reply → Open input t → Comes input t.closed (t.open_events ++ Got m ∷ map Sent (sends reply)) stage
+pub reply_comes : (input : Input) (t : Talk) (m : Backend) (stage : Stage) (reply : Option Frontend) → next_after input t.stage m ≡ Goes stage reply → Open input t → Comes input t.closed (t.open_events ++ Got m ∷ map Sent (sends reply)) stage
 reply_comes input t m stage reply is is_open =
     stands_comes input t.closed (t.open_events ++ Got m ∷ map Sent (sends reply)) stage (subst (StandsBy input t.closed t.open_events m) is (stands_by input t.closed t.open_events t.stage m is_open.stands))
 
@@ -182,7 +182,7 @@ opening_good input t m closed k q (Err e) is are count asked closes =
     let answer = some_rest input (stage_for q) tt in
     let later = some_segments input (drop (suc k) input.requests) in
     let transcript = closes ((map Sent (sends_of q) ++ answer.0) ∷ later.0) (subst (λ (qs : List Request). AreSegments qs ((map Sent (sends_of q) ++ answer.0) ∷ later.0)) (sym (drop_next input.requests k q asked)) ((answer.0, refl, answer.1), later.1)) in
-    let begins = subst (λ n. map Sent (sends_of q) ≡ map Sent (opening_at input n) ++ []) (sym count) (ap (λ o. map Sent (opened_by o)) (sym asked) ∙ sym (append-nil _)) in (
+    let begins = subst (λ n. map Sent (sends_of q) ≡ map Sent (opening_at input n) ++ []) (sym count) (ap (λ o. map Sent (segment_opening o)) (sym asked) ∙ sym (append-nil _)) in (
       refl,
       (
         are,
@@ -202,7 +202,7 @@ opening_good input t m closed k q (Err e) is are count asked closes =
             part = map Sent (sends_of q);
             rest = answer.0;
             later = later.0;
-            are = ap (λ (l : List Event). l ++ map Sent (sends_of q)) (append-nil (joined closed));
+            are = ap (λ (l : List Event). l ++ map Sent (sends_of q)) (append-nil (all_events closed));
             transcript = transcript;
             opening = inr ([], begins);
           })),
@@ -217,7 +217,7 @@ opening_good input t m closed k q (Ok out) is are count asked closes = (
         closes ((map Sent (sends_of q) ++ es) ∷ segments)
         (subst (λ (qs : List Request). AreSegments qs ((map Sent (sends_of q) ++ es) ∷ segments)) (sym (drop_next input.requests k q asked)) ((es, refl, rest), subst (λ n. AreSegments (drop n input.requests) segments) count segs));
     stands = stands_first input q closed (λ none. let c = ap length none in absurd (omega (arith, c, count)));
-    begins = ([], subst (λ n. map Sent (sends_of q) ≡ map Sent (opening_at input n) ++ []) (sym count) (ap (λ o. map Sent (opened_by o)) (sym asked) ∙ sym (append-nil _)));
+    begins = ([], subst (λ n. map Sent (sends_of q) ≡ map Sent (opening_at input n) ++ []) (sym count) (ap (λ o. map Sent (segment_opening o)) (sym asked) ∙ sym (append-nil _)));
   },
   tt,
 )
@@ -226,7 +226,7 @@ opens_good : (input : Input) (t : Talk) (m : Backend) (closed : List (List Event
     → length closed ≡ suc k → slice_get input.requests k ≡ o → ClosesTo input closed k → Good input t m (opens input closed o)
 opens_good input t m closed k None are count asked closes =
     let transcript = subst (IsTranscript input) (append-nil closed) (closes [] (subst (λ (qs : List Request). AreSegments qs []) (sym (drop_past input.requests k asked)) tt)) in
-    (refl, (are, inl (closed, transcript, sym (append-nil (joined closed))), transcript, refl, refl))
+    (refl, (are, inl (closed, transcript, sym (append-nil (all_events closed))), transcript, refl, refl))
 opens_good input t m closed k (Some q) are count asked closes = opening_good input t m closed k q (encodings (sends_of q)) refl are count asked closes
 
 -- not ReadyForQuery
@@ -242,8 +242,8 @@ quiet_more [] m q is = (other_is m is, tt)
 quiet_more (x ∷ ms) m q is = (q.0, quiet_more ms m q.1 is)
 
 -- behind a message that is taken stands a legal prefix, and behind the reply
-pub reply_legal : (input : Input) (t : Talk) (m : Backend) (stage : Stage) (reply : Option Frontend) → after input t.stage m ≡ Goes stage reply → Open input t
-    → IsLegalPrefix input (joined t.closed ++ (t.open_events ++ Got m ∷ [])) × IsLegalPrefix input ((joined t.closed ++ (t.open_events ++ Got m ∷ [])) ++ map Sent (sends reply))
+pub reply_legal : (input : Input) (t : Talk) (m : Backend) (stage : Stage) (reply : Option Frontend) → next_after input t.stage m ≡ Goes stage reply → Open input t
+    → IsLegalPrefix input (all_events t.closed ++ (t.open_events ++ Got m ∷ [])) × IsLegalPrefix input ((all_events t.closed ++ (t.open_events ++ Got m ∷ [])) ++ map Sent (sends reply))
 reply_legal input t m stage reply is is_open = elim (reply_comes input t m stage reply is is_open) [ inl begun ↦ early begun | inr expects ↦ part (some_rest input stage expects) ]
   where
     fs : List Frontend
@@ -255,12 +255,12 @@ reply_legal input t m stage reply is is_open = elim (reply_comes input t m stage
     whole : one ++ map Sent fs ≡ t.open_events ++ Got m ∷ map Sent fs
     whole = append_assoc t.open_events (Got m ∷ []) (map Sent fs)
 
-    early : (t.closed ≡ []) × IsBegun input (t.open_events ++ Got m ∷ map Sent fs) → IsLegalPrefix input (joined t.closed ++ one) × IsLegalPrefix input ((joined t.closed ++ one) ++ map Sent fs)
+    early : (t.closed ≡ []) × IsBegun input (t.open_events ++ Got m ∷ map Sent fs) → IsLegalPrefix input (all_events t.closed ++ one) × IsLegalPrefix input ((all_events t.closed ++ one) ++ map Sent fs)
     early b =
-        let all : IsBegun input ((joined t.closed ++ one) ++ map Sent fs) = subst (IsBegun input) (ap (λ (l : List Event). joined t.closed ++ l) (sym whole) ∙ sym (append_assoc (joined t.closed) one (map Sent fs))) (begun_said input t.closed _ b) in
-        (inr (inr (early_front input (joined t.closed ++ one) (map Sent fs) all)), inr (inr (inr all)))
+        let all : IsBegun input ((all_events t.closed ++ one) ++ map Sent fs) = subst (IsBegun input) (ap (λ (l : List Event). all_events t.closed ++ l) (sym whole) ∙ sym (append_assoc (all_events t.closed) one (map Sent fs))) (begun_said input t.closed _ b) in
+        (inr (inr (early_front input (all_events t.closed ++ one) (map Sent fs) all)), inr (inr (inr all)))
 
-    part : (es : List Event) × Rest input stage es → IsLegalPrefix input (joined t.closed ++ one) × IsLegalPrefix input ((joined t.closed ++ one) ++ map Sent fs)
+    part : (es : List Event) × Rest input stage es → IsLegalPrefix input (all_events t.closed ++ one) × IsLegalPrefix input ((all_events t.closed ++ one) ++ map Sent fs)
     part rest =
         let later = some_segments input (drop (length t.closed) input.requests) in
         let more = map Sent fs ++ rest.0 in
@@ -280,17 +280,17 @@ reply_legal input t m stage reply is is_open = elim (reply_comes input t m stage
             part = one ++ map Sent fs;
             rest = rest.0;
             later = later.0;
-            are = append_assoc (joined t.closed) one (map Sent fs);
+            are = append_assoc (all_events t.closed) one (map Sent fs);
             transcript = subst (λ (l : List Event). IsTranscript input (t.closed ++ l ∷ later.0)) (sym (append_assoc one (map Sent fs) rest.0 ∙ append_assoc t.open_events (Got m ∷ []) more)) transcript;
             opening = inr ((is_open.begins.0 ++ Got m ∷ []) ++ map Sent fs, ap (λ (l : List Event). l ++ map Sent fs) begins ∙ append_assoc _ (is_open.begins.0 ++ Got m ∷ []) (map Sent fs));
           })),
         )
 
-reply_good : (input : Input) (t : Talk) (m : Backend) (stage : Stage) (reply : Option Frontend) (o : Result (List ℕ) PgWireError) → encodings (sends reply) ≡ o → t.passed ≡ [] → after input t.stage m ≡ Goes stage reply → Open input t
+reply_good : (input : Input) (t : Talk) (m : Backend) (stage : Stage) (reply : Option Frontend) (o : Result (List ℕ) PgWireError) → encodings (sends reply) ≡ o → t.passed ≡ [] → next_after input t.stage m ≡ Goes stage reply → Open input t
     → Good input t m (sending (record { closed = t.closed; open_events = t.open_events ++ Got m ∷ []; stage = stage; passed = [] }) (record { closed = t.closed; open_events = t.open_events ++ Got m ∷ map Sent (sends reply); stage = stage; passed = [] }) o)
 reply_good input t m stage reply (Err e) none clean is is_open =
     let fs = sends reply in
-    let are : joined t.closed ++ (t.open_events ++ Got m ∷ []) ≡ said t ++ Got m ∷ [] = sym (append_assoc (joined t.closed) t.open_events (Got m ∷ [])) in
+    let are : all_events t.closed ++ (t.open_events ++ Got m ∷ []) ≡ said t ++ Got m ∷ [] = sym (append_assoc (all_events t.closed) t.open_events (Got m ∷ [])) in
     let legal = reply_legal input t m stage reply is is_open in (
       refl,
       (
@@ -313,13 +313,13 @@ reply_good input t m stage reply (Ok out) some clean is is_open =
     )
 
 moves_good : (input : Input) (t : Talk) (m : Backend) (sent : List ℕ) (n : Next) → t.passed ≡ [] → (HasRefused (onto sent (moves input t m n)) → IsLegalPrefix input (said t ++ Got m ∷ []) → ⊥)
-    → after input t.stage m ≡ n → Open input t → Good input t m (moves input t m n)
+    → next_after input t.stage m ≡ n → Open input t → Good input t m (moves input t m n)
 moves_good input t m sent (Goes stage reply) clean nowhere is is_open = reply_good input t m stage reply (encodings (sends reply)) refl clean is is_open
 moves_good input t m sent Closes clean nowhere is is_open =
     let s = t.stage in
     let es = t.open_events ++ Got m ∷ [] in
     opens_good input t m (t.closed ++ es ∷ []) (length t.closed) (slice_get input.requests (length t.closed))
-    (append-nil _ ∙ append-nil _ ∙ joined_more t.closed es ∙ sym (append_assoc (joined t.closed) t.open_events (Got m ∷ [])) ∙ ap (λ (l : List Event). l ++ Got m ∷ []) (clean_heard t clean))
+    (append-nil _ ∙ append-nil _ ∙ joined_more t.closed es ∙ sym (append_assoc (all_events t.closed) t.open_events (Got m ∷ [])) ∙ ap (λ (l : List Event). l ++ Got m ∷ []) (clean_heard t clean))
     (length_push t.closed es ∙ omega arith)
     refl
     (λ segments segs. subst (IsTranscript input) (sym (append_assoc t.closed (es ∷ []) segments)) (is_open.completes (Got m ∷ []) segments (by_rest input s m [] (subst (λ x. RestBy input x []) (sym is) refl)) segs))
@@ -340,7 +340,7 @@ passing_good input t m first ms false are is passed is_open = (
 )
 
 turn_good : (input : Input) (t : Talk) (m : Backend) (done sent : List ℕ) (passed : List Backend) → t.passed ≡ passed → Sofar input t done sent → Good input t m (turn input t m passed)
-turn_good input t m done sent [] clean s = moves_good input t m sent (after input t.stage m) clean (no_place input t sent m clean s.heard) refl s.is_open
+turn_good input t m done sent [] clean s = moves_good input t m sent (next_after input t.stage m) clean (no_place input t sent m clean s.heard) refl s.is_open
 turn_good input t m done sent (first ∷ ms) are s = passing_good input t m first ms (is_ready m) are refl (subst (Passed input t) are s.passed) s.is_open
 
 -- a message that is whole only with the last byte takes all of them
@@ -451,8 +451,8 @@ onto_sound input bytes done sent message t m (On next out) is are s spells grown
 onto_sound input bytes done sent message t m (Ends e out) is are s spells grown good =
     subst (λ (w : List ℕ). Final input e bytes w) (sym (append-nil sent) ∙ ap (λ (w : List ℕ). sent ++ w) (sym good.0)) (stops_sound input bytes done sent message t e.notes m e.outcome are s spells good.1)
 
-eat_sound : (input : Input) (bytes done sent pending : List ℕ) (t : Talk) (b : ℕ) (f : Front) → bytes ≡ done ++ (pending ++ b ∷ []) → front (standing_of input.config (heard_of t)).version pending ≡ More → front (standing_of input.config (heard_of t)).version (pending ++ b ∷ []) ≡ f
-    → Sofar input t done sent → SoundAt input bytes (eat (talk_rules input) t sent (pending ++ b ∷ []) (met f))
+eat_sound : (input : Input) (bytes done sent pending : List ℕ) (t : Talk) (b : ℕ) (f : BackendFront) → bytes ≡ done ++ (pending ++ b ∷ []) → front (standing_of input.config (heard_of t)).version pending ≡ More → front (standing_of input.config (heard_of t)).version (pending ++ b ∷ []) ≡ f
+    → Sofar input t done sent → SoundAt input bytes (eat (talk_rules input) t sent (pending ++ b ∷ []) (session_front f))
 eat_sound input bytes done sent pending t b More are more is s = (done, are, s, is)
 eat_sound input bytes done sent pending t b (Bad why) are more is s = record { done = done; rest = pending ++ b ∷ []; begins = are; got = s.got; put = s.put; legal = open_legal input t s.is_open; is_open = (s.is_open, s.passed); cause = is }
 eat_sound input bytes done sent pending t b (Whole m n) are more is s =

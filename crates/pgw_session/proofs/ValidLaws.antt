@@ -24,7 +24,7 @@ use Rattle.pgw_config.specs.declared.config.SslMode.{SslMode}
 use Rattle.pgw_config.specs.declared.config.SslMode.TheVariants as ssl_mode
 use Rattle.pgw_config.specs.declared.config.ChannelBinding.{ChannelBinding}
 use Rattle.pgw_config.specs.declared.config.ChannelBinding.TheVariants as channel_binding
-use Rattle.pgw_session.specs.Events.{Event, joined, sents}
+use Rattle.pgw_session.specs.Events.{Event, all_events, sents}
 use Rattle.pgw_session.specs.Transcript.{IsTranscript, IsLegalPrefix, EncodesSent, SpellsGot, Completes}
 use Rattle.pgw_session.specs.Demands.{refused_binding, refused_demand, refused_config}
 use Rattle.pgw_session.specs.Standings.{first_standing}
@@ -250,14 +250,14 @@ sendable input valid = record {
 }
 
 -- each message sent in a transcript has an encoding
-pub transcript_encodes : (input : Input) (segments : List (List Event)) → IsValidInput input → IsTranscript input segments → CanLogIn (sents (joined segments)) → (bytes : List ℕ) × EncodesSent (joined segments) bytes
-transcript_encodes input segments valid transcript can = all_encode (sents (joined segments)) (transcript_sent input Sendable segments (sendable input valid) transcript) can
+pub transcript_encodes : (input : Input) (segments : List (List Event)) → IsValidInput input → IsTranscript input segments → CanLogIn (sents (all_events segments)) → (bytes : List ℕ) × EncodesSent (all_events segments) bytes
+transcript_encodes input segments valid transcript can = all_encode (sents (all_events segments)) (transcript_sent input Sendable segments (sendable input valid) transcript) can
 
 -- so does each message sent in a legal prefix
 pub prefix_encodes : (input : Input) (es : List Event) → IsValidInput input → IsLegalPrefix input es → CanLogIn (sents es) → (bytes : List ℕ) × EncodesSent es bytes
 prefix_encodes input es valid legal can = all_encode (sents es) (prefix_sent input Sendable es (sendable input valid) legal) can
 
-pub spelled_completes : (input : Input) (segments : List (List Event)) (bytes more : List ℕ) → IsValidInput input → IsTranscript input segments → CanLogIn (sents (joined segments)) → SpellsGot (first_standing input.config) (joined segments) bytes
+pub spelled_completes : (input : Input) (segments : List (List Event)) (bytes more : List ℕ) → IsValidInput input → IsTranscript input segments → CanLogIn (sents (all_events segments)) → SpellsGot (first_standing input.config) (all_events segments) bytes
     → Completes input (length bytes) (bytes ++ more) segments
 spelled_completes input segments bytes more valid transcript can got =
     let sends = transcript_encodes input segments valid transcript can in

@@ -4,24 +4,24 @@ use Rattle.std.proofs.lemmas.List.{append-nil, length_push, map-append}
 use Rattle.pgw_types.specs.declared.error.PgWireError.{PgWireError}
 use Rattle.pgw_backend.specs.declared.backend.PgWireBackendMessage.{PgWireBackendMessage as Backend}
 use Rattle.pgw_frontend.specs.declared.frontend.PgWireFrontendMessage.{PgWireFrontendMessage as Frontend}
-use Rattle.pgw_backend.specs.Front.{front, Front, More, Bad, Whole}
+use Rattle.pgw_backend.specs.Front.{front, BackendFront, More, Bad, Whole}
 use Rattle.pgw_frontend.specs.Frontend.{encodings, both}
 use Rattle.pgw_session.specs.declared.types.Request.{Request}
 use Rattle.pgw_session.specs.declared.stage.Stage.{Stage}
 use Rattle.pgw_session.specs.declared.stage.Stage.TheVariants.{Starting}
 use Rattle.pgw_session.specs.declared.stage.Next.{Next}
 use Rattle.pgw_session.specs.declared.stage.Next.TheVariants.{Goes, Closes, Wrong, Refuses, PassesOver}
-use Rattle.pgw_session.specs.Events.{Event, Sent, Got, joined, sents}
+use Rattle.pgw_session.specs.Events.{Event, Sent, Got, all_events, sents}
 use Rattle.pgw_session.specs.Standings.{first_standing, standing_of}
 use Rattle.pgw_session.specs.Requests.{sends_of}
 use Rattle.pgw_session.specs.Segments.{AreAll, IsBegun, IsStartupSegment, startup_message, is_early, is_ready, sends}
 use Rattle.pgw_session.specs.Transcript.{AreSegments, IsTranscript, IsLegalPrefix, SpellsGot, EncodesSent}
 use Rattle.pgw_course.specs.Course.{On, Course, Waits, Over, Rules, onto, eat, feed, run}
-use Rattle.pgw_session.specs.Reading.{met}
-use Rattle.pgw_session.specs.Table.{after, by_login, news_or, stage_for}
+use Rattle.pgw_session.specs.Reading.{session_front}
+use Rattle.pgw_session.specs.Table.{next_after, by_login, news_or, stage_for}
 use Rattle.pgw_session.specs.Machine.{Outcome, Complete, Unencoded, sending}
 use Rattle.pgw_session.proofs.Moves.{moves, opens, opening, passing, turn}
-use Rattle.pgw_session.specs.Talk.{Talk, Ending, said, heard_of, talk_rules, beginning, conversation, whole_talk, HasRefused, IsRefusal}
+use Rattle.pgw_session.specs.Talk.{Talk, Ending, said, heard_of, talk_rules, beginning, conversation, whole_talk, HasRefused, EndsByGot}
 use Rattle.pgw_course.proofs.CourseLaws.{run_over}
 use Rattle.pgw_session.proofs.Hears.{hear, hears, hear_append, hear_over, hear_one, gots, gots_append, gots_sends, gots_gots, sents_append, sents_sends, spelled_onto}
 use Rattle.pgw_session.proofs.Events.{encodings_append, joined_cut, talk_follows, first_sends}
@@ -68,7 +68,7 @@ SegmentFares input n = (t : Talk) (sent : List ℕ) (es : List Event) → length
     → Fares (Closed input t.closed (t.open_events ++ es)) (hear (talk_rules input) (Waits t sent []) (gots es)) sent (encodings (sents es))
 
 message_fares : (input : Input) (n : ℕ) → SegmentFares input n → (t : Talk) (sent : List ℕ) (m : Backend) (es : List Event) → length es ≤ n → t.passed ≡ []
-    → (x : Next) → after input t.stage m ≡ x → RestBy input x es → Fares (Closed input t.closed (t.open_events ++ Got m ∷ es)) (hear (talk_rules input) (Waits t sent []) (m ∷ gots es)) sent (encodings (sents es))
+    → (x : Next) → next_after input t.stage m ≡ x → RestBy input x es → Fares (Closed input t.closed (t.open_events ++ Got m ∷ es)) (hear (talk_rules input) (Waits t sent []) (m ∷ gots es)) sent (encodings (sents es))
 message_fares input n rec t sent m es le clean (Goes stage reply) is r =
     let fs = sends reply in
     let behind = r in
@@ -99,7 +99,7 @@ segment_fares : (input : Input) (n : ℕ) → SegmentFares input n
 segment_fares input n t sent [] le clean rest = absurd (rest_nil input t.stage rest)
 segment_fares input n t sent (Sent m ∷ es) le clean rest = absurd (rest_sent input t.stage m es rest)
 segment_fares input zero t sent (Got m ∷ es) le clean rest = absurd (omega (arith, le))
-segment_fares input (suc n) t sent (Got m ∷ es) le clean rest = message_fares input n (segment_fares input n) t sent m es (omega (arith, le)) clean (after input t.stage m) refl (rest_by input t.stage m es rest)
+segment_fares input (suc n) t sent (Got m ∷ es) le clean rest = message_fares input n (segment_fares input n) t sent m es (omega (arith, le)) clean (next_after input t.stage m) refl (rest_by input t.stage m es rest)
 
 abbrev WholeAt : List (List Event) → List ℕ → Course Talk Ending
 WholeAt segments w = Over (whole_talk segments) w
@@ -143,7 +143,7 @@ abbrev NextAt : Input → List Request → List (List Event) → List ℕ → Co
 NextAt input tail segments w = onto w (opens input segments (head_of tail))
 
 later_fares : (input : Input) (done qs tail : List Request) (closed segments : List (List Event)) (sent : List ℕ) → input.requests ≡ done ++ (qs ++ tail) → AreSegments qs segments → length closed ≡ length done + 1
-    → Fares (NextAt input tail (closed ++ segments)) (hear (talk_rules input) (onto sent (opens input closed (slice_get input.requests (length done)))) (gots (joined segments))) sent (encodings (sents (joined segments)))
+    → Fares (NextAt input tail (closed ++ segments)) (hear (talk_rules input) (onto sent (opens input closed (slice_get input.requests (length done)))) (gots (all_events segments))) sent (encodings (sents (all_events segments)))
 later_fares input done [] tail closed [] sent are segs count =
     let asked : slice_get input.requests (length done) ≡ head_of tail = ap (λ (l : List Request). slice_get l (length done)) are ∙ head_at done tail in
     nothing _ _ ∙ ap (λ q. onto sent (opens input closed q)) asked ∙ ap (λ (c : List (List Event)). NextAt input tail c sent) (sym (append-nil closed)) ∙ ap (NextAt input tail (closed ++ [])) (sym (append-nil sent))
@@ -154,25 +154,25 @@ later_fares input done (q ∷ qs) tail closed (es ∷ segments) sent are segs co
     let rules = talk_rules input in
     let asked : slice_get input.requests (length done) ≡ Some q = ap (λ (l : List Request). slice_get l (length done)) are ∙ next_at done (qs ++ tail) q in
     let counts : length closed ≡ length (done ++ q ∷ []) = count ∙ sym (length_push done q) in
-    let target : (w : List ℕ) → Fares (NextAt input tail (closed ++ es ∷ segments)) (hear rules (Closed input closed es w) (gots (joined segments))) w (encodings (sents (joined segments))) = λ w.
-    subst (λ k. Fares (NextAt input tail (closed ++ es ∷ segments)) (hear rules (onto w (opens input (closed ++ es ∷ []) (slice_get input.requests k))) (gots (joined segments))) w (encodings (sents (joined segments)))) (sym counts)
-    (subst (λ (c : List (List Event)). Fares (NextAt input tail c) (hear rules (onto w (opens input (closed ++ es ∷ []) (slice_get input.requests (length (done ++ q ∷ []))))) (gots (joined segments))) w (encodings (sents (joined segments)))) (append_assoc closed (es ∷ []) segments)
+    let target : (w : List ℕ) → Fares (NextAt input tail (closed ++ es ∷ segments)) (hear rules (Closed input closed es w) (gots (all_events segments))) w (encodings (sents (all_events segments))) = λ w.
+    subst (λ k. Fares (NextAt input tail (closed ++ es ∷ segments)) (hear rules (onto w (opens input (closed ++ es ∷ []) (slice_get input.requests k))) (gots (all_events segments))) w (encodings (sents (all_events segments)))) (sym counts)
+    (subst (λ (c : List (List Event)). Fares (NextAt input tail c) (hear rules (onto w (opens input (closed ++ es ∷ []) (slice_get input.requests (length (done ++ q ∷ []))))) (gots (all_events segments))) w (encodings (sents (all_events segments)))) (append_assoc closed (es ∷ []) segments)
     (later_fares input (done ++ q ∷ []) qs tail (closed ++ es ∷ []) segments w (are ∙ sym (append_assoc done (q ∷ []) (qs ++ tail))) segs.1 (length_push closed es ∙ ap (λ n. n + 1) counts))) in
-    subst (λ o. Fares (NextAt input tail (closed ++ es ∷ segments)) (hear rules (onto sent (opens input closed o)) (gots (es ++ joined segments))) sent (encodings (sents (es ++ joined segments)))) (sym asked)
-    (subst (λ (l : List Event). Fares (NextAt input tail (closed ++ es ∷ segments)) (hear rules (onto sent (opening closed (sends_of q) (stage_for q) (encodings (sends_of q)))) (gots (l ++ joined segments))) sent (encodings (sents (l ++ joined segments)))) (sym seg.1)
-    (one_fares input closed (NextAt input tail (closed ++ es ∷ segments)) (sends_of q) (stage_for q) seg.0 (joined segments) sent seg.2
-    (λ w. subst (λ (l : List Event). Fares (NextAt input tail (closed ++ es ∷ segments)) (hear rules (Closed input closed l w) (gots (joined segments))) w (encodings (sents (joined segments)))) seg.1 (target w))))
+    subst (λ o. Fares (NextAt input tail (closed ++ es ∷ segments)) (hear rules (onto sent (opens input closed o)) (gots (es ++ all_events segments))) sent (encodings (sents (es ++ all_events segments)))) (sym asked)
+    (subst (λ (l : List Event). Fares (NextAt input tail (closed ++ es ∷ segments)) (hear rules (onto sent (opening closed (sends_of q) (stage_for q) (encodings (sends_of q)))) (gots (l ++ all_events segments))) sent (encodings (sents (l ++ all_events segments)))) (sym seg.1)
+    (one_fares input closed (NextAt input tail (closed ++ es ∷ segments)) (sends_of q) (stage_for q) seg.0 (all_events segments) sent seg.2
+    (λ w. subst (λ (l : List Event). Fares (NextAt input tail (closed ++ es ∷ segments)) (hear rules (Closed input closed l w) (gots (all_events segments))) w (encodings (sents (all_events segments)))) seg.1 (target w))))
 
 -- what the messages of the startup segment and of the requests so far lead to
 begun_fares : (input : Input) (qs tail : List Request) (es : List Event) (segments : List (List Event)) → input.requests ≡ qs ++ tail → IsStartupSegment input es → AreSegments qs segments
-    → Fares (NextAt input tail (es ∷ segments)) (hear (talk_rules input) (beginning input) (gots (joined (es ∷ segments)))) [] (encodings (sents (joined (es ∷ segments))))
+    → Fares (NextAt input tail (es ∷ segments)) (hear (talk_rules input) (beginning input) (gots (all_events (es ∷ segments)))) [] (encodings (sents (all_events (es ∷ segments))))
 begun_fares input qs tail es segments are start segs =
     let rules = talk_rules input in
     let fs = startup_message input ∷ [] in
     let target = NextAt input tail (es ∷ segments) in
-    subst (λ (l : List Event). Fares target (hear rules (beginning input) (gots (l ++ joined segments))) [] (encodings (sents (l ++ joined segments)))) (sym start.1)
-    (one_fares input [] target fs Starting start.0 (joined segments) [] start.2
-    (λ w. subst (λ (l : List Event). Fares target (hear rules (Closed input [] l w) (gots (joined segments))) w (encodings (sents (joined segments)))) start.1
+    subst (λ (l : List Event). Fares target (hear rules (beginning input) (gots (l ++ all_events segments))) [] (encodings (sents (l ++ all_events segments)))) (sym start.1)
+    (one_fares input [] target fs Starting start.0 (all_events segments) [] start.2
+    (λ w. subst (λ (l : List Event). Fares target (hear rules (Closed input [] l w) (gots (all_events segments))) w (encodings (sents (all_events segments)))) start.1
     (later_fares input [] qs tail (es ∷ []) segments w are segs refl)))
 
 whole_fares : (input : Input) (segments : List (List Event)) (course : Course Talk Ending) (o : Result (List ℕ) PgWireError) → Fares (NextAt input [] segments) course [] o → Fares (WholeAt segments) course [] o
@@ -182,7 +182,7 @@ whole_fares input segments course (Ok out) f = f ∙ ap (Over (whole_talk segmen
 
 -- what the messages of a transcript lead to
 pub transcript_fares : (input : Input) (segments : List (List Event)) → IsTranscript input segments
-    → Fares (WholeAt segments) (hear (talk_rules input) (beginning input) (gots (joined segments))) [] (encodings (sents (joined segments)))
+    → Fares (WholeAt segments) (hear (talk_rules input) (beginning input) (gots (all_events segments))) [] (encodings (sents (all_events segments)))
 transcript_fares input [] transcript = absurd transcript
 transcript_fares input (es ∷ segments) transcript = whole_fares input (es ∷ segments) _ _ (begun_fares input input.requests [] es segments (sym (append-nil input.requests)) transcript.0 transcript.1)
 
@@ -202,13 +202,13 @@ begins_at input (Err why) next w is = cc
 begins_at input (Ok b) next w is = let e : next ≡ record { closed = []; open_events = Sent (startup_message input) ∷ []; stage = Starting; passed = [] } = cc in ap (λ (t : Talk). standing_of input.config (heard_of t)) e ∙ first_sends input.config (startup_message input ∷ [])
 
 -- the same of its bytes
-pub conversation_completes : (input : Input) (segments : List (List Event)) (bytes out more : List ℕ) → IsTranscript input segments → SpellsGot (first_standing input.config) (joined segments) bytes → EncodesSent (joined segments) out
+pub conversation_completes : (input : Input) (segments : List (List Event)) (bytes out more : List ℕ) → IsTranscript input segments → SpellsGot (first_standing input.config) (all_events segments) bytes → EncodesSent (all_events segments) out
     → conversation input (bytes ++ more) ≡ Over (whole_talk segments) out
 unfolding conversation
 conversation_completes input segments bytes out more transcript got put =
     let rules = talk_rules input in
-    spelled_onto rules (λ t. standing_of input.config (heard_of t)) (talk_follows input) (first_standing input.config) [] (opening [] (startup_message input ∷ []) Starting (encodings (startup_message input ∷ []))) (joined segments) bytes more (begins_at input (encodings (startup_message input ∷ []))) got
-    ∙ ap (λ c. run rules c more) (subst (Fares (WholeAt segments) (hear rules (beginning input) (gots (joined segments))) []) put (transcript_fares input segments transcript))
+    spelled_onto rules (λ t. standing_of input.config (heard_of t)) (talk_follows input) (first_standing input.config) [] (opening [] (startup_message input ∷ []) Starting (encodings (startup_message input ∷ []))) (all_events segments) bytes more (begins_at input (encodings (startup_message input ∷ []))) got
+    ∙ ap (λ c. run rules c more) (subst (Fares (WholeAt segments) (hear rules (beginning input) (gots (all_events segments))) []) put (transcript_fares input segments transcript))
     ∙ run_over rules (whole_talk segments) out more
 
 run_nil : (rules : Rules Talk Ending Backend PgWireError) (c : Course Talk Ending) → run rules c [] ≡ c
@@ -218,15 +218,15 @@ run_nil rules c = refl
 -- Bytes that spell the segments of the requests so far lead to where the next one's is opened, whatever requests there
 -- are behind it.
 pub conversation_goes_on : (input : Input) (qs tail : List Request) (q : Request) (es : List Event) (segments : List (List Event)) (bytes out : List ℕ) → input.requests ≡ qs ++ q ∷ tail → IsStartupSegment input es → AreSegments qs segments
-    → SpellsGot (first_standing input.config) (joined (es ∷ segments)) bytes → EncodesSent (joined (es ∷ segments)) out → conversation input bytes ≡ onto out (opens input (es ∷ segments) (Some q))
+    → SpellsGot (first_standing input.config) (all_events (es ∷ segments)) bytes → EncodesSent (all_events (es ∷ segments)) out → conversation input bytes ≡ onto out (opens input (es ∷ segments) (Some q))
 unfolding conversation head_of
 conversation_goes_on input qs tail q es segments bytes out are start segs got put =
     let rules = talk_rules input in
     let target = NextAt input (q ∷ tail) (es ∷ segments) in
     ap (run rules (beginning input)) (sym (append-nil bytes))
-    ∙ spelled_onto rules (λ t. standing_of input.config (heard_of t)) (talk_follows input) (first_standing input.config) [] (opening [] (startup_message input ∷ []) Starting (encodings (startup_message input ∷ []))) (joined (es ∷ segments)) bytes [] (begins_at input (encodings (startup_message input ∷ []))) got
+    ∙ spelled_onto rules (λ t. standing_of input.config (heard_of t)) (talk_follows input) (first_standing input.config) [] (opening [] (startup_message input ∷ []) Starting (encodings (startup_message input ∷ []))) (all_events (es ∷ segments)) bytes [] (begins_at input (encodings (startup_message input ∷ []))) got
     ∙ run_nil rules _
-    ∙ subst (Fares target (hear rules (beginning input) (gots (joined (es ∷ segments)))) []) put (begun_fares input qs (q ∷ tail) es segments are start segs)
+    ∙ subst (Fares target (hear rules (beginning input) (gots (all_events (es ∷ segments)))) []) put (begun_fares input qs (q ∷ tail) es segments are start segs)
 
 -- where the conversation has come, by the messages it got
 abbrev pub Heard : Input → Talk → List ℕ → Type 0
@@ -252,7 +252,7 @@ unfolding hear
 lost_hear input c [] l = l
 lost_hear input c (m ∷ ms) l = lost_hear input (hears (talk_rules input) c m) ms (lost_hears input c m l)
 
-lost_eat : (input : Input) (t : Talk) (sent pending : List ℕ) (f : Front) (m : Backend) (ms : List Backend) → t.passed ≡ m ∷ ms → HasRefused (eat (talk_rules input) t sent pending (met f))
+lost_eat : (input : Input) (t : Talk) (sent pending : List ℕ) (f : BackendFront) (m : Backend) (ms : List Backend) → t.passed ≡ m ∷ ms → HasRefused (eat (talk_rules input) t sent pending (session_front f))
 lost_eat input t sent pending More m ms is = (m, ms, is)
 lost_eat input t sent pending (Bad why) m ms is = tt
 lost_eat input t sent pending (Whole x n) m ms is = lost_step input sent t x m ms is
@@ -266,22 +266,22 @@ unfolding run
 lost_run input c [] l = l
 lost_run input c (b ∷ bytes) l = lost_run input (feed (talk_rules input) c b) bytes (lost_feed input c b l)
 
-made_or_lost : (o : Outcome) → IsMade o → IsRefusal o → ⊥
+made_or_lost : (o : Outcome) → IsMade o → EndsByGot o → ⊥
 made_or_lost Complete made lost = lost
 made_or_lost (Unencoded e) made lost = lost
 made_or_lost o made lost = made
 
 pub lost_not_ended : (c : Course Talk Ending) (e : Ending) (s : List ℕ) → HasRefused c → c ≡ Over e s → IsMade e.outcome → ⊥
 lost_not_ended (Waits t sent pending) e s l is made = cc
-lost_not_ended (Over x sent) e s l is made = let same = over_same (Over x sent) x e sent s refl is in made_or_lost e.outcome made (subst (λ (y : Ending). IsRefusal y.outcome) same l)
+lost_not_ended (Over x sent) e s l is made = let same = over_same (Over x sent) x e sent s refl is in made_or_lost e.outcome made (subst (λ (y : Ending). EndsByGot y.outcome) same l)
 
 -- a message behind which the conversation is lost stands in no joined list
 lost_nowhere : (input : Input) (t : Talk) (sent : List ℕ) (m : Backend) (segments : List (List Event)) (more : List Event) → hear (talk_rules input) (beginning input) (gots (said t)) ≡ Waits t sent []
-    → HasRefused (onto sent ((talk_rules input).step t m)) → IsTranscript input segments → joined segments ≡ (said t ++ Got m ∷ []) ++ more → ⊥
+    → HasRefused (onto sent ((talk_rules input).step t m)) → IsTranscript input segments → all_events segments ≡ (said t ++ Got m ∷ []) ++ more → ⊥
 lost_nowhere input t sent m segments more heard lost transcript are =
     let rules = talk_rules input in
     let e = fares_ends segments _ [] _ (transcript_fares input segments transcript) in
-    let course : hear rules (beginning input) (gots (joined segments)) ≡ hear rules (onto sent (rules.step t m)) (gots more) =
+    let course : hear rules (beginning input) (gots (all_events segments)) ≡ hear rules (onto sent (rules.step t m)) (gots more) =
     ap (λ (l : List Event). hear rules (beginning input) (gots l)) (are ∙ append_assoc (said t) (Got m ∷ []) more)
     ∙ ap (hear rules (beginning input)) (gots_append (said t) (Got m ∷ more))
     ∙ hear_append rules (beginning input) (gots (said t)) (m ∷ gots more)
@@ -305,7 +305,7 @@ early_heard input done [] out all = ap (λ (l : List Backend). Waits (begun_talk
 early_heard input done (m ∷ news) out all =
     let rules = talk_rules input in
     let t = begun_talk input done in
-    let taken : after input Starting m ≡ Goes Starting None = ap (λ b. news_or b Starting (by_login input m)) all.0 in
+    let taken : next_after input Starting m ≡ Goes Starting None = ap (λ b. news_or b Starting (by_login input m)) all.0 in
     let on : rules.step t m ≡ On (begun_talk input (done ++ m ∷ [])) [] =
     ap (moves input t m) taken ∙ ap (λ (l : List Event). On (record { closed = []; open_events = Sent (startup_message input) ∷ l; stage = Starting; passed = [] }) []) (sym (map-append Got done (m ∷ []))) in
     hear_one rules t out m news
@@ -332,7 +332,7 @@ begun_taken input t sent m b (Ok out) is heard lost =
     let course = ap (hear rules (beginning input)) (sym news) ∙ hear_append rules (beginning input) (gots (said t)) (m ∷ []) ∙ ap (λ c. hear rules c (m ∷ [])) heard ∙ hear_one rules t sent m [] ∙ nothing rules _ in
     none_refused (onto sent (rules.step t m)) (begun_talk input b.0) out (sym course ∙ early) refl lost
 
-pub no_place : (input : Input) (t : Talk) (sent : List ℕ) (m : Backend) → t.passed ≡ [] → Heard input t sent → HasRefused (onto sent (moves input t m (after input t.stage m)))
+pub no_place : (input : Input) (t : Talk) (sent : List ℕ) (m : Backend) → t.passed ≡ [] → Heard input t sent → HasRefused (onto sent (moves input t m (next_after input t.stage m)))
     → IsLegalPrefix input (said t ++ Got m ∷ []) → ⊥
 no_place input t sent m clean heard lost legal = go legal
   where
@@ -346,4 +346,4 @@ no_place input t sent m clean heard lost legal = go legal
     go (inl w) = lost_nowhere input t sent m w.0 [] here there w.1 (w.2 ∙ sym (append-nil _))
     go (inr (inr (inl none))) = some_said (said t) m none
     go (inr (inr (inr b))) = begun_taken input t sent m b (encodings (startup_message input ∷ [])) refl here there
-    go (inr (inl p)) = lost_nowhere input t sent m _ (p.rest ++ joined p.later) here there p.transcript (joined_cut p.closed p.part p.rest p.later ∙ ap (λ (l : List Event). l ++ (p.rest ++ joined p.later)) (sym p.are))
+    go (inr (inl p)) = lost_nowhere input t sent m _ (p.rest ++ all_events p.later) here there p.transcript (joined_cut p.closed p.part p.rest p.later ∙ ap (λ (l : List Event). l ++ (p.rest ++ all_events p.later)) (sym p.are))

@@ -36,19 +36,19 @@ with_end (Some first) t result = t
 
 -- A RowDescription opens a result, and drops an open one; CommandComplete closes it. Of parameters the last
 -- description stays.
-abbrev pub noted : Tally → Backend → Tally
-noted t (backend.RowDescription m) = record t { opened = Some (record { fields = map field_info_of m.fields; rows = [] }) }
-noted t (backend.ParameterDescription m) = record t { param_types = map type_of m.types }
-noted t (backend.DataRow m) = with_row t.opened t m
-noted t (backend.CommandComplete m) = with_end t.executed (record t { responses = t.responses ++ response_of t.opened m.tag ∷ []; opened = None }) (execute.Complete t.rows)
-noted t (backend.EmptyQueryResponse m) = with_end t.executed (record t { responses = t.responses ++ response.EmptyQuery ∷ [] }) (execute.Complete t.rows)
-noted t (backend.PortalSuspended m) = with_end t.executed t (execute.Suspended t.rows)
-noted t (backend.ErrorResponse m) = record t { remote = Some m }
-noted t m = t
+abbrev pub tally_with : Tally → Backend → Tally
+tally_with t (backend.RowDescription m) = record t { opened = Some (record { fields = map field_info_of m.fields; rows = [] }) }
+tally_with t (backend.ParameterDescription m) = record t { param_types = map type_of m.types }
+tally_with t (backend.DataRow m) = with_row t.opened t m
+tally_with t (backend.CommandComplete m) = with_end t.executed (record t { responses = t.responses ++ response_of t.opened m.tag ∷ []; opened = None }) (execute.Complete t.rows)
+tally_with t (backend.EmptyQueryResponse m) = with_end t.executed (record t { responses = t.responses ++ response.EmptyQuery ∷ [] }) (execute.Complete t.rows)
+tally_with t (backend.PortalSuspended m) = with_end t.executed t (execute.Suspended t.rows)
+tally_with t (backend.ErrorResponse m) = record t { remote = Some m }
+tally_with t m = t
 
 -- behind an error nothing more is noted
 abbrev pub noted_unless : Option ErrorResponse → Tally → Backend → Tally
-noted_unless None t m = noted t m
+noted_unless None t m = tally_with t m
 noted_unless (Some e) t m = t
 
 abbrev pub tally_after : Tally → Backend → Tally
@@ -76,9 +76,9 @@ rows_until (Some (execute.Complete rows)) = rows
 rows_until (Some (execute.Suspended rows)) = rows
 
 -- the columns described last
-abbrev pub columns_of : Option Opened → List FieldInfo
-columns_of None = []
-columns_of (Some opened) = opened.fields
+abbrev pub last_columns : Option Opened → List FieldInfo
+last_columns None = []
+last_columns (Some opened) = opened.fields
 
 -- what a request gives where no error came
 abbrev pub result_of : Request → Tally → Answer
@@ -86,7 +86,7 @@ result_of (request.Simple query) t = answer.Responses t.responses
 result_of (request.Prepare name query types) t = answer.Prepared (record { name = name; param_types = t.param_types })
 result_of (request.Bind portal statement parameters formats) t = answer.Bound
 result_of (request.Execute portal max_rows) t = answer.Executed (executed_of t.executed)
-result_of (request.Describe target) t = answer.Described (record { param_types = t.param_types; fields = columns_of t.opened })
+result_of (request.Describe target) t = answer.Described (record { param_types = t.param_types; fields = last_columns t.opened })
 result_of (request.Close target) t = answer.Closed
 result_of (request.Query query types parameters) t = answer.Rows (rows_until t.executed ++ t.rows)
 

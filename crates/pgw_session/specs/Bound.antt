@@ -6,7 +6,7 @@ use Rattle.pgw_startup.specs.declared.password.PasswordMessageFamily.TheVariants
 use Rattle.pgw_backend.specs.declared.backend.PgWireBackendMessage.TheVariants as backend
 use Rattle.pgw_frontend.specs.declared.frontend.PgWireFrontendMessage.{PgWireFrontendMessage as Frontend}
 use Rattle.pgw_frontend.specs.declared.frontend.PgWireFrontendMessage.TheVariants as frontend
-use Rattle.pgw_hash.specs.Saslprep.{prepared}
+use Rattle.pgw_hash.specs.Saslprep.{saslprep}
 use Rattle.pgw_scram.specs.Base64.{base64}
 use Rattle.pgw_scram.specs.Readers.{read_server_first}
 use Rattle.pgw_scram.specs.declared.messages.ServerFirst.{ServerFirst}
@@ -77,4 +77,4 @@ LetsNoneIn (e ∷ es) = LetsNoneIn es
 abbrev pub CanEnd : Input → Type 0
 CanEnd input = (must_bind input ≡ false)
     ⊎ ((is_some (input.config).certificate_hash ≡ true) × (is_utf8 (password_of input) ≡ true)
-    × (is_some (prepared (user_of input)) ≡ true))
+    × (is_some (saslprep (user_of input)) ≡ true))

@@ -12,7 +12,7 @@ use Rattle.pgw_frontend.specs.declared.frontend.PgWireFrontendMessage.{PgWireFro
 use Rattle.pgw_query.specs.declared.response.ErrorResponse.{ErrorResponse}
 use Rattle.pgw_query.specs.declared.response.ReadyForQuery.{ReadyForQuery}
 use Rattle.pgw_session.specs.declared.types.SessionReport.{SessionReport}
-use Rattle.pgw_session.specs.Events.{Event, Sent, Got, joined}
+use Rattle.pgw_session.specs.Events.{Event, Sent, Got, all_events}
 use Rattle.pgw_session.specs.Standings.{first_standing, standing_of}
 use Rattle.pgw_session.specs.Segments.{IsBegun, IsQuiet, IsSimple}
 use Rattle.pgw_session.specs.Answers.{first_error}
@@ -22,7 +22,7 @@ use Rattle.pgw_session.specs.Input.{Input}
 
 -- some segments have closed, and of the next its opening and maybe more has come; what is next in it is a message of
 -- the server, so that nothing is due
-pub record GoesOn (input : Input) (closed : List (List Event)) (part : List Event) : Type 0 where
+pub record SessionGoesOn (input : Input) (closed : List (List Event)) (part : List Event) : Type 0 where
   pub next : Backend
   pub rest : List Event
   pub later : List (List Event)
@@ -31,23 +31,23 @@ pub record GoesOn (input : Input) (closed : List (List Event)) (part : List Even
 
 -- so it is too before a login block, whether or not this client can log in
 abbrev pub IsServersTurn : Input → List (List Event) → List Event → Type 0
-IsServersTurn input closed part = GoesOn input closed part ⊎ ((closed ≡ []) × IsBegun input part)
+IsServersTurn input closed part = SessionGoesOn input closed part ⊎ ((closed ≡ []) × IsBegun input part)
 
 -- messages passed over behind the events of a simple query's segment: the first makes no legal prefix there, and none
 -- behind it is ReadyForQuery
 abbrev pub ArePassedOver : Input → List (List Event) → List Event → List Backend → Type 0
 ArePassedOver input closed part [] = Unit {0}
-ArePassedOver input closed part (m ∷ ms) = (IsLegalPrefix input ((joined closed ++ part) ++ Got m ∷ []) → ⊥) × IsQuiet ms × IsSimple part
+ArePassedOver input closed part (m ∷ ms) = (IsLegalPrefix input ((all_events closed ++ part) ++ Got m ∷ []) → ⊥) × IsQuiet ms × IsSimple part
 
 -- where a startup segment's login block is: not begun, at server-first or at server-final of a login by one of these
 -- methods, or done
-pub data Place : Type 0 where
-  Before : Place
-  AtFirst : (methods : List (List ℕ)) → Place
-  AtFinal : (methods : List (List ℕ)) → (first : List ℕ) → Place
-  Behind : Place
+pub data LoginPlace : Type 0 where
+  Before : LoginPlace
+  AtFirst : (methods : List (List ℕ)) → LoginPlace
+  AtFinal : (methods : List (List ℕ)) → (first : List ℕ) → LoginPlace
+  Behind : LoginPlace
 
-abbrev pub place_at : Place → Event → Place
+abbrev pub place_at : LoginPlace → Event → LoginPlace
 place_at p (Got (backend.Authentication authentication.CleartextPassword)) = Behind
 place_at p (Got (backend.Authentication (authentication.MD5Password salt))) = Behind
 place_at p (Got (backend.Authentication (authentication.SASL methods))) = AtFirst methods
@@ -55,12 +55,12 @@ place_at (AtFirst methods) (Got (backend.Authentication (authentication.SASLCont
 place_at p (Got (backend.Authentication (authentication.SASLFinal final))) = Behind
 place_at p e = p
 
-abbrev pub place_of : List Event → Place
+abbrev pub place_of : List Event → LoginPlace
 place_of es = fold place_at Before es
 
 -- a message of the startup segment for which an error of its own stands: the server's error; the first request to log
 -- in; server-first and server-final in their places
-abbrev pub refusal_at : Input → Place → Backend → Option ClientError
+abbrev pub refusal_at : Input → LoginPlace → Backend → Option ClientError
 refusal_at input p (backend.ErrorResponse e) = Some (client.RemoteError e)
 refusal_at input Before (backend.Authentication (authentication.SASL methods)) = methods_refusal input methods
 refusal_at input (AtFirst methods) (backend.Authentication (authentication.SASLContinue first)) = first_refusal (scram_login input methods) first
@@ -71,12 +71,12 @@ refusal_at input p m = None
 -- m is next, that segment is of no simple query, and no error of its own stands for m; or messages were passed over from m on, and ReadyForQuery is next,
 -- or no more bytes come.
 pub data RefusedAt (input : Input) (ended : Type 0) (closed : List (List Event)) (part : List Event) (m : Backend) (spelled rest : List ℕ) : Type 0 where
-  at_once : (len : ℕ) → SpellsGot (first_standing input.config) (joined closed ++ part) spelled → front (standing_of input.config (joined closed ++ part)).version rest ≡ Whole m len → (IsSimple part → ⊥)
+  at_once : (len : ℕ) → SpellsGot (first_standing input.config) (all_events closed ++ part) spelled → front (standing_of input.config (all_events closed ++ part)).version rest ≡ Whole m len → (IsSimple part → ⊥)
       → (closed ≡ [] → refusal_at input (place_of part) m ≡ None) → RefusedAt input ended closed part m spelled rest
-  at_ready : (passed : List Backend) → IsQuiet passed → IsSimple part → SpellsGot (first_standing input.config) ((joined closed ++ part) ++ map Got (m ∷ passed)) spelled → (ready : ReadyForQuery) (len : ℕ)
-      → front (standing_of input.config ((joined closed ++ part) ++ map Got (m ∷ passed))).version rest ≡ Whole (backend.ReadyForQuery ready) len → RefusedAt input ended closed part m spelled rest
-  at_the_end : (passed : List Backend) → IsQuiet passed → IsSimple part → SpellsGot (first_standing input.config) ((joined closed ++ part) ++ map Got (m ∷ passed)) spelled
-      → front (standing_of input.config ((joined closed ++ part) ++ map Got (m ∷ passed))).version rest ≡ More → ended → RefusedAt input ended closed part m spelled rest
+  at_ready : (passed : List Backend) → IsQuiet passed → IsSimple part → SpellsGot (first_standing input.config) ((all_events closed ++ part) ++ map Got (m ∷ passed)) spelled → (ready : ReadyForQuery) (len : ℕ)
+      → front (standing_of input.config ((all_events closed ++ part) ++ map Got (m ∷ passed))).version rest ≡ Whole (backend.ReadyForQuery ready) len → RefusedAt input ended closed part m spelled rest
+  at_the_end : (passed : List Backend) → IsQuiet passed → IsSimple part → SpellsGot (first_standing input.config) ((all_events closed ++ part) ++ map Got (m ∷ passed)) spelled
+      → front (standing_of input.config ((all_events closed ++ part) ++ map Got (m ∷ passed))).version rest ≡ More → ended → RefusedAt input ended closed part m spelled rest
 
 -- m was got behind a legal prefix, and makes none; ended says that no more bytes come
 pub record HasNoPlace (input : Input) (ended : Type 0) (taken sent : List ℕ) (m : Backend) : Type 0 where
@@ -86,8 +86,8 @@ pub record HasNoPlace (input : Input) (ended : Type 0) (taken sent : List ℕ) (
   pub spelled : List ℕ
   pub rest : List ℕ
   pub begins : taken ≡ spelled ++ rest
-  pub put : EncodesSent (joined closed ++ part) sent
-  pub misplaced : IsLegalPrefix input ((joined closed ++ part) ++ Got m ∷ []) → ⊥
+  pub put : EncodesSent (all_events closed ++ part) sent
+  pub misplaced : IsLegalPrefix input ((all_events closed ++ part) ++ Got m ∷ []) → ⊥
   pub how : RefusedAt input ended closed part m spelled rest
 
 -- m is the next message behind these events of the startup segment, which is open
@@ -112,9 +112,9 @@ pub record WaitsAt (input : Input) (taken sent : List ℕ) (closed : List (List 
   pub spelled : List ℕ
   pub rest : List ℕ
   pub begins : taken ≡ spelled ++ rest
-  pub got : SpellsGot (first_standing input.config) ((joined closed ++ part) ++ map Got passed) spelled
-  pub put : EncodesSent (joined closed ++ part) sent
-  pub partial : front (standing_of input.config ((joined closed ++ part) ++ map Got passed)).version rest ≡ More
+  pub got : SpellsGot (first_standing input.config) ((all_events closed ++ part) ++ map Got passed) spelled
+  pub put : EncodesSent (all_events closed ++ part) sent
+  pub partial : front (standing_of input.config ((all_events closed ++ part) ++ map Got passed)).version rest ≡ More
 
 -- the bytes taken end in an open segment, of which the first error is this
 abbrev pub LeftWith : Input → List ℕ → List ℕ → Option ErrorResponse → Type 0
@@ -130,9 +130,9 @@ pub record Unreadable (input : Input) (taken sent : List ℕ) (why : PgWireError
   pub spelled : List ℕ
   pub rest : List ℕ
   pub begins : taken ≡ spelled ++ rest
-  pub got : SpellsGot (first_standing input.config) ((joined closed ++ part) ++ map Got passed) spelled
-  pub put : EncodesSent (joined closed ++ part) sent
-  pub next : front (standing_of input.config ((joined closed ++ part) ++ map Got passed)).version rest ≡ Bad why
+  pub got : SpellsGot (first_standing input.config) ((all_events closed ++ part) ++ map Got passed) spelled
+  pub put : EncodesSent (all_events closed ++ part) sent
+  pub next : front (standing_of input.config ((all_events closed ++ part) ++ map Got passed)).version rest ≡ Bad why
 
 -- messages are due, the first of which that has no encoding is refused so
 pub record Unsendable (input : Input) (taken sent : List ℕ) (why : PgWireError) : Type 0 where
@@ -175,10 +175,10 @@ WaitsStill input taken sent = ((closed : List (List Event)) × (part : List Even
 -- What the bytes taken tell, and all that is to be sent by then: they complete a session; a message of them has no
 -- place; they can't be read; a message that is due has no encoding; an error of its own stands for a message of the
 -- startup segment; or they end within a message.
-pub data Told (input : Input) (taken due : List ℕ) : Type 0 where
-  complete : (report : SessionReport) → Completed input taken due report → Told input taken due
-  misplaced : (m : Backend) → HasNoPlace input ⊥ taken due m → Told input taken due
-  unreadable : (why : PgWireError) → Unreadable input taken due why → Told input taken due
-  unsendable : (why : PgWireError) → Unsendable input taken due why → Told input taken due
-  refused : (e : ClientError) → FailsAtStartup input taken due e → Told input taken due
-  waiting : WaitsStill input taken due → Told input taken due
+pub data BytesTell (input : Input) (taken due : List ℕ) : Type 0 where
+  complete : (report : SessionReport) → Completed input taken due report → BytesTell input taken due
+  misplaced : (m : Backend) → HasNoPlace input ⊥ taken due m → BytesTell input taken due
+  unreadable : (why : PgWireError) → Unreadable input taken due why → BytesTell input taken due
+  unsendable : (why : PgWireError) → Unsendable input taken due why → BytesTell input taken due
+  refused : (e : ClientError) → FailsAtStartup input taken due e → BytesTell input taken due
+  waiting : WaitsStill input taken due → BytesTell input taken due

@@ -13,7 +13,7 @@ use Rattle.pgw_backend.specs.declared.client_error.PgWireClientError.TheVariants
 use Rattle.pgw_backend.specs.ClientError.{of_scram}
 use Rattle.pgw_types.specs.declared.scram_error.ScramFault.TheVariants as scram_fault
 use Rattle.pgw_hash.specs.Md5Password.{md5_password}
-use Rattle.pgw_hash.specs.Saslprep.{prepared}
+use Rattle.pgw_hash.specs.Saslprep.{saslprep}
 use Rattle.pgw_config.specs.declared.config.ChannelBinding.{ChannelBinding}
 use Rattle.pgw_config.specs.declared.config.ChannelBinding.TheVariants as channel_binding
 use Rattle.pgw_scram.specs.declared.binding.ClientBinding.{ClientBinding}
@@ -38,7 +38,7 @@ password_of input = unwrap_or (input.config).password []
 
 -- the user name as SCRAM has it
 abbrev pub scram_user : Input → List ℕ
-scram_user input = unwrap_or (prepared (user_of input)) []
+scram_user input = unwrap_or (saslprep (user_of input)) []
 
 abbrev pub password_message : List ℕ → Frontend
 password_message text = frontend.PasswordMessageFamily (family.Password (record { password = text }))
@@ -105,11 +105,11 @@ abbrev pub methods_refusal : Input → List (List ℕ) → Option ClientError
 methods_refusal input methods =
     first_of (unless_so (takes_method input methods) (client.UnsupportedSASLAuthMethods methods))
     (first_of (unless_so (is_utf8 (password_of input)) (client.ScramError scram_fault.PasswordNotUtf8))
-    (option_map of_scram (user_refusal (prepared (user_of input)))))
+    (option_map of_scram (user_refusal (saslprep (user_of input)))))
 
 -- server-first outside its grammar; or its nonce does not begin with the client's; or its salt is none
 abbrev pub first_refusal : ClientLogin → List ℕ → Option ClientError
-first_refusal login first = option_map of_scram (scram.first_refusal login.nonce first)
+first_refusal login first = option_map of_scram (scram.scram_first_refusal login.nonce first)
 
 -- the signature that server-final should have behind server-first
 abbrev pub expected_of : ClientLogin → List ℕ → List ℕ
@@ -117,17 +117,17 @@ expected_of login first = signature login first
 
 -- server-final outside its grammar; or it tells a failure; or its signature is another
 abbrev pub final_refusal : List ℕ → List ℕ → Option ClientError
-final_refusal expected final = option_map of_scram (scram.final_refusal expected final)
+final_refusal expected final = option_map of_scram (scram.scram_refusal expected final)
 
 -- ---- login blocks
 
-pub data Login : Type 0 where
-  Unasked : Login
-  Cleartext : Login
-  Md5 : (salt : List ℕ) → Login
-  Scram : (methods : List (List ℕ)) → (first : List ℕ) → (final : List ℕ) → Login
+pub data SessionLogin : Type 0 where
+  Unasked : SessionLogin
+  Cleartext : SessionLogin
+  Md5 : (salt : List ℕ) → SessionLogin
+  Scram : (methods : List (List ℕ)) → (first : List ℕ) → (final : List ℕ) → SessionLogin
 
-abbrev pub login_events : Input → Login → List Event
+abbrev pub login_events : Input → SessionLogin → List Event
 login_events input Unasked = []
 login_events input Cleartext = Got (backend.Authentication authentication.CleartextPassword) ∷ Sent (cleartext_message input) ∷ []
 login_events input (Md5 salt) = Got (backend.Authentication (authentication.MD5Password salt)) ∷ Sent (md5_message input salt) ∷ []
@@ -137,6 +137,6 @@ login_events input (Scram methods first final) =
     ∷ Got (backend.Authentication (authentication.SASLFinal final)) ∷ []
 
 -- nothing of the server's is refused; and a login is by SCRAM where it must be bound
-abbrev pub IsAccepted : Input → Login → Type 0
+abbrev pub IsAccepted : Input → SessionLogin → Type 0
 IsAccepted input (Scram methods first final) = (methods_refusal input methods ≡ None) × (first_refusal (scram_login input methods) first ≡ None) × (final_refusal (expected_of (scram_login input methods) first) final ≡ None)
 IsAccepted input login = must_bind input ≡ false

@@ -17,9 +17,9 @@ use Rattle.pgw_session.specs.declared.stage.Next.TheVariants.{Goes, Closes, Wron
 use Rattle.pgw_session.specs.Input.{Input}
 use Rattle.pgw_session.specs.Requests.{sends_of}
 use Rattle.pgw_session.specs.Segments.{startup_message, is_ready, sends}
-use Rattle.pgw_session.specs.Table.{after, stage_for}
+use Rattle.pgw_session.specs.Table.{next_after, stage_for}
 use Rattle.pgw_course.specs.Course.{Move, On, Ends, Course, Rules, onto}
-use Rattle.pgw_session.specs.Reading.{reading}
+use Rattle.pgw_session.specs.Reading.{version_front}
 
 -- What is noted of a session: how far the open segment has come, how many have closed, which message was passed over
 -- first, and what was told of the connection. And what is noted where messages are sent to open a segment; where one is
@@ -63,8 +63,8 @@ pub record End (N : Type 0) : Type 0 where
   pub outcome : Outcome
 
 -- the same end, with other notes
-abbrev pub ended : {N M : Type 0} → (N → M) → End N → End M
-ended f e = record { notes = f e.notes; outcome = e.outcome }
+abbrev pub map_end : {N M : Type 0} → (N → M) → End N → End M
+map_end f e = record { notes = f e.notes; outcome = e.outcome }
 
 abbrev pub stopped : {N : Type 0} → N → Outcome → Move N (End N)
 stopped notes outcome = Ends (record { notes = notes; outcome = outcome }) []
@@ -75,9 +75,9 @@ sending before behind (Err e) = stopped before (Unencoded e)
 sending before behind (Ok bytes) = On behind bytes
 
 -- the request whose segment is open behind so many; the startup segment is of none
-abbrev pub answered : Input → ℕ → Option Request
-answered input zero = None
-answered input (suc k) = slice_get input.requests k
+abbrev pub open_request : Input → ℕ → Option Request
+open_request input zero = None
+open_request input (suc k) = slice_get input.requests k
 
 -- the next request is opened; where there is none, the session is whole
 abbrev pub opens_next : {N : Type 0} → Notebook N → N → Option Request → Move N (End N)
@@ -86,7 +86,7 @@ opens_next book n (Some q) = sending n (book.opens n (sends_of q) (stage_for q))
 
 abbrev pub moves_by : {N : Type 0} → Notebook N → Input → N → Backend → Next → Move N (End N)
 moves_by book input n m (Goes stage reply) = sending (book.takes n m [] stage) (book.takes n m (sends reply) stage) (encodings (sends reply))
-moves_by book input n m Closes = opens_next book (book.closes n m (answered input (book.closed n))) (slice_get input.requests (book.closed n))
+moves_by book input n m Closes = opens_next book (book.closes n m (open_request input (book.closed n))) (slice_get input.requests (book.closed n))
 moves_by book input n m Wrong = stopped n (Unexpected m)
 moves_by book input n m (Refuses e) = stopped n (Refused e)
 moves_by book input n m PassesOver = On (book.passes n m) []
@@ -97,12 +97,12 @@ passes_by book n first m true = stopped n (Unexpected first)
 passes_by book n first m false = On (book.passes n m) []
 
 abbrev pub turn_by : {N : Type 0} → Notebook N → Input → N → Backend → Option Backend → Move N (End N)
-turn_by book input n m None = moves_by book input n m (after input (book.stage n) m)
+turn_by book input n m None = moves_by book input n m (next_after input (book.stage n) m)
 turn_by book input n m (Some first) = passes_by book n first m (is_ready m)
 
 abbrev pub rules_by : {N : Type 0} → Notebook N → Input → Rules N (End N) Backend PgWireError
 rules_by book input = record {
-  read = λ n bytes. reading (book.standing n).version bytes;
+  read = λ n bytes. version_front (book.standing n).version bytes;
   step = λ n m. turn_by book input n m (book.first_passed n);
   bad = λ n why. record { notes = n; outcome = Unread why };
 }

@@ -7,10 +7,10 @@ use Rattle.pgw_backend.specs.Front as message
 use Rattle.pgw_backend.specs.declared.backend.PgWireBackendMessage.{PgWireBackendMessage as Backend}
 use Rattle.pgw_course.specs.Course.{Front, More, Bad, Whole}
 
-abbrev pub met : message.Front → Front Backend PgWireError
-met message.More = More
-met (message.Bad why) = Bad why
-met (message.Whole m len) = Whole m len
+abbrev pub session_front : message.BackendFront → Front Backend PgWireError
+session_front message.More = More
+session_front (message.Bad why) = Bad why
+session_front (message.Whole m len) = Whole m len
 
-abbrev pub reading : ProtocolVersion → List ℕ → Front Backend PgWireError
-reading version bytes = met (message.front version bytes)
+abbrev pub version_front : ProtocolVersion → List ℕ → Front Backend PgWireError
+version_front version bytes = session_front (message.front version bytes)

@@ -16,7 +16,7 @@ use Rattle.pgw_session.specs.declared.types.Request.{Request}
 use Rattle.pgw_session.specs.declared.stage.Kind.{Kind}
 use Rattle.pgw_session.specs.Input.{Input}
 use Rattle.pgw_session.specs.Events.{Event, Sent, Got}
-use Rattle.pgw_session.specs.Logins.{Login, login_events, must_bind, IsAccepted}
+use Rattle.pgw_session.specs.Logins.{SessionLogin, login_events, must_bind, IsAccepted}
 use Rattle.pgw_session.specs.declared.stage.Role.{Role}
 use Rattle.pgw_session.specs.declared.stage.Role.TheVariants.{Taken, Closing, Completing, Failing, Misplaced}
 use Rattle.pgw_session.specs.Requests.{kind_of, sends_of, sync, behind_error, role}
@@ -91,7 +91,7 @@ IsBegun input es = (news : List Backend) × (es ≡ Sent (startup_message input)
 -- what a server says behind the startup message: news, one login block, and news up to ReadyForQuery
 pub record IsGreeting (input : Input) (es : List Event) : Type 0 where
   pub news : List Backend
-  pub login : Login
+  pub login : SessionLogin
   pub rest : List Event
   pub are : es ≡ map Got news ++ (login_events input login ++ rest)
   pub all : AreAll (is_early (must_bind input)) news

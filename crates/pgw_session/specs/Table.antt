@@ -32,9 +32,9 @@ by_welcome (backend.ErrorResponse e) = Refuses (client.RemoteError e)
 by_welcome m = Wrong
 
 -- it is refused, or goes on
-abbrev pub unless : Option ClientError → Next → Next
-unless None next = next
-unless (Some e) next = Refuses e
+abbrev pub next_unless : Option ClientError → Next → Next
+next_unless None next = next
+next_unless (Some e) next = Refuses e
 
 -- what lets a client in that is not bound has no place where a login must be
 abbrev pub unless_bound : Bool → Next → Next
@@ -44,18 +44,18 @@ unless_bound false next = next
 abbrev pub by_login : Input → Backend → Next
 by_login input (backend.Authentication authentication.CleartextPassword) = unless_bound (must_bind input) (Goes Admitted (Some (cleartext_message input)))
 by_login input (backend.Authentication (authentication.MD5Password salt)) = unless_bound (must_bind input) (Goes Admitted (Some (md5_message input salt)))
-by_login input (backend.Authentication (authentication.SASL methods)) = unless (methods_refusal input methods) (Goes (Challenged (scram_login input methods)) (Some (first_message (scram_login input methods))))
+by_login input (backend.Authentication (authentication.SASL methods)) = next_unless (methods_refusal input methods) (Goes (Challenged (scram_login input methods)) (Some (first_message (scram_login input methods))))
 by_login input (backend.ReadyForQuery m) = unless_bound (must_bind input) Closes
 by_login input m = by_welcome m
 
 -- within a SCRAM login
 abbrev pub by_first : ClientLogin → Backend → Next
-by_first login (backend.Authentication (authentication.SASLContinue first)) = unless (first_refusal login first) (Goes (Proving (expected_of login first)) (Some (final_message login first)))
+by_first login (backend.Authentication (authentication.SASLContinue first)) = next_unless (first_refusal login first) (Goes (Proving (expected_of login first)) (Some (final_message login first)))
 by_first login (backend.ErrorResponse e) = Refuses (client.RemoteError e)
 by_first login m = Wrong
 
 abbrev pub by_final : List ℕ → Backend → Next
-by_final expected (backend.Authentication (authentication.SASLFinal final)) = unless (final_refusal expected final) (Goes Admitted None)
+by_final expected (backend.Authentication (authentication.SASLFinal final)) = next_unless (final_refusal expected final) (Goes Admitted None)
 by_final expected (backend.ErrorResponse e) = Refuses (client.RemoteError e)
 by_final expected m = Wrong
 
@@ -76,13 +76,13 @@ by_ready true = Closes
 by_ready false = Goes PassingOver None
 
 -- what a message does at a stage
-abbrev pub after : Input → Stage → Backend → Next
-after input Starting m = news_or (is_early (must_bind input) m) Starting (by_login input m)
-after input (Challenged login) m = by_first login m
-after input (Proving expected) m = by_final expected m
-after input Admitted m = news_or (is_news m) Admitted (by_welcome m)
-after input (Answering k rows) m = by_role k (role k rows m)
-after input PassingOver m = by_ready (is_ready m)
+abbrev pub next_after : Input → Stage → Backend → Next
+next_after input Starting m = news_or (is_early (must_bind input) m) Starting (by_login input m)
+next_after input (Challenged login) m = by_first login m
+next_after input (Proving expected) m = by_final expected m
+next_after input Admitted m = news_or (is_news m) Admitted (by_welcome m)
+next_after input (Answering k rows) m = by_role k (role k rows m)
+next_after input PassingOver m = by_ready (is_ready m)
 
 -- the stage behind a request's opening
 abbrev pub stage_for : Request → Stage

@@ -6,7 +6,7 @@ use Rattle.pgw_backend.specs.declared.backend.PgWireBackendMessage.{PgWireBacken
 use Rattle.pgw_session.specs.declared.stage.Stage.{Stage}
 use Rattle.pgw_session.specs.declared.stage.Stage.TheVariants.{Starting}
 use Rattle.pgw_session.specs.Input.{Input}
-use Rattle.pgw_session.specs.Events.{Event, Sent, Got, joined}
+use Rattle.pgw_session.specs.Events.{Event, Sent, Got, all_events}
 use Rattle.pgw_session.specs.Standings.{standing_of}
 use Rattle.pgw_course.specs.Course.{Course, Waits, Over, Rules, run}
 use Rattle.pgw_session.specs.Machine.{Notebook, End, Outcome, Complete, Unencoded, rules_by, beginning_by}
@@ -21,7 +21,7 @@ pub record Talk : Type 0 where
 
 -- the events so far
 abbrev pub said : Talk → List Event
-said t = joined t.closed ++ t.open_events
+said t = all_events t.closed ++ t.open_events
 
 -- and all that was got
 abbrev pub heard_of : Talk → List Event
@@ -65,12 +65,12 @@ unfoldable pub conversation : Input → List ℕ → Course Talk Ending
 conversation input bytes = run (talk_rules input) (beginning input) bytes
 
 -- it ended by what was got
-abbrev pub IsRefusal : Outcome → Type 0
-IsRefusal Complete = ⊥
-IsRefusal (Unencoded e) = ⊥
-IsRefusal o = Unit {0}
+abbrev pub EndsByGot : Outcome → Type 0
+EndsByGot Complete = ⊥
+EndsByGot (Unencoded e) = ⊥
+EndsByGot o = Unit {0}
 
 -- what was got has been refused: messages are passed over, or it ended the conversation with an error
 abbrev pub HasRefused : Course Talk Ending → Type 0
 HasRefused (Waits t sent pending) = (m : Backend) × (ms : List Backend) × (t.passed ≡ m ∷ ms)
-HasRefused (Over e sent) = IsRefusal e.outcome
+HasRefused (Over e sent) = EndsByGot e.outcome

@@ -7,7 +7,7 @@ use Rattle.pgw_session.specs.declared.types.Answer.{Answer}
 use Rattle.pgw_session.specs.declared.types.Request.{Request}
 use Rattle.pgw_session.specs.declared.types.SessionReport.{SessionReport}
 use Rattle.pgw_session.specs.declared.standing.Standing.{Standing}
-use Rattle.pgw_session.specs.Events.{Event, Sent, Got, sents, joined}
+use Rattle.pgw_session.specs.Events.{Event, Sent, Got, sents, all_events}
 use Rattle.pgw_session.specs.Standings.{first_standing, standing_by, standing_of}
 use Rattle.pgw_session.specs.Requests.{sends_of}
 use Rattle.pgw_session.specs.Segments.{IsStartupSegment, IsRequestSegment, IsBegun, startup_message}
@@ -29,27 +29,27 @@ IsTranscript input [] = ⊥
 IsTranscript input (startup ∷ segments) = IsStartupSegment input startup × AreSegments input.requests segments
 
 -- the messages that open a segment: number 0 is the startup segment, and the requests' follow
-abbrev pub opened_by : Option Request → List Frontend
-opened_by None = []
-opened_by (Some q) = sends_of q
+abbrev pub segment_opening : Option Request → List Frontend
+segment_opening None = []
+segment_opening (Some q) = sends_of q
 
 abbrev pub opening_at : Input → ℕ → List Frontend
 opening_at input zero = startup_message input ∷ []
-opening_at input (suc k) = opened_by (slice_get input.requests k)
+opening_at input (suc k) = segment_opening (slice_get input.requests k)
 
 -- a joined list that is cut where no opening is: some segments, and of the next nothing, or its opening and more
-pub record IsPart (input : Input) (es : List Event) : Type 0 where
+pub record IsTranscriptPart (input : Input) (es : List Event) : Type 0 where
   pub closed : List (List Event)
   pub part : List Event
   pub rest : List Event
   pub later : List (List Event)
-  pub are : es ≡ joined closed ++ part
+  pub are : es ≡ all_events closed ++ part
   pub transcript : IsTranscript input (closed ++ (part ++ rest) ∷ later)
   pub opening : (part ≡ []) ⊎ ((more : List Event) × (part ≡ map Sent (opening_at input (length closed)) ++ more))
 
 -- a joined list
 abbrev pub IsJoined : Input → List Event → Type 0
-IsJoined input es = (segments : List (List Event)) × IsTranscript input segments × (joined segments ≡ es)
+IsJoined input es = (segments : List (List Event)) × IsTranscript input segments × (all_events segments ≡ es)
 
 -- nothing at all, or what stands before a login block, whether or not this client can log in
 abbrev pub IsEarly : Input → List Event → Type 0
@@ -57,7 +57,7 @@ IsEarly input es = (es ≡ []) ⊎ IsBegun input es
 
 -- a legal prefix: something makes it a joined list, and an opening's messages stand in it all or not at all; or it is early
 abbrev pub IsLegalPrefix : Input → List Event → Type 0
-IsLegalPrefix input es = IsJoined input es ⊎ (IsPart input es ⊎ IsEarly input es)
+IsLegalPrefix input es = IsJoined input es ⊎ (IsTranscriptPart input es ⊎ IsEarly input es)
 
 -- ---- bytes
 
@@ -79,7 +79,7 @@ report_with s answers = record { version = s.version; parameters = s.parameters;
 
 -- each answer is that of a request's own segment, in order
 unfoldable pub report_of : Input → List (List Event) → SessionReport
-report_of input segments = report_with (standing_of input.config (joined segments)) (answers_of input.requests (drop 1 segments))
+report_of input segments = report_with (standing_of input.config (all_events segments)) (answers_of input.requests (drop 1 segments))
 
 -- A completed session: the bytes taken begin with spellings of the messages got, those put out encode those sent,
 -- together they are a transcript for that input, and the report is its fold.
@@ -89,8 +89,8 @@ pub record Completed (input : Input) (taken sent : List ℕ) (report : SessionRe
   pub spelled : List ℕ
   pub rest : List ℕ
   pub begins : taken ≡ spelled ++ rest
-  pub got : SpellsGot (first_standing input.config) (joined segments) spelled
-  pub put : EncodesSent (joined segments) sent
+  pub got : SpellsGot (first_standing input.config) (all_events segments) spelled
+  pub put : EncodesSent (all_events segments) sent
   pub reported : report ≡ report_of input segments
 
 -- The bytes to come begin with bytes, within the limit, that complete a transcript with these segments.
@@ -100,6 +100,6 @@ pub record Completes (input : Input) (limit : ℕ) (left : List ℕ) (segments :
   pub more : List ℕ
   pub begins : left ≡ bytes ++ more
   pub within : length bytes ≤ limit
-  pub got : SpellsGot (first_standing input.config) (joined segments) bytes
+  pub got : SpellsGot (first_standing input.config) (all_events segments) bytes
   pub sent : List ℕ
-  pub put : EncodesSent (joined segments) sent
+  pub put : EncodesSent (all_events segments) sent

@@ -28,24 +28,24 @@ abbrev pub startup_size : Input → ℕ
 startup_size input = parameter_size (codes "application_name") (input.config).application_name + parameter_size (codes "user") (input.config).user + parameter_size (codes "database") (input.config).dbname + 9
 
 -- so many bytes and the length field, which is 4 bytes, are within the limit
-abbrev pub Fits : ℕ → List ℕ → Type 0
-Fits limit body = length body + 4 ≤ limit
+abbrev pub FitsLimit : ℕ → List ℕ → Type 0
+FitsLimit limit body = length body + 4 ≤ limit
 
 abbrev pub IsValidName : Option (List ℕ) → Type 0
 IsValidName n = IfSome n HasNoZero
 
 -- no text has a zero byte, nothing is counted above 65535, and the message is within its limit
 abbrev pub IsValidMessage : Frontend → Type 0
-IsValidMessage (frontend.PasswordMessageFamily (family.Password m)) = HasNoZero m.password × Fits 10000 (text m.password)
-IsValidMessage (frontend.PasswordMessageFamily (family.SASLInitialResponse m)) = (0 < length m.auth_method) × HasNoZero m.auth_method × Fits 10000 (initial_response m)
-IsValidMessage (frontend.PasswordMessageFamily (family.SASLResponse m)) = Fits 10000 m.payload
-IsValidMessage (frontend.Query m) = HasNoZero m.query × Fits 1073741822 (text m.query)
-IsValidMessage (frontend.Parse m) = IsValidName m.name × HasNoZero m.query × (length m.type_oids ≤ 65535) × Fits 1073741822 (parse m)
+IsValidMessage (frontend.PasswordMessageFamily (family.Password m)) = HasNoZero m.password × FitsLimit 10000 (text m.password)
+IsValidMessage (frontend.PasswordMessageFamily (family.SASLInitialResponse m)) = (0 < length m.auth_method) × HasNoZero m.auth_method × FitsLimit 10000 (initial_response m)
+IsValidMessage (frontend.PasswordMessageFamily (family.SASLResponse m)) = FitsLimit 10000 m.payload
+IsValidMessage (frontend.Query m) = HasNoZero m.query × FitsLimit 1073741822 (text m.query)
+IsValidMessage (frontend.Parse m) = IsValidName m.name × HasNoZero m.query × (length m.type_oids ≤ 65535) × FitsLimit 1073741822 (parse m)
 IsValidMessage (frontend.Bind m) =
-    IsValidName m.portal_name × IsValidName m.statement_name × (length m.parameter_format_codes ≤ 65535) × (length m.parameters ≤ 65535) × (length m.result_column_format_codes ≤ 65535) × Fits 1073741822 (bind m)
-IsValidMessage (frontend.Execute m) = IsValidName m.name × Fits 10000 (name m.name ++ i32 m.max_rows)
-IsValidMessage (frontend.Describe m) = IsValidName m.name × Fits 10000 (m.target_type ∷ name m.name)
-IsValidMessage (frontend.Close m) = IsValidName m.name × Fits 10000 (m.target_type ∷ name m.name)
+    IsValidName m.portal_name × IsValidName m.statement_name × (length m.parameter_format_codes ≤ 65535) × (length m.parameters ≤ 65535) × (length m.result_column_format_codes ≤ 65535) × FitsLimit 1073741822 (bind m)
+IsValidMessage (frontend.Execute m) = IsValidName m.name × FitsLimit 10000 (name m.name ++ i32 m.max_rows)
+IsValidMessage (frontend.Describe m) = IsValidName m.name × FitsLimit 10000 (m.target_type ∷ name m.name)
+IsValidMessage (frontend.Close m) = IsValidName m.name × FitsLimit 10000 (m.target_type ∷ name m.name)
 IsValidMessage (frontend.Flush m) = Unit {0}
 IsValidMessage (frontend.Sync m) = Unit {0}
 IsValidMessage m = ⊥

@@ -18,12 +18,12 @@ ghost use Rattle.pgw_config.specs.declared.config.Config.{Config as TheConfig};
 ghost use Rattle.pgw_session.specs.declared.types.Request.{Request as TheRequest};
 ghost use Rattle.pgw_session.specs.Input.{Input as TheInput};
 ghost use Rattle.pgw_session.specs.Segments.{IsStartupSegment, IsBegun};
-ghost use Rattle.pgw_session.specs.Events.{Event, Got, joined, sents};
+ghost use Rattle.pgw_session.specs.Events.{Event, Got, all_events, sents};
 ghost use Rattle.pgw_session.specs.Standings.{first_standing, standing_of};
 ghost use Rattle.pgw_session.specs.Stays.{IsSameConnection, IsUnready, SetsNone};
 ghost use Rattle.pgw_session.specs.Answers.{tally_of, first_error};
-ghost use Rattle.pgw_session.specs.Transcript.{AreSegments, IsTranscript, IsPart, IsEarly, IsLegalPrefix, SpellsGot, EncodesSent, Completed, Completes, report_of};
-ghost use Rattle.pgw_session.specs.Failures.{GoesOn, HasNoPlace, Unreadable, FailsAtStartup, Unsendable, WaitsAt, IsHopeless, IsUnfinished, EndsAs, Told};
+ghost use Rattle.pgw_session.specs.Transcript.{AreSegments, IsTranscript, IsTranscriptPart, IsEarly, IsLegalPrefix, SpellsGot, EncodesSent, Completed, Completes, report_of};
+ghost use Rattle.pgw_session.specs.Failures.{SessionGoesOn, HasNoPlace, Unreadable, FailsAtStartup, Unsendable, WaitsAt, IsHopeless, IsUnfinished, EndsAs, BytesTell};
 ghost use Rattle.pgw_session.specs.Faults.{IsByteFault, IsDueFault, IsStartupError};
 ghost use Rattle.pgw_config.specs.declared.config.ChannelBinding.TheVariants as channel_binding;
 ghost use Rattle.pgw_scram.specs.declared.messages.ServerFirst.{ServerFirst as TheFirst};
@@ -35,8 +35,8 @@ ghost use Rattle.pgw_startup.specs.declared.authentication.Authentication.TheVar
 ghost use Rattle.pgw_session.specs.Bound.{BindsTo, LogsInBound, LetsNoneIn, CanEnd};
 ghost use Rattle.pgw_session.specs.Demands.{refused_config};
 ghost use Rattle.pgw_session.specs.Valid.{IsValidInput, IsLoginValid, CanLogIn};
-ghost use Rattle.pgw_course.specs.Course.{Waits, Over, onto, seen, sent_of};
-ghost use Rattle.pgw_session.specs.Machine.{opens_next, end_with, ended, Complete, Unencoded, Unexpected, Unread, Refused};
+ghost use Rattle.pgw_course.specs.Course.{Waits, Over, onto, map_course, sent_of};
+ghost use Rattle.pgw_session.specs.Machine.{opens_next, end_with, map_end, Complete, Unencoded, Unexpected, Unread, Refused};
 ghost use Rattle.pgw_session.specs.Notes.{noted_of, view};
 ghost use Rattle.pgw_session.specs.Talk.{between, first_passed, talk_book, Talk, Ending, said, conversation, whole_talk, HasRefused};
 
@@ -51,8 +51,8 @@ pub fn whole_conversations_are_sessions()
 pub fn transcripts_are_conversed()
     ensures { (input : TheInput) (segments : List (List Event)) (bytes sent more : List ℕ) →
         IsTranscript input segments →
-        SpellsGot (first_standing input.config) (joined segments) bytes →
-        EncodesSent (joined segments) sent → conversation input (bytes ++ more)
+        SpellsGot (first_standing input.config) (all_events segments) bytes →
+        EncodesSent (all_events segments) sent → conversation input (bytes ++ more)
         ≡ Over (whole_talk segments) sent }
 {}
 
@@ -63,8 +63,8 @@ pub fn requests_are_taken_one_by_one()
         (startup : List Event) (segments : List (List Event)) (bytes sent : List ℕ) → input.requests
         ≡ asked ++ q ∷ left →
         IsStartupSegment input startup → AreSegments asked segments →
-        SpellsGot (first_standing input.config) (joined (startup ∷ segments)) bytes →
-        EncodesSent (joined (startup ∷ segments)) sent →
+        SpellsGot (first_standing input.config) (all_events (startup ∷ segments)) bytes →
+        EncodesSent (all_events (startup ∷ segments)) sent →
         conversation input bytes ≡ onto sent (opens_next (talk_book input)
         (between (startup ∷ segments)) (Some q)) }
 {}
@@ -117,7 +117,7 @@ pub fn the_end_of_the_bytes_has_its_error()
 /// Whatever bytes are taken, they tell one of six things, and what is to be sent by then is what their conversation put out.
 pub fn all_bytes_are_told()
     ensures { (input : TheInput) (taken : List ℕ) →
-        Told input taken (sent_of (conversation input taken)) }
+        BytesTell input taken (sent_of (conversation input taken)) }
 {}
 
 /// Which refusals and errors a session can end with, of those that it does not make itself.
@@ -138,16 +138,16 @@ pub fn valid_input_can_be_sent()
     // It demands nothing that is refused.
     ensures demands { (input : TheInput) → IsValidInput input → refused_config input.config ≡ None }
     ensures transcripts { (input : TheInput) (segments : List (List Event)) → IsValidInput input →
-        IsTranscript input segments → CanLogIn (sents (joined segments)) →
-        (bytes : List ℕ) × EncodesSent (joined segments) bytes }
+        IsTranscript input segments → CanLogIn (sents (all_events segments)) →
+        (bytes : List ℕ) × EncodesSent (all_events segments) bytes }
     // An MD5 password always can.
     ensures md5 { (input : TheInput) (salt : List ℕ) → IsLoginValid (md5_message input salt) }
     ensures prefixes { (input : TheInput) (es : List Event) → IsValidInput input →
         IsLegalPrefix input es → CanLogIn (sents es) → (bytes : List ℕ) × EncodesSent es bytes }
     // So spellings of a transcript's messages complete it,
     ensures completes { (input : TheInput) (segments : List (List Event)) (bytes more : List ℕ) →
-        IsValidInput input → IsTranscript input segments → CanLogIn (sents (joined segments)) →
-        SpellsGot (first_standing input.config) (joined segments) bytes →
+        IsValidInput input → IsTranscript input segments → CanLogIn (sents (all_events segments)) →
+        SpellsGot (first_standing input.config) (all_events segments) bytes →
         Completes input (length bytes) (bytes ++ more) segments }
     // and no conversation ends for want of an encoding, but of a message to log in with.
     ensures never_unencoded { (input : TheInput) (taken sent : List ℕ) (ending : Ending)
@@ -188,7 +188,7 @@ pub fn the_first_error_is_kept()
 /// What a client notes of the bytes is a view of their conversation.
 pub fn notes_tell_the_conversation()
     ensures { (input : TheInput) (bytes : List ℕ) → noted_of input bytes
-        ≡ seen (view input) (ended (view input)) (conversation input bytes) }
+        ≡ map_course (view input) (map_end (view input)) (conversation input bytes) }
 {}
 
 /// Where a hash of the server's certificate is given, to bind is not forbidden and the server offers it, the client's last
@@ -227,8 +227,8 @@ pub fn sessions_are_bound_where_it_is_required()
 /// legal prefix for its own sake only where a login must be bound and cannot end.
 pub fn what_is_early_goes_on()
     ensures part { (input : TheInput) (es : List Event) → CanEnd input → IsEarly input es →
-        IsPart input es }
+        IsTranscriptPart input es }
     // The server's next message is awaited there.
     ensures turn { (input : TheInput) (es : List Event) → CanEnd input → IsBegun input es →
-        GoesOn input [] es }
+        SessionGoesOn input [] es }
 {}

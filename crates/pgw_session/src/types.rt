@@ -139,11 +139,11 @@ pub enum Response {
 }
 
 impl Response {
-    ghost use Rattle.pgw_session.specs.Responses.{rows_in};
+    ghost use Rattle.pgw_session.specs.Responses.{waiting_rows};
 
     /// The rows of a result, to be read; of any other response, none.
     pub fn into_data_rows_reader(self, alloc: Global) -> DataRowsReader
-        ensures { result ≡ rows_in self }
+        ensures { result ≡ waiting_rows self }
     {
         match self {
             Response::EmptyQuery => DataRowsReader::empty(alloc),

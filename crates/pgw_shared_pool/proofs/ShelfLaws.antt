@@ -4,10 +4,10 @@ use Rattle.pgw_backend.specs.declared.client_error.PgWireClientError.{PgWireClie
 use Rattle.pgw_session.specs.declared.types.Request.{Request}
 use Rattle.pgw_session.specs.declared.types.Answer.{Answer}
 use Rattle.pgw_pool.specs.declared.returned.Returned.TheVariants.{Kept}
-use Rattle.pgw_pool.specs.Histories.{History, View, lent_as, IsIdle, AreIdle}
+use Rattle.pgw_pool.specs.Histories.{History, View, lent_as, IsIdleInPool, AreIdle}
 use Rattle.pgw_pool.specs.Lending.{Lends, LendsFirst}
 use Rattle.pgw_pool.specs.Returning.{GivesBack}
-use Rattle.pgw_pool.specs.Stocks.{stock, leased, IsOut, Runs, Step, runs, gives_back, no_step, step_more, IsInOrder}
+use Rattle.pgw_pool.specs.Stocks.{stock, leased, IsOut, LeaseRuns, StockStep, runs, gives_back, no_step, step_more, IsStockInOrder}
 use Rattle.pgw_pool.proofs.StockLaws.{any_steps}
 use Rattle.pgw_shared_pool.specs.Shelves.{Shelf, Rested, RefusesSession, IsNewLease}
 
@@ -44,22 +44,22 @@ not_refused s back own room (inr full) = omega (arith, room full.0, full.1)
 
 -- ---- it goes on, and ends
 
-pub goes_on : (number : ℕ) (q : Request) (old new : View) (result : Result Answer ClientError) → Runs q old new result → IsOut number (leased number old) → IsOut number (leased number new)
+pub goes_on : (number : ℕ) (q : Request) (old new : View) (result : Result Answer ClientError) → LeaseRuns q old new result → IsOut number (leased number old) → IsOut number (leased number new)
 goes_on number q old new result r out =
     let s = stock number [] (leased number old ∷ []) in
     let t = stock number [] (leased number new ∷ []) in
-    let step : Step s t = runs number number [] [] [] q old new result r in
-    let is : IsInOrder t = any_steps s t (step_more s s t (no_step s) step) (record { histories = []; idle = tt; out = (out, tt) }) in
+    let step : StockStep s t = runs number number [] [] [] q old new result r in
+    let is : IsStockInOrder t = any_steps s t (step_more s s t (no_step s) step) (record { histories = []; idle = tt; out = (out, tt) }) in
     (is.out).0
 
-one_idle : (lent : ℕ) (hs : List History) (v : View) → AreIdle lent hs (v ∷ []) → (h : History) × IsIdle lent h v
+one_idle : (lent : ℕ) (hs : List History) (v : View) → AreIdle lent hs (v ∷ []) → (h : History) × IsIdleInPool lent h v
 one_idle lent [] v are = absurd are
 one_idle lent (h ∷ hs) v are = (h, are.0)
 
-pub comes_back : (number : ℕ) (old v : View) → GivesBack old [] (v ∷ []) Kept → IsOut number (leased number old) → (h : History) × IsIdle number h v
+pub comes_back : (number : ℕ) (old v : View) → GivesBack old [] (v ∷ []) Kept → IsOut number (leased number old) → (h : History) × IsIdleInPool number h v
 comes_back number old v g out =
     let s = stock number [] (leased number old ∷ []) in
     let t = stock number (v ∷ []) [] in
-    let step : Step s t = gives_back number number [] (v ∷ []) [] [] old Kept g in
-    let is : IsInOrder t = any_steps s t (step_more s s t (no_step s) step) (record { histories = []; idle = tt; out = (out, tt) }) in
+    let step : StockStep s t = gives_back number number [] (v ∷ []) [] [] old Kept g in
+    let is : IsStockInOrder t = any_steps s t (step_more s s t (no_step s) step) (record { histories = []; idle = tt; out = (out, tt) }) in
     one_idle number is.histories v is.idle

@@ -1,12 +1,12 @@
 -- The sessions of a shared pool.
 use Rattle.std.specs.Prelude.{◌≡◌, ◌≢◌, ◌⊎◌, ◌<◌, ◌≤◌, ◌+◌, ◌-◌, ◌++◌, ◌∷◌, [], ℕ, List, length}
-use Rattle.pgw_types.specs.Counts.{counted}
+use Rattle.pgw_types.specs.Counts.{next_count}
 use Rattle.pgw_config.specs.declared.config.Config.{Config}
 use Rattle.pgw_pool.specs.declared.returned.Returned.{Returned}
 use Rattle.pgw_pool.specs.declared.returned.Returned.TheVariants as returned
 use Rattle.pgw_pool.specs.Histories.{History, View, lent_as, IsLent, BeginsIdle}
 use Rattle.pgw_pool.specs.Lending.{Lends, most_leases}
-use Rattle.pgw_pool.specs.Starting.{Dials, Connects, ConnectAll, NotStarted}
+use Rattle.pgw_pool.specs.Starting.{Dials, PoolConnects, ConnectAll, NotStarted}
 use Rattle.pgw_backend.specs.declared.client_error.PgWireClientError.{PgWireClientError as ClientError}
 use Rattle.pgw_backend.specs.declared.client_error.PgWireClientError.TheVariants as client
 use Rattle.pgw_pool.specs.Stocks.{Out}
@@ -52,7 +52,7 @@ pub record TakesSession (old : Shelf) (back : Rested) (new : Shelf) : Type 0 whe
   pub idle : new.idle ≡ old.idle ++ back.view ∷ []
   pub lent : new.lent ≡ old.lent
   pub is_new : back.last ≡ 0 →
-      (new.out ≡ old.out) × (new.connected ≡ counted old.connected)
+      (new.out ≡ old.out) × (new.connected ≡ next_count old.connected)
   pub was_out : back.last ≢ 0 → (new.out ≡ old.out - 1) × (new.connected ≡ old.connected)
   pub dropped : new.dropped ≡ old.dropped
   pub room : new.room ≡ old.room
@@ -67,7 +67,7 @@ pub record LosesSession (old new : Shelf) : Type 0 where
   pub idle : new.idle ≡ old.idle
   pub lent : new.lent ≡ old.lent
   pub out : new.out ≡ old.out - 1
-  pub dropped : new.dropped ≡ counted old.dropped
+  pub dropped : new.dropped ≡ next_count old.dropped
   pub connected : new.connected ≡ old.connected
   pub room : new.room ≡ old.room
 
@@ -91,9 +91,9 @@ returned_by_pool given.Foreign = returned.Kept
 -- a session was logged in; or no place was free, and nothing was dialled; or none was by the time
 -- that the session was logged in
 abbrev pub IsRefilled : Config → ℕ → List ℕ → Dials → Dials → Refilled → Type 0
-IsRefilled config limit nonce old new Added = (v : View) × Connects config limit nonce old new v
+IsRefilled config limit nonce old new Added = (v : View) × PoolConnects config limit nonce old new v
 IsRefilled config limit nonce old new Full = new ≡ old
-IsRefilled config limit nonce old new Displaced = (v : View) × Connects config limit nonce old new v
+IsRefilled config limit nonce old new Displaced = (v : View) × PoolConnects config limit nonce old new v
 
 -- why no shared pool was started: no pool was; or its sessions were connected, and then memory was
 -- wanting

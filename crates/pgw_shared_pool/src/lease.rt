@@ -21,7 +21,7 @@ impl<L: Link> Model for SharedLease<L> {
     ghost use Rattle.std.specs.Ordering.{nat_cmp};
     ghost use Rattle.std.specs.Cmp.Lexicographic.{slice_cmp};
     ghost use Rattle.pgw_pool.specs.Stocks.{Out, leased, IsOut};
-    ghost use Rattle.pgw_pool.specs.Views.{number_of, lease_view};
+    ghost use Rattle.pgw_pool.specs.Views.{lease_number, lease_view};
 
     ghost Value = { Out };
 
@@ -30,15 +30,15 @@ impl<L: Link> Model for SharedLease<L> {
       map.code {R = slice_cmp nat_cmp} (coded_list coded_ℕ) (coded_list coded_ℕ),
     ) };
 
-    ghost view = { λ s. leased (number_of s.lease) (lease_view L.tape L.faults s.lease) };
+    ghost view = { λ s. leased (lease_number s.lease) (lease_view L.tape L.faults s.lease) };
 
-    ghost invariant = { λ s. IsOut (number_of s.lease)
-        (leased (number_of s.lease) (lease_view L.tape L.faults s.lease)) };
+    ghost invariant = { λ s. IsOut (lease_number s.lease)
+        (leased (lease_number s.lease) (lease_view L.tape L.faults s.lease)) };
 }
 
 impl<L: Link> SharedLease<L> {
     ghost use Rattle.pgw_pool.specs.Histories.{History, Lent, IsLent};
-    ghost use Rattle.pgw_pool.specs.Lending.{Ran};
+    ghost use Rattle.pgw_pool.specs.Lending.{LeaseRan};
     ghost use Rattle.pgw_pool.specs.Stocks.{IsOut};
     ghost use Rattle.pgw_ask.specs.Asking.{Asks};
     ghost use Rattle.pgw_connection.specs.Line.{StaysWithin};
@@ -65,7 +65,7 @@ impl<L: Link> SharedLease<L> {
         ensures broken { self.old.view.broken ≡ true →
             (result ≡ Err failure.Broken) × (self.new ≡ self.old) }
         ensures ran { (h : History) (l : Lent) → IsLent h l self.old.view →
-            Ran h l request.now self.new.view self.new.view.broken result }
+            LeaseRan h l request.now self.new.view self.new.view.broken result }
         ensures asks { self.old.view.broken ≡ false →
             Asks request.now self.old.view.client self.old.view.line self.new.view.client
             self.new.view.line self.new.view.broken result }

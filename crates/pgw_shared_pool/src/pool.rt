@@ -45,7 +45,7 @@ impl<L: Link> SharedPool<L> {
     ghost use Rattle.pgw_turns.specs.declared.turns.LendRefusal.TheVariants.{TimedOut};
     ghost use Rattle.pgw_pool.specs.Histories.{History, View, AreIdle};
     ghost use Rattle.pgw_pool.specs.Views.{idle_in, lent_by};
-    ghost use Rattle.pgw_pool.specs.Starting.{dials, ConnectAll, Connects, NotConnects};
+    ghost use Rattle.pgw_pool.specs.Starting.{dials, ConnectAll, PoolConnects, NotConnects};
     ghost use Rattle.pgw_pool.specs.Returning.{GivesBack};
     ghost use Rattle.pgw_shared_pool.specs.Shelves.{IsNewLease, NotShared, returned_by_pool, IsRefilled};
 

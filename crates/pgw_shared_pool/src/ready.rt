@@ -16,7 +16,7 @@ impl<L: Link> Model for Ready<L> {
     ghost use Rattle.std.specs.Ordering.{nat_cmp};
     ghost use Rattle.std.specs.Cmp.Lexicographic.{slice_cmp};
     ghost use Rattle.pgw_pool.specs.Spares.{last_lease, spare_view};
-    ghost use Rattle.pgw_pool.specs.Histories.{History, IsIdle};
+    ghost use Rattle.pgw_pool.specs.Histories.{History, IsIdleInPool};
     ghost use Rattle.pgw_shared_pool.specs.Shelves.{Rested, rested};
 
     ghost Value = { Rested };
@@ -29,5 +29,5 @@ impl<L: Link> Model for Ready<L> {
     ghost view = { λ r. rested (last_lease r.spare) (spare_view L.tape L.faults r.spare) };
 
     ghost invariant = { λ r. (h : History) ×
-        IsIdle (last_lease r.spare) h (spare_view L.tape L.faults r.spare) };
+        IsIdleInPool (last_lease r.spare) h (spare_view L.tape L.faults r.spare) };
 }

@@ -6,18 +6,18 @@ use Rattle.std.proofs.lemmas.Bool.Decides.{Decides-int_eq}
 use Rattle.std.proofs.lemmas.List.{append-nil}
 use Rattle.pgw_types.specs.declared.context.DecodeContext.{DecodeContext}
 use Rattle.pgw_wire.specs.Reading.{◌>>=◌, int_at, octets_at, rest_at, text_at}
-use Rattle.pgw_wire.specs.Formats.{made_at, IsRow, Reads, SpellsText, SpellsInt}
+use Rattle.pgw_wire.specs.Formats.{made_at, IsRow, ReadsFormat, SpellsText, SpellsInt}
 use Rattle.pgw_wire.proofs.Laws.{bind_ok, ok_is, chosen, shorter_after, pair_reads}
 use Rattle.pgw_wire.proofs.FieldLaws.{text_reads, int_reads, octets_reads}
 use Rattle.pgw_wire.proofs.FrameLaws.{reads_last, rest_reads, made_last}
 use Rattle.pgw_wire.proofs.MarkLaws.{last_as}
 use Rattle.pgw_wire.proofs.MessageLaws.{is_row}
 use Rattle.pgw_startup.specs.declared.password.PasswordMessageFamily.TheVariants as family
-use Rattle.pgw_startup.specs.Password.{password_of, SpellsPassword, octets_counted, octets_or_none, data_at, SpellsData, initial_response_of, SpellsInitialResponse, response_of, SpellsResponse, family_of, SpellsRaw}
+use Rattle.pgw_startup.specs.Password.{password_payload, SpellsPassword, octets_counted, octets_or_none, data_at, SpellsData, initial_response_of, SpellsInitialResponse, sasl_response_in, SpellsResponse, family_of, SpellsRaw}
 use Rattle.pgw_startup.proofs.FirstLaws.{made_some}
 
-pub password : IsRow 112 10000 password_of SpellsPassword
-unfolding password_of
+pub password : IsRow 112 10000 password_payload SpellsPassword
+unfolding password_payload
 password = is_row 112 10000 (lit< tt) _ SpellsPassword (made_last (λ t. record { password = t }) (λ m. m.password) text_at SpellsText (λ x. refl) (λ y. refl) (reads_last text_at SpellsText text_reads))
 
 -- ---- data with a length
@@ -61,7 +61,7 @@ data_again (Some value) front rest h =
     let two : octets_at (length value) (value ++ rest) ≡ Ok (value, rest) = (octets_reads (length value)).only value value rest (refl, refl) in
     ap (λ (bytes : List ℕ). int_at w32 bytes >>= λ len. octets_or_none len.0 len.1) regrouped ∙ rw (one, two) refl
 
-data_reads : Reads data_at SpellsData
+data_reads : ReadsFormat data_at SpellsData
 data_reads = record { found = data_found; only = data_again }
 
 -- ---- the others
@@ -71,8 +71,8 @@ unfolding initial_response_of
 initial_response = is_row 112 10000 (lit< tt) _ SpellsInitialResponse
     (made_last (λ p. record { auth_method = p.0; payload = p.1 }) (λ m. (m.auth_method, m.payload)) _ _ (λ x. refl) (λ y. refl) (reads_last _ _ (pair_reads text_at SpellsText data_at SpellsData text_reads data_reads)))
 
-pub response : IsRow 112 10000 response_of SpellsResponse
-unfolding response_of
+pub response : IsRow 112 10000 sasl_response_in SpellsResponse
+unfolding sasl_response_in
 response = is_row 112 10000 (lit< tt) _ SpellsResponse (made_last (λ b. record { payload = b }) (λ m. m.payload) rest_at (λ x bytes. bytes ≡ x) (λ x. refl) (λ y. refl) rest_reads)
 
 pub raw : (ctx : DecodeContext) → IsRow 112 10000 (family_of ctx) SpellsRaw

@@ -6,7 +6,7 @@ use Rattle.pgw_types.specs.declared.error.PgWireError.{PgWireError}
 use Rattle.pgw_types.specs.declared.context.DecodeContext.{DecodeContext}
 use Rattle.pgw_wire.specs.declared.framing.Framing.TheVariants.{Untyped}
 use Rattle.pgw_wire.specs.Reading.{nat_at, marked_list_at}
-use Rattle.pgw_wire.specs.Framing.{front}
+use Rattle.pgw_wire.specs.Framing.{wire_front}
 use Rattle.pgw_wire.specs.Formats.{pair_at, Pair, made_at, tried_at, SpellsNat, SpellsMarked, ReadsLast, SpellsUntyped}
 use Rattle.pgw_wire.specs.Pairs.{pair_at as param_at, from_pairs}
 use Rattle.pgw_wire.proofs.Laws.{bind_ok, ok_is, chosen, tried_some}
@@ -32,9 +32,9 @@ made_some {A} {B} make p P hp = record {
       let a = bind_ok (p bytes) (λ x. Ok (make x.0, x.1)) (y, rest) e in
       let s = hp.found bytes a.0.0 a.0.1 fits a.1 in
       let made : B × List ℕ = (make a.0.0, a.0.1) in
-      subst (λ (z : B × List ℕ). (front : List ℕ) × (bytes ≡ front ++ z.1) × ((x : A) × P x front × (make x ≡ z.0))) (ok_is made (y, rest) a.2)
+      subst (λ (z : B × List ℕ). (wire_front : List ℕ) × (bytes ≡ wire_front ++ z.1) × ((x : A) × P x wire_front × (make x ≡ z.0))) (ok_is made (y, rest) a.2)
       (s.0, s.1, (a.0.0, s.2, refl));
-  only = λ y front h. rw (hp.only h.0 front h.1, h.2) refl;
+  only = λ y wire_front h. rw (hp.only h.0 wire_front h.1, h.2) refl;
 }
 
 Major : ℕ → List ℕ → Type 0
@@ -75,8 +75,8 @@ startup_body_again ctx body m h =
     let tried : three m.protocol_number_major ≡ Ok m.protocol_number_major = rw is refl in
     rw long (all_again _ Parts parts_reads body m (parts.0, parts.1, parts.2, (m.protocol_number_major, tried, parts.3), parts.4))
 
-pub startup_found : (ctx : DecodeContext) (bytes : List ℕ) (m : Startup) (rest : List ℕ) → front Untyped 10000 (startup_of ctx) bytes ≡ Ok (Some (m, rest)) → (g : List ℕ) × (bytes ≡ g ++ rest) × SpellsUntyped 10000 SpellsStartup m g
+pub startup_found : (ctx : DecodeContext) (bytes : List ℕ) (m : Startup) (rest : List ℕ) → wire_front Untyped 10000 (startup_of ctx) bytes ≡ Ok (Some (m, rest)) → (g : List ℕ) × (bytes ≡ g ++ rest) × SpellsUntyped 10000 SpellsStartup m g
 startup_found ctx = untyped_found 10000 (startup_of ctx) (lit< tt) SpellsStartup (startup_body ctx)
 
-pub startup_again : (ctx : DecodeContext) (m : Startup) (g rest : List ℕ) → SpellsUntyped 10000 SpellsStartup m g → front Untyped 10000 (startup_of ctx) (g ++ rest) ≡ Ok (Some (m, rest))
+pub startup_again : (ctx : DecodeContext) (m : Startup) (g rest : List ℕ) → SpellsUntyped 10000 SpellsStartup m g → wire_front Untyped 10000 (startup_of ctx) (g ++ rest) ≡ Ok (Some (m, rest))
 startup_again ctx = untyped_again 10000 (startup_of ctx) (lit< tt) SpellsStartup (startup_body_again ctx)

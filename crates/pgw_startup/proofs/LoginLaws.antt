@@ -8,7 +8,7 @@ use Rattle.pgw_wire.specs.Reading.{◌>>=◌, text_at, nat_at, int_at, name_at, 
 use Rattle.pgw_wire.specs.CodeLaws.{name_shrinks}
 use Rattle.pgw_wire.specs.Keys.{key_of, SpellsKey}
 use Rattle.pgw_wire.specs.Formats.{made_at, tried_at, counted_at, IsRow, ReadsLast, SpellsText, SpellsInt, SpellsOctets, SpellsName, SpellsMarked, SpellsCounted}
-use Rattle.pgw_wire.proofs.Laws.{bind_ok, done, ok_is, chosen, shorter_after}
+use Rattle.pgw_wire.proofs.Laws.{bind_ok, step_value, ok_is, chosen, shorter_after}
 use Rattle.pgw_wire.proofs.FieldLaws.{text_reads, nat_reads, int_reads, octets_reads}
 use Rattle.pgw_wire.proofs.FrameLaws.{reads_last, rest_reads, pair_last, made_last, counted_reads, count32}
 use Rattle.pgw_wire.proofs.MarkLaws.{marked_reads, name_reads, key_reads}
@@ -23,7 +23,7 @@ use Rattle.pgw_startup.specs.Login.{by_code, authentication_of, authentication_c
 Found : ℕ → List ℕ → Authentication → List ℕ → Type 0
 Found code bytes m rest = (f : List ℕ) × (bytes ≡ f ++ rest) × (authentication_code m ≡ code) × SpellsAfter m f
 
-plain : (code literal : ℕ) (m : Authentication) (bytes : List ℕ) (n : Authentication) (rest : List ℕ) → eqb code literal ≡ true → authentication_code m ≡ literal → SpellsAfter m [] → done {A = Authentication × List ℕ} (m, bytes) ≡ done (n, rest) → Found code bytes n rest
+plain : (code literal : ℕ) (m : Authentication) (bytes : List ℕ) (n : Authentication) (rest : List ℕ) → eqb code literal ≡ true → authentication_code m ≡ literal → SpellsAfter m [] → step_value {A = Authentication × List ℕ} (m, bytes) ≡ step_value (n, rest) → Found code bytes n rest
 unfolding Found
 plain code literal m bytes n rest is of after e =
     let made : Authentication × List ℕ = (m, bytes) in

@@ -9,7 +9,7 @@ use Rattle.std.specs.FinMap as map
 use Rattle.std.proofs.lemmas.Bool.{eqb-true, ne_eqb, eqb-false}
 use Rattle.std.proofs.lemmas.List.{append-nil, nil_from_length}
 use Rattle.pgw_wire.specs.Reading.{◌>>=◌, text_at, marked_list_at}
-use Rattle.pgw_wire.specs.Formats.{SpellsText, SpellsMarked, Reads}
+use Rattle.pgw_wire.specs.Formats.{SpellsText, SpellsMarked, ReadsFormat}
 use Rattle.pgw_wire.specs.Pairs.{Held, pair_at, from_pairs}
 use Rattle.pgw_wire.specs.PairLaws.{pair_shrinks}
 use Rattle.pgw_wire.proofs.Laws.{bind_ok, ok_is, chosen, shorter_after}
@@ -56,7 +56,7 @@ pair_only (Some p) front rest h =
     let no : eqb (length p.0) 0 ≡ false = ne_eqb (length p.0) 0 (λ is. omega (arith, is, h.1)) in
     ap pair_at regrouped ∙ rw (text_reads.only p.0 parts.0 (parts.1 ++ rest) parts.3, no, text_reads.only p.1 parts.1 rest parts.4) refl
 
-pub pairs_reads : Reads (marked_list_at pair_at) (SpellsMarked SpellsPair)
+pub pairs_reads : ReadsFormat (marked_list_at pair_at) (SpellsMarked SpellsPair)
 pairs_reads = marked_reads pair_at SpellsPair pair_shrinks (record { found = pair_found; only = pair_only })
 
 -- ---- a map from its entries

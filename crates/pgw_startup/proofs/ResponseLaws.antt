@@ -7,7 +7,7 @@ use Rattle.pgw_types.specs.declared.context.DecodeContext.{DecodeContext}
 use Rattle.pgw_wire.specs.declared.framing.Framing.TheVariants.{OneByte}
 use Rattle.pgw_wire.specs.Reading.{◌>>=◌, nat_at, all_of}
 use Rattle.pgw_wire.specs.Formats.{tried_at, SpellsNat, ReadsLast}
-use Rattle.pgw_wire.specs.Framing.{frame, front}
+use Rattle.pgw_wire.specs.Framing.{frame, wire_front}
 use Rattle.pgw_wire.proofs.Laws.{bind_ok, ok_is, chosen, tried_reads}
 use Rattle.pgw_wire.proofs.FieldLaws.{nat_reads}
 use Rattle.pgw_wire.proofs.FrameLaws.{reads_last, all_found, all_again}
@@ -20,15 +20,15 @@ use Rattle.pgw_startup.specs.Response.{ssl_byte, gss_byte, ssl_reply, gss_reply,
 
 -- ---- one byte
 
-front_byte : {M : Type 0} (read : List ℕ → Result M PgWireError) (b : ℕ) (r : List ℕ) → front OneByte 10000 read (b ∷ r) ≡ (read (b ∷ []) >>= λ x. Ok (Some (x, r)))
-unfolding front frame
+front_byte : {M : Type 0} (read : List ℕ → Result M PgWireError) (b : ℕ) (r : List ℕ) → wire_front OneByte 10000 read (b ∷ r) ≡ (read (b ∷ []) >>= λ x. Ok (Some (x, r)))
+unfolding wire_front frame
 front_byte read b r =
     let some : eqb (length (b ∷ r)) 0 ≡ false = ne_eqb (length (b ∷ r)) 0 (λ is. omega (arith, is)) in
     rw some refl
 
 module _ {M : Type 0} (p : List ℕ → Result (M × List ℕ) PgWireError) (P : M → List ℕ → Type 0) (law : ReadsLast p P) (one : (m : M) (g : List ℕ) → P m g → length g ≡ 1) where
-  reply_found : (bytes : List ℕ) (m : M) (rest : List ℕ) → front OneByte 10000 (λ body. all_of (p body)) bytes ≡ Ok (Some (m, rest)) → (g : List ℕ) × (bytes ≡ g ++ rest) × P m g
-  unfolding front frame
+  reply_found : (bytes : List ℕ) (m : M) (rest : List ℕ) → wire_front OneByte 10000 (λ body. all_of (p body)) bytes ≡ Ok (Some (m, rest)) → (g : List ℕ) × (bytes ≡ g ++ rest) × P m g
+  unfolding wire_front frame
   reply_found [] m rest e = absurd cc
   reply_found (b ∷ r) m rest e =
       let whole : (all_of (p (b ∷ [])) >>= λ x. Ok (Some (x, r))) ≡ Ok (Some (m, rest)) = sym (front_byte (λ body. all_of (p body)) b r) ∙ e in
@@ -36,7 +36,7 @@ module _ {M : Type 0} (p : List ℕ → Result (M × List ℕ) PgWireError) (P :
       let made : M × List ℕ = (a.0, r) in
       subst (λ (y : M × List ℕ). (g : List ℕ) × (b ∷ r ≡ g ++ y.1) × P y.0 g) (some_is made (m, rest) a.2) (b ∷ [], refl, all_found p P law (b ∷ []) a.0 (lit< tt) a.1)
 
-  reply_again : (m : M) (g rest : List ℕ) → length g ≡ 1 → P m g → front OneByte 10000 (λ body. all_of (p body)) (g ++ rest) ≡ Ok (Some (m, rest))
+  reply_again : (m : M) (g rest : List ℕ) → length g ≡ 1 → P m g → wire_front OneByte 10000 (λ body. all_of (p body)) (g ++ rest) ≡ Ok (Some (m, rest))
   reply_again m [] rest size h = absurd (omega (arith, size))
   reply_again m (b ∷ []) rest size h =
       let read : all_of (p (b ∷ [])) ≡ Ok m = all_again p P law (b ∷ []) m h in

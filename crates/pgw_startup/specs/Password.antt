@@ -17,8 +17,8 @@ use Rattle.pgw_startup.specs.declared.password.PasswordMessageFamily.TheVariants
 
 -- ---- PasswordMessage
 
-unfoldable pub password_of : List ℕ → Result Password PgWireError
-password_of bytes = all_of (made_at (λ t. record { password = t }) text_at bytes)
+unfoldable pub password_payload : List ℕ → Result Password PgWireError
+password_payload bytes = all_of (made_at (λ t. record { password = t }) text_at bytes)
 
 abbrev pub SpellsPassword : Password → List ℕ → Type 0
 SpellsPassword m = SpellsText m.password
@@ -57,8 +57,8 @@ SpellsInitialResponse m = Pair SpellsText SpellsData (m.auth_method, m.payload)
 abbrev pub initial_response : SASLInitialResponse → List ℕ
 initial_response m = text m.auth_method ++ data_written m.payload
 
-unfoldable pub response_of : List ℕ → Result SASLResponse PgWireError
-response_of bytes = all_of (made_at (λ b. record { payload = b }) rest_at bytes)
+unfoldable pub sasl_response_in : List ℕ → Result SASLResponse PgWireError
+sasl_response_in bytes = all_of (made_at (λ b. record { payload = b }) rest_at bytes)
 
 abbrev pub SpellsResponse : SASLResponse → List ℕ → Type 0
 SpellsResponse m bytes = bytes ≡ m.payload
@@ -86,7 +86,7 @@ password_fault (family.SASLResponse m) = None
 
 -- a body is read as what it is taken for, and what is another message already is refused
 abbrev pub as_password : PasswordMessageFamily → Result Password PgWireError
-as_password (family.Raw body) = password_of body
+as_password (family.Raw body) = password_payload body
 as_password (family.Password m) = Ok m
 as_password (family.SASLInitialResponse m) = Err FailedToCoercePasswordMessage
 as_password (family.SASLResponse m) = Err FailedToCoercePasswordMessage
@@ -98,7 +98,7 @@ as_initial_response (family.SASLInitialResponse m) = Ok m
 as_initial_response (family.SASLResponse m) = Err FailedToCoercePasswordMessage
 
 abbrev pub as_response : PasswordMessageFamily → Result SASLResponse PgWireError
-as_response (family.Raw body) = response_of body
+as_response (family.Raw body) = sasl_response_in body
 as_response (family.Password m) = Err FailedToCoercePasswordMessage
 as_response (family.SASLInitialResponse m) = Err FailedToCoercePasswordMessage
 as_response (family.SASLResponse m) = Ok m

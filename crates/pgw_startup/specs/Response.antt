@@ -6,7 +6,7 @@ use Rattle.pgw_types.specs.declared.error.PgWireError.TheVariants.{InvalidMessag
 use Rattle.pgw_types.specs.declared.context.DecodeContext.{DecodeContext}
 use Rattle.pgw_wire.specs.Reading.{nat_at, all_of}
 use Rattle.pgw_wire.specs.declared.framing.Framing.TheVariants.{OneByte}
-use Rattle.pgw_wire.specs.Framing.{front}
+use Rattle.pgw_wire.specs.Framing.{wire_front}
 use Rattle.pgw_wire.specs.Formats.{tried_at, SpellsNat}
 use Rattle.pgw_startup.specs.declared.response.SslResponse.{SslResponse}
 use Rattle.pgw_startup.specs.declared.response.SslResponse.TheVariants as ssl
@@ -42,5 +42,5 @@ gss_enc_response_of ctx bytes = all_of (tried_at gss_reply (nat_at w8) bytes)
 
 -- what is read of one byte is spelled so, and what is spelled so is read, whatever follows it
 pub record IsReply {M : Type 0} (read : List ℕ → Result M PgWireError) (Spells : M → List ℕ → Type 0) : Type 0 where
-  pub found : (bytes : List ℕ) (m : M) (rest : List ℕ) → front OneByte 10000 read bytes ≡ Ok (Some (m, rest)) → (g : List ℕ) × (bytes ≡ g ++ rest) × Spells m g
-  pub only : (m : M) (g rest : List ℕ) → Spells m g → front OneByte 10000 read (g ++ rest) ≡ Ok (Some (m, rest))
+  pub found : (bytes : List ℕ) (m : M) (rest : List ℕ) → wire_front OneByte 10000 read bytes ≡ Ok (Some (m, rest)) → (g : List ℕ) × (bytes ≡ g ++ rest) × Spells m g
+  pub only : (m : M) (g rest : List ℕ) → Spells m g → wire_front OneByte 10000 read (g ++ rest) ≡ Ok (Some (m, rest))

@@ -69,7 +69,7 @@ impl Message for BackendKeyData {
         self.secret_key.put(out)
     }
 
-    #[tactic(auto, unfolding(crate::specs::Login::backend_key_data_of, pgw_wire::specs::Reading::rest_at, pgw_wire::specs::Reading::ended))]
+    #[tactic(auto, unfolding(crate::specs::Login::backend_key_data_of, pgw_wire::specs::Reading::rest_at, pgw_wire::specs::Reading::read_end))]
     fn decode_body(
         _alloc: Global,
         body: &Octets,

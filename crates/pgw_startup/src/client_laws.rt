@@ -3,7 +3,7 @@ ghost use Rattle.std.specs.Prelude.{◌≡◌, ◌++◌, ℕ, List, None, Some, 
 ghost use Rattle.std.specs.FinMap as map;
 ghost use Rattle.pgw_types.specs.declared.context.DecodeContext.{DecodeContext as TheContext};
 ghost use Rattle.pgw_wire.specs.declared.framing.Framing.TheVariants.{Typed, Untyped};
-ghost use Rattle.pgw_wire.specs.Framing.{front, encoded};
+ghost use Rattle.pgw_wire.specs.Framing.{wire_front, encoded};
 ghost use Rattle.pgw_wire.specs.Formats.{IsRow, SpellsTyped, SpellsUntyped};
 ghost use Rattle.pgw_wire.specs.Writing.{text, has_zero, refused_if};
 ghost use Rattle.pgw_wire.specs.Pairs.{from_pairs, Held};
@@ -13,25 +13,25 @@ ghost use Rattle.pgw_startup.specs.declared.sasl.SASLInitialResponse.{SASLInitia
 ghost use Rattle.pgw_startup.specs.declared.sasl.SASLResponse.{SASLResponse as TheResponse};
 ghost use Rattle.pgw_startup.specs.Login.{is_method_refused};
 ghost use Rattle.pgw_startup.specs.Sound.{IsStartup};
-ghost use Rattle.pgw_startup.specs.Password.{password_of, SpellsPassword, initial_response_of, initial_response, SpellsInitialResponse, response_of, SpellsResponse, family_of, SpellsRaw};
+ghost use Rattle.pgw_startup.specs.Password.{password_payload, SpellsPassword, initial_response_of, initial_response, SpellsInitialResponse, sasl_response_in, SpellsResponse, family_of, SpellsRaw};
 ghost use Rattle.pgw_startup.specs.Startup.{startup_of, startup, is_startup_refused, SpellsStartup};
 
 /// A Startup that is read is spelled so, and what is spelled so is read; and parameters are made again from their pairs.
 pub fn startup_is_exact()
     ensures found { (ctx : TheContext) (bytes : List ℕ) (m : TheStartup) (rest : List ℕ) →
-        front Untyped 10000 (startup_of ctx) bytes ≡ Ok (Some (m, rest)) → (g : List ℕ)
+        wire_front Untyped 10000 (startup_of ctx) bytes ≡ Ok (Some (m, rest)) → (g : List ℕ)
         × (bytes ≡ g ++ rest) × SpellsUntyped 10000 SpellsStartup m g }
     ensures only { (ctx : TheContext) (m : TheStartup) (g rest : List ℕ) →
-        SpellsUntyped 10000 SpellsStartup m g → front Untyped 10000 (startup_of ctx) (g ++ rest)
+        SpellsUntyped 10000 SpellsStartup m g → wire_front Untyped 10000 (startup_of ctx) (g ++ rest)
         ≡ Ok (Some (m, rest)) }
     ensures parameters { (m : Held) → from_pairs (map.entries m) ≡ m }
 {}
 
 /// What is read of a client's answers is spelled so, and what is spelled so is read.
 pub fn client_rows_are_exact()
-    ensures password { IsRow 112 10000 password_of SpellsPassword }
+    ensures password { IsRow 112 10000 password_payload SpellsPassword }
     ensures initial_response { IsRow 112 10000 initial_response_of SpellsInitialResponse }
-    ensures response { IsRow 112 10000 response_of SpellsResponse }
+    ensures response { IsRow 112 10000 sasl_response_in SpellsResponse }
     ensures raw { (ctx : TheContext) → IsRow 112 10000 (family_of ctx) SpellsRaw }
 {}
 
@@ -54,15 +54,15 @@ pub fn what_is_written_is_spelled()
 pub fn what_is_written_comes_back()
     ensures startup { (ctx : TheContext) (m : TheStartup) (g rest : List ℕ) → IsStartup m →
         encoded Untyped 10000 (refused_if (is_startup_refused m)) (startup m) ≡ Ok g →
-        front Untyped 10000 (startup_of ctx) (g ++ rest) ≡ Ok (Some (m, rest)) }
+        wire_front Untyped 10000 (startup_of ctx) (g ++ rest) ≡ Ok (Some (m, rest)) }
     ensures password { (m : ThePassword) (g rest : List ℕ) → IsUtf8 m.password →
         encoded (Typed 112) 10000 (refused_if (has_zero m.password)) (text m.password) ≡ Ok g →
-        front (Typed 112) 10000 password_of (g ++ rest) ≡ Ok (Some (m, rest)) }
+        wire_front (Typed 112) 10000 password_payload (g ++ rest) ≡ Ok (Some (m, rest)) }
     ensures initial_response { (m : TheInitial) (g rest : List ℕ) → IsUtf8 m.auth_method →
         encoded (Typed 112) 10000 (refused_if (is_method_refused m.auth_method))
-        (initial_response m) ≡ Ok g → front (Typed 112) 10000 initial_response_of (g ++ rest)
+        (initial_response m) ≡ Ok g → wire_front (Typed 112) 10000 initial_response_of (g ++ rest)
         ≡ Ok (Some (m, rest)) }
     ensures response { (m : TheResponse) (g rest : List ℕ) →
         encoded (Typed 112) 10000 None m.payload ≡ Ok g →
-        front (Typed 112) 10000 response_of (g ++ rest) ≡ Ok (Some (m, rest)) }
+        wire_front (Typed 112) 10000 sasl_response_in (g ++ rest) ≡ Ok (Some (m, rest)) }
 {}

@@ -3,7 +3,7 @@ ghost use Rattle.std.specs.Prelude.{◌≡◌};
 ghost use Rattle.pgw_wire.specs.declared.framing.Framing.TheVariants.{Typed};
 ghost use Rattle.pgw_wire.specs.Reading.{Gives};
 ghost use Rattle.pgw_wire.specs.Writing.{text, has_zero as holds_zero, refused_if};
-ghost use Rattle.pgw_startup.specs.Password.{password_of, family_of, password_body, password_fault, as_password, as_initial_response, as_response};
+ghost use Rattle.pgw_startup.specs.Password.{password_payload, family_of, password_body, password_fault, as_password, as_initial_response, as_response};
 
 use crate::sasl::{SASLInitialResponse, SASLResponse, read_initial_response, read_response};
 use pgw_types::context::DecodeContext;
@@ -42,9 +42,9 @@ impl Password {
     }
 }
 
-#[tactic(auto, unfolding(crate::specs::Password::password_of))]
+#[tactic(auto, unfolding(crate::specs::Password::password_payload))]
 fn read_password(alloc: Global, body: &Octets) -> PgWireResult<Password>
-    ensures { Gives result (password_of body.now) }
+    ensures { Gives result (password_payload body.now) }
 {
     let mut reader = FieldReader::new(body);
     let password = reader.take_text(alloc)?;
@@ -57,7 +57,7 @@ impl Message for Password {
 
     ghost limit = { 10000 };
 
-    ghost reading = { λ ctx. password_of };
+    ghost reading = { λ ctx. password_payload };
 
     ghost written = { λ m. text m.password };
 
@@ -192,7 +192,7 @@ impl Message for PasswordMessageFamily {
         }
     }
 
-    #[tactic(auto, unfolding(crate::specs::Password::family_of, pgw_wire::specs::Reading::rest_at, pgw_wire::specs::Reading::ended))]
+    #[tactic(auto, unfolding(crate::specs::Password::family_of, pgw_wire::specs::Reading::rest_at, pgw_wire::specs::Reading::read_end))]
     fn decode_body(
         _alloc: Global,
         body: &Octets,

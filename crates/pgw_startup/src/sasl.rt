@@ -4,7 +4,7 @@ ghost use Rattle.pgw_wire.specs.declared.framing.Framing.TheVariants.{Typed};
 ghost use Rattle.pgw_wire.specs.Reading.{Gives, Reads};
 ghost use Rattle.pgw_wire.specs.Writing.{text, refused_if};
 ghost use Rattle.pgw_startup.specs.Login.{is_method_refused};
-ghost use Rattle.pgw_startup.specs.Password.{data_at, data_written, initial_response_of, initial_response, response_of};
+ghost use Rattle.pgw_startup.specs.Password.{data_at, data_written, initial_response_of, initial_response, sasl_response_in};
 
 use crate::authentication::is_refused_method;
 use crate::password::MESSAGE_TYPE_BYTE_PASSWORD_MESSAGE_FAMILY;
@@ -173,9 +173,9 @@ impl SASLResponse {
 }
 
 /// Reads a body.
-#[tactic(auto, unfolding(crate::specs::Password::response_of, pgw_wire::specs::Reading::rest_at, pgw_wire::specs::Reading::ended))]
+#[tactic(auto, unfolding(crate::specs::Password::sasl_response_in, pgw_wire::specs::Reading::rest_at, pgw_wire::specs::Reading::read_end))]
 pub fn read_response(body: &Octets) -> PgWireResult<SASLResponse>
-    ensures { Gives result (response_of body.now) }
+    ensures { Gives result (sasl_response_in body.now) }
 {
     let mut reader = FieldReader::new(body);
     let payload = reader.take_rest()?;
@@ -187,7 +187,7 @@ impl Message for SASLResponse {
 
     ghost limit = { 10000 };
 
-    ghost reading = { λ ctx. response_of };
+    ghost reading = { λ ctx. sasl_response_in };
 
     ghost written = { λ m. m.payload };
 

@@ -8,7 +8,7 @@ use Rattle.tokio.specs.declared.io.async_read.AsyncRead as AsyncRead
 use Rattle.tokio.specs.declared.io.async_write.AsyncWrite as AsyncWrite
 use Rattle.pgw_backend.specs.declared.client_error.PgWireClientError.{PgWireClientError as ClientError}
 use Rattle.pgw_backend.specs.declared.client_error.PgWireClientError.TheVariants as client
-use Rattle.pgw_dialogue.specs.Dialogue.{Answers}
+use Rattle.pgw_dialogue.specs.Dialogue.{AnswersDialogue}
 use Rattle.pgw_dialogue.specs.declared.phase.DialoguePhase.{DialoguePhase}
 use Rattle.pgw_link.specs.Tape.{Tape, new_tape}
 use Rattle.pgw_session.specs.declared.types.Answer.{Answer}
@@ -16,7 +16,7 @@ use Rattle.pgw_session.specs.declared.types.Request.{Request}
 use Rattle.pgw_session.specs.Input.{Input}
 use Rattle.pgw_moving.specs.Calls.{Call, Ended, Trail}
 use Rattle.pgw_moving.specs.Future.{CameTo}
-use Rattle.pgw_moving.specs.Moving.{Held, held_in, Stops as Ends_by}
+use Rattle.pgw_moving.specs.Moving.{Mover, held_in, Stops as Ends_by}
 use Rattle.pgw_moving.specs.declared.engine.Turn.TheVariants as turn
 use Rattle.pgw_moving.specs.declared.exchange.Exchange.{Exchange}
 use Rattle.pgw_moving.specs.declared.exchange.Stop.{Stop}
@@ -25,7 +25,7 @@ use Rattle.pgw_moving.specs.declared.moving.Moved.{Moved}
 use Rattle.pgw_push.specs.declared.client.PushClient.{PushClient}
 use Rattle.pgw_frontend.specs.Frontend.{encodings}
 use Rattle.pgw_session.specs.Requests.{sends_of}
-use Rattle.pgw_push.specs.Calls.{IsLastAnswer, IsLeft, NotAsked, Opens, with_request}
+use Rattle.pgw_push.specs.Calls.{IsLastAnswer, IsLeft, PushNotAsked, PushesRequest, input_with_request}
 use Rattle.pgw_push.specs.Standing.{IsIdle, StandsFor}
 use Rattle.pgw_push.specs.Told.{asked_of}
 use Rattle.pgw_tokio.specs.declared.asking.Answered.{Answered}
@@ -34,11 +34,11 @@ use Rattle.pgw_tokio.specs.declared.calling.ClientEngine.{ClientEngine}
 use Rattle.pgw_tokio.specs.declared.client.AsyncClient.{AsyncClient}
 use Rattle.pgw_tokio.specs.Asking.{Asks, FailsToAnswer, Gives, GivesAnswer, IsAboutToAsk, IsBroken, IsUnasked, Outcome, Stays}
 use Rattle.pgw_tokio.specs.Calling.{AsksClient, ClientStands, ClientStandsBehind, HandsOut, RequestAnswers, RequestOver, client_members}
-use Rattle.pgw_tokio.specs.Client.{IsUsable, Stands, fault_in, push_in, stream_in}
+use Rattle.pgw_tokio.specs.Client.{IsUsable, AsyncStands, fault_in, push_in, stream_in}
 use Rattle.pgw_tokio.specs.Failing.{Fails}
 use Rattle.pgw_tokio.specs.Faults.{fault_after}
 use Rattle.pgw_tokio.specs.First.{refusal_of, turn_of}
-use Rattle.pgw_tokio.specs.Tape.{faults_of, listed, noted, tape_after, tape_of}
+use Rattle.pgw_tokio.specs.Tape.{stream_errors, error_list, with_call, tape_after, stream_tape}
 use Rattle.pgw_tokio.proofs.CallLaws.{Paced, UnderCall, answers_by, broken_by, broken_not_idle, fails_same, flushed_at, has_by, more_by, open_not_idle, over_ended, over_fault, over_refused, paced_runs, runs_under, sent_all}
 use Rattle.pgw_tokio.proofs.IdleLaws.{Idle, idle_runs, idle_stops}
 use Rattle.pgw_tokio.proofs.StreamLaws.{calls_faults, calls_of, calls_trail, end_engine, tape_append}
@@ -52,7 +52,7 @@ asked_by : (asked : Option (List Request)) (qs : List Request) (r : Result Dialo
 asked_by asked qs (Ok p) refusal refused is none = is
 asked_by asked qs (Err e) refusal refused is none = let no = sym none ∙ refused in cc
 
-module _ {S : Type 0} (old : AsyncClient S) (q : Request) (h : Held S ClientEngine)
+module _ {S : Type 0} (old : AsyncClient S) (q : Request) (h : Mover S ClientEngine)
     (a : AsksClient (push_in old) h.engine.client q h.engine.refusal h.turn h.out) where
   paced_first : h.unflushed ≡ false → IsLeft h.engine.client a.answer → Paced (Some (q ∷ [])) new_tape h
   paced_first still left = record {
@@ -63,16 +63,16 @@ module _ {S : Type 0} (old : AsyncClient S) (q : Request) (h : Held S ClientEngi
     asked_is = asked_by (asked_of h.engine.client) (q ∷ []) a.answer h.engine.refusal a.refused a.asked;
   }
 
-  under_first : Opens (push_in old) h.engine.client q [] h.out a.answer → (input : Input) (limit : ℕ)
-      (given put : List ℕ) → Stands input limit old given put
-      → UnderCall (with_request input q) limit given put new_tape h
+  under_first : PushesRequest (push_in old) h.engine.client q [] h.out a.answer → (input : Input) (limit : ℕ)
+      (given put : List ℕ) → AsyncStands input limit old given put
+      → UnderCall (input_with_request input q) limit given put new_tape h
   under_first o input limit given put stands =
       let c = h.engine.client in
-      let all = with_request input q in
+      let all = input_with_request input q in
       let out_is : put ++ (o.opening ++ o.out) ≡ put ++ h.out = ap (λ (l : List ℕ). put ++ l) (sym o.puts) in
       let given_is : given ≡ given ++ [] = sym (append-nil given) in
-      let answers = subst (λ (g : List ℕ). Answers all limit g (put ++ h.out) a.answer) given_is
-      (subst (λ (l : List ℕ). Answers all limit given l a.answer) out_is (o.answers input limit given put stands))
+      let answers = subst (λ (g : List ℕ). AnswersDialogue all limit g (put ++ h.out) a.answer) given_is
+      (subst (λ (l : List ℕ). AnswersDialogue all limit given l a.answer) out_is (o.answers input limit given put stands))
       in
       record {
         stands = subst (λ (g : List ℕ). StandsFor all limit c g (put ++ h.out)) given_is
@@ -87,36 +87,36 @@ module _ {S : Type 0} (old new : AsyncClient S) (q : Request) (was : IsUsable ol
     (spelled : (opening : List ℕ) × (encodings (sends_of q) ≡ Ok opening)) (calls : List Call)
     (result : Result Answer ClientError) where
   -- the client stands for all that it stood for, with what was given and written since
-  abbrev Under : Tape → Held S ClientEngine → Type 0
-  Under t h = (input : Input) (limit : ℕ) (given put : List ℕ) → Stands input limit old given put
-      → UnderCall (with_request input q) limit given put t h
+  abbrev Under : Tape → Mover S ClientEngine → Type 0
+  Under t h = (input : Input) (limit : ℕ) (given put : List ℕ) → AsyncStands input limit old given put
+      → UnderCall (input_with_request input q) limit given put t h
 
-  failing : (t : Tape) (c : PushClient) (fault : Option Error) (e : ClientError) → tape_of calls ≡ t
-      → push_in new ≡ c → fault_in new ≡ fault → faults_of calls ≡ listed fault
-      → ((input : Input) (limit : ℕ) (given put : List ℕ) → Stands input limit old given put → IsUsable new → ⊥)
-      → ((input : Input) (limit : ℕ) (given put : List ℕ) → Stands input limit old given put
-      → Fails (with_request input q) limit given put t c fault e)
+  failing : (t : Tape) (c : PushClient) (fault : Option Error) (e : ClientError) → stream_tape calls ≡ t
+      → push_in new ≡ c → fault_in new ≡ fault → stream_errors calls ≡ error_list fault
+      → ((input : Input) (limit : ℕ) (given put : List ℕ) → AsyncStands input limit old given put → IsUsable new → ⊥)
+      → ((input : Input) (limit : ℕ) (given put : List ℕ) → AsyncStands input limit old given put
+      → Fails (input_with_request input q) limit given put t c fault e)
       → result ≡ Err e → Outcome old q calls new result
   failing t c fault e tape push kept faults broken fails is =
       let f : FailsToAnswer old q calls new e = record {
         was = was;
         spelled = spelled;
-        faults = faults ∙ ap listed (sym kept);
+        faults = faults ∙ ap error_list (sym kept);
         broken = broken;
-        fails = λ input limit given put stands. fails_same (with_request input q) limit given put t (tape_of calls)
+        fails = λ input limit given put stands. fails_same (input_with_request input q) limit given put t (stream_tape calls)
             c (push_in new) fault (fault_in new) e (sym tape) (sym push) (sym kept)
             (fails input limit given put stands);
       } in
       subst (Outcome old q calls new) (sym is) (inr (inr f))
 
-  over_done : (t : Tape) (h : Held S ClientEngine) (r : Result Answer ClientError) → result ≡ r
+  over_done : (t : Tape) (h : Mover S ClientEngine) (r : Result Answer ClientError) → result ≡ r
       → h.engine.refusal ≡ None → h.turn ≡ turn.Over → Paced (Some (q ∷ [])) t h → Under t h → h.out ≡ []
-      → h.unflushed ≡ false → tape_of calls ≡ t → faults_of calls ≡ [] → fault_in new ≡ None
+      → h.unflushed ≡ false → stream_tape calls ≡ t → stream_errors calls ≡ [] → fault_in new ≡ None
       → HandsOut h.engine.client (push_in new) r → Outcome old q calls new result
   over_done t h (Ok answer) is refusal over p u empty still tape calm kept hands =
-      let sent : (input : Input) (limit : ℕ) (given put : List ℕ) → Stands input limit old given put
-      → StandsFor (with_request input q) limit h.engine.client (given ++ t.took) (put ++ t.wrote) =
-      λ input limit given put stands. sent_all (with_request input q) limit given put t h
+      let sent : (input : Input) (limit : ℕ) (given put : List ℕ) → AsyncStands input limit old given put
+      → StandsFor (input_with_request input q) limit h.engine.client (given ++ t.took) (put ++ t.wrote) =
+      λ input limit given put stands. sent_all (input_with_request input q) limit given put t h
       (u input limit given put stands) empty in
       let g : GivesAnswer old q calls new answer = record {
         was = was;
@@ -125,18 +125,18 @@ module _ {S : Type 0} (old new : AsyncClient S) (q : Request) (was : IsUsable ol
             (flushed_at (Some (q ∷ [])) t h p still);
         unended = subst (λ (x : Tape). x.ended ≡ []) (sym tape) p.not_ended;
         calm = calm;
-        stands = λ input limit given put stands. subst (λ (x : Tape). Stands (with_request input q) limit new
+        stands = λ input limit given put stands. subst (λ (x : Tape). AsyncStands (input_with_request input q) limit new
             (given ++ x.took) (put ++ x.wrote)) (sym tape)
-            (hands.stands (with_request input q) limit (given ++ t.took) (put ++ t.wrote)
+            (hands.stands (input_with_request input q) limit (given ++ t.took) (put ++ t.wrote)
             (sent input limit given put stands));
-        last = λ input limit given put stands. subst (λ (x : Tape). IsLastAnswer (with_request input q)
+        last = λ input limit given put stands. subst (λ (x : Tape). IsLastAnswer (input_with_request input q)
             (given ++ x.took) (put ++ x.wrote) answer) (sym tape)
-            (hands.last (with_request input q) limit (given ++ t.took) (put ++ t.wrote)
+            (hands.last (input_with_request input q) limit (given ++ t.took) (put ++ t.wrote)
             (sent input limit given put stands));
       } in
       subst (Outcome old q calls new) (sym is) g
   over_done t h (Err e) is refusal over p u empty still tape calm kept hands =
-      let never : (input : Input) (limit : ℕ) (given put : List ℕ) → Stands input limit old given put → ⊥ =
+      let never : (input : Input) (limit : ℕ) (given put : List ℕ) → AsyncStands input limit old given put → ⊥ =
       λ input limit given put stands.
       let has = (u input limit given put stands).has over refusal q (p.asked_is refusal) in
       let no : Err e ≡ Ok has.0 = hands.is has.0 has.1 in cc in
@@ -144,9 +144,9 @@ module _ {S : Type 0} (old new : AsyncClient S) (q : Request) (was : IsUsable ol
       (λ input limit given put stands. absurd (never input limit given put stands))
       (λ input limit given put stands. absurd (never input limit given put stands)) is
 
-  over_at : (t : Tape) (h : Held S ClientEngine) (o : Option ClientError) → h.engine.refusal ≡ o
+  over_at : (t : Tape) (h : Mover S ClientEngine) (o : Option ClientError) → h.engine.refusal ≡ o
       → h.turn ≡ turn.Over → Paced (Some (q ∷ [])) t h → Under t h → h.out ≡ [] → h.unflushed ≡ false
-      → tape_of calls ≡ t → faults_of calls ≡ [] → fault_in new ≡ None
+      → stream_tape calls ≡ t → stream_errors calls ≡ [] → fault_in new ≡ None
       → RequestOver h.engine.client o (push_in new) result → Outcome old q calls new result
   over_at t h None refusal over p u empty still tape calm kept r =
       over_done t h result refl refusal over p u empty still tape calm kept r
@@ -154,39 +154,39 @@ module _ {S : Type 0} (old new : AsyncClient S) (q : Request) (was : IsUsable ol
       failing t h.engine.client None e tape r.0 kept calm
       (λ input limit given put stands usable. broken_not_idle h.engine.client (p.broken e refusal)
       (subst IsIdle r.0 usable.0))
-      (λ input limit given put stands. over_refused (with_request input q) limit given put t h
+      (λ input limit given put stands. over_refused (input_with_request input q) limit given put t h
       e (Some (q ∷ [])) p (u input limit given put stands) empty still refusal) r.1
 
   module _ (reader : AsyncRead.Ghosts S) (writer : AsyncWrite.Ghosts S) where
-    outcome_at : (why : Stop) (mid last : Held S ClientEngine) (t : Tape) (ends : List Call)
+    outcome_at : (why : Stop) (mid last : Mover S ClientEngine) (t : Tape) (ends : List Call)
         → Ends_by reader writer client_members mid why ends last → Paced (Some (q ∷ [])) t mid → Under t mid
-        → tape_of calls ≡ tape_after t ends → faults_of calls ≡ listed (fault_after why None)
+        → stream_tape calls ≡ tape_after t ends → stream_errors calls ≡ error_list (fault_after why None)
         → fault_in new ≡ fault_after why None
         → RequestAnswers mid.engine.client mid.engine.refusal why (push_in new) result
         → Outcome old q calls new result
     outcome_at stop.Over mid last t ends stops p u tape faults kept r =
-        let sent = subst (λ (h : Held S ClientEngine). (h.out ≡ []) × (h.unflushed ≡ false)) (sym stops.0) stops.2
+        let sent = subst (λ (h : Mover S ClientEngine). (h.out ≡ []) × (h.unflushed ≡ false)) (sym stops.0) stops.2
         in
-        let over = subst (λ (h : Held S ClientEngine). h.turn ≡ turn.Over) (sym stops.0) stops.3 in
+        let over = subst (λ (h : Mover S ClientEngine). h.turn ≡ turn.Over) (sym stops.0) stops.3 in
         over_at t mid mid.engine.refusal refl over p u sent.0 sent.1 (tape ∙ ap (tape_after t) stops.1) faults kept r
     outcome_at stop.End mid last t ends stops p u tape faults kept r =
         let sent = ((stops.1).1).0 in
         let c = mid.engine.client in
         let w = r.2 in
-        failing (noted t Ended) c None w.0 (tape ∙ ap (tape_after t) stops.0) r.0 kept faults
+        failing (with_call t Ended) c None w.0 (tape ∙ ap (tape_after t) stops.0) r.0 kept faults
         (λ input limit given put stands usable. open_not_idle c r.1 (subst IsIdle r.0 usable.0))
-        (λ input limit given put stands. over_ended (with_request input q) limit given put t mid
+        (λ input limit given put stands. over_ended (input_with_request input q) limit given put t mid
         w.0 (Some (q ∷ [])) p (u input limit given put stands) sent.0 sent.1 w.2) w.1
     outcome_at (stop.Fault f) mid last t ends stops p u tape faults kept r =
-        failing (noted t stops.0) mid.engine.client (Some f) client.IoError (tape ∙ ap (tape_after t) stops.1) r.0
+        failing (with_call t stops.0) mid.engine.client (Some f) client.IoError (tape ∙ ap (tape_after t) stops.1) r.0
         kept faults (λ input limit given put stands usable. let no = sym kept ∙ usable.1 in cc)
-        (λ input limit given put stands. over_fault (with_request input q) limit given put t mid
+        (λ input limit given put stands. over_fault (input_with_request input q) limit given put t mid
         stops.0 f stops.2 p.not_ended (u input limit given put stands)) r.1
 
 -- ---- all of it
 
 module _ {S : Type 0} (reader : AsyncRead.Ghosts S) (writer : AsyncWrite.Ghosts S) (old : AsyncClient S)
-    (q : Request) (h : Held S ClientEngine) (moved : Moved S ClientEngine) (answered : Answered S)
+    (q : Request) (h : Mover S ClientEngine) (moved : Moved S ClientEngine) (answered : Answered S)
     (came : CameTo reader writer client_members h moved) where
   abbrev made : List Call
   made = calls_of reader writer client_members h moved came
@@ -204,17 +204,17 @@ module _ {S : Type 0} (reader : AsyncRead.Ghosts S) (writer : AsyncWrite.Ghosts 
       let stops = idle_stops reader writer client_members h.engine moved.stop ran.mid came.last ran.last
       ran.stops r.0 in
       let engine_is : moved.engine ≡ h.engine =
-      came.engine_is ∙ ap (λ (x : Held S ClientEngine). x.engine) (sym stops.2) ∙ (r.0).engine_is in
+      came.engine_is ∙ ap (λ (x : Mover S ClientEngine). x.engine) (sym stops.2) ∙ (r.0).engine_is in
       let over_by = subst (λ (x : ClientEngine). RequestAnswers x.client x.refusal stop.Over
       (push_in answered.client) answered.answer) engine_is
       (subst (λ (why : Stop). RequestAnswers moved.engine.client moved.engine.refusal why
       (push_in answered.client) answered.answer) stops.0 answers) in
       let done = subst (λ o. RequestOver h.engine.client o (push_in answered.client) answered.answer) refusal
       over_by in
-      let none : faults_of made ≡ [] = calls_faults reader writer client_members h moved came
-      ∙ ap (λ (why : Stop). listed (fault_after why None)) stops.0 in
-      let tape : tape_of made ≡ new_tape = tape_append new_tape ran.calls ran.last
-      ∙ ap (tape_after (tape_of ran.calls)) stops.1 ∙ r.1 in (
+      let none : stream_errors made ≡ [] = calls_faults reader writer client_members h moved came
+      ∙ ap (λ (why : Stop). error_list (fault_after why None)) stops.0 in
+      let tape : stream_tape made ≡ new_tape = tape_append new_tape ran.calls ran.last
+      ∙ ap (tape_after (stream_tape ran.calls)) stops.1 ∙ r.1 in (
         record {
           tape = tape;
           calm = none;
@@ -234,7 +234,7 @@ module _ {S : Type 0} (reader : AsyncRead.Ghosts S) (writer : AsyncWrite.Ghosts 
   }
 
   went : IsUsable old → (a : AsksClient (push_in old) h.engine.client q h.engine.refusal h.turn h.out)
-      → h.unflushed ≡ false → Opens (push_in old) h.engine.client q [] h.out a.answer
+      → h.unflushed ≡ false → PushesRequest (push_in old) h.engine.client q [] h.out a.answer
       → IsLeft h.engine.client a.answer
       → RequestAnswers moved.engine.client moved.engine.refusal moved.stop (push_in answered.client)
       answered.answer → fault_in answered.client ≡ fault_after moved.stop (fault_in old)
@@ -246,18 +246,18 @@ module _ {S : Type 0} (reader : AsyncRead.Ghosts S) (writer : AsyncWrite.Ghosts 
       let answers_mid = subst (λ (x : ClientEngine). RequestAnswers x.client x.refusal moved.stop
       (push_in answered.client) answered.answer) engine_is answers in
       outcome_at old answered.client q was (opens.opening, opens.encoded) made answered.answer reader writer moved.stop ran.mid came.last
-      (tape_of ran.calls) ran.last ran.stops
+      (stream_tape ran.calls) ran.last ran.stops
       (paced_runs (Some (q ∷ [])) reader writer new_tape h ran.mid ran.calls ran.runs
       (paced_first old q h a still left))
       (λ input limit given put stands. runs_under reader writer
-      (with_request input q) limit given put new_tape h ran.mid ran.calls ran.runs
+      (input_with_request input q) limit given put new_tape h ran.mid ran.calls ran.runs
       (under_first old q h a opens input limit given put stands))
       (tape_append new_tape ran.calls ran.last) (calls_faults reader writer client_members h moved came)
       (kept ∙ ap (fault_after moved.stop) was.1) answers_mid
 
   unasked : IsUsable old → (a : AsksClient (push_in old) h.engine.client q h.engine.refusal h.turn h.out)
       → (r : Result DialoguePhase ClientError) → a.answer ≡ r → h.unflushed ≡ false
-      → NotAsked (push_in old) h.engine.client q [] h.out r
+      → PushNotAsked (push_in old) h.engine.client q [] h.out r
       → RequestAnswers moved.engine.client moved.engine.refusal moved.stop (push_in answered.client)
       answered.answer → fault_in answered.client ≡ fault_after moved.stop (fault_in old)
       → Outcome old q made answered.client answered.answer
@@ -291,20 +291,20 @@ module _ {S : Type 0} (reader : AsyncRead.Ghosts S) (writer : AsyncWrite.Ghosts 
 -- ---- the future
 
 -- the exchange is the one that was made
-pub about_by : {S : Type 0} (h : Held S ClientEngine) (o : Option (Exchange S ClientEngine))
-    → IsSomeAnd o (λ x. held_in x ≡ h) → (P : Held S ClientEngine → Type 0) → P h
+pub about_by : {S : Type 0} (h : Mover S ClientEngine) (o : Option (Exchange S ClientEngine))
+    → IsSomeAnd o (λ x. held_in x ≡ h) → (P : Mover S ClientEngine → Type 0) → P h
     → IsSomeAnd o (λ x. P (held_in x))
 about_by h None is P holds = is
 about_by h (Some x) is P holds = subst P (sym is) holds
 
 module _ {S : Type 0} (reader : AsyncRead.Ghosts S) (writer : AsyncWrite.Ghosts S) where
-  behind_at : (why : Stop) (mid new : Held S ClientEngine) (last : List Call)
+  behind_at : (why : Stop) (mid new : Mover S ClientEngine) (last : List Call)
       → Ends_by reader writer client_members mid why last new → ClientStands new.engine new.turn
       → ClientStandsBehind new.engine why
   behind_at stop.Over mid new last stops stands = subst (ClientStands new.engine) stops.3 stands
   behind_at stop.End mid new last stops stands =
       let d = (stops.1).1 in
-      subst (ClientStands new.engine) (ap (λ (h : Held S ClientEngine). h.turn) d.2 ∙ d.1) stands
+      subst (ClientStands new.engine) (ap (λ (h : Mover S ClientEngine). h.turn) d.2 ∙ d.1) stands
   behind_at (stop.Fault e) mid new last stops stands = tt
 
   pub behind_some : (o : Option (Exchange S ClientEngine)) (moved : Moved S ClientEngine)

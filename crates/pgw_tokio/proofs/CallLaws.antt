@@ -8,25 +8,25 @@ use Rattle.pgw_backend.specs.declared.client_error.PgWireClientError.{PgWireClie
 use Rattle.pgw_backend.specs.declared.client_error.PgWireClientError.TheVariants as client
 use Rattle.pgw_dialogue.specs.declared.phase.DialoguePhase.{DialoguePhase}
 use Rattle.pgw_dialogue.specs.declared.phase.DialoguePhase.TheVariants as phase
-use Rattle.pgw_dialogue.specs.Dialogue.{Answers}
-use Rattle.pgw_dialogue.specs.Wire.{IsEnd}
+use Rattle.pgw_dialogue.specs.Dialogue.{AnswersDialogue}
+use Rattle.pgw_dialogue.specs.Wire.{IsEndError}
 use Rattle.pgw_link.specs.Tape.{Tape}
 use Rattle.pgw_session.specs.declared.types.Request.{Request}
 use Rattle.pgw_session.specs.Input.{Input}
-use Rattle.pgw_moving.specs.Calls.{Call, Gave, Ended, Wrote, Flushed, Waited, Unread, Unwritten, Unflushed, GoesOn, fault_of}
+use Rattle.pgw_moving.specs.Calls.{Call, Gave, Ended, Wrote, Flushed, Waited, Unread, Unwritten, Unflushed, CallGoesOn, fault_of}
 use Rattle.pgw_moving.specs.declared.engine.Turn.{Turn}
 use Rattle.pgw_moving.specs.declared.engine.Turn.TheVariants as turn
-use Rattle.pgw_moving.specs.Moving.{Held, Runs, Step}
+use Rattle.pgw_moving.specs.Moving.{Mover, Runs, Step}
 use Rattle.pgw_push.specs.declared.client.PushClient.{PushClient}
 use Rattle.pgw_push.specs.Calls.{HasAnswer, IsLeft}
-use Rattle.pgw_push.specs.Standing.{IsBroken, IsIdle, IsOpen, StandsFor}
+use Rattle.pgw_push.specs.Standing.{IsPushBroken, IsIdle, IsOpen, StandsFor}
 use Rattle.pgw_push.specs.Told.{asked_of}
 use Rattle.pgw_tokio.specs.declared.calling.ClientEngine.{ClientEngine}
 use Rattle.pgw_tokio.specs.Calling.{MeansEnd, client_members}
-use Rattle.pgw_tokio.specs.Failing.{Fails, IsFlushed}
+use Rattle.pgw_tokio.specs.Failing.{Fails, IsStreamFlushed}
 use Rattle.pgw_tokio.specs.Feeding.{FeedsClient}
 use Rattle.pgw_tokio.specs.First.{refusal_of, turn_of}
-use Rattle.pgw_tokio.specs.Tape.{noted, tape_after}
+use Rattle.pgw_tokio.specs.Tape.{with_call, tape_after}
 use Rattle.pgw_tokio.proofs.UnderLaws.{Flushing, flushed_in}
 
 -- ---- what an answer means
@@ -36,13 +36,13 @@ refused_by (Ok p) e is = cc
 refused_by (Err x) e is = cc
 
 pub answers_by : (input : Input) (limit : ℕ) (given put : List ℕ) (r : Result DialoguePhase ClientError)
-    (refusal : Option ClientError) → refusal ≡ refusal_of r → Answers input limit given put r
-    → (e : ClientError) → refusal ≡ Some e → Answers input limit given put (Err e)
+    (refusal : Option ClientError) → refusal ≡ refusal_of r → AnswersDialogue input limit given put r
+    → (e : ClientError) → refusal ≡ Some e → AnswersDialogue input limit given put (Err e)
 answers_by input limit given put r refusal refused answers e is =
-    subst (Answers input limit given put) (refused_by r e (sym refused ∙ is)) answers
+    subst (AnswersDialogue input limit given put) (refused_by r e (sym refused ∙ is)) answers
 
 pub broken_by : (c : PushClient) (r : Result DialoguePhase ClientError) (refusal : Option ClientError)
-    → refusal ≡ refusal_of r → IsLeft c r → (e : ClientError) → refusal ≡ Some e → IsBroken c
+    → refusal ≡ refusal_of r → IsLeft c r → (e : ClientError) → refusal ≡ Some e → IsPushBroken c
 broken_by c r refusal refused left e is = subst (IsLeft c) (refused_by r e (sym refused ∙ is)) left
 
 pub more_by : (r : Result DialoguePhase ClientError) (t : Turn) (refusal : Option ClientError) → t ≡ turn_of r
@@ -59,32 +59,32 @@ has_by c (Ok phase.Done) t refusal turned refused has over none = has
 has_by c (Err e) t refusal turned refused has over none = let no = sym none ∙ refused in cc
 
 -- no refusal is a failed call, and no end
-not_refused : (input : Input) (limit : ℕ) (given put : List ℕ) → Answers input limit given put (Err client.IoError)
+not_refused : (input : Input) (limit : ℕ) (given put : List ℕ) → AnswersDialogue input limit given put (Err client.IoError)
     → ⊥
 not_refused input limit given put answers = answers.tells
 
-not_ended : IsEnd client.IoError → ⊥
+not_ended : IsEndError client.IoError → ⊥
 not_ended end = end
 
 module _ {S : Type 0} (asked : Option (List Request)) where
   -- no end has come, what was written is flushed or is to be, a client that was refused is broken, and one that was not
   -- was asked this
-  pub record Paced (t : Tape) (h : Held S ClientEngine) : Type 0 where
+  pub record Paced (t : Tape) (h : Mover S ClientEngine) : Type 0 where
     pub not_ended : t.ended ≡ []
     pub flushing : Flushing h.unflushed t
-    pub broken : (e : ClientError) → h.engine.refusal ≡ Some e → IsBroken h.engine.client
+    pub broken : (e : ClientError) → h.engine.refusal ≡ Some e → IsPushBroken h.engine.client
     pub more : h.turn ≡ turn.More → h.engine.refusal ≡ None
     pub asked_is : h.engine.refusal ≡ None → asked_of h.engine.client ≡ asked
 
   module _ (reader : AsyncRead.Ghosts S) (writer : AsyncWrite.Ghosts S) where
-    paced_call : (t : Tape) (old new : Held S ClientEngine) (call : Call) → GoesOn call
-        → Step reader writer client_members old call new → Paced t old → Paced (noted t call) new
+    paced_call : (t : Tape) (old new : Mover S ClientEngine) (call : Call) → CallGoesOn call
+        → Step reader writer client_members old call new → Paced t old → Paced (with_call t call) new
     paced_call t old new (Gave bytes) on step u =
         let d = step.1 in
         let f : FeedsClient old.engine.client new.engine.client new.engine.refusal bytes new.out new.turn = d.3 in
         record {
           not_ended = u.not_ended;
-          flushing = subst (λ b. Flushing b (noted t (Gave bytes))) (sym d.4)
+          flushing = subst (λ b. Flushing b (with_call t (Gave bytes))) (sym d.4)
               (subst (λ b. Flushing b t) (d.0).1 u.flushing);
           broken = broken_by new.engine.client f.answer new.engine.refusal f.refused f.left;
           more = more_by f.answer new.turn new.engine.refusal f.turned f.refused;
@@ -93,7 +93,7 @@ module _ {S : Type 0} (asked : Option (List Request)) where
     paced_call t old new Ended on step u = absurd on
     paced_call t old new (Wrote bytes) on step u =
         let d = step.1 in
-        subst (Paced (noted t (Wrote bytes))) (sym d.1) (record {
+        subst (Paced (with_call t (Wrote bytes))) (sym d.1) (record {
           not_ended = u.not_ended;
           flushing = omega (
             arith,
@@ -106,7 +106,7 @@ module _ {S : Type 0} (asked : Option (List Request)) where
           asked_is = u.asked_is;
         })
     paced_call t old new Flushed on step u =
-        subst (Paced (noted t Flushed)) (sym (step.1).2)
+        subst (Paced (with_call t Flushed)) (sym (step.1).2)
         (record { not_ended = u.not_ended; flushing = refl; broken = u.broken; more = u.more; asked_is = u.asked_is })
     paced_call t old new Waited on step u =
         subst (Paced t) (sym step.1)
@@ -121,32 +121,32 @@ module _ {S : Type 0} (asked : Option (List Request)) where
     paced_call t old new (Unwritten e) on step u = absurd on
     paced_call t old new (Unflushed e) on step u = absurd on
 
-    pub paced_runs : (t : Tape) (old new : Held S ClientEngine) (calls : List Call)
+    pub paced_runs : (t : Tape) (old new : Mover S ClientEngine) (calls : List Call)
         → Runs reader writer client_members old calls new → Paced t old → Paced (tape_after t calls) new
     paced_runs t old new [] runs u = subst (Paced t) runs u
     paced_runs t old new (call ∷ calls) runs u =
-        paced_runs (noted t call) runs.0 new calls runs.3 (paced_call t old runs.0 call runs.1 runs.2 u)
+        paced_runs (with_call t call) runs.0 new calls runs.3 (paced_call t old runs.0 call runs.1 runs.2 u)
 
   -- what was written is flushed
-  pub flushed_at : (t : Tape) (h : Held S ClientEngine) → Paced t h → h.unflushed ≡ false → IsFlushed t
+  pub flushed_at : (t : Tape) (h : Mover S ClientEngine) → Paced t h → h.unflushed ≡ false → IsStreamFlushed t
   flushed_at t h p still = subst (λ b. Flushing b t) still p.flushing
 
 module _ {S : Type 0} where
   -- the client stands for the bytes given and put out, of which some are not written; where it was refused, that has
   -- its cause; and where it is over, it has its answer
-  pub record UnderCall (input : Input) (limit : ℕ) (given put : List ℕ) (t : Tape) (h : Held S ClientEngine) : Type 0
+  pub record UnderCall (input : Input) (limit : ℕ) (given put : List ℕ) (t : Tape) (h : Mover S ClientEngine) : Type 0
     where
       pub stands : StandsFor input limit h.engine.client (given ++ t.took) (put ++ (t.wrote ++ h.out))
       pub answers : (e : ClientError) → h.engine.refusal ≡ Some e
-          → Answers input limit (given ++ t.took) (put ++ (t.wrote ++ h.out)) (Err e)
+          → AnswersDialogue input limit (given ++ t.took) (put ++ (t.wrote ++ h.out)) (Err e)
       pub has : h.turn ≡ turn.Over → h.engine.refusal ≡ None → HasAnswer h.engine.client (Ok phase.Done)
 
   module _ (reader : AsyncRead.Ghosts S) (writer : AsyncWrite.Ghosts S) where
     module _ (input : Input) (limit : ℕ) (given put : List ℕ) where
-      gave : (t : Tape) (old new : Held S ClientEngine) (bytes : List ℕ) → UnderCall input limit given put t old
+      gave : (t : Tape) (old new : Mover S ClientEngine) (bytes : List ℕ) → UnderCall input limit given put t old
           → old.out ≡ []
           → FeedsClient old.engine.client new.engine.client new.engine.refusal bytes new.out new.turn
-          → UnderCall input limit given put (noted t (Gave bytes)) new
+          → UnderCall input limit given put (with_call t (Gave bytes)) new
       gave t old new bytes u empty f =
           let c = new.engine.client in
           let put_is : put ++ (t.wrote ++ old.out) ≡ put ++ t.wrote =
@@ -161,9 +161,9 @@ module _ {S : Type 0} where
           let stands = subst (λ (g : List ℕ). StandsFor input limit c g (put ++ (t.wrote ++ new.out))) given_is
           (subst (StandsFor input limit c ((given ++ t.took) ++ bytes)) all_is
           (f.takes.stands input limit (given ++ t.took) (put ++ t.wrote) before)) in
-          let answers = subst (λ (g : List ℕ). Answers input limit g (put ++ (t.wrote ++ new.out)) f.answer)
+          let answers = subst (λ (g : List ℕ). AnswersDialogue input limit g (put ++ (t.wrote ++ new.out)) f.answer)
           given_is
-          (subst (λ (l : List ℕ). Answers input limit ((given ++ t.took) ++ bytes) l f.answer) all_is
+          (subst (λ (l : List ℕ). AnswersDialogue input limit ((given ++ t.took) ++ bytes) l f.answer) all_is
           (f.takes.answers input limit (given ++ t.took) (put ++ t.wrote) before)) in
           record {
             stands = stands;
@@ -173,9 +173,9 @@ module _ {S : Type 0} where
                 (f.takes.answered input limit (given ++ t.took) (put ++ t.wrote) before);
           }
 
-      wrote : (t : Tape) (old : Held S ClientEngine) (stream : S) (bytes out : List ℕ)
+      wrote : (t : Tape) (old : Mover S ClientEngine) (stream : S) (bytes out : List ℕ)
           → UnderCall input limit given put t old → old.out ≡ bytes ++ out
-          → UnderCall input limit given put (noted t (Wrote bytes))
+          → UnderCall input limit given put (with_call t (Wrote bytes))
           (record old { stream = stream; out = out; unflushed = true })
       wrote t old stream bytes out u are =
           let same : put ++ (t.wrote ++ old.out) ≡ put ++ ((t.wrote ++ bytes) ++ out) =
@@ -183,24 +183,24 @@ module _ {S : Type 0} where
           (ap (λ (l : List ℕ). t.wrote ++ l) are ∙ sym (append_assoc t.wrote bytes out)) in
           record {
             stands = subst (StandsFor input limit old.engine.client (given ++ t.took)) same u.stands;
-            answers = λ e is. subst (λ (l : List ℕ). Answers input limit (given ++ t.took) l (Err e)) same
+            answers = λ e is. subst (λ (l : List ℕ). AnswersDialogue input limit (given ++ t.took) l (Err e)) same
                 (u.answers e is);
             has = u.has;
           }
 
-      call_on : (t : Tape) (old new : Held S ClientEngine) (call : Call) → GoesOn call
+      call_on : (t : Tape) (old new : Mover S ClientEngine) (call : Call) → CallGoesOn call
           → Step reader writer client_members old call new → UnderCall input limit given put t old
-          → UnderCall input limit given put (noted t call) new
+          → UnderCall input limit given put (with_call t call) new
       call_on t old new (Gave bytes) on step u =
           let d = step.1 in
           gave t old new bytes u (d.0).0 d.3
       call_on t old new Ended on step u = absurd on
       call_on t old new (Wrote bytes) on step u =
           let d = step.1 in
-          subst (UnderCall input limit given put (noted t (Wrote bytes))) (sym d.1)
+          subst (UnderCall input limit given put (with_call t (Wrote bytes))) (sym d.1)
           (wrote t old new.stream bytes new.out u d.0)
       call_on t old new Flushed on step u =
-          subst (UnderCall input limit given put (noted t Flushed)) (sym (step.1).2)
+          subst (UnderCall input limit given put (with_call t Flushed)) (sym (step.1).2)
           (record { stands = u.stands; answers = u.answers; has = u.has })
       call_on t old new Waited on step u =
           subst (UnderCall input limit given put t) (sym step.1)
@@ -209,43 +209,43 @@ module _ {S : Type 0} where
       call_on t old new (Unwritten e) on step u = absurd on
       call_on t old new (Unflushed e) on step u = absurd on
 
-      pub runs_under : (t : Tape) (old new : Held S ClientEngine) (calls : List Call)
+      pub runs_under : (t : Tape) (old new : Mover S ClientEngine) (calls : List Call)
           → Runs reader writer client_members old calls new → UnderCall input limit given put t old
           → UnderCall input limit given put (tape_after t calls) new
       runs_under t old new [] runs u = subst (UnderCall input limit given put t) runs u
       runs_under t old new (call ∷ calls) runs u =
-          runs_under (noted t call) runs.0 new calls runs.3 (call_on t old runs.0 call runs.1 runs.2 u)
+          runs_under (with_call t call) runs.0 new calls runs.3 (call_on t old runs.0 call runs.1 runs.2 u)
 
   -- ---- the end
 
   module _ (input : Input) (limit : ℕ) (given put : List ℕ) where
-    pub sent_all : (t : Tape) (h : Held S ClientEngine) → UnderCall input limit given put t h → h.out ≡ []
+    pub sent_all : (t : Tape) (h : Mover S ClientEngine) → UnderCall input limit given put t h → h.out ≡ []
         → StandsFor input limit h.engine.client (given ++ t.took) (put ++ t.wrote)
     sent_all t h u empty =
         subst (StandsFor input limit h.engine.client (given ++ t.took))
         (ap (λ (l : List ℕ). put ++ l) (ap (λ (l : List ℕ). t.wrote ++ l) empty ∙ append-nil t.wrote)) u.stands
 
     -- it was refused
-    pub over_refused : (t : Tape) (h : Held S ClientEngine) (e : ClientError) (asked : Option (List Request))
+    pub over_refused : (t : Tape) (h : Mover S ClientEngine) (e : ClientError) (asked : Option (List Request))
         → Paced asked t h → UnderCall input limit given put t h → h.out ≡ [] → h.unflushed ≡ false → h.engine.refusal ≡ Some e
         → Fails input limit given put t h.engine.client None e
     over_refused t h e asked p u empty still is =
         let same : put ++ (t.wrote ++ h.out) ≡ put ++ t.wrote =
         ap (λ (l : List ℕ). put ++ l) (ap (λ (l : List ℕ). t.wrote ++ l) empty ∙ append-nil t.wrote) in
-        let answers = subst (λ (l : List ℕ). Answers input limit (given ++ t.took) l (Err e)) same
+        let answers = subst (λ (l : List ℕ). AnswersDialogue input limit (given ++ t.took) l (Err e)) same
         (u.answers e is) in
         record {
           rest = h.out;
           stands = u.stands;
           cause = (empty, flushed_at asked t h p still, inl (p.not_ended, answers));
           io = λ io. absurd (not_refused input limit (given ++ t.took) (put ++ t.wrote)
-              (subst (λ x. Answers input limit (given ++ t.took) (put ++ t.wrote) (Err x)) io answers));
+              (subst (λ x. AnswersDialogue input limit (given ++ t.took) (put ++ t.wrote) (Err x)) io answers));
         }
 
     -- the stream's end came
-    pub over_ended : (t : Tape) (h : Held S ClientEngine) (e : ClientError) (asked : Option (List Request))
+    pub over_ended : (t : Tape) (h : Mover S ClientEngine) (e : ClientError) (asked : Option (List Request))
         → Paced asked t h → UnderCall input limit given put t h → h.out ≡ [] → h.unflushed ≡ false → MeansEnd h.engine.client e
-        → Fails input limit given put (noted t Ended) h.engine.client None e
+        → Fails input limit given put (with_call t Ended) h.engine.client None e
     over_ended t h e asked p u empty still means =
         let flushed = flushed_at asked t h p still in
         record {
@@ -260,13 +260,13 @@ module _ {S : Type 0} where
               means.1 input limit (given ++ t.took) (put ++ t.wrote) (sent_all t h u empty),
             ),
           );
-          io = λ io. absurd (not_ended (subst IsEnd io means.0));
+          io = λ io. absurd (not_ended (subst IsEndError io means.0));
         }
 
     -- a call of the stream failed
-    pub over_fault : (t : Tape) (h : Held S ClientEngine) (call : Call) (f : Error) → fault_of call ≡ Some f
+    pub over_fault : (t : Tape) (h : Mover S ClientEngine) (call : Call) (f : Error) → fault_of call ≡ Some f
         → t.ended ≡ [] → UnderCall input limit given put t h
-        → Fails input limit given put (noted t call) h.engine.client (Some f) client.IoError
+        → Fails input limit given put (with_call t call) h.engine.client (Some f) client.IoError
     over_fault t h (Gave bytes) f is unended u = cc
     over_fault t h Ended f is unended u = cc
     over_fault t h (Wrote bytes) f is unended u = cc
@@ -291,7 +291,7 @@ fails_same input limit given put t u c d f g e tape push fault fails =
     (subst (λ x. Fails input limit given put x c f e) tape fails))
 
 -- a client that is broken, or that has a segment open, can't be asked
-pub broken_not_idle : (c : PushClient) → IsBroken c → IsIdle c → ⊥
+pub broken_not_idle : (c : PushClient) → IsPushBroken c → IsIdle c → ⊥
 broken_not_idle c broken idle = elim broken
     [ inl is ↦ let no = sym is ∙ idle in cc | inr is ↦ let no = sym is ∙ idle in cc ]
 

@@ -6,7 +6,7 @@ use Rattle.pgw_backend.specs.declared.client_error.PgWireClientError.{PgWireClie
 use Rattle.pgw_backend.specs.declared.client_error.PgWireClientError.TheVariants as client
 use Rattle.pgw_session.specs.Demands.{refused_config}
 use Rattle.pgw_session.specs.Input.{Input}
-use Rattle.pgw_dialogue.specs.Demands.{Refuses}
+use Rattle.pgw_dialogue.specs.Demands.{RefusesKey}
 use Rattle.pgw_dialogue.specs.Dialogue.{IsBehind, IsStarved, Starts, Takes}
 use Rattle.pgw_dialogue.specs.declared.dialogue.Dialogue.{Dialogue}
 use Rattle.pgw_dialogue.specs.declared.phase.DialoguePhase.{DialoguePhase}
@@ -21,14 +21,14 @@ engine_of d refusal room = record { dialogue = d; refusal = refusal; room = room
 
 -- ---- how it begins
 
-none_of : (d : Dialogue) (o : Option (List ℕ)) → IfSome o (λ key. Refuses {T = Dialogue} key (Ok d))
+none_of : (d : Dialogue) (o : Option (List ℕ)) → IfSome o (λ key. RefusesKey {T = Dialogue} key (Ok d))
     → o ≡ None
 none_of d None refused = refl
 none_of d (Some key) refused = absurd refused
 
 pub has_begun : (input : Input) (limit : ℕ) (d : Dialogue) (old out : List ℕ) (refusal : Option ClientError)
     (said : Turn)
-    → old ≡ [] → IfSome (refused_config input.config) (λ key. Refuses {T = Dialogue} key (Ok d))
+    → old ≡ [] → IfSome (refused_config input.config) (λ key. RefusesKey {T = Dialogue} key (Ok d))
     → Starts input limit old out (Ok d) → refusal ≡ refused_at limit → said ≡ first_turn limit
     → HasBegun input limit (engine_of (Some d) refusal limit) said out
 has_begun input limit d old out refusal said empty refused starts refusal_is said_is =

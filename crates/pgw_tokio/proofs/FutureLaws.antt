@@ -23,12 +23,12 @@ use Rattle.pgw_moving.specs.declared.exchange.Exchange.{Exchange}
 use Rattle.pgw_moving.specs.declared.exchange.Stop.{Stop}
 use Rattle.pgw_moving.specs.declared.exchange.Stop.TheVariants as stop
 use Rattle.pgw_moving.specs.declared.moving.Moved.{Moved}
-use Rattle.pgw_moving.specs.Future.{CameTo, begun}
-use Rattle.pgw_moving.specs.Moving.{Held, held_in, Stops as Ends_by}
+use Rattle.pgw_moving.specs.Future.{CameTo, fresh_mover}
+use Rattle.pgw_moving.specs.Moving.{Mover, held_in, Stops as Ends_by}
 use Rattle.pgw_tokio.specs.declared.engine.SessionEngine.{SessionEngine}
 use Rattle.pgw_tokio.specs.declared.holding.Ended.{Ended as TheEnded}
 use Rattle.pgw_tokio.specs.declared.holding.SessionFuture.{SessionFuture}
-use Rattle.pgw_tokio.specs.Engine.{StandsAs, StandsBehind, session_members}
+use Rattle.pgw_tokio.specs.Engine.{StandsAs, StreamStandsBehind, session_members}
 use Rattle.pgw_tokio.specs.Stream.{AnswersAs, Gives, HasBegun, IsAbout, OverStream, WasRefused}
 use Rattle.pgw_tokio.proofs.ContractLaws.{over_stream}
 use Rattle.pgw_tokio.proofs.UnderLaws.{IsSessions}
@@ -55,7 +55,7 @@ limited_same old new same (Err e) gives = tt
 
 -- the exchange is the one that was made
 pub about_by : {S : Type 0} (input : Input) (limit : ℕ) (stream : S) (e : SessionEngine) (t : Turn) (out : List ℕ)
-    (o : Option (Exchange S SessionEngine)) → IsSomeAnd o (λ x. held_in x ≡ begun stream e t out)
+    (o : Option (Exchange S SessionEngine)) → IsSomeAnd o (λ x. held_in x ≡ fresh_mover stream e t out)
     → HasBegun input limit e t out ⊎ WasRefused input limit e t out
     → IsSomeAnd o (λ x. IsAbout input limit stream (held_in x))
 about_by input limit stream e t out None is begins = is
@@ -63,11 +63,11 @@ about_by input limit stream e t out (Some x) is begins =
     subst (IsAbout input limit stream) (sym is) (refl, refl, begins)
 
 pub ready_by : {S : Type 0} (stream : S) (e : SessionEngine) (t : Turn) (out : List ℕ)
-    (o : Option (Exchange S SessionEngine)) → IsSomeAnd o (λ x. held_in x ≡ begun stream e t out) → StandsAs e t
+    (o : Option (Exchange S SessionEngine)) → IsSomeAnd o (λ x. held_in x ≡ fresh_mover stream e t out) → StandsAs e t
     → IsSomeAnd o (λ x. StandsAs x.engine x.turn)
 ready_by stream e t out None is stands = is
 ready_by {S} stream e t out (Some x) is stands =
-    subst (λ (h : Held S SessionEngine). StandsAs h.engine h.turn) (sym is) stands
+    subst (λ (h : Mover S SessionEngine). StandsAs h.engine h.turn) (sym is) stands
 
 -- ---- how it ends
 
@@ -75,26 +75,26 @@ module _ {S : Type 0} (reader : AsyncRead.Ghosts S) (writer : AsyncWrite.Ghosts 
   sessions : IsSessions reader writer session_members
   sessions = record { takes = λ old new given put t feeds. feeds; room = λ e. refl; stands = λ e t holds. holds }
 
-  behind_at : (why : Stop) (mid new : Held S SessionEngine) (last : List Call)
+  behind_at : (why : Stop) (mid new : Mover S SessionEngine) (last : List Call)
       → Ends_by reader writer session_members mid why last new → StandsAs new.engine new.turn
-      → StandsBehind new.engine why
+      → StreamStandsBehind new.engine why
   behind_at stop.Over mid new last stops stands = subst (StandsAs new.engine) stops.3 stands
   behind_at stop.End mid new last stops stands =
       let d = (stops.1).1 in
-      let more : new.turn ≡ turn.More = ap (λ (h : Held S SessionEngine). h.turn) d.2 ∙ d.1 in
+      let more : new.turn ≡ turn.More = ap (λ (h : Mover S SessionEngine). h.turn) d.2 ∙ d.1 in
       subst (StandsAs new.engine) more stands
   behind_at (stop.Fault e) mid new last stops stands = tt
 
-  pub behind_by : (h : Held S SessionEngine) (moved : Moved S SessionEngine)
-      → CameTo reader writer session_members h moved → StandsBehind moved.engine moved.stop
+  pub behind_by : (h : Mover S SessionEngine) (moved : Moved S SessionEngine)
+      → CameTo reader writer session_members h moved → StreamStandsBehind moved.engine moved.stop
   behind_by h moved came =
       let ran = came.ran in
-      subst (λ (e : SessionEngine). StandsBehind e moved.stop) (sym came.engine_is)
+      subst (λ (e : SessionEngine). StreamStandsBehind e moved.stop) (sym came.engine_is)
       (behind_at moved.stop ran.mid came.last ran.last ran.stops came.stands)
 
   pub behind_some : (o : Option (Exchange S SessionEngine)) (moved : Moved S SessionEngine)
       → IsSomeAnd o (λ x. CameTo reader writer session_members (held_in x) moved)
-      → StandsBehind moved.engine moved.stop
+      → StreamStandsBehind moved.engine moved.stop
   behind_some None moved came = absurd came
   behind_some (Some x) moved came = behind_by (held_in x) moved came
 

@@ -11,7 +11,7 @@ use Rattle.pgw_session.specs.declared.types.Request.{Request}
 use Rattle.pgw_session.specs.Input.{Input}
 use Rattle.pgw_moving.specs.Calls.{Call, Ended, Trail}
 use Rattle.pgw_moving.specs.Future.{CameTo}
-use Rattle.pgw_moving.specs.Moving.{Held, held_in, Stops as Ends_by}
+use Rattle.pgw_moving.specs.Moving.{Mover, held_in, Stops as Ends_by}
 use Rattle.pgw_moving.specs.declared.exchange.Exchange.{Exchange}
 use Rattle.pgw_moving.specs.declared.exchange.Stop.{Stop}
 use Rattle.pgw_moving.specs.declared.exchange.Stop.TheVariants as stop
@@ -27,15 +27,15 @@ use Rattle.pgw_tokio.specs.Calling.{ClientStands, ClientStandsBehind, LoginOver,
 use Rattle.pgw_tokio.specs.Client.{fault_in, push_in, stream_in}
 use Rattle.pgw_tokio.specs.Failing.{Fails}
 use Rattle.pgw_tokio.specs.Faults.{fault_after}
-use Rattle.pgw_tokio.specs.Login.{EndsLogin, FailsToLogIn, Gives, IsAboutToLogIn, LogsIn, Outcome, stream_of}
-use Rattle.pgw_tokio.specs.Tape.{faults_of, listed, noted, tape_after, tape_of}
+use Rattle.pgw_tokio.specs.Login.{EndsLogin, FailsToLogIn, Gives, IsAboutToLogIn, LogsIn, LoginOutcome, stream_of}
+use Rattle.pgw_tokio.specs.Tape.{stream_errors, error_list, with_call, tape_after, stream_tape}
 use Rattle.pgw_tokio.proofs.CallLaws.{Paced, UnderCall, fails_same, flushed_at, over_ended, over_fault, over_refused, paced_runs, runs_under, sent_all}
 use Rattle.pgw_tokio.proofs.StreamLaws.{calls_faults, calls_of, calls_trail, end_engine, tape_append}
 use Rattle.pgw_tokio.proofs.UnderLaws.{Flushing}
 
 -- ---- before the first call of the stream
 
-module _ {S : Type 0} (input : Input) (limit : ℕ) (first : S) (h : Held S ClientEngine)
+module _ {S : Type 0} (input : Input) (limit : ℕ) (first : S) (h : Mover S ClientEngine)
     (a : IsAboutToLogIn input limit first h) where
   paced_first : Paced (asked_of h.engine.client) new_tape h
   paced_first = record {
@@ -77,24 +77,24 @@ stream_is stream e why (Ok a) ends = ends.0
 stream_is stream e why (Err n) ends = ends.0
 
 module _ {S : Type 0} (input : Input) (limit : ℕ) (calls : List Call) (asked : Option (List Request)) where
-  abbrev Under : Tape → Held S ClientEngine → Type 0
+  abbrev Under : Tape → Mover S ClientEngine → Type 0
   Under t h = UnderCall input limit [] [] t h
 
   -- there is no client
   failing : (n : NotLoggedIn S) (t : Tape) (c : PushClient) (fault : Option Error) (e : ClientError)
-      → tape_of calls ≡ t → n.fault ≡ fault → faults_of calls ≡ listed fault
+      → stream_tape calls ≡ t → n.fault ≡ fault → stream_errors calls ≡ error_list fault
       → Fails input limit [] [] t c fault e → n.error ≡ e → FailsToLogIn input limit calls n
   failing n t c fault e tape kept faults fails is = record {
-    faults = faults ∙ ap listed (sym kept);
+    faults = faults ∙ ap error_list (sym kept);
     push = c;
-    fails = subst (λ x. Fails input limit [] [] (tape_of calls) c n.fault x) (sym is)
-        (fails_same input limit [] [] t (tape_of calls) c c fault n.fault e (sym tape) refl (sym kept) fails);
+    fails = subst (λ x. Fails input limit [] [] (stream_tape calls) c n.fault x) (sym is)
+        (fails_same input limit [] [] t (stream_tape calls) c c fault n.fault e (sym tape) refl (sym kept) fails);
   }
 
-  over_at : (t : Tape) (h : Held S ClientEngine) (o : Option ClientError) → h.engine.refusal ≡ o
-      → Paced asked t h → Under t h → h.out ≡ [] → h.unflushed ≡ false → tape_of calls ≡ t
-      → faults_of calls ≡ [] → (stream : S) (result : Result (AsyncClient S) (NotLoggedIn S))
-      → EndsOver stream h.engine.client o result → Outcome input limit calls result
+  over_at : (t : Tape) (h : Mover S ClientEngine) (o : Option ClientError) → h.engine.refusal ≡ o
+      → Paced asked t h → Under t h → h.out ≡ [] → h.unflushed ≡ false → stream_tape calls ≡ t
+      → stream_errors calls ≡ [] → (stream : S) (result : Result (AsyncClient S) (NotLoggedIn S))
+      → EndsOver stream h.engine.client o result → LoginOutcome input limit calls result
   over_at t h None refusal p u empty still tape calm stream (Ok c) ends =
       let same : push_in c ≡ h.engine.client = ok_same (ends.2).0 in
       record {
@@ -114,13 +114,13 @@ module _ {S : Type 0} (input : Input) (limit : ℕ) (calls : List Call) (asked :
       (over_refused input limit [] [] t h e asked p u empty still refusal) (err_same ends.2)
 
   module _ (reader : AsyncRead.Ghosts S) (writer : AsyncWrite.Ghosts S) where
-    outcome_at : (why : Stop) (mid last : Held S ClientEngine) (t : Tape) (ends : List Call)
+    outcome_at : (why : Stop) (mid last : Mover S ClientEngine) (t : Tape) (ends : List Call)
         → Ends_by reader writer client_members mid why ends last → Paced asked t mid → Under t mid
-        → tape_of calls ≡ tape_after t ends → faults_of calls ≡ listed (fault_after why None) → (stream : S)
+        → stream_tape calls ≡ tape_after t ends → stream_errors calls ≡ error_list (fault_after why None) → (stream : S)
         (result : Result (AsyncClient S) (NotLoggedIn S)) → EndsLogin stream mid.engine why result
-        → Outcome input limit calls result
+        → LoginOutcome input limit calls result
     outcome_at stop.Over mid last t ends stops p u tape faults stream result r =
-        let sent = subst (λ (h : Held S ClientEngine). (h.out ≡ []) × (h.unflushed ≡ false)) (sym stops.0) stops.2 in
+        let sent = subst (λ (h : Mover S ClientEngine). (h.out ≡ []) × (h.unflushed ≡ false)) (sym stops.0) stops.2 in
         over_at t mid mid.engine.refusal refl p u sent.0 sent.1 (tape ∙ ap (tape_after t) stops.1) faults stream
         result (ends_over stream mid.engine result r)
     outcome_at stop.End mid last t ends stops p u tape faults stream (Ok c) r =
@@ -128,17 +128,17 @@ module _ {S : Type 0} (input : Input) (limit : ℕ) (calls : List Call) (asked :
     outcome_at stop.End mid last t ends stops p u tape faults stream (Err n) r =
         let sent = ((stops.1).1).0 in
         let w = r.2 in
-        failing n (noted t Ended) mid.engine.client None w.0 (tape ∙ ap (tape_after t) stops.0) r.1 faults
+        failing n (with_call t Ended) mid.engine.client None w.0 (tape ∙ ap (tape_after t) stops.0) r.1 faults
         (over_ended input limit [] [] t mid w.0 asked p u sent.0 sent.1 w.3) (err_same w.1)
     outcome_at (stop.Fault f) mid last t ends stops p u tape faults stream (Ok c) r = absurd (let no = r.2 in cc)
     outcome_at (stop.Fault f) mid last t ends stops p u tape faults stream (Err n) r =
-        failing n (noted t stops.0) mid.engine.client (Some f) client.IoError (tape ∙ ap (tape_after t) stops.1) r.1
+        failing n (with_call t stops.0) mid.engine.client (Some f) client.IoError (tape ∙ ap (tape_after t) stops.1) r.1
         faults (over_fault input limit [] [] t mid stops.0 f stops.2 p.not_ended u) (err_same r.2)
 
 -- ---- all of it
 
 module _ {S : Type 0} (reader : AsyncRead.Ghosts S) (writer : AsyncWrite.Ghosts S) where
-  logs_at : (input : Input) (limit : ℕ) (first : S) (h : Held S ClientEngine) (moved : Moved S ClientEngine)
+  logs_at : (input : Input) (limit : ℕ) (first : S) (h : Mover S ClientEngine) (moved : Moved S ClientEngine)
       (result : Result (AsyncClient S) (NotLoggedIn S)) → IsAboutToLogIn input limit first h
       → CameTo reader writer client_members h moved → EndsLogin moved.stream moved.engine moved.stop result
       → LogsIn reader writer input limit first result
@@ -154,7 +154,7 @@ module _ {S : Type 0} (reader : AsyncRead.Ghosts S) (writer : AsyncWrite.Ghosts 
             (calls_trail reader writer client_members h moved came (stream_of result)
             (stream_is moved.stream moved.engine moved.stop result ends));
         outcome = outcome_at input limit made (asked_of h.engine.client) reader writer moved.stop ran.mid
-            came.last (tape_of ran.calls) ran.last ran.stops
+            came.last (stream_tape ran.calls) ran.last ran.stops
             (paced_runs (asked_of h.engine.client) reader writer new_tape h ran.mid ran.calls ran.runs
             (paced_first input limit first h a))
             (runs_under reader writer input limit [] [] new_tape h ran.mid
@@ -165,13 +165,13 @@ module _ {S : Type 0} (reader : AsyncRead.Ghosts S) (writer : AsyncWrite.Ghosts 
 
   -- ---- the future
 
-  behind_at : (why : Stop) (mid new : Held S ClientEngine) (last : List Call)
+  behind_at : (why : Stop) (mid new : Mover S ClientEngine) (last : List Call)
       → Ends_by reader writer client_members mid why last new → ClientStands new.engine new.turn
       → ClientStandsBehind new.engine why
   behind_at stop.Over mid new last stops stands = subst (ClientStands new.engine) stops.3 stands
   behind_at stop.End mid new last stops stands =
       let d = (stops.1).1 in
-      subst (ClientStands new.engine) (ap (λ (h : Held S ClientEngine). h.turn) d.2 ∙ d.1) stands
+      subst (ClientStands new.engine) (ap (λ (h : Mover S ClientEngine). h.turn) d.2 ∙ d.1) stands
   behind_at (stop.Fault e) mid new last stops stands = tt
 
   pub behind_some : (o : Option (Exchange S ClientEngine)) (moved : Moved S ClientEngine)

@@ -7,7 +7,7 @@ use Rattle.tokio.specs.declared.io.async_read.AsyncRead as AsyncRead
 use Rattle.tokio.specs.declared.io.async_write.AsyncWrite as AsyncWrite
 use Rattle.pgw_backend.specs.declared.client_error.PgWireClientError.{PgWireClientError as ClientError}
 use Rattle.pgw_backend.specs.declared.client_error.PgWireClientError.TheVariants as client
-use Rattle.pgw_course.specs.Course.{Begins, Waits, Over, Waiting, sent_of}
+use Rattle.pgw_course.specs.Course.{Begins, Waits, Over, CourseWaits, sent_of}
 use Rattle.pgw_link.specs.Tape.{Tape, new_tape}
 use Rattle.pgw_session.specs.declared.types.SessionReport.{SessionReport}
 use Rattle.pgw_session.specs.Input.{Input}
@@ -15,23 +15,23 @@ use Rattle.pgw_session.specs.Machine.{Complete}
 use Rattle.pgw_session.specs.Talk.{Talk, conversation}
 use Rattle.pgw_dialogue.specs.Dialogue.{Stands}
 use Rattle.pgw_dialogue.specs.Machine.{notes_end, report_at, talk_end}
-use Rattle.pgw_dialogue.specs.Wire.{IsEnd, Unless}
+use Rattle.pgw_dialogue.specs.Wire.{IsEndError, Unless}
 use Rattle.pgw_dialogue.specs.declared.dialogue.Dialogue.{Dialogue}
 use Rattle.pgw_dialogue.specs.declared.phase.State.{State}
 use Rattle.pgw_dialogue.specs.declared.phase.State.TheVariants as state
 use Rattle.pgw_dialogue.proofs.DialogueLaws.{stands_in, taken_below}
 use Rattle.pgw_dialogue.proofs.ToldLaws.{sent_is}
 use Rattle.pgw_dialogue.proofs.WireLaws.{memory_or}
-use Rattle.pgw_client.specs.SessionSteps.{Caused, Held as SessionHeld, Reason, Session, memory, unsent, stopped, failed, unread, at_limit, at_end}
+use Rattle.pgw_client.specs.SessionSteps.{Caused, HoldsClientSession as SessionHeld, Reason, LinkSession, memory, unsent, stopped, failed, unread, at_limit, at_end}
 use Rattle.pgw_moving.specs.Calls.{Call, Gave, Ended, Wrote, Flushed, Waited, Unread, Unwritten, Unflushed, Trail, fault_of}
 use Rattle.pgw_moving.specs.declared.engine.Engine as Engine
 use Rattle.pgw_moving.specs.declared.engine.Turn.TheVariants as turn
 use Rattle.pgw_moving.specs.declared.exchange.Stop.{Stop}
 use Rattle.pgw_moving.specs.declared.exchange.Stop.TheVariants as stop
-use Rattle.pgw_moving.specs.Moving.{Held, IsSent, Step, Stops as Ends_by}
+use Rattle.pgw_moving.specs.Moving.{Mover, IsSent, Step, Stops as Ends_by}
 use Rattle.pgw_tokio.specs.declared.engine.SessionEngine.{SessionEngine}
 use Rattle.pgw_tokio.specs.Stream.{AnswersAs, AnswersOver}
-use Rattle.pgw_tokio.specs.Tape.{faults_of, listed, noted, tape_after}
+use Rattle.pgw_tokio.specs.Tape.{stream_errors, error_list, with_call, tape_after}
 use Rattle.pgw_tokio.proofs.UnderLaws.{Fails, Flushing, StandsSo, Stops, UnderWay, flushed_in, going_in}
 
 -- ---- what a dialogue has put out
@@ -56,13 +56,13 @@ begins input limit d taken put = by_state d.state input limit d taken put refl
 err_same : {a b : ClientError} → ◌≡◌ {A = Result SessionReport ClientError} (Err a) (Err b) → a ≡ b
 err_same is = cc
 
-not_io : (e : ClientError) → IsEnd e → e ≡ client.IoError → ⊥
-not_io e end is = subst IsEnd is end
+not_io : (e : ClientError) → IsEndError e → e ≡ client.IoError → ⊥
+not_io e end is = subst IsEndError is end
 
 -- ---- a session of a tape
 
 -- where it waits for more, with all that is due written and flushed
-waits : {S : Type 0} (input : Input) (limit : ℕ) (t : Tape) (h : Held S SessionEngine)
+waits : {S : Type 0} (input : Input) (limit : ℕ) (t : Tape) (h : Mover S SessionEngine)
     (u : UnderWay input limit t h)
     → h.turn ≡ turn.More → h.out ≡ [] → (talk : Talk) ×
     (conversation input t.took ≡ Waits talk t.wrote (u.dialogue).inbox)
@@ -85,10 +85,10 @@ caused input limit taken put e b (inr (inr short)) = record
 
 module _ {S : Type 0} (input : Input) (limit : ℕ) where
   -- it is over, and all was written and flushed
-  over_by : (t : Tape) (h : Held S SessionEngine) (answer : Result SessionReport ClientError)
+  over_by : (t : Tape) (h : Mover S SessionEngine) (answer : Result SessionReport ClientError)
       → UnderWay input limit t h → h.out ≡ [] → h.unflushed ≡ false
       → SessionHeld input (conversation input t.took) t.took limit t.wrote new_tape t answer
-      → Session input limit new_tape t answer
+      → LinkSession input limit new_tape t answer
   over_by t h answer u empty flushed held =
       let sure : Flushing false t = subst (λ b. Flushing b t) flushed u.flushing in
       record {
@@ -104,12 +104,12 @@ module _ {S : Type 0} (input : Input) (limit : ℕ) where
         flushed = λ no. inr sure;
       }
 
-  put_is : (t : Tape) (h : Held S SessionEngine) → h.out ≡ [] → t.wrote ++ h.out ≡ t.wrote
+  put_is : (t : Tape) (h : Mover S SessionEngine) → h.out ≡ [] → t.wrote ++ h.out ≡ t.wrote
   put_is t h empty = ap (λ (l : List ℕ). t.wrote ++ l) empty ∙ append-nil t.wrote
 
-  refused_by : (t : Tape) (h : Held S SessionEngine) (e : ClientError) → UnderWay input limit t h → h.out ≡ []
+  refused_by : (t : Tape) (h : Mover S SessionEngine) (e : ClientError) → UnderWay input limit t h → h.out ≡ []
       → h.unflushed ≡ false → h.turn ≡ turn.Over → h.engine.refusal ≡ Some e
-      → Session input limit new_tape t (Err e)
+      → LinkSession input limit new_tape t (Err e)
   refused_by t h e u empty flushed over is =
       let put = put_is t h empty in
       let within : length t.took ≤ limit = omega (arith, u.room) in
@@ -120,9 +120,9 @@ module _ {S : Type 0} (input : Input) (limit : ℕ) where
       over_by t h (Err e) u empty flushed (caused input limit t.took t.wrote e b
       (subst (λ (l : List ℕ). Stops input limit t.took l e) put so.1))
 
-  whole_by : (t : Tape) (h : Held S SessionEngine) → (u : UnderWay input limit t h) → h.out ≡ []
+  whole_by : (t : Tape) (h : Mover S SessionEngine) → (u : UnderWay input limit t h) → h.out ≡ []
       → h.unflushed ≡ false → h.turn ≡ turn.Over → h.engine.refusal ≡ None
-      → Session input limit new_tape t (Ok (report_at (u.dialogue).notes))
+      → LinkSession input limit new_tape t (Ok (report_at (u.dialogue).notes))
   whole_by t h u empty flushed over is =
       let put = put_is t h empty in
       let within : length t.took ≤ limit = omega (arith, u.room) in
@@ -137,15 +137,15 @@ module _ {S : Type 0} (input : Input) (limit : ℕ) where
       )
 
   -- the end has come
-  ended_by : (t : Tape) (h : Held S SessionEngine) (e : ClientError) → (u : UnderWay input limit t h)
+  ended_by : (t : Tape) (h : Mover S SessionEngine) (e : ClientError) → (u : UnderWay input limit t h)
       → h.out ≡ []
       → h.unflushed ≡ false → h.turn ≡ turn.More → length t.took < limit
       → Unless e (e ≡ notes_end (u.dialogue).notes)
-      → Session input limit new_tape (noted t Ended) (Err e)
+      → LinkSession input limit new_tape (with_call t Ended) (Err e)
   ended_by t h e u empty flushed more below means =
       let w = waits input limit t h u more empty in
       let sure : t.flushed ≡ length t.wrote = subst (λ b. Flushing b t) flushed u.flushing in
-      let waiting : Waiting (conversation input t.took) t.wrote = (w.0, (u.dialogue).inbox, w.1) in
+      let waiting : CourseWaits (conversation input t.took) t.wrote = (w.0, (u.dialogue).inbox, w.1) in
       let ended : t.ended ++ t.flushed ∷ [] ≡ [] ++ length t.wrote ∷ [] =
       ap (λ (l : List ℕ). l ++ t.flushed ∷ []) u.not_ended ∙ ap (λ (n : ℕ). n ∷ []) sure in
       record {
@@ -170,10 +170,10 @@ module _ {S : Type 0} (input : Input) (limit : ℕ) where
       }
 
   -- a call failed
-  faulted : (t new : Tape) (h : Held S SessionEngine) → UnderWay input limit t h → new.took ≡ t.took
+  faulted : (t new : Tape) (h : Mover S SessionEngine) → UnderWay input limit t h → new.took ≡ t.took
       → new.wrote ≡ t.wrote → new.ended ≡ t.ended → new.reads ≤ t.reads + 1 → new.writes ≤ t.writes + 1
       → Reason talk_end (conversation input t.took) t.wrote 0 t.took limit new_tape new client.IoError
-      → Begins (conversation input t.took) t.wrote → Session input limit new_tape new (Err client.IoError)
+      → Begins (conversation input t.took) t.wrote → LinkSession input limit new_tape new (Err client.IoError)
   faulted t new h u took wrote ended reads writes reason b = record {
     taken = t.took;
     took = took;
@@ -187,13 +187,13 @@ module _ {S : Type 0} (input : Input) (limit : ℕ) where
     flushed = λ no. absurd (no refl);
   }
 
-  begun_on : (t : Tape) (h : Held S SessionEngine) → (u : UnderWay input limit t h)
+  begun_on : (t : Tape) (h : Mover S SessionEngine) → (u : UnderWay input limit t h)
       → (more : List ℕ) × (sent_of (conversation input t.took) ≡ t.wrote ++ (h.out ++ more))
   begun_on t h u =
       let b = begins input limit u.dialogue t.took (t.wrote ++ h.out) (omega (arith, u.room)) u.stands in
       (b.0, b.1 ∙ append_assoc t.wrote h.out b.0)
 
-  refusal_so : (t : Tape) (h : Held S SessionEngine) (e : ClientError) → UnderWay input limit t h
+  refusal_so : (t : Tape) (h : Mover S SessionEngine) (e : ClientError) → UnderWay input limit t h
       → h.turn ≡ turn.Over → h.engine.refusal ≡ Some e → e ≡ client.IoError → ⊥
   refusal_so t h e u over is =
       let so : Fails input limit t.took (t.wrote ++ h.out) e =
@@ -207,23 +207,23 @@ module _ {S : Type 0} (input : Input) (limit : ℕ) where
 pub record Concluded {S : Type 0} (reader : AsyncRead.Ghosts S) (writer : AsyncWrite.Ghosts S) (input : Input)
     (limit : ℕ) (t : Tape) (mid new : S) (last : List Call) (answer : Result SessionReport ClientError)
     (fault : Option Error) : Type 0 where
-  pub session : Session input limit new_tape (tape_after t last) answer
-  pub faults : faults_of last ≡ listed fault
+  pub session : LinkSession input limit new_tape (tape_after t last) answer
+  pub faults : stream_errors last ≡ error_list fault
   pub trail : Trail reader writer mid last new
   pub io : IsErrOf answer client.IoError → (e : Error) × (fault ≡ Some e)
   pub failing : (e : Error) → fault ≡ Some e → IsErrOf answer client.IoError
 
 module _ {S : Type 0} (reader : AsyncRead.Ghosts S) (writer : AsyncWrite.Ghosts S)
     (engine : Engine.Ghosts SessionEngine) (input : Input) (limit : ℕ) where
-  over_refused : (t : Tape) (h : Held S SessionEngine) (o : Option ClientError)
+  over_refused : (t : Tape) (h : Mover S SessionEngine) (o : Option ClientError)
       (answer : Result SessionReport ClientError) (fault : Option Error) → UnderWay input limit t h → IsSent h
       → h.turn ≡ turn.Over → h.engine.refusal ≡ o
       → AnswersOver o h.engine.dialogue answer → fault ≡ None
       → Concluded reader writer input limit t h.stream h.stream [] answer fault
   over_refused t h (Some e) answer fault u sent over is answers none = record {
-    session = subst (Session input limit new_tape t) (sym answers)
+    session = subst (LinkSession input limit new_tape t) (sym answers)
         (refused_by input limit t h e u sent.0 sent.1 over is);
-    faults = ap listed (sym none);
+    faults = ap error_list (sym none);
     trail = refl;
     io = λ io. absurd (refusal_so input limit t h e u over is (err_same (sym answers ∙ io)));
     failing = λ e same. absurd (let no = sym same ∙ none in cc);
@@ -233,15 +233,15 @@ module _ {S : Type 0} (reader : AsyncRead.Ghosts S) (writer : AsyncWrite.Ghosts 
       answers
       in
       record {
-        session = subst (Session input limit new_tape t) (sym known)
+        session = subst (LinkSession input limit new_tape t) (sym known)
             (whole_by input limit t h u sent.0 sent.1 over is);
-        faults = ap listed (sym none);
+        faults = ap error_list (sym none);
         trail = refl;
         io = λ io. absurd (let no = sym known ∙ io in cc);
         failing = λ e same. absurd (let no = sym same ∙ none in cc);
       }
 
-  at_end_of : (t : Tape) (h new : Held S SessionEngine) (answer : Result SessionReport ClientError)
+  at_end_of : (t : Tape) (h new : Mover S SessionEngine) (answer : Result SessionReport ClientError)
       (fault : Option Error) → UnderWay input limit t h → Step reader writer engine h Ended new
       → IsSomeAnd h.engine.dialogue (λ d. 0 < d.room)
       → AnswersAs h.engine stop.End answer fault → Concluded reader writer input limit t h.stream new.stream
@@ -254,17 +254,17 @@ module _ {S : Type 0} (reader : AsyncRead.Ghosts S) (writer : AsyncWrite.Ghosts 
       let going = going_in input limit u.dialogue t.took (t.wrote ++ h.out) h.turn h.engine.refusal d.1 u.so in
       let stands = stands_in input limit u.dialogue t.took (t.wrote ++ h.out) state.Going going u.stands in
       record {
-        session = subst (Session input limit new_tape (noted t Ended)) (sym answers.1)
+        session = subst (LinkSession input limit new_tape (with_call t Ended)) (sym answers.1)
             (ended_by input limit t h answers.0 u (d.0).0 (d.0).1 d.1 (omega (arith, stands.3, room)) means);
-        faults = ap listed (sym answers.4);
+        faults = ap error_list (sym answers.4);
         trail = (new.stream, step.0, refl);
         io = λ io. absurd (not_io answers.0 answers.2 (err_same (sym answers.1 ∙ io)));
         failing = λ e same. absurd (let no = sym same ∙ answers.4 in cc);
       }
 
-  broken_by : (t : Tape) (h new : Held S SessionEngine) (call : Call) (e : Error) → fault_of call ≡ Some e
+  broken_by : (t : Tape) (h new : Mover S SessionEngine) (call : Call) (e : Error) → fault_of call ≡ Some e
       → Step reader writer engine h call new → UnderWay input limit t h
-      → Session input limit new_tape (noted t call) (Err client.IoError)
+      → LinkSession input limit new_tape (with_call t call) (Err client.IoError)
   broken_by t h new (Gave bytes) e is step u = cc
   broken_by t h new Ended e is step u = cc
   broken_by t h new (Wrote bytes) e is step u = cc
@@ -273,7 +273,7 @@ module _ {S : Type 0} (reader : AsyncRead.Ghosts S) (writer : AsyncWrite.Ghosts 
   broken_by t h new (Unread x) e is step u =
       let d = step.1 in
       let w = waits input limit t h u d.1 (d.0).0 in
-      faulted input limit t (noted t (Unread x)) h u refl refl refl (omega arith) (omega arith)
+      faulted input limit t (with_call t (Unread x)) h u refl refl refl (omega arith) (omega arith)
       (unread refl (w.0, (u.dialogue).inbox, w.1)) ([], ap sent_of w.1 ∙ sym (append-nil t.wrote))
   broken_by t h new (Unwritten x) e is step u =
       let d = step.1 in
@@ -287,7 +287,7 @@ module _ {S : Type 0} (reader : AsyncRead.Ghosts S) (writer : AsyncWrite.Ghosts 
         length-append h.out b.0,
         d.0,
       ) in
-      faulted input limit t (noted t (Unwritten x)) h u refl refl refl (omega arith) (omega arith)
+      faulted input limit t (with_call t (Unwritten x)) h u refl refl refl (omega arith) (omega arith)
       (failed (unsent refl short)) (h.out ++ b.0, b.1)
   broken_by t h new (Unflushed x) e is step u =
       let d = step.1 in
@@ -298,7 +298,7 @@ module _ {S : Type 0} (reader : AsyncRead.Ghosts S) (writer : AsyncWrite.Ghosts 
       faulted input limit t t h u refl refl refl (omega arith) (omega arith) (failed (unsent refl short))
       (h.out ++ b.0, b.1)
 
-  pub concluded : (why : Stop) (t : Tape) (mid new : Held S SessionEngine) (last : List Call)
+  pub concluded : (why : Stop) (t : Tape) (mid new : Mover S SessionEngine) (last : List Call)
       (answer : Result SessionReport ClientError) (fault : Option Error) → UnderWay input limit t mid
       → Ends_by reader writer engine mid why last new
       → (new.turn ≡ turn.More → IsSomeAnd new.engine.dialogue (λ d. 0 < d.room))
@@ -312,12 +312,12 @@ module _ {S : Type 0} (reader : AsyncRead.Ghosts S) (writer : AsyncWrite.Ghosts 
       stops.3 refl answers.0 answers.1 in
       subst (λ (l : List Call). Concluded reader writer input limit t mid.stream new.stream l answer fault)
       (sym stops.1) (subst (λ (s : S). Concluded reader writer input limit t s new.stream [] answer fault)
-      (sym (ap (λ (h : Held S SessionEngine). h.stream) same)) c)
+      (sym (ap (λ (h : Mover S SessionEngine). h.stream) same)) c)
   concluded stop.End t mid new last answer fault u stops awaits answers =
       let step = stops.1 in
       let d = step.1 in
-      let engine_is : new.engine ≡ mid.engine = ap (λ (h : Held S SessionEngine). h.engine) d.2 in
-      let turn_is : new.turn ≡ mid.turn = ap (λ (h : Held S SessionEngine). h.turn) d.2 in
+      let engine_is : new.engine ≡ mid.engine = ap (λ (h : Mover S SessionEngine). h.engine) d.2 in
+      let turn_is : new.turn ≡ mid.turn = ap (λ (h : Mover S SessionEngine). h.turn) d.2 in
       let room = subst (λ (e : SessionEngine). IsSomeAnd e.dialogue (λ x. 0 < x.room)) engine_is
       (awaits (turn_is ∙ d.1)) in
       let c = at_end_of t mid new answer fault u step room
@@ -328,9 +328,9 @@ module _ {S : Type 0} (reader : AsyncRead.Ghosts S) (writer : AsyncWrite.Ghosts 
       let call = stops.0 in
       let c : Concluded reader writer input limit t mid.stream new.stream (call ∷ []) answer fault =
       record {
-        session = subst (Session input limit new_tape (noted t call)) (sym answers.0)
+        session = subst (LinkSession input limit new_tape (with_call t call)) (sym answers.0)
             (broken_by t mid new call e stops.2 stops.3 u);
-        faults = ap (λ o. listed o ++ []) stops.2 ∙ ap listed (sym answers.1);
+        faults = ap (λ o. error_list o ++ []) stops.2 ∙ ap error_list (sym answers.1);
         trail = (new.stream, (stops.3).0, refl);
         io = λ io. (e, answers.1);
         failing = λ x same. answers.0;

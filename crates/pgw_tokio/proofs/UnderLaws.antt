@@ -5,13 +5,13 @@ use Rattle.tokio.specs.declared.io.async_read.AsyncRead as AsyncRead
 use Rattle.tokio.specs.declared.io.async_write.AsyncWrite as AsyncWrite
 use Rattle.pgw_backend.specs.declared.client_error.PgWireClientError.{PgWireClientError as ClientError}
 use Rattle.pgw_backend.specs.declared.client_error.PgWireClientError.TheVariants as client
-use Rattle.pgw_course.specs.Course.{Course, Waits, Over, Waiting, sent_of}
+use Rattle.pgw_course.specs.Course.{Course, Waits, Over, CourseWaits, sent_of}
 use Rattle.pgw_link.specs.Tape.{Tape}
 use Rattle.pgw_session.specs.Input.{Input}
 use Rattle.pgw_session.specs.Machine.{error_of}
 use Rattle.pgw_session.specs.Talk.{Talk, Ending, conversation}
 use Rattle.pgw_dialogue.specs.Answers.{TakeCause, answer_at, ending_answer, taken_of, waiting_answer}
-use Rattle.pgw_dialogue.specs.Dialogue.{Answers, IsBehind, IsBroken, IsDone, IsStarved, Stands}
+use Rattle.pgw_dialogue.specs.Dialogue.{AnswersDialogue, IsBehind, IsBroken, IsDone, IsStarved, Stands}
 use Rattle.pgw_dialogue.specs.declared.dialogue.Dialogue.{Dialogue}
 use Rattle.pgw_dialogue.specs.declared.phase.DialoguePhase.{DialoguePhase}
 use Rattle.pgw_dialogue.specs.declared.phase.DialoguePhase.TheVariants as phase
@@ -19,22 +19,22 @@ use Rattle.pgw_dialogue.specs.declared.phase.State.TheVariants as state
 use Rattle.pgw_dialogue.proofs.DialogueLaws.{taken_below}
 use Rattle.pgw_dialogue.proofs.ToldLaws.{sent_is}
 use Rattle.pgw_dialogue.proofs.WireLaws.{memory_or}
-use Rattle.pgw_moving.specs.Calls.{Call, Gave, Ended, Wrote, Flushed, Waited, Unread, Unwritten, Unflushed, GoesOn}
+use Rattle.pgw_moving.specs.Calls.{Call, Gave, Ended, Wrote, Flushed, Waited, Unread, Unwritten, Unflushed, CallGoesOn}
 use Rattle.pgw_moving.specs.declared.engine.Engine as Engine
 use Rattle.pgw_moving.specs.declared.engine.Turn.{Turn}
 use Rattle.pgw_moving.specs.declared.engine.Turn.TheVariants as turn
-use Rattle.pgw_moving.specs.Moving.{Held, Runs, Step}
+use Rattle.pgw_moving.specs.Moving.{Mover, Runs, Step}
 use Rattle.pgw_tokio.specs.declared.engine.SessionEngine.{SessionEngine}
 use Rattle.pgw_tokio.specs.Engine.{Feeds, StandsAs}
 use Rattle.pgw_tokio.specs.First.{refusal_of, turn_of}
-use Rattle.pgw_tokio.specs.Tape.{noted, tape_after}
+use Rattle.pgw_tokio.specs.Tape.{with_call, tape_after}
 
 -- why it stops, where these bytes were taken and those put out
 abbrev pub Stops : Input → ℕ → List ℕ → List ℕ → ClientError → Type 0
 Stops input limit taken put e =
     (e ≡ client.OutOfMemory) ⊎ (((ending : Ending) × (conversation input taken ≡ Over ending put) ×
     (error_of ending.outcome ≡ Some e))
-    ⊎ ((e ≡ client.ReadLimit) × Waiting (conversation input taken) put × (length taken ≡ limit)))
+    ⊎ ((e ≡ client.ReadLimit) × CourseWaits (conversation input taken) put × (length taken ≡ limit)))
 
 -- that is no failed call of the stream
 abbrev pub Fails : Input → ℕ → List ℕ → List ℕ → ClientError → Type 0
@@ -51,7 +51,7 @@ abbrev pub Flushing : Bool → Tape → Type 0
 Flushing false t = t.flushed ≡ length t.wrote
 Flushing true t = t.flushed < length t.wrote
 
-pub record UnderWay {S : Type 0} (input : Input) (limit : ℕ) (t : Tape) (h : Held S SessionEngine) : Type 0
+pub record UnderWay {S : Type 0} (input : Input) (limit : ℕ) (t : Tape) (h : Mover S SessionEngine) : Type 0
   where
     pub dialogue : Dialogue
     pub is : h.engine.dialogue ≡ Some dialogue
@@ -92,7 +92,7 @@ stops_by input limit taken put e (Over ending sent) is answer same within =
 -- the error that a call answered
 stops_so : (input : Input) (limit : ℕ) (d : Dialogue) (taken put : List ℕ) (e : ClientError)
     → length taken ≤ limit
-    → Stands input limit d taken put → Answers input limit taken put (Err e)
+    → Stands input limit d taken put → AnswersDialogue input limit taken put (Err e)
     → (IsStarved d → e ≡ client.OutOfMemory)
     → Stops input limit taken put e
 stops_so input limit d taken put e within stands answers starved = elim (memory_or e) [
@@ -109,7 +109,7 @@ stops_so input limit d taken put e within stands answers starved = elim (memory_
 
 so_behind : (input : Input) (limit : ℕ) (d : Dialogue) (taken put : List ℕ)
     (r : Result DialoguePhase ClientError)
-    → length taken ≤ limit → Stands input limit d taken put → IsBehind d r → Answers input limit taken put r
+    → length taken ≤ limit → Stands input limit d taken put → IsBehind d r → AnswersDialogue input limit taken put r
     → (IsStarved d → r ≡ Err client.OutOfMemory) → StandsSo input limit (turn_of r) (refusal_of r) d taken put
 so_behind input limit d taken put (Ok phase.Waiting) within stands behind answers starved = (refl, behind.0)
 so_behind input limit d taken put (Ok phase.Ready) within stands behind answers starved = (refl, behind.0)
@@ -135,11 +135,11 @@ going_in input limit d taken put turn.More refusal is so = so.1
 going_in input limit d taken put turn.Over refusal is so = cc
 
 module _ {S : Type 0} (input : Input) (limit : ℕ) where
-  gave : (t : Tape) (old new : Held S SessionEngine) (bytes : List ℕ) → UnderWay input limit t old
+  gave : (t : Tape) (old new : Mover S SessionEngine) (bytes : List ℕ) → UnderWay input limit t old
       → 0 < length bytes
       → old.out ≡ [] → old.unflushed ≡ false → old.turn ≡ turn.More → length bytes ≤ old.engine.room
       → Feeds old.engine bytes new.out new.turn new.engine → new.unflushed ≡ false
-      → UnderWay input limit (noted t (Gave bytes)) new
+      → UnderWay input limit (with_call t (Gave bytes)) new
   gave t old new bytes u some empty flushed more fits f still =
       let same : f.before ≡ u.dialogue = some_same (sym f.was ∙ u.is) in
       let going : f.before.state ≡ state.Going = ap (λ (d : Dialogue). d.state) same
@@ -154,7 +154,7 @@ module _ {S : Type 0} (input : Input) (limit : ℕ) where
       (f.takes.stands input limit t.took t.wrote before) in
       let sound : IsBroken f.before → ⊥ = λ broken. elim broken
       [ inl is ↦ absurd (let no = sym is ∙ going in cc) | inr is ↦ absurd (let no = sym is ∙ going in cc) ] in
-      let answers = subst (λ (l : List ℕ). Answers input limit (t.took ++ bytes) (t.wrote ++ l) f.answer) out
+      let answers = subst (λ (l : List ℕ). AnswersDialogue input limit (t.took ++ bytes) (t.wrote ++ l) f.answer) out
       (f.takes.answers input limit t.took t.wrote before sound) in
       let size = length-append t.took bytes in
       let room : length (t.took ++ bytes) + new.engine.room ≡ limit =
@@ -176,14 +176,14 @@ module _ {S : Type 0} (input : Input) (limit : ℕ) where
         not_ended = u.not_ended;
         reads = omega (arith, u.reads, size, some);
         writes = u.writes;
-        flushing = subst (λ b. Flushing b (noted t (Gave bytes))) (sym still)
+        flushing = subst (λ b. Flushing b (with_call t (Gave bytes))) (sym still)
             (subst (λ b. Flushing b t) flushed u.flushing);
       }
 
-  wrote : (t : Tape) (old : Held S SessionEngine) (stream : S) (bytes out : List ℕ)
+  wrote : (t : Tape) (old : Mover S SessionEngine) (stream : S) (bytes out : List ℕ)
       → UnderWay input limit t old
       → 0 < length bytes → old.out ≡ bytes ++ out
-      → UnderWay input limit (noted t (Wrote bytes))
+      → UnderWay input limit (with_call t (Wrote bytes))
       (record old { stream = stream; out = out; unflushed = true })
   wrote t old stream bytes out u some are =
       let same : t.wrote ++ old.out ≡ (t.wrote ++ bytes) ++ out = ap (λ (l : List ℕ). t.wrote ++ l) are
@@ -201,8 +201,8 @@ module _ {S : Type 0} (input : Input) (limit : ℕ) where
         flushing = omega (arith, flushed_in old.unflushed t u.flushing, size, some);
       }
 
-  flushed : (t : Tape) (old : Held S SessionEngine) (stream : S) → UnderWay input limit t old
-      → UnderWay input limit (noted t Flushed) (record old { stream = stream; unflushed = false })
+  flushed : (t : Tape) (old : Mover S SessionEngine) (stream : S) → UnderWay input limit t old
+      → UnderWay input limit (with_call t Flushed) (record old { stream = stream; unflushed = false })
   flushed t old stream u = record {
     dialogue = u.dialogue;
     is = u.is;
@@ -215,7 +215,7 @@ module _ {S : Type 0} (input : Input) (limit : ℕ) where
     flushing = refl;
   }
 
-  waited : (t : Tape) (old : Held S SessionEngine) (stream : S) → UnderWay input limit t old
+  waited : (t : Tape) (old : Mover S SessionEngine) (stream : S) → UnderWay input limit t old
       → UnderWay input limit t (record old { stream = stream })
   waited t old stream u = record {
     dialogue = u.dialogue;
@@ -240,9 +240,9 @@ module _ {S : Type 0} (reader : AsyncRead.Ghosts S) (writer : AsyncWrite.Ghosts 
     pub room : (e : SessionEngine) → engine.room e ≡ e.room
     pub stands : (e : SessionEngine) (t : Turn) → engine.stands e t → StandsAs e t
 
-  call_on : IsSessions → (input : Input) (limit : ℕ) (t : Tape) (old new : Held S SessionEngine) (call : Call)
-      → GoesOn call → Step reader writer engine old call new → UnderWay input limit t old
-      → UnderWay input limit (noted t call) new
+  call_on : IsSessions → (input : Input) (limit : ℕ) (t : Tape) (old new : Mover S SessionEngine) (call : Call)
+      → CallGoesOn call → Step reader writer engine old call new → UnderWay input limit t old
+      → UnderWay input limit (with_call t call) new
   call_on are input limit t old new (Gave bytes) on step u =
       let d = step.1 in
       gave input limit t old new bytes u (step.0).1 (d.0).0 (d.0).1 d.1
@@ -251,21 +251,21 @@ module _ {S : Type 0} (reader : AsyncRead.Ghosts S) (writer : AsyncWrite.Ghosts 
   call_on are input limit t old new Ended on step u = absurd on
   call_on are input limit t old new (Wrote bytes) on step u =
       let d = step.1 in
-      subst (UnderWay input limit (noted t (Wrote bytes))) (sym d.1)
+      subst (UnderWay input limit (with_call t (Wrote bytes))) (sym d.1)
       (wrote input limit t old new.stream bytes new.out u (step.0).1 d.0)
   call_on are input limit t old new Flushed on step u =
       let d = step.1 in
-      subst (UnderWay input limit (noted t Flushed)) (sym d.2) (flushed input limit t old new.stream u)
+      subst (UnderWay input limit (with_call t Flushed)) (sym d.2) (flushed input limit t old new.stream u)
   call_on are input limit t old new Waited on step u =
       subst (UnderWay input limit t) (sym step.1) (waited input limit t old new.stream u)
   call_on are input limit t old new (Unread e) on step u = absurd on
   call_on are input limit t old new (Unwritten e) on step u = absurd on
   call_on are input limit t old new (Unflushed e) on step u = absurd on
 
-  pub runs_on : IsSessions → (input : Input) (limit : ℕ) (t : Tape) (old new : Held S SessionEngine)
+  pub runs_on : IsSessions → (input : Input) (limit : ℕ) (t : Tape) (old new : Mover S SessionEngine)
       (calls : List Call) → Runs reader writer engine old calls new → UnderWay input limit t old
       → UnderWay input limit (tape_after t calls) new
   runs_on are input limit t old new [] runs u = subst (UnderWay input limit t) runs u
   runs_on are input limit t old new (call ∷ calls) runs u =
-      runs_on are input limit (noted t call) runs.0 new calls runs.3
+      runs_on are input limit (with_call t call) runs.0 new calls runs.3
       (call_on are input limit t old runs.0 call runs.1 runs.2 u)

@@ -14,26 +14,26 @@ use Rattle.pgw_session.specs.Input.{Input}
 use Rattle.pgw_session.specs.Requests.{sends_of}
 use Rattle.pgw_moving.specs.Calls.{Call, Trail}
 use Rattle.pgw_moving.specs.Future.{CameTo}
-use Rattle.pgw_moving.specs.Moving.{Held, held_in}
+use Rattle.pgw_moving.specs.Moving.{Mover, held_in}
 use Rattle.pgw_moving.specs.declared.moving.Moved.{Moved}
-use Rattle.pgw_push.specs.Calls.{IsLastAnswer, with_request}
+use Rattle.pgw_push.specs.Calls.{IsLastAnswer, input_with_request}
 use Rattle.pgw_tokio.specs.declared.asking.Answered.{Answered}
 use Rattle.pgw_tokio.specs.declared.asking.Asking.{Asking}
 use Rattle.pgw_tokio.specs.declared.calling.ClientEngine.{ClientEngine}
 use Rattle.pgw_tokio.specs.declared.client.AsyncClient.{AsyncClient}
 use Rattle.pgw_tokio.specs.Calling.{BeginsRequest, ClientStands, RequestAnswers, client_members}
-use Rattle.pgw_tokio.specs.Client.{IsUsable, Stands, fault_in, push_in, stream_in}
-use Rattle.pgw_tokio.specs.Failing.{Fails, IsFlushed}
+use Rattle.pgw_tokio.specs.Client.{IsUsable, AsyncStands, fault_in, push_in, stream_in}
+use Rattle.pgw_tokio.specs.Failing.{Fails, IsStreamFlushed}
 use Rattle.pgw_tokio.specs.Faults.{fault_after}
-use Rattle.pgw_tokio.specs.Tape.{faults_of, listed, tape_of}
+use Rattle.pgw_tokio.specs.Tape.{stream_errors, error_list, stream_tape}
 
 -- ---- what is promised
 
 module _ {S : Type 0} (old : AsyncClient S) (q : Request) (calls : List Call) (new : AsyncClient S) where
   -- no byte moved, no call failed, and the client is as it was but for its stream
   pub record Stays : Type 0 where
-    pub tape : tape_of calls ≡ new_tape
-    pub calm : faults_of calls ≡ []
+    pub tape : stream_tape calls ≡ new_tape
+    pub calm : stream_errors calls ≡ []
     pub push : push_in new ≡ push_in old
     pub fault : fault_in new ≡ fault_in old
 
@@ -43,15 +43,15 @@ module _ {S : Type 0} (old : AsyncClient S) (q : Request) (calls : List Call) (n
   pub record GivesAnswer (answer : Answer) : Type 0 where
     pub was : IsUsable old
     pub usable : IsUsable new
-    pub flushed : IsFlushed (tape_of calls)
-    pub unended : (tape_of calls).ended ≡ []
-    pub calm : faults_of calls ≡ []
-    pub stands : (input : Input) (limit : ℕ) (given put : List ℕ) → Stands input limit old given put
-        → Stands (with_request input q) limit new (given ++ (tape_of calls).took)
-        (put ++ (tape_of calls).wrote)
-    pub last : (input : Input) (limit : ℕ) (given put : List ℕ) → Stands input limit old given put
-        → IsLastAnswer (with_request input q) (given ++ (tape_of calls).took)
-        (put ++ (tape_of calls).wrote) answer
+    pub flushed : IsStreamFlushed (stream_tape calls)
+    pub unended : (stream_tape calls).ended ≡ []
+    pub calm : stream_errors calls ≡ []
+    pub stands : (input : Input) (limit : ℕ) (given put : List ℕ) → AsyncStands input limit old given put
+        → AsyncStands (input_with_request input q) limit new (given ++ (stream_tape calls).took)
+        (put ++ (stream_tape calls).wrote)
+    pub last : (input : Input) (limit : ℕ) (given put : List ℕ) → AsyncStands input limit old given put
+        → IsLastAnswer (input_with_request input q) (given ++ (stream_tape calls).took)
+        (put ++ (stream_tape calls).wrote) answer
 
   -- an earlier call failed
   pub record IsBroken (e : ClientError) : Type 0 where
@@ -70,11 +70,11 @@ module _ {S : Type 0} (old : AsyncClient S) (q : Request) (calls : List Call) (n
   pub record FailsToAnswer (e : ClientError) : Type 0 where
     pub was : IsUsable old
     pub spelled : (opening : List ℕ) × (encodings (sends_of q) ≡ Ok opening)
-    pub faults : faults_of calls ≡ listed (fault_in new)
-    pub broken : (input : Input) (limit : ℕ) (given put : List ℕ) → Stands input limit old given put
+    pub faults : stream_errors calls ≡ error_list (fault_in new)
+    pub broken : (input : Input) (limit : ℕ) (given put : List ℕ) → AsyncStands input limit old given put
         → IsUsable new → ⊥
-    pub fails : (input : Input) (limit : ℕ) (given put : List ℕ) → Stands input limit old given put
-        → Fails (with_request input q) limit given put (tape_of calls) (push_in new) (fault_in new) e
+    pub fails : (input : Input) (limit : ℕ) (given put : List ℕ) → AsyncStands input limit old given put
+        → Fails (input_with_request input q) limit given put (stream_tape calls) (push_in new) (fault_in new) e
 
   abbrev pub Outcome : Result Answer ClientError → Type 0
   Outcome (Ok answer) = GivesAnswer answer
@@ -90,7 +90,7 @@ module _ {S : Type 0} (reader : AsyncRead.Ghosts S) (writer : AsyncWrite.Ghosts 
 
 -- ---- how it begins
 
-abbrev pub IsAboutToAsk : {S : Type 0} → Bool → AsyncClient S → Request → Held S ClientEngine
+abbrev pub IsAboutToAsk : {S : Type 0} → Bool → AsyncClient S → Request → Mover S ClientEngine
     → Type 0
 IsAboutToAsk is_usable old q h =
     (h.stream ≡ stream_in old) × (h.unflushed ≡ false)

@@ -6,7 +6,7 @@ use Rattle.pgw_session.specs.declared.types.Answer.{Answer}
 use Rattle.pgw_session.specs.declared.types.Request.{Request}
 use Rattle.pgw_session.specs.Failures.{EndsAs}
 use Rattle.pgw_session.specs.Input.{Input}
-use Rattle.pgw_dialogue.specs.Wire.{IsEnd, Unless}
+use Rattle.pgw_dialogue.specs.Wire.{IsEndError, Unless}
 use Rattle.pgw_dialogue.specs.declared.phase.DialoguePhase.{DialoguePhase}
 use Rattle.pgw_moving.specs.declared.engine.Engine as Engine
 use Rattle.pgw_moving.specs.declared.engine.Turn.{Turn}
@@ -16,7 +16,7 @@ use Rattle.pgw_moving.specs.declared.exchange.Stop.TheVariants as stop
 use Rattle.pgw_push.specs.declared.client.PushClient.{PushClient}
 use Rattle.pgw_push.specs.Calls.{AsksNext, HasAnswer, IsLastAnswer}
 use Rattle.pgw_push.specs.Standing.{IsIdle, IsOpen, StandsFor}
-use Rattle.pgw_push.specs.Told.{answers_in, asked_of, room_of}
+use Rattle.pgw_push.specs.Told.{answers_in, asked_of, push_room}
 use Rattle.pgw_tokio.specs.declared.calling.ClientEngine.{ClientEngine}
 use Rattle.pgw_tokio.specs.Feeding.{FeedsClient}
 use Rattle.pgw_tokio.specs.First.{refusal_of, turn_of}
@@ -31,7 +31,7 @@ ClientStands e Over = e.refusal ≡ None → IsIdle e.client
 
 -- the members of the engine
 abbrev pub client_members : Engine.Ghosts ClientEngine
-client_members = record { takes = ClientFeeds; stands = ClientStands; room = λ e. room_of e.client }
+client_members = record { takes = ClientFeeds; stands = ClientStands; room = λ e. push_room e.client }
 
 -- what holds of it where no more bytes are moved
 abbrev pub ClientStandsBehind : ClientEngine → Stop → Type 0
@@ -63,7 +63,7 @@ BeginsRequest false old q e turn out =
 -- what the stream's end means, of all bytes that a client stands for
 abbrev pub MeansEnd : PushClient → ClientError → Type 0
 MeansEnd c why =
-    IsEnd why × ((input : Input) (limit : ℕ) (given put : List ℕ)
+    IsEndError why × ((input : Input) (limit : ℕ) (given put : List ℕ)
     → StandsFor input limit c given put → Unless why (EndsAs input given put why))
 
 abbrev pub LoginOver : PushClient → Option ClientError → Result PushClient ClientError → Type 0

@@ -22,5 +22,5 @@ IsUsable c = IsIdle (push_in c) × (fault_in c ≡ None)
 
 -- It stands for these bytes, given by its stream and written to it; of a client that failed also those put out and not
 -- written.
-abbrev pub Stands : {S : Type 0} → Input → ℕ → AsyncClient S → List ℕ → List ℕ → Type 0
-Stands input limit c given wrote = StandsFor input limit (push_in c) given wrote
+abbrev pub AsyncStands : {S : Type 0} → Input → ℕ → AsyncClient S → List ℕ → List ℕ → Type 0
+AsyncStands input limit c given wrote = StandsFor input limit (push_in c) given wrote

@@ -49,7 +49,7 @@ abbrev pub session_members : Engine.Ghosts SessionEngine
 session_members = record { takes = Feeds; stands = StandsAs; room = λ e. e.room }
 
 -- what holds of it where no more bytes are moved
-abbrev pub StandsBehind : SessionEngine → Stop → Type 0
-StandsBehind e stop.Over = StandsAs e Over
-StandsBehind e stop.End = StandsAs e More
-StandsBehind e (stop.Fault f) = Unit {0}
+abbrev pub StreamStandsBehind : SessionEngine → Stop → Type 0
+StreamStandsBehind e stop.Over = StandsAs e Over
+StreamStandsBehind e stop.End = StandsAs e More
+StreamStandsBehind e (stop.Fault f) = Unit {0}

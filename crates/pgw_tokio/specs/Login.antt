@@ -10,7 +10,7 @@ use Rattle.pgw_session.specs.Input.{Input}
 use Rattle.pgw_session.specs.Segments.{startup_message}
 use Rattle.pgw_moving.specs.Calls.{Call, Trail}
 use Rattle.pgw_moving.specs.Future.{CameTo}
-use Rattle.pgw_moving.specs.Moving.{Held, held_in}
+use Rattle.pgw_moving.specs.Moving.{Mover, held_in}
 use Rattle.pgw_moving.specs.declared.engine.Turn.TheVariants.{More}
 use Rattle.pgw_moving.specs.declared.exchange.Stop.{Stop}
 use Rattle.pgw_moving.specs.declared.moving.Moved.{Moved}
@@ -21,10 +21,10 @@ use Rattle.pgw_tokio.specs.declared.client.AsyncClient.{AsyncClient}
 use Rattle.pgw_tokio.specs.declared.login.LoggingIn.{LoggingIn}
 use Rattle.pgw_tokio.specs.declared.login.NotLoggedIn.{NotLoggedIn}
 use Rattle.pgw_tokio.specs.Calling.{ClientStands, LoginAnswers, client_members}
-use Rattle.pgw_tokio.specs.Client.{IsUsable, Stands, fault_in, push_in, stream_in}
-use Rattle.pgw_tokio.specs.Failing.{Fails, IsFlushed}
+use Rattle.pgw_tokio.specs.Client.{IsUsable, AsyncStands, fault_in, push_in, stream_in}
+use Rattle.pgw_tokio.specs.Failing.{Fails, IsStreamFlushed}
 use Rattle.pgw_tokio.specs.Faults.{fault_after}
-use Rattle.pgw_tokio.specs.Tape.{faults_of, listed, tape_of}
+use Rattle.pgw_tokio.specs.Tape.{stream_errors, error_list, stream_tape}
 
 -- ---- what is promised
 
@@ -44,22 +44,22 @@ pub record IsUnbegun {S : Type 0} (input : Input) (limit : ℕ) (stream : S) (n 
 pub record HasLoggedIn {S : Type 0} (input : Input) (limit : ℕ) (calls : List Call)
     (c : AsyncClient S) : Type 0 where
   pub usable : IsUsable c
-  pub flushed : IsFlushed (tape_of calls)
-  pub unended : (tape_of calls).ended ≡ []
-  pub calm : faults_of calls ≡ []
-  pub stands : Stands input limit c (tape_of calls).took (tape_of calls).wrote
+  pub flushed : IsStreamFlushed (stream_tape calls)
+  pub unended : (stream_tape calls).ended ≡ []
+  pub calm : stream_errors calls ≡ []
+  pub stands : AsyncStands input limit c (stream_tape calls).took (stream_tape calls).wrote
 
 -- it failed on its way, with the error of the call that failed, if one did
 pub record FailsToLogIn {S : Type 0} (input : Input) (limit : ℕ) (calls : List Call)
     (n : NotLoggedIn S) : Type 0 where
-  pub faults : faults_of calls ≡ listed n.fault
+  pub faults : stream_errors calls ≡ error_list n.fault
   pub push : PushClient
-  pub fails : Fails input limit [] [] (tape_of calls) push n.fault n.error
+  pub fails : Fails input limit [] [] (stream_tape calls) push n.fault n.error
 
-abbrev pub Outcome : {S : Type 0} → Input → ℕ → List Call → Result (AsyncClient S) (NotLoggedIn S)
+abbrev pub LoginOutcome : {S : Type 0} → Input → ℕ → List Call → Result (AsyncClient S) (NotLoggedIn S)
     → Type 0
-Outcome input limit calls (Ok c) = HasLoggedIn input limit calls c
-Outcome input limit calls (Err n) = FailsToLogIn input limit calls n
+LoginOutcome input limit calls (Ok c) = HasLoggedIn input limit calls c
+LoginOutcome input limit calls (Err n) = FailsToLogIn input limit calls n
 
 abbrev pub stream_of : {S : Type 0} → Result (AsyncClient S) (NotLoggedIn S) → S
 stream_of (Ok c) = stream_in c
@@ -72,13 +72,13 @@ module _ {S : Type 0} (reader : AsyncRead.Ghosts S) (writer : AsyncWrite.Ghosts 
       (result : Result (AsyncClient S) (NotLoggedIn S)) : Type 0 where
     pub calls : List Call
     pub trail : Trail reader writer first calls (stream_of result)
-    pub outcome : Outcome input limit calls result
+    pub outcome : LoginOutcome input limit calls result
 
 -- ---- how it begins
 
 -- the startup message is to be written
 pub record IsAboutToLogIn {S : Type 0} (input : Input) (limit : ℕ) (stream : S)
-    (h : Held S ClientEngine) : Type 0 where
+    (h : Mover S ClientEngine) : Type 0 where
   pub here : h.stream ≡ stream
   pub still : h.unflushed ≡ false
   pub more : h.turn ≡ More
@@ -93,8 +93,8 @@ IsLoginOf input limit stream f =
     IsSomeAnd f.moving.state (λ x. IsAboutToLogIn input limit stream (held_in x))
 
 -- it has not given what it gives
-abbrev pub CanLogIn : {S : Type 0} → LoggingIn S → Type 0
-CanLogIn f = IsSomeAnd f.moving.state (λ x. ClientStands x.engine x.turn)
+abbrev pub StreamCanLogIn : {S : Type 0} → LoggingIn S → Type 0
+StreamCanLogIn f = IsSomeAnd f.moving.state (λ x. ClientStands x.engine x.turn)
 
 -- ---- what it gives
 

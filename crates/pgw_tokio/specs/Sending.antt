@@ -8,7 +8,7 @@ use Rattle.pgw_backend.specs.declared.client_error.PgWireClientError.{PgWireClie
 use Rattle.pgw_backend.specs.declared.client_error.PgWireClientError.TheVariants as client
 use Rattle.pgw_moving.specs.Calls.{Call, Trail}
 use Rattle.pgw_moving.specs.Future.{CameTo}
-use Rattle.pgw_moving.specs.Moving.{Held, held_in}
+use Rattle.pgw_moving.specs.Moving.{Mover, held_in}
 use Rattle.pgw_moving.specs.declared.engine.Engine as Engine
 use Rattle.pgw_moving.specs.declared.engine.Turn.{Turn}
 use Rattle.pgw_moving.specs.declared.engine.Turn.TheVariants.{More, Over}
@@ -18,8 +18,8 @@ use Rattle.pgw_moving.specs.declared.moving.Moved.{Moved}
 use Rattle.pgw_tokio.specs.declared.sending.Sending.{Sending}
 use Rattle.pgw_tokio.specs.declared.sending.Sent.{Sent}
 use Rattle.pgw_tokio.specs.declared.sending.Silent.{Silent}
-use Rattle.pgw_tokio.specs.Failing.{IsFlushed}
-use Rattle.pgw_tokio.specs.Tape.{faults_of, listed, tape_of}
+use Rattle.pgw_tokio.specs.Failing.{IsStreamFlushed}
+use Rattle.pgw_tokio.specs.Tape.{stream_errors, error_list, stream_tape}
 
 -- ---- an engine that lets go what it is given, and is over then
 
@@ -39,13 +39,13 @@ silent_members = record { takes = SilentFeeds; stands = SilentStands; room = λ 
 
 -- By the result: all was written and flushed; or it was refused before, and what was put out, if anything, was written; or
 -- a call failed, and what was written is a front.
-abbrev pub Outcome : List ℕ → Option ClientError → List Call → Option Error
+abbrev pub SendingOutcome : List ℕ → Option ClientError → List Call → Option Error
     → Result (Unit {0}) ClientError → Type 0
-Outcome bytes refusal calls fault (Ok done) =
-    (refusal ≡ None) × (fault ≡ None) × ((tape_of calls).wrote ≡ bytes) × IsFlushed (tape_of calls)
-Outcome bytes refusal calls None (Err e) = (refusal ≡ Some e) × ((tape_of calls).wrote ≡ bytes)
-Outcome bytes refusal calls (Some f) (Err e) =
-    (e ≡ client.IoError) × ((rest : List ℕ) × (bytes ≡ (tape_of calls).wrote ++ rest))
+SendingOutcome bytes refusal calls fault (Ok done) =
+    (refusal ≡ None) × (fault ≡ None) × ((stream_tape calls).wrote ≡ bytes) × IsStreamFlushed (stream_tape calls)
+SendingOutcome bytes refusal calls None (Err e) = (refusal ≡ Some e) × ((stream_tape calls).wrote ≡ bytes)
+SendingOutcome bytes refusal calls (Some f) (Err e) =
+    (e ≡ client.IoError) × ((rest : List ℕ) × (bytes ≡ (stream_tape calls).wrote ++ rest))
 
 -- calls were made, which the stream's own members tell, that gave no byte
 module _ {S : Type 0} (reader : AsyncRead.Ghosts S) (writer : AsyncWrite.Ghosts S) where
@@ -53,13 +53,13 @@ module _ {S : Type 0} (reader : AsyncRead.Ghosts S) (writer : AsyncWrite.Ghosts 
       Type 0 where
     pub calls : List Call
     pub trail : Trail reader writer stream calls sent.stream
-    pub faults : faults_of calls ≡ listed sent.fault
-    pub took : (tape_of calls).took ≡ []
-    pub outcome : Outcome bytes refusal calls sent.fault sent.result
+    pub faults : stream_errors calls ≡ error_list sent.fault
+    pub took : (stream_tape calls).took ≡ []
+    pub outcome : SendingOutcome bytes refusal calls sent.fault sent.result
 
 -- ---- how it begins
 
-pub record IsAboutToSend {S : Type 0} (stream : S) (bytes : List ℕ) (h : Held S Silent) : Type 0
+pub record IsAboutToSend {S : Type 0} (stream : S) (bytes : List ℕ) (h : Mover S Silent) : Type 0
   where
     pub here : h.stream ≡ stream
     pub still : h.unflushed ≡ false

@@ -6,13 +6,13 @@ use Rattle.tokio.specs.declared.io.async_write.AsyncWrite as AsyncWrite
 use Rattle.pgw_backend.specs.declared.client_error.PgWireClientError.{PgWireClientError as ClientError}
 use Rattle.pgw_backend.specs.declared.client_error.PgWireClientError.TheVariants as client
 use Rattle.pgw_link.specs.Tape.{new_tape}
-use Rattle.pgw_link.specs.Foresight.{Ends, Foreseen}
+use Rattle.pgw_link.specs.Foresight.{TapeEnds, Foreseen}
 use Rattle.pgw_session.specs.Demands.{refused_config}
 use Rattle.pgw_session.specs.Input.{Input}
 use Rattle.pgw_session.specs.declared.types.SessionReport.{SessionReport}
 use Rattle.pgw_dialogue.specs.Demands.{IsInvalidConfig}
 use Rattle.pgw_dialogue.specs.Machine.{notes_end, report_at}
-use Rattle.pgw_dialogue.specs.Wire.{IsEnd, Unless}
+use Rattle.pgw_dialogue.specs.Wire.{IsEndError, Unless}
 use Rattle.pgw_dialogue.specs.declared.dialogue.Dialogue.{Dialogue}
 use Rattle.pgw_dialogue.specs.Dialogue.{StartCause, Starts}
 use Rattle.pgw_client.specs.OverLink.{LinkSpan, OverLink}
@@ -21,7 +21,7 @@ use Rattle.pgw_moving.specs.declared.engine.Turn.{Turn}
 use Rattle.pgw_moving.specs.declared.engine.Turn.TheVariants as turn
 use Rattle.pgw_moving.specs.declared.exchange.Stop.{Stop}
 use Rattle.pgw_moving.specs.declared.exchange.Stop.TheVariants as stop
-use Rattle.pgw_moving.specs.Moving.{Held, held_in}
+use Rattle.pgw_moving.specs.Moving.{Mover, held_in}
 use Rattle.pgw_moving.specs.Future.{CameTo}
 use Rattle.pgw_moving.specs.declared.moving.Moved.{Moved}
 use Rattle.pgw_tokio.specs.declared.engine.SessionEngine.{SessionEngine}
@@ -29,24 +29,24 @@ use Rattle.pgw_tokio.specs.declared.holding.Ended.{Ended}
 use Rattle.pgw_tokio.specs.declared.holding.SessionFuture.{SessionFuture}
 use Rattle.pgw_tokio.specs.Engine.{StandsAs, session_members}
 use Rattle.pgw_tokio.specs.First.{first_turn, refused_at}
-use Rattle.pgw_tokio.specs.Tape.{faults_of, listed, tape_of}
+use Rattle.pgw_tokio.specs.Tape.{stream_errors, error_list, stream_tape}
 
 -- the tape of some calls, with the bytes to come before and behind them, where they are known
 abbrev pub span_of : List Call → Option (List ℕ) → Option (List ℕ) → LinkSpan
 span_of calls was is =
     record {
       old = new_tape;
-      new = tape_of calls;
+      new = stream_tape calls;
       was = was;
       is = is;
       before = 0;
       now =
-          length (faults_of calls);
+          length (stream_errors calls);
     }
 
 -- the bytes to come, before some calls and behind them, are what the calls tell
-abbrev pub Tells : List Call → Option (List ℕ) → Option (List ℕ) → Type 0
-Tells calls was is = Foreseen was is new_tape (tape_of calls) × Ends is new_tape (tape_of calls)
+abbrev pub TellsStream : List Call → Option (List ℕ) → Option (List ℕ) → Type 0
+TellsStream calls was is = Foreseen was is new_tape (stream_tape calls) × TapeEnds is new_tape (stream_tape calls)
 
 module _ {S : Type 0} (reader : AsyncRead.Ghosts S) (writer : AsyncWrite.Ghosts S) where
   -- All that is promised of a session over a stream: calls were made, which the stream's own members tell, and over the
@@ -54,8 +54,8 @@ module _ {S : Type 0} (reader : AsyncRead.Ghosts S) (writer : AsyncWrite.Ghosts 
   pub record OverStream (input : Input) (limit : ℕ) (first : S) (ended : Ended S) : Type 0 where
     pub calls : List Call
     pub trail : Trail reader writer first calls ended.stream
-    pub fault : faults_of calls ≡ listed ended.fault
-    pub over : (was is : Option (List ℕ)) → OverLink input limit (Tells calls was is)
+    pub fault : stream_errors calls ≡ error_list ended.fault
+    pub over : (was is : Option (List ℕ)) → OverLink input limit (TellsStream calls was is)
         (span_of calls was is) ended.answer
 
 -- ---- how it begins
@@ -73,7 +73,7 @@ WasRefused input limit engine said out =
     (e : ClientError) × (engine.refusal ≡ Some e) × (said ≡ turn.Over) × (out ≡ [])
     × StartCause input e × IfSome (refused_config input.config) (λ key. IsInvalidConfig key e)
 
-abbrev pub IsAbout : {S : Type 0} → Input → ℕ → S → Held S SessionEngine → Type 0
+abbrev pub IsAbout : {S : Type 0} → Input → ℕ → S → Mover S SessionEngine → Type 0
 IsAbout input limit stream h =
     (h.stream ≡ stream) × (h.unflushed ≡ false)
     × (HasBegun input limit h.engine h.turn h.out ⊎ WasRefused input limit h.engine h.turn h.out)
@@ -100,7 +100,7 @@ abbrev pub AnswersAs : SessionEngine → Stop → Result SessionReport ClientErr
     → Type 0
 AnswersAs e stop.Over answer fault = AnswersOver e.refusal e.dialogue answer × (fault ≡ None)
 AnswersAs e stop.End answer fault =
-    (why : ClientError) × (answer ≡ Err why) × IsEnd why
+    (why : ClientError) × (answer ≡ Err why) × IsEndError why
     × IsSomeAnd e.dialogue (λ d. Unless why (why ≡ notes_end d.notes)) × (fault ≡ None)
 AnswersAs e (stop.Fault f) answer fault = (answer ≡ Err client.IoError) × (fault ≡ Some f)
 

@@ -4,30 +4,30 @@ use Rattle.std.specs.declared.io.Error.{Error}
 use Rattle.pgw_link.specs.Tape.{Tape, new_tape}
 use Rattle.pgw_moving.specs.Calls.{Call, Gave, Ended, Wrote, Flushed, Waited, Unread, Unwritten, Unflushed, fault_of}
 
-abbrev pub noted : Tape → Call → Tape
-noted t (Gave bytes) = record t { took = t.took ++ bytes; reads = t.reads + 1 }
-noted t Ended = record t { ended = t.ended ++ t.flushed ∷ []; reads = t.reads + 1 }
-noted t (Wrote bytes) = record t { wrote = t.wrote ++ bytes; writes = t.writes + 1 }
-noted t Flushed = record t { flushed = length t.wrote }
-noted t Waited = t
-noted t (Unread e) = record t { reads = t.reads + 1 }
-noted t (Unwritten e) = record t { writes = t.writes + 1 }
-noted t (Unflushed e) = t
+abbrev pub with_call : Tape → Call → Tape
+with_call t (Gave bytes) = record t { took = t.took ++ bytes; reads = t.reads + 1 }
+with_call t Ended = record t { ended = t.ended ++ t.flushed ∷ []; reads = t.reads + 1 }
+with_call t (Wrote bytes) = record t { wrote = t.wrote ++ bytes; writes = t.writes + 1 }
+with_call t Flushed = record t { flushed = length t.wrote }
+with_call t Waited = t
+with_call t (Unread e) = record t { reads = t.reads + 1 }
+with_call t (Unwritten e) = record t { writes = t.writes + 1 }
+with_call t (Unflushed e) = t
 
 abbrev pub tape_after : Tape → List Call → Tape
 tape_after t [] = t
-tape_after t (call ∷ calls) = tape_after (noted t call) calls
+tape_after t (call ∷ calls) = tape_after (with_call t call) calls
 
 -- the tape of the calls of a stream, from the first on
-abbrev pub tape_of : List Call → Tape
-tape_of calls = tape_after new_tape calls
+abbrev pub stream_tape : List Call → Tape
+stream_tape calls = tape_after new_tape calls
 
 -- the error, if there is one
-abbrev pub listed : Option Error → List Error
-listed None = []
-listed (Some e) = e ∷ []
+abbrev pub error_list : Option Error → List Error
+error_list None = []
+error_list (Some e) = e ∷ []
 
 -- the errors of the calls that failed
-abbrev pub faults_of : List Call → List Error
-faults_of [] = []
-faults_of (call ∷ calls) = listed (fault_of call) ++ faults_of calls
+abbrev pub stream_errors : List Call → List Error
+stream_errors [] = []
+stream_errors (call ∷ calls) = error_list (fault_of call) ++ stream_errors calls

@@ -1,7 +1,7 @@
 //! A client as an engine, while it logs in and while a request is asked.
 ghost use Rattle.std.specs.Prelude.{◌≡◌, ◌≤◌, ◌++◌, ℕ, List, [], true, length};
 ghost use Rattle.pgw_push.specs.Standing.{IsIdle, IsOpen};
-ghost use Rattle.pgw_push.specs.Told.{room_of};
+ghost use Rattle.pgw_push.specs.Told.{push_room};
 ghost use Rattle.pgw_tokio.specs.Faults.{fault_after};
 ghost use Rattle.pgw_tokio.specs.Feeding.{FeedsClient};
 
@@ -35,7 +35,7 @@ fn feed(
     out: &mut BytesMut,
 ) -> (Turn, Option<PgWireClientError>)
     requires open { IsOpen client.old }
-    requires fits { length piece.now ≤ room_of client.old }
+    requires fits { length piece.now ≤ push_room client.old }
     ensures { (put : List ℕ) × (out.new.items ≡ out.old.items ++ put)
         × FeedsClient client.old client.new result.1 piece.now put result.0 }
 {
@@ -141,7 +141,7 @@ impl Engine for ClientEngine {
 
     ghost stands = { ClientStands };
 
-    ghost room = { λ e. room_of e.client };
+    ghost room = { λ e. push_room e.client };
 
     ghost has_room = { λ e waits. (waits.1).1 };
 

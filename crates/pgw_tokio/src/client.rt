@@ -4,7 +4,7 @@ ghost use Rattle.std.specs.Bool.{Decides};
 ghost use Rattle.std.specs.Option.{option_copied};
 ghost use Rattle.pgw_session.specs.declared.types.Request.TheVariants as request;
 ghost use Rattle.pgw_session.specs.declared.types.Target.TheVariants as target;
-ghost use Rattle.pgw_push.specs.Told.{config_of, room_of, told_in};
+ghost use Rattle.pgw_push.specs.Told.{config_of, push_room, push_standing};
 ghost use Rattle.pgw_tokio.specs.Client.{IsUsable, fault_in, push_in, stream_in};
 ghost use Rattle.pgw_tokio.specs.Asking.{CanAsk, IsAskingOf};
 
@@ -72,14 +72,14 @@ impl<S> AsyncClient<S> {
 
     /// What it was told of its connection. Of a client that can't be used any more nothing is promised of it.
     pub fn standing(&self) -> &Standing
-        ensures { result.now ≡ told_in (push_in self.now) }
+        ensures { result.now ≡ push_standing (push_in self.now) }
     {
         self.client.told()
     }
 
     /// The server's parameters, as it last told them.
     pub fn server_parameters(&self) -> &Params
-        ensures { result.now ≡ (told_in (push_in self.now)).parameters }
+        ensures { result.now ≡ (push_standing (push_in self.now)).parameters }
     {
         &self.standing().parameters
     }
@@ -87,28 +87,28 @@ impl<S> AsyncClient<S> {
     /// The server's process number, or -1 where it sent none. It and `secret_key` are what `cancel` takes: keep them before
     /// you ask.
     pub fn process_id(&self) -> i32
-        ensures { result ≡ (told_in (push_in self.now)).process_id }
+        ensures { result ≡ (push_standing (push_in self.now)).process_id }
     {
         self.standing().process_id
     }
 
     /// The key by which a request can be canceled.
     pub fn secret_key(&self) -> &SecretKey
-        ensures { result.now ≡ (told_in (push_in self.now)).secret_key }
+        ensures { result.now ≡ (push_standing (push_in self.now)).secret_key }
     {
         &self.standing().secret_key
     }
 
     /// How many bytes more it may read in all. Where there is no room a request is written, and answered by ReadLimit.
     pub fn room(&self) -> u64
-        ensures { result ≡ room_of (push_in self.now) }
+        ensures { result ≡ push_room (push_in self.now) }
     {
         self.client.room()
     }
 
     /// Whether the server has a transaction open, as it last told.
     pub fn transaction_status(&self) -> TransactionStatus
-        ensures { result ≡ (told_in (push_in self.now)).status }
+        ensures { result ≡ (push_standing (push_in self.now)).status }
     {
         self.standing().status
     }

@@ -2,7 +2,7 @@
 ghost use Rattle.std.specs.Prelude.{◌≡◌, ◌⊎◌, [], IsSomeAnd};
 ghost use Rattle.pgw_session.specs.Input.{input_with};
 ghost use Rattle.pgw_dialogue.specs.Machine.{notes_end};
-ghost use Rattle.pgw_dialogue.specs.Wire.{IsEnd, Unless};
+ghost use Rattle.pgw_dialogue.specs.Wire.{IsEndError, Unless};
 ghost use Rattle.pgw_tokio.specs.First.{first_turn, refusal_of, refused_at, turn_of};
 
 use bytes::BytesMut;
@@ -126,7 +126,7 @@ impl<'a> SessionEngine<'a> {
     /// What it means that no more bytes come.
     pub(crate) fn at_end(&self) -> PgWireClientError
         requires { StandsAs self.now Turn.More }
-        ensures end { IsEnd result }
+        ensures end { IsEndError result }
         ensures is { IsSomeAnd self.now.dialogue
             (λ d. Unless result (result ≡ notes_end d.notes)) }
     {

@@ -2,7 +2,7 @@
 ghost use Rattle.std.specs.Prelude.{◌≡◌, IfOk, IsSomeAnd};
 ghost use Rattle.pgw_moving.specs.Moving.{held_in, WaitsFor};
 ghost use Rattle.pgw_session.specs.Input.{input_with};
-ghost use Rattle.pgw_tokio.specs.Engine.{StandsBehind};
+ghost use Rattle.pgw_tokio.specs.Engine.{StreamStandsBehind};
 ghost use Rattle.pgw_tokio.specs.Stream.{AnswersAs, CanPoll, Gives, IsSessionOf};
 
 use crate::engine::SessionEngine;
@@ -61,7 +61,7 @@ pub fn session<'a, S: AsyncRead + AsyncWrite>(
 
 // How it ended, by why no more bytes were moved.
 fn ending_of<S>(moved: Moved<S, SessionEngine<'_>>) -> Ended<S>
-    requires { StandsBehind moved.engine moved.stop }
+    requires { StreamStandsBehind moved.engine moved.stop }
     ensures stream { result.stream ≡ moved.entry.stream }
     ensures answers { AnswersAs moved.entry.engine moved.entry.stop result.answer result.fault }
 {

@@ -4,7 +4,7 @@ ghost use Rattle.pgw_moving.specs.Moving.{held_in, WaitsFor};
 ghost use Rattle.pgw_session.specs.Demands.{refused_config};
 ghost use Rattle.pgw_session.specs.Input.{input_with};
 ghost use Rattle.pgw_tokio.specs.Calling.{ClientStandsBehind};
-ghost use Rattle.pgw_tokio.specs.Login.{CanLogIn, EndsLogin, Gives, IsLoginOf, IsUnbegun, RefusesLogin};
+ghost use Rattle.pgw_tokio.specs.Login.{StreamCanLogIn, EndsLogin, Gives, IsLoginOf, IsUnbegun, RefusesLogin};
 
 use crate::calling::{ClientEngine, fault_after};
 use crate::client::AsyncClient;
@@ -50,7 +50,7 @@ pub fn log_in<S: AsyncRead + AsyncWrite>(
     ensures refused { IfSome (refused_config config) (λ key. RefusesLogin key result) }
     // It is about to log in by this configuration and this nonce over the stream.
     ensures begins { IfOk result (IsLoginOf (input_with config [] nonce.now) limit stream) }
-    ensures ready { IfOk result CanLogIn }
+    ensures ready { IfOk result StreamCanLogIn }
     // Else the error has its cause, and the stream is as it was.
     ensures unbegun { IfErr result (IsUnbegun (input_with config [] nonce.now) limit stream) }
 {
@@ -115,7 +115,7 @@ fn logged_in_by<S>(moved: Moved<S, ClientEngine>) -> Result<AsyncClient<S>, NotL
 impl<S: AsyncRead + AsyncWrite> Future for LoggingIn<S> {
     type Output = Result<AsyncClient<S>, NotLoggedIn<S>>;
 
-    ghost can_poll = { CanLogIn };
+    ghost can_poll = { StreamCanLogIn };
 
     ghost needs = { λ f source. IsSomeAnd f.moving.state
         (λ x. WaitsFor S.AsyncRead S.AsyncWrite (held_in x) source) };

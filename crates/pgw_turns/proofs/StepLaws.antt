@@ -2,11 +2,11 @@
 use Rattle.std.proofs.Common.{◌≡◌, ◌≤◌, ℕ, ◌+◌, ◌==◌, not, List, [], ◌∷◌, ◌++◌, Some, slice_get, drop, refl, sym, ap, subst, arith, append_assoc, append-nil}
 use Rattle.std.specs.List.{filter}
 use Rattle.pgw_turns.specs.Rows.{Ascend}
-use Rattle.pgw_turns.specs.Standings.{Standing, IsKept}
-use Rattle.pgw_turns.specs.Steps.{Deed, Step, lends_at_once, finds_none, joins, leaves, lends_to, spends, puts, loses, claims, Course, begins, goes_on, tickets_of, served_in, IsFair}
+use Rattle.pgw_turns.specs.Standings.{TurnDesk, IsWithinRoom}
+use Rattle.pgw_turns.specs.Steps.{TurnDeed, TurnStep, lends_at_once, finds_none, joins, leaves, lends_to, spends, puts, loses, claims, TurnCourse, begins, goes_on, tickets_of, served_in, IsFair}
 use Rattle.pgw_turns.proofs.RowLaws.{ascend_push, ascend_filter, ascend_front}
 
-served_snoc : (deeds : List Deed) (deed : Deed) → served_in (deeds ++ deed ∷ []) ≡ served_in deeds ++ tickets_of deed
+served_snoc : (deeds : List TurnDeed) (deed : TurnDeed) → served_in (deeds ++ deed ∷ []) ≡ served_in deeds ++ tickets_of deed
 served_snoc [] deed = append-nil (tickets_of deed)
 served_snoc (d ∷ deeds) deed = subst (λ (ts : List ℕ). tickets_of d ++ served_in (deeds ++ deed ∷ []) ≡ ts) (sym (append_assoc (tickets_of d) (served_in deeds) (tickets_of deed))) (ap (λ (ts : List ℕ). tickets_of d ++ ts) (served_snoc deeds deed))
 
@@ -17,7 +17,7 @@ first_served past (t ∷ ts) ticket high first a =
     let same : t ≡ ticket = cc in
     subst (λ (x : ℕ). Ascend 0 ((past ++ x ∷ []) ++ ts) high) same (subst (λ (us : List ℕ). Ascend 0 us high) (sym (append_assoc past (t ∷ []) ts)) a)
 
-one_step : (past : List ℕ) (d e : Standing) (deed : Deed) → Step d deed e → Ascend 0 (past ++ d.row.waiting) d.row.issued → Ascend 0 ((past ++ tickets_of deed) ++ e.row.waiting) e.row.issued
+one_step : (past : List ℕ) (d e : TurnDesk) (deed : TurnDeed) → TurnStep d deed e → Ascend 0 (past ++ d.row.waiting) d.row.issued → Ascend 0 ((past ++ tickets_of deed) ++ e.row.waiting) e.row.issued
 one_step past d e deed (lends_at_once x free) a =
     let none : drop 1 d.row.waiting ≡ d.row.waiting = rw free.1 refl in
     subst (λ (us : List ℕ). Ascend 0 (us ++ drop 1 d.row.waiting) d.row.issued) (sym (append-nil past))
@@ -38,7 +38,7 @@ one_step past d e deed (puts x out) a = subst (λ (us : List ℕ). Ascend 0 (us 
 one_step past d e deed (loses x) a = subst (λ (us : List ℕ). Ascend 0 (us ++ d.row.waiting) d.row.issued) (sym (append-nil past)) a
 one_step past d e deed (claims x place) a = subst (λ (us : List ℕ). Ascend 0 (us ++ d.row.waiting) d.row.issued) (sym (append-nil past)) a
 
-pub fair : (room ready places : ℕ) (deeds : List Deed) (d : Standing) → Course room ready places deeds d → IsFair deeds d
+pub fair : (room ready places : ℕ) (deeds : List TurnDeed) (d : TurnDesk) → TurnCourse room ready places deeds d → IsFair deeds d
 fair room ready places deeds d begins = omega arith
 fair room ready places deeds d (goes_on before deed x y course step) =
     subst (λ (us : List ℕ). Ascend 0 (us ++ y.row.waiting) y.row.issued) (sym (served_snoc before deed))
@@ -46,7 +46,7 @@ fair room ready places deeds d (goes_on before deed x y course step) =
 
 -- ---- numbers
 
-kept_step : (d e : Standing) (deed : Deed) → Step d deed e → IsKept d → IsKept e
+kept_step : (d e : TurnDesk) (deed : TurnDeed) → TurnStep d deed e → IsWithinRoom d → IsWithinRoom e
 kept_step d e deed (lends_at_once x free) k = let f = free.0 in omega arith
 kept_step d e deed (finds_none x free) k = k
 kept_step d e deed (joins x) k = k
@@ -57,6 +57,6 @@ kept_step d e deed (puts x out) k = omega arith
 kept_step d e deed (loses x) k = omega arith
 kept_step d e deed (claims x place) k = omega arith
 
-pub keeps : (room ready places : ℕ) (deeds : List Deed) (d : Standing) → ready ≤ room → Course room ready places deeds d → IsKept d
+pub keeps : (room ready places : ℕ) (deeds : List TurnDeed) (d : TurnDesk) → ready ≤ room → TurnCourse room ready places deeds d → IsWithinRoom d
 keeps room ready places deeds d le begins = omega arith
 keeps room ready places deeds d le (goes_on before deed x y course step) = kept_step x y deed step (keeps room ready places before x le course)

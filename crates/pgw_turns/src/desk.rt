@@ -1,7 +1,7 @@
 //! A stock, its things that are out, and those who wait.
 ghost use Rattle.std.specs.Prelude.{◌≡◌, ◌+◌, ◌-◌, ◌<◌, ◌≤◌, ◌↔◌, IsTrue, IfOk, IfErr, IfSome, OnErr, IfNone, MatchBool, MatchOption, [], ◌⊎◌};
 ghost use Rattle.pgw_turns.specs.Rows.{JoinsNone};
-ghost use Rattle.pgw_turns.specs.Standings.{IsFree, IsTurn, joined, gone, lost, claimed, HasPlace, numbers_of, new_standing};
+ghost use Rattle.pgw_turns.specs.Standings.{IsFree, IsTurn, with_next_turn, gone, lost, claimed, HasPlace, numbers_of, new_standing};
 ghost use Rattle.pgw_turns.specs.Desks.{held, IsCounted, LendsFirst, TakesBack, TakesNone, LosesOne};
 
 use crate::stock::Stock;
@@ -20,14 +20,14 @@ pub struct Desk<S: Stock> {
 
 impl<S: Stock> Model for Desk<S> {
     ghost use Rattle.std.specs.Prelude.{◌≡◌};
-    ghost use Rattle.pgw_turns.specs.Standings.{IsKept, standing};
-    ghost use Rattle.pgw_turns.specs.Desks.{Held, held};
+    ghost use Rattle.pgw_turns.specs.Standings.{IsWithinRoom, turn_standing};
+    ghost use Rattle.pgw_turns.specs.Desks.{TurnStock, held};
 
-    ghost Value = { Held S };
+    ghost Value = { TurnStock S };
 
-    ghost view = { λ d. held d.stock (standing d.room (S.ready d.stock) d.out d.waiting) };
+    ghost view = { λ d. held d.stock (turn_standing d.room (S.ready d.stock) d.out d.waiting) };
 
-    ghost invariant = { λ d. IsKept (standing d.room (S.ready d.stock) d.out d.waiting)
+    ghost invariant = { λ d. IsWithinRoom (turn_standing d.room (S.ready d.stock) d.out d.waiting)
         × (d.room ≡ S.room d.stock) };
 }
 
@@ -112,7 +112,7 @@ impl<S: Stock> Desk<S> {
     /// A ticket behind those of all who wait. It takes no memory.
     pub fn join(&mut self) -> Result<u64, JoinError>
         ensures joined { IfOk result (λ ticket. (ticket ≡ self.old.counts.row.issued)
-            × (self.new ≡ held self.old.stock (joined self.old.counts))) }
+            × (self.new ≡ held self.old.stock (with_next_turn self.old.counts))) }
         ensures refused { IfErr result (JoinsNone self.old.counts.row) }
         ensures same { OnErr result (self.new ≡ self.old) }
     {

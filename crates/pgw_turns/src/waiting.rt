@@ -1,6 +1,6 @@
 //! Those who wait, in the order in which they came.
 ghost use Rattle.std.specs.Prelude.{◌≡◌, ◌<◌, ◌↔◌, [], length, IsTrue, IfOk, IfErr, OnErr, slice_get};
-ghost use Rattle.pgw_turns.specs.Rows.{Joins, JoinsNone, IsFirst, row, without, served};
+ghost use Rattle.pgw_turns.specs.Rows.{Joins, JoinsNone, IsTurnOf, row, without, served};
 
 use std::alloc::{AllocError, Global};
 use std::collections::VecDeque;
@@ -17,9 +17,9 @@ pub struct Waiting {
 impl Model for Waiting {
     ghost use Rattle.std.specs.Prelude.{◌≤◌, ◌+◌};
     ghost use Rattle.std.specs.VecDeque.{deque_capacity};
-    ghost use Rattle.pgw_turns.specs.Rows.{Row, row, IsInOrder};
+    ghost use Rattle.pgw_turns.specs.Rows.{TurnRow, row, IsInOrder};
 
-    ghost Value = { Row };
+    ghost Value = { TurnRow };
 
     ghost view = { λ w. row w.room w.issued w.tickets.items };
 
@@ -75,7 +75,7 @@ impl Waiting {
 
     /// Whether it is this ticket's turn.
     pub fn is_first(&self, ticket: u64) -> bool
-        ensures { IsTrue result ↔ IsFirst ticket self.now }
+        ensures { IsTrue result ↔ IsTurnOf ticket self.now }
     {
         match self.tickets.front() {
             Some(first) => *first == ticket,

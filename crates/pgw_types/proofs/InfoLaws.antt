@@ -7,7 +7,7 @@ use Rattle.std.specs.Fmt.{decimal}
 use Rattle.std.proofs.lemmas.List.{reverse-append}
 use Rattle.std.proofs.lemmas.List.Folds.{find-append}
 use Rattle.pgw_types.specs.declared.error_info.ErrorInfo.{ErrorInfo}
-use Rattle.pgw_types.specs.Infos.{parts_of, field_of, fields_of, last_of, line_in, info_from, with_field}
+use Rattle.pgw_types.specs.Infos.{parts_of, info_field, fields_of, last_field_text, line_in, info_from, with_field}
 use Rattle.pgw_types.proofs.NumberLaws.{number_in-decimal}
 
 abbrev Fields : Type 0
@@ -22,8 +22,8 @@ filter_map_push f (y ∷ ys) x = elim (f y) as (λ o. cons_option o (filter_map 
 
 -- ---- one more field
 
-last_of-push : (code : ℕ) (fields : Fields) (f : ℕ × List ℕ) → last_of code (fields ++ f ∷ []) ≡ cond (eqb f.0 code) (Some f.1) (last_of code fields)
-unfolding last_of
+last_of-push : (code : ℕ) (fields : Fields) (f : ℕ × List ℕ) → last_field_text code (fields ++ f ∷ []) ≡ cond (eqb f.0 code) (Some f.1) (last_field_text code fields)
+unfolding last_field_text
 last_of-push code fields f =
     rw (reverse-append fields (f ∷ []))
     (elim (eqb f.0 code) as (λ b. option_map (λ (g : ℕ × List ℕ). g.1) (cond b (Some f) (find (λ g. eqb g.0 code) (reverse fields))) ≡ cond b (Some f.1) (option_map (λ (g : ℕ × List ℕ). g.1) (find (λ g. eqb g.0 code) (reverse fields)))) [
@@ -45,8 +45,8 @@ info_from_push fields code text = simp (last_of-push, or_empty, lined) refl
 
 -- ---- there and back
 
-last_of-cons : (code : ℕ) (f : ℕ × List ℕ) (fields : Fields) → last_of code (f ∷ fields) ≡ option_or (last_of code fields) (cond (eqb f.0 code) (Some f.1) None)
-unfolding last_of
+last_of-cons : (code : ℕ) (f : ℕ × List ℕ) (fields : Fields) → last_field_text code (f ∷ fields) ≡ option_or (last_field_text code fields) (cond (eqb f.0 code) (Some f.1) None)
+unfolding last_field_text
 last_of-cons code f fields =
     let named : ℕ × List ℕ → Bool = λ g. eqb g.0 code in
     let split = ap (find named) (reverse-append (f ∷ []) fields) ∙ find-append named (reverse fields) (f ∷ []) in
@@ -76,18 +76,18 @@ unset_part : (b : Bool) (later : Option (List ℕ)) → later ≡ choose (cond b
 unset_part true later = refl
 unset_part false later = refl
 
-last_in_parts : (code : ℕ) (parts : List (ℕ × Option (List ℕ))) → last_of code (filter_map field_of parts) ≡ last_part code parts
-last_in_parts code [] = unfold last_of in refl
+last_in_parts : (code : ℕ) (parts : List (ℕ × Option (List ℕ))) → last_field_text code (filter_map info_field parts) ≡ last_part code parts
+last_in_parts code [] = unfold last_field_text in refl
 last_in_parts code ((k, None) ∷ parts) = last_in_parts code parts ∙ unset_part (eqb k code) (last_part code parts)
 last_in_parts code ((k, Some text) ∷ parts) =
-    last_of-cons code (k, text) (filter_map field_of parts) ∙ ap (λ o. option_or o (cond (eqb k code) (Some text) None)) (last_in_parts code parts) ∙ chosen_part (eqb k code) text (last_part code parts)
+    last_of-cons code (k, text) (filter_map info_field parts) ∙ ap (λ o. option_or o (cond (eqb k code) (Some text) None)) (last_in_parts code parts) ∙ chosen_part (eqb k code) text (last_part code parts)
 
 choose-None : (o : Option (List ℕ)) → choose o None ≡ o
 choose-None None = refl
 choose-None (Some text) = refl
 
 -- each part comes back
-back : (e : ErrorInfo) (code : ℕ) (o : Option (List ℕ)) → last_part code (parts_of e) ≡ choose o None → last_of code (fields_of e) ≡ o
+back : (e : ErrorInfo) (code : ℕ) (o : Option (List ℕ)) → last_part code (parts_of e) ≡ choose o None → last_field_text code (fields_of e) ≡ o
 back e code o h = last_in_parts code (parts_of e) ∙ h ∙ choose-None o
 
 lines_back : (line : Option ℕ) → IfSome line (λ n. n < 2 ^ 64) → option_map line_in (option_map decimal line) ≡ line

@@ -2,9 +2,9 @@
 use Rattle.std.specs.Prelude.{ℕ, ◌+◌, ◌-◌, ◌^◌, ◌≤◌, min}
 
 -- one call more
-abbrev pub counted : ℕ → ℕ
-counted n = min (n + 1) (2 ^ 64 - 1)
+abbrev pub next_count : ℕ → ℕ
+next_count n = min (n + 1) (2 ^ 64 - 1)
 
 -- one call more has failed
 abbrev pub Rose : ℕ → ℕ → Type 0
-Rose before now = counted before ≤ now
+Rose before now = next_count before ≤ now

@@ -77,19 +77,19 @@ parts_of e =
     ∷ (115, e.schema) ∷ (116, e.table) ∷ (99, e.column) ∷ (100, e.datatype) ∷ (110, e.constraint) ∷ []
 
 -- a part is a field where it is set
-abbrev pub field_of : ℕ × Option (List ℕ) → Option (ℕ × List ℕ)
-field_of part = option_map (λ text. (part.0, text)) part.1
+abbrev pub info_field : ℕ × Option (List ℕ) → Option (ℕ × List ℕ)
+info_field part = option_map (λ text. (part.0, text)) part.1
 
 abbrev pub fields_of : ErrorInfo → List (ℕ × List ℕ)
-fields_of e = filter_map field_of (parts_of e)
+fields_of e = filter_map info_field (parts_of e)
 
 -- the text of the last field of a code
-unfoldable pub last_of : ℕ → List (ℕ × List ℕ) → Option (List ℕ)
-last_of code fields = option_map (λ f. f.1) (find (λ f. f.0 == code) (reverse fields))
+unfoldable pub last_field_text : ℕ → List (ℕ × List ℕ) → Option (List ℕ)
+last_field_text code fields = option_map (λ f. f.1) (find (λ f. f.0 == code) (reverse fields))
 
 -- the text of the last field of a code, or an empty one
 abbrev pub last_or_empty : ℕ → List (ℕ × List ℕ) → List ℕ
-last_or_empty code fields = unwrap_or (last_of code fields) []
+last_or_empty code fields = unwrap_or (last_field_text code fields) []
 
 -- a line is a whole number, or else 0
 abbrev pub line_in : List ℕ → ℕ
@@ -100,21 +100,21 @@ info_from fields = record {
   severity = last_or_empty 83 fields;
   code = last_or_empty 67 fields;
   message = last_or_empty 77 fields;
-  detail = last_of 68 fields;
-  hint = last_of 72 fields;
-  position = last_of 80 fields;
-  internal_position = last_of 112 fields;
-  internal_query = last_of 113 fields;
-  where_context = last_of 87 fields;
-  file_name = last_of 70 fields;
-  line = option_map line_in (last_of 76 fields);
-  routine = last_of 82 fields;
-  severity_nonlocalized = last_of 86 fields;
-  schema = last_of 115 fields;
-  table = last_of 116 fields;
-  column = last_of 99 fields;
-  datatype = last_of 100 fields;
-  constraint = last_of 110 fields;
+  detail = last_field_text 68 fields;
+  hint = last_field_text 72 fields;
+  position = last_field_text 80 fields;
+  internal_position = last_field_text 112 fields;
+  internal_query = last_field_text 113 fields;
+  where_context = last_field_text 87 fields;
+  file_name = last_field_text 70 fields;
+  line = option_map line_in (last_field_text 76 fields);
+  routine = last_field_text 82 fields;
+  severity_nonlocalized = last_field_text 86 fields;
+  schema = last_field_text 115 fields;
+  table = last_field_text 116 fields;
+  column = last_field_text 99 fields;
+  datatype = last_field_text 100 fields;
+  constraint = last_field_text 110 fields;
 }
 
 -- with one more field

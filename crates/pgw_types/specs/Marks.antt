@@ -4,22 +4,22 @@ use Rattle.std.specs.List.{position, slice_split}
 use Rattle.std.specs.Cmp.Lexicographic.{pointwise}
 
 -- what stands before a place, or all
-abbrev pub before : Option ℕ → List ℕ → List ℕ
-before None text = text
-before (Some n) text = take n text
+abbrev pub text_before : Option ℕ → List ℕ → List ℕ
+text_before None text = text
+text_before (Some n) text = take n text
 
 -- what stands behind it, if there is one
-abbrev pub behind : Option ℕ → List ℕ → Option (List ℕ)
-behind None text = None
-behind (Some n) text = Some (drop (n + 1) text)
+abbrev pub text_behind_mark : Option ℕ → List ℕ → Option (List ℕ)
+text_behind_mark None text = None
+text_behind_mark (Some n) text = Some (drop (n + 1) text)
 
 -- what stands before the first mark, or all
 unfoldable pub before_mark : ℕ → List ℕ → List ℕ
-before_mark mark text = before (position (λ b. b == mark) text) text
+before_mark mark text = text_before (position (λ b. b == mark) text) text
 
 -- what stands behind it, if there is one
 unfoldable pub behind_mark : ℕ → List ℕ → Option (List ℕ)
-behind_mark mark text = behind (position (λ b. b == mark) text) text
+behind_mark mark text = text_behind_mark (position (λ b. b == mark) text) text
 
 -- a text, or none
 abbrev pub or_empty : Option (List ℕ) → List ℕ

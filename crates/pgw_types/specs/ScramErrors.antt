@@ -4,6 +4,6 @@ use Rattle.pgw_types.specs.declared.error.PgWireError.TheVariants as wire
 use Rattle.pgw_types.specs.declared.scram_error.ScramClientError.{ScramClientError}
 use Rattle.pgw_types.specs.declared.scram_error.ScramClientError.TheVariants as scram
 
-unfoldable pub of_wire : PgWireError → ScramClientError
-of_wire wire.OutOfMemory = scram.OutOfMemory
-of_wire e = scram.PgWireError e
+unfoldable pub scram_of_wire : PgWireError → ScramClientError
+scram_of_wire wire.OutOfMemory = scram.OutOfMemory
+scram_of_wire e = scram.PgWireError e

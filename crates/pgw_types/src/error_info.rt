@@ -2,7 +2,7 @@
 ghost use Rattle.std.specs.Prelude.{◌≡◌, ◌↔◌, [], IsTrue, IfOk, option_map};
 ghost use Rattle.std.specs.List.{filter_map};
 ghost use Rattle.std.specs.Fmt.{decimal};
-ghost use Rattle.pgw_types.specs.Infos.{plain_info, FATAL as FATAL_BYTES, grade_of, info_of, field_of, fields_of, line_in as line_from, info_from, with_field};
+ghost use Rattle.pgw_types.specs.Infos.{plain_info, FATAL as FATAL_BYTES, grade_of, info_of, info_field, fields_of, line_in as line_from, info_from, with_field};
 
 use crate::error::PgWireError;
 use crate::listed::{Duplicate, Listed};
@@ -106,7 +106,7 @@ impl ErrorInfo {
     }
 
     /// What fields say; an empty text where severity, code or message lacks. A later field replaces an earlier one of its code, and other codes say nothing.
-    #[tactic(auto, using(crate::proofs::InfoLaws::info_from_push), unfolding(crate::specs::Infos::last_of, crate::specs::Infos::info_from))]
+    #[tactic(auto, using(crate::proofs::InfoLaws::info_from_push), unfolding(crate::specs::Infos::last_field_text, crate::specs::Infos::info_from))]
     pub fn from_fields(fields: Listed<(u8, Text)>) -> ErrorInfo
         ensures { result ≡ info_from fields }
     {
@@ -241,7 +241,7 @@ fn set_fields(
     alloc: Global,
     parts: Vec<(u8, Option<Text>)>,
 ) -> Result<Listed<(u8, Text)>, OutOfMemory>
-    ensures { IfOk result (λ fields. fields ≡ filter_map field_of parts.items) }
+    ensures { IfOk result (λ fields. fields ≡ filter_map info_field parts.items) }
 {
     let mut fields = Listed::new(alloc);
     for (code, text) in parts {

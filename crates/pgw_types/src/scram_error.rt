@@ -1,7 +1,7 @@
 //! Why a client gives up a SCRAM login.
 ghost use Rattle.std.specs.Prelude.{◌≡◌};
 ghost use Rattle.pgw_types.specs.declared.scram_error.ScramClientError.TheVariants as scram;
-ghost use Rattle.pgw_types.specs.ScramErrors.{of_wire};
+ghost use Rattle.pgw_types.specs.ScramErrors.{scram_of_wire};
 
 use crate::config_error::RefusedKey;
 use crate::error::PgWireError;
@@ -88,9 +88,9 @@ impl<T: Drop> From<AllocFailed<T>> for ScramClientError {
 }
 
 /// Want of memory stays want of memory.
-#[tactic(auto, unfolding(crate::specs::ScramErrors::of_wire))]
+#[tactic(auto, unfolding(crate::specs::ScramErrors::scram_of_wire))]
 impl From<PgWireError> for ScramClientError {
-    ghost from_gives = { λ e r. r ≡ of_wire e };
+    ghost from_gives = { λ e r. r ≡ scram_of_wire e };
 
     fn from(e: PgWireError) -> ScramClientError {
         match e {

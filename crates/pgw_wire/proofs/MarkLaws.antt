@@ -10,15 +10,15 @@ use Rattle.pgw_wire.specs.declared.secret_key.SecretKey.{SecretKey}
 use Rattle.pgw_wire.specs.declared.secret_key.SecretKey.TheVariants.{I32, Bytes}
 use Rattle.pgw_wire.specs.Reading.{◌>>=◌, nat_at, text_at, name_at, name_of, rest_at, up_to_mark, marked, marked_list_at}
 use Rattle.pgw_wire.specs.Codes.{code_at, SpellsCode}
-use Rattle.pgw_wire.specs.Keys.{is_no_key, number_of, key_by, key_of, SpellsKey}
-use Rattle.pgw_wire.specs.Formats.{tried_at, SpellsText, SpellsName, SpellsMarked, Reads, ReadsLast}
+use Rattle.pgw_wire.specs.Keys.{is_no_key, key_int, key_by, key_of, SpellsKey}
+use Rattle.pgw_wire.specs.Formats.{tried_at, SpellsText, SpellsName, SpellsMarked, ReadsFormat, ReadsLast}
 use Rattle.pgw_wire.proofs.Laws.{bind_ok, ok_is, chosen, shorter_after}
 use Rattle.pgw_wire.proofs.FieldLaws.{text_reads, nat_reads}
 use Rattle.pgw_wire.proofs.FrameLaws.{rest_reads, tried_last}
 
 -- ---- lists up to a mark
 
-module _ {A : Type 0} (kind : List ℕ → Result (Option A × List ℕ) PgWireError) (Spells : Option A → List ℕ → Type 0) (shrinks : (bytes : List ℕ) (o : Option A) (rest : List ℕ) → kind bytes ≡ Ok (o, rest) → length rest < length bytes) (reads : Reads kind Spells) where
+module _ {A : Type 0} (kind : List ℕ → Result (Option A × List ℕ) PgWireError) (Spells : Option A → List ℕ → Type 0) (shrinks : (bytes : List ℕ) (o : Option A) (rest : List ℕ) → kind bytes ≡ Ok (o, rest) → length rest < length bytes) (reads : ReadsFormat kind Spells) where
   step_found : (n : ℕ) (o : Option A) (bytes mid : List ℕ) (xs : List A) (rest front : List ℕ) → bytes ≡ front ++ mid → Spells o front
       → ((xs : List A) (rest : List ℕ) → up_to_mark kind n mid ≡ Ok (xs, rest) → (f : List ℕ) × (mid ≡ f ++ rest) × SpellsMarked Spells xs f)
       → marked (up_to_mark kind n) o mid ≡ Ok (xs, rest) → (f : List ℕ) × (bytes ≡ f ++ rest) × SpellsMarked Spells xs f
@@ -51,7 +51,7 @@ module _ {A : Type 0} (kind : List ℕ → Result (Option A × List ℕ) PgWireE
       let two : up_to_mark kind n (h.1 ++ rest) ≡ Ok (xs, rest) = up_again n xs h.1 rest (omega (arith, down, less, ap length regrouped)) h.4 in
       ap (up_to_mark kind (suc n)) regrouped ∙ rw (one, two) refl
 
-  pub marked_reads : Reads (marked_list_at kind) (SpellsMarked Spells)
+  pub marked_reads : ReadsFormat (marked_list_at kind) (SpellsMarked Spells)
   marked_reads = record {
     found = λ bytes xs rest short e. up_found (length bytes + 1) bytes xs rest short e;
     only = λ xs front rest h. up_again (length (front ++ rest) + 1) xs front rest (omega arith) h;
@@ -74,7 +74,7 @@ unfolding name_at
 name_only None front rest h = rw (text_reads.only [] front rest h) refl
 name_only (Some t) front rest h = rw (text_reads.only t front rest h.0, not_empty t h.1) refl
 
-pub name_reads : Reads name_at SpellsName
+pub name_reads : ReadsFormat name_at SpellsName
 unfolding name_at
 name_reads = record {
   found = λ bytes o rest short e.
@@ -120,7 +120,7 @@ code_only (Some p) front rest h =
     let no : eqb p.0 0 ≡ false = ne_eqb p.0 0 (λ is. omega (arith, is, h.1)) in
     ap code_at regrouped ∙ rw ((nat_reads w8).only p.0 parts.0 (parts.1 ++ rest) parts.3, no, text_reads.only p.1 parts.1 rest parts.4) refl
 
-pub code_reads : Reads code_at SpellsCode
+pub code_reads : ReadsFormat code_at SpellsCode
 code_reads = record { found = code_found; only = code_only }
 
 -- ---- keys
@@ -146,7 +146,7 @@ key_to : (v : ProtocolVersion) (key : SecretKey) (bytes : List ℕ) → key_of v
 key_to PROTOCOL3_0 key bytes e =
     let s = sized PROTOCOL3_0 bytes key e in
     elim (chosen (eqb (length bytes) 4) _ _ _ s.2) [
-      | inl h ↦ subst (λ (k : SecretKey). SpellsKey PROTOCOL3_0 k bytes) (ok_is (I32 (number_of bytes)) key h.1) (eqb-true _ _ h.0, refl)
+      | inl h ↦ subst (λ (k : SecretKey). SpellsKey PROTOCOL3_0 k bytes) (ok_is (I32 (key_int bytes)) key h.1) (eqb-true _ _ h.0, refl)
       | inr h ↦ absurd (refusal_no InvalidMessageBody key h.1)
     ]
 key_to PROTOCOL3_2 key bytes e = let s = sized PROTOCOL3_2 bytes key e in subst (λ (k : SecretKey). SpellsKey PROTOCOL3_2 k bytes) (ok_is (Bytes bytes) key s.2) (refl, s.0, s.1)

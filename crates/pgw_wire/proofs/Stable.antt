@@ -7,7 +7,7 @@ use Rattle.pgw_types.specs.declared.error.PgWireError.{PgWireError}
 use Rattle.pgw_wire.specs.declared.framing.Framing.{Framing}
 use Rattle.pgw_wire.specs.declared.framing.Framing.TheVariants.{Typed, Untyped, Opening, Code, OneByte}
 use Rattle.pgw_wire.specs.Reading.{◌>>=◌}
-use Rattle.pgw_wire.specs.Framing.{sign_extended, stated_length, length_frame, code_in, frame, framed, front}
+use Rattle.pgw_wire.specs.Framing.{sign_extended, stated_length, length_frame, code_in, frame, framed, wire_front}
 use Rattle.pgw_wire.proofs.Laws.{bind_ok, chosen}
 use Rattle.pgw_wire.proofs.MessageLaws.{some_is, framed_found}
 
@@ -166,12 +166,12 @@ framed_bad read a e (Some f) is = elim (bind_err (read (slice_range a f.0 f.1)) 
 body_local : (f : ℕ × ℕ) (a b : List ℕ) → f.0 ≤ f.1 → take f.1 b ≡ take f.1 a → slice_range b f.0 f.1 ≡ slice_range a f.0 f.1
 body_local f a b ordered same = cut_local f.0 (f.1 - f.0) f.1 a b (omega (arith, ordered)) same
 
-front_again : {M : Type 0} (framing : Framing) (limit : ℕ) (read : List ℕ → Result M PgWireError) (b : List ℕ) (f : ℕ × ℕ) (m : M) → frame framing limit b ≡ Ok (Some f) → read (slice_range b f.0 f.1) ≡ Ok m → front framing limit read b ≡ Ok (Some (m, drop f.1 b))
-unfolding front
+front_again : {M : Type 0} (framing : Framing) (limit : ℕ) (read : List ℕ → Result M PgWireError) (b : List ℕ) (f : ℕ × ℕ) (m : M) → frame framing limit b ≡ Ok (Some f) → read (slice_range b f.0 f.1) ≡ Ok m → wire_front framing limit read b ≡ Ok (Some (m, drop f.1 b))
+unfolding wire_front
 front_again framing limit read b f m one two = rw (one, two) refl
 
-front_bad : {M : Type 0} (framing : Framing) (limit : ℕ) (read : List ℕ → Result M PgWireError) (a more : List ℕ) (e : PgWireError) → IsWhole framing → front framing limit read a ≡ Err e → front framing limit read (a ++ more) ≡ Err e
-unfolding front
+front_bad : {M : Type 0} (framing : Framing) (limit : ℕ) (read : List ℕ → Result M PgWireError) (a more : List ℕ) (e : PgWireError) → IsWhole framing → wire_front framing limit read a ≡ Err e → wire_front framing limit read (a ++ more) ≡ Err e
+unfolding wire_front
 front_bad framing limit read a more e plain is = elim (bind_err (frame framing limit a) (framed read a) e is) [
   | inl h ↦ rw (frame_bad framing limit a more e h) refl
   | inr h ↦
@@ -181,8 +181,8 @@ front_bad framing limit read a more e plain is = elim (bind_err (frame framing l
       rw (ends.again (a ++ more) same (omega (arith, ends.within, length-append a more)), body_local f.0 a (a ++ more) ends.ordered same, f.2) refl
 ]
 
-pub front_stable : {M : Type 0} (framing : Framing) (limit : ℕ) (read : List ℕ → Result M PgWireError) → IsWhole framing → Stable (fewest framing) (front framing limit read)
-unfolding front
+pub front_stable : {M : Type 0} (framing : Framing) (limit : ℕ) (read : List ℕ → Result M PgWireError) → IsWhole framing → Stable (fewest framing) (wire_front framing limit read)
+unfolding wire_front
 front_stable framing limit read plain = record {
   whole = λ a m rest e.
       let h = bind_ok (frame framing limit a) (framed read a) (Some (m, rest)) e in

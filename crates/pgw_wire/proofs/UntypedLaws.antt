@@ -5,7 +5,7 @@ use Rattle.std.proofs.lemmas.Bool.{ltb-false, le-ltb, lt-ltb, ltb-true}
 use Rattle.pgw_types.specs.declared.error.PgWireError.{PgWireError}
 use Rattle.pgw_wire.specs.declared.framing.Framing.{Framing}
 use Rattle.pgw_wire.specs.declared.framing.Framing.TheVariants.{Typed, Untyped}
-use Rattle.pgw_wire.specs.Framing.{stated_length, length_frame, frame, front, header, length_field, encoded}
+use Rattle.pgw_wire.specs.Framing.{stated_length, length_frame, frame, wire_front, header, length_field, encoded}
 use Rattle.pgw_wire.specs.Formats.{SpellsUntyped}
 use Rattle.pgw_wire.proofs.Laws.{which}
 use Rattle.pgw_wire.proofs.FieldLaws.{wide32}
@@ -20,8 +20,8 @@ one_less a b = elim (which (ltb a b)) [
 
 -- a message without a type byte is as one behind any type byte
 module _ {M : Type 0} (limit : ℕ) (read : List ℕ → Result M PgWireError) where
-  behind : (bytes : List ℕ) → front (Typed 0) limit read (0 ∷ bytes) ≡ front Untyped limit read bytes
-  unfolding front frame length_frame
+  behind : (bytes : List ℕ) → wire_front (Typed 0) limit read (0 ∷ bytes) ≡ wire_front Untyped limit read bytes
+  unfolding wire_front frame length_frame
   behind bytes =
       let a : ltb (length (0 ∷ bytes)) 5 ≡ ltb (length bytes) 4 = one_less (length bytes) 4 in
       let d : ltb (length (0 ∷ bytes)) (1 + stated_length 0 bytes) ≡ ltb (length bytes) (stated_length 0 bytes) = one_less (length bytes) (stated_length 0 bytes) in
@@ -47,14 +47,14 @@ module _ {M : Type 0} (limit : ℕ) (read : List ℕ → Result M PgWireError) w
       plus n = omega arith
 
   module _ (small : limit < 2 ^ 31) (P : M → List ℕ → Type 0) where
-    pub untyped_found : ((body : List ℕ) (m : M) → length body < 2 ^ 31 → read body ≡ Ok m → P m body) → (bytes : List ℕ) (m : M) (rest : List ℕ) → front Untyped limit read bytes ≡ Ok (Some (m, rest)) → (g : List ℕ) × (bytes ≡ g ++ rest) × SpellsUntyped limit P m g
+    pub untyped_found : ((body : List ℕ) (m : M) → length body < 2 ^ 31 → read body ≡ Ok m → P m body) → (bytes : List ℕ) (m : M) (rest : List ℕ) → wire_front Untyped limit read bytes ≡ Ok (Some (m, rest)) → (g : List ℕ) × (bytes ≡ g ++ rest) × SpellsUntyped limit P m g
     untyped_found law bytes m rest e =
         let t = front_found 0 limit small read P (0 ∷ bytes) m rest refl law (behind bytes ∙ e) in
         let s = t.2 in
         let whole : 0 ∷ bytes ≡ (0 ∷ (s.0 ++ s.1)) ++ rest = t.1 ∙ ap (λ (g : List ℕ). g ++ rest) s.2 in
         (s.0 ++ s.1, ap (λ (l : List ℕ). drop 1 l) whole, (s.0, s.1, refl, s.3, s.4, s.5))
 
-    pub untyped_again : ((body : List ℕ) (m : M) → P m body → read body ≡ Ok m) → (m : M) (g rest : List ℕ) → SpellsUntyped limit P m g → front Untyped limit read (g ++ rest) ≡ Ok (Some (m, rest))
+    pub untyped_again : ((body : List ℕ) (m : M) → P m body → read body ≡ Ok m) → (m : M) (g rest : List ℕ) → SpellsUntyped limit P m g → wire_front Untyped limit read (g ++ rest) ≡ Ok (Some (m, rest))
     untyped_again law m g rest h = sym (behind (g ++ rest)) ∙ front_again 0 limit small read P law m (0 ∷ g) rest (h.0, h.1, ap (λ (l : List ℕ). 0 ∷ l) h.2, h.3, h.4, h.5)
 
 -- ---- writing

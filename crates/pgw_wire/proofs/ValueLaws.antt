@@ -3,7 +3,7 @@ use Rattle.std.proofs.Common.{◌≡◌, ℕ, ℤ, pos, negsuc, ◌<◌, ◌≤�
 use Rattle.std.specs.Int.{w32}
 use Rattle.std.proofs.lemmas.List.{append-nil}
 use Rattle.pgw_wire.specs.Reading.{◌>>=◌, int_at, octets_at}
-use Rattle.pgw_wire.specs.Formats.{SpellsInt, Reads}
+use Rattle.pgw_wire.specs.Formats.{SpellsInt, ReadsFormat}
 use Rattle.pgw_wire.proofs.Laws.{bind_ok, ok_is, shorter_after}
 use Rattle.pgw_wire.proofs.FieldLaws.{int_reads, octets_reads}
 use Rattle.pgw_wire.specs.Values.{octets_or_null, nullable_at, SpellsNullable}
@@ -38,7 +38,7 @@ nullable_again (Some value) front rest h =
     let two : octets_at (length value) (value ++ rest) ≡ Ok (value, rest) = (octets_reads (length value)).only value value rest (refl, refl) in
     ap (λ (bytes : List ℕ). int_at w32 bytes >>= λ len. octets_or_null len.0 len.1) regrouped ∙ rw (one, two) refl
 
-pub nullable_reads : Reads nullable_at SpellsNullable
+pub nullable_reads : ReadsFormat nullable_at SpellsNullable
 nullable_reads = record { found = nullable_found; only = nullable_again }
 
 pub nullable_least : (o : Option (List ℕ)) (f : List ℕ) → SpellsNullable o f → 4 ≤ length f

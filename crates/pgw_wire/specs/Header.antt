@@ -15,6 +15,6 @@ abbrev pub IsWhole : List ℕ → Type 0
 IsWhole bytes = (5 ≤ length bytes) × (typed_end bytes ≤ length bytes)
 
 -- where the message at the front ends, if it is whole
-abbrev pub EndsAt : List ℕ → Option ℕ → Type 0
-EndsAt bytes None = ¬ IsWhole bytes
-EndsAt bytes (Some end) = IsWhole bytes × (end ≡ typed_end bytes)
+abbrev pub MessageEndsAt : List ℕ → Option ℕ → Type 0
+MessageEndsAt bytes None = ¬ IsWhole bytes
+MessageEndsAt bytes (Some end) = IsWhole bytes × (end ≡ typed_end bytes)

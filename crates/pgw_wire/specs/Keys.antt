@@ -14,12 +14,12 @@ use Rattle.pgw_wire.specs.Formats.{SpellsInt}
 abbrev pub is_no_key : List ℕ → Bool
 is_no_key bytes = nat_lt (length bytes) 4 || nat_lt 256 (length bytes)
 
-abbrev pub number_of : List ℕ → ℤ
-number_of bytes = cast_signed w32 (from_be_bytes w32 bytes)
+abbrev pub key_int : List ℕ → ℤ
+key_int bytes = cast_signed w32 (from_be_bytes w32 bytes)
 
 -- under version 3.0 it is a number of four bytes
 abbrev pub key_by : ProtocolVersion → List ℕ → Result SecretKey PgWireError
-key_by PROTOCOL3_0 bytes = if length bytes == 4 then Ok (I32 (number_of bytes)) else Err InvalidMessageBody
+key_by PROTOCOL3_0 bytes = if length bytes == 4 then Ok (I32 (key_int bytes)) else Err InvalidMessageBody
 key_by PROTOCOL3_2 bytes = Ok (Bytes bytes)
 key_by PROTOCOL3_9999 bytes = Ok (Bytes bytes)
 
@@ -60,4 +60,4 @@ SuitsKey PROTOCOL3_9999 (Bytes bytes) = Unit {0}
 -- the number that a key of four bytes is
 abbrev pub key_number : SecretKey → Option ℤ
 key_number (I32 n) = Some n
-key_number (Bytes bytes) = if length bytes == 4 then Some (number_of bytes) else None
+key_number (Bytes bytes) = if length bytes == 4 then Some (key_int bytes) else None

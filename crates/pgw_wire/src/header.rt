@@ -1,6 +1,6 @@
 //! What stands before the body of a message with a type byte: that byte, and a length of four bytes.
 ghost use Rattle.std.specs.Prelude.{◌≡◌, ◌≤◌, ◌+◌, length};
-ghost use Rattle.pgw_wire.specs.Header.{EndsAt, length_at};
+ghost use Rattle.pgw_wire.specs.Header.{MessageEndsAt, length_at};
 
 /// The number of bytes before a message's body.
 const HEADER: usize = 5;
@@ -15,7 +15,7 @@ pub fn length_at(bytes: &[u8], at: usize) -> u32
 
 /// Where the message at the front ends, if it is whole by its length.
 pub fn whole_end(bytes: &[u8]) -> Option<usize>
-    ensures { EndsAt bytes.now result }
+    ensures { MessageEndsAt bytes.now result }
 {
     if bytes.len() < HEADER {
         return None;

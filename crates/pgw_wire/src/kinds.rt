@@ -1,6 +1,6 @@
 //! What is of one kind, as one of all kinds.
 ghost use Rattle.std.specs.Prelude.{◌≡◌, IfOk, OnErr};
-ghost use Rattle.pgw_wire.specs.Framing.{front, as_one_of, Decodes};
+ghost use Rattle.pgw_wire.specs.Framing.{wire_front, as_one_of, Decodes};
 
 use crate::buffer::Buffer;
 use crate::message::Message;
@@ -22,7 +22,7 @@ pub fn decode_as<M: Message, A, B: Buffer, F: FnOnce(M) -> A>(
     requires { F.IsAlwaysCallable make }
     ensures taken { (kind : M → A) → ((m : M) (a : A) → F.post make m a → a ≡ kind m) →
         Decodes result (B.held buf.old) (B.held buf.new)
-        (as_one_of kind (front M.row_framing M.limit (M.reading ctx.now) (B.held buf.old))) }
+        (as_one_of kind (wire_front M.row_framing M.limit (M.reading ctx.now) (B.held buf.old))) }
     ensures kept { OnErr result (B.held buf.new ≡ B.held buf.old) }
 {
     Ok(M::decode_from(alloc, buf, ctx)?.map(make))

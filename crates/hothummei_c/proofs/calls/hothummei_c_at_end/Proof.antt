@@ -9,7 +9,7 @@ use Rattle.hothummei_c.proofs.turns.at_end.Met.{met}
 use Rattle.hothummei_c.specs.declared.session.Session.{Session}
 use Rattle.hothummei_c.specs.contracts.session.Session.{the_row as S}
 use Rattle.hothummei_c.specs.Handle.{session_at}
-use Rattle.hothummei_c.specs.Session.{EndsAt}
+use Rattle.hothummei_c.specs.Session.{MeetsBytesEnd}
 
 abbrev stayed : Stays f.ended.signature.params f.ended.kept
 stayed = (stay_dropped _ yes, tt)
@@ -78,7 +78,7 @@ module _ {M : Type 1} (𝓤 : Ura M) (𝓛 : Logic 𝓤) (𝓜 : Model 𝓤 𝓛
         calls_at ! (framed 𝓤 𝓛.H 𝓜 (tables 𝓤 𝓛.H 𝓜 𝓡 𝓡.env)) G (met 𝓤 𝓛 𝓜 𝓡 (code.calls-hothummei_c::turns::at_end 𝓡.env wired)) z
         (and_then ! (get ! refl) (no_more !)) (λ v.
         use1 𝓛 (later (some (λ (n : ℕ). ((‵ (flft κₛ full_share) ⊛ raw Alive) ⊛ ‵ (u32.own_val n (v ∷ []))) ⊛
-        some (λ (ws : Session × Unit {0}). ‵ (lasts g.ended z.0.0 z.0.3 ws) ⊛ raw (fact 𝓤 (EndsAt d ws.0 n)))))) (id⊢ 𝓤 _) $
+        some (λ (ws : Session × Unit {0}). ‵ (lasts g.ended z.0.0 z.0.3 ws) ⊛ raw (fact 𝓤 (MeetsBytesEnd d ws.0 n)))))) (id⊢ 𝓤 _) $
         await ! tt $ pick ! (λ n. split ! $ split ! $ split ! $ lft_end ! tt $ move ! (2 ∷ []) $
         peeks ! u32 (Is u32) (shows 𝓛 u32) n (v ∷ []) (λ is. lands_as ! refl refl ((uint_Lawful 𝓛 w32).typed n _ is).0 $
         move ! (3 ∷ []) $ pick ! (λ ws. split ! $ move ! (1 ∷ []) $ heard ! _ (λ told. fsplit ! $ fsplit ! $
@@ -87,8 +87,8 @@ module _ {M : Type 1} (𝓤 : Ura M) (𝓛 : Logic 𝓤) (𝓜 : Model 𝓤 𝓛
         move ! (5 ∷ 0 ∷ []) $ fjoin ! $ returns ! (look_at ! 0 refl) $ free_all ! refl $ keep ! (2 ∷ 0 ∷ 3 ∷ 4 ∷ []) $
         suffices ! _ (ends_at 𝓛 f.ended stayed c (y p) v n (tt, tt) (tt, tt)) $
         nothing ! $ fjoin ! $ move ! (3 ∷ 0 ∷ 2 ∷ []) $ group ! 3 $ frame ! $
-        nothing ! $ fpack ! (EndsAt d ws.0 n) (λ _. ftrue) told $ move ! (1 ∷ 0 ∷ []) $ fjoin ! $
-        fpack ! Session (λ e. fsep (session_at p e) (fex (EndsAt d e n) (λ _. ftrue))) ws.0 $ done !)))))))))
+        nothing ! $ fpack ! (MeetsBytesEnd d ws.0 n) (λ _. ftrue) told $ move ! (1 ∷ 0 ∷ []) $ fjoin ! $
+        fpack ! Session (λ e. fsep (session_at p e) (fex (MeetsBytesEnd d e n) (λ _. ftrue))) ws.0 $ done !)))))))))
 
     begins : (b o : ℕ) → ent 𝓤 (Pre (block_ptr b o)) (fact 𝓤 (Testable (block_ptr b o)))
     begins b o = session_Testable 𝓛 (on_entry 𝓛 f.signature tt tt (block_ptr b o, tt) (y (block_ptr b o)).0.4) d b o

@@ -10,7 +10,7 @@ use Rattle.hothummei_c.specs.declared.session.Session.{Session}
 use Rattle.hothummei_c.specs.contracts.session.Session.{the_row as S}
 use Rattle.hothummei_c.proofs.session.Session.TheLaws.{the_row_laws as S_laws}
 use Rattle.hothummei_c.specs.Handle.{session_at, room_at_start}
-use Rattle.hothummei_c.specs.Session.{IsNew}
+use Rattle.hothummei_c.specs.Session.{IsNewSession}
 
 abbrev stayed : Stays f.ended.signature.params f.ended.kept
 stayed = (stay_dropped _ yes, (stay_dropped _ yes, tt))
@@ -52,7 +52,7 @@ module _ {M : Type 1} (𝓤 : Ura M) (𝓛 : Logic 𝓤) (𝓜 : Model 𝓤 𝓛
       move ! (1 ∷ 0 ∷ []) $ join ! $ nothing ! $ move ! (1 ∷ 0 ∷ []) $ use2 𝓛 (raw (G.pre z)) (id⊢ 𝓤 _) $
       calls_at ! (framed 𝓤 𝓛.H 𝓜 (tables 𝓤 𝓛.H 𝓜 𝓡 𝓡.env)) G (met 𝓤 𝓛 𝓜 𝓡 (code.calls-hothummei_c::session::new_session 𝓡.env wired)) z (and_then ! (get ! refl) (no_more !)) (λ v.
       use1 𝓛 (later (some (λ (d : Session). (raw Alive ⊛ ‵ (S.own_val d (v ∷ []))) ⊛
-      some (λ (ws : Unit {0} × Unit {0}). ‵ (lasts g.ended z.0.0 z.0.3 ws) ⊛ raw (fact 𝓤 (IsNew d)))))) (id⊢ 𝓤 _) $
+      some (λ (ws : Unit {0} × Unit {0}). ‵ (lasts g.ended z.0.0 z.0.3 ws) ⊛ raw (fact 𝓤 (IsNewSession d)))))) (id⊢ 𝓤 _) $
       await ! tt $ pick ! (λ d. split ! $ split ! $ move ! (2 ∷ []) $ pick ! (λ ws. split ! $ drop ! $ heard ! _ (λ told. move ! (1 ∷ []) $
       peeks ! S (Is S) (shows 𝓛 S) d (v ∷ []) (λ is. let typed = ((S_laws.lawful 𝓛).typed d (v ∷ []) is).0 in lands_as ! refl refl typed $
       -- [the session; the tokens; room for it]
@@ -62,8 +62,8 @@ module _ {M : Type 1} (𝓤 : Ura M) (𝓛 : Logic 𝓤) (𝓜 : Model 𝓤 𝓛
       move ! (0 ∷ 1 ∷ []) $ fjoin ! $ use1 𝓛 (‵ (part_at S full_share d b o)) (goes_in 𝓛 d b o v) $
       returns ! (look_at ! 0 refl) $ free_all ! refl $
       suffices ! _ (ends_at 𝓛 f.ended stayed c (y p) vunit tt (tt, (tt, tt)) (tt, (tt, tt))) $
-      feq_i ! ℕ o 0 begins $ fjoin ! $ nothing ! $ fpack ! (IsNew d) (λ _. ftrue) told $ move ! (1 ∷ 0 ∷ []) $ fjoin ! $
-      fpack ! Session (λ e. fsep (session_at p e) (fex (IsNew e) (λ _. ftrue))) d $
+      feq_i ! ℕ o 0 begins $ fjoin ! $ nothing ! $ fpack ! (IsNewSession d) (λ _. ftrue) told $ move ! (1 ∷ 0 ∷ []) $ fjoin ! $
+      fpack ! Session (λ e. fsep (session_at p e) (fex (IsNewSession e) (λ _. ftrue))) d $
       feq_i ! (List Val) (vunit ∷ []) (vunit ∷ []) refl $ nothing ! $ nothing ! $ fjoin ! $ nothing ! $ fjoin ! $ move ! (3 ∷ 0 ∷ 1 ∷ 2 ∷ []) $ group ! 3 $ done !)))))))
 
 pub hothummei_c_place_spec : {M : Type 1} → statement M

@@ -1,10 +1,10 @@
 use Rattle.std.proofs.Common.{length}
 use Rattle.pgw_dialogue.specs.Input.{input_of}
-use Rattle.pgw_dialogue.specs.Steps.{Going}
+use Rattle.pgw_dialogue.specs.Steps.{InboxGoesOn}
 use Rattle.hothummei_c.proofs.steps.take_all.Given as goal
 
 abbrev pub invariant-messages : goal.invariant-messages
-invariant-messages l = Going (input_of l.fn.input) l.fn.notes l.notes l.fn.inbox l.inbox l.fn.out.items l.out.items
+invariant-messages l = InboxGoesOn (input_of l.fn.input) l.fn.notes l.notes l.fn.inbox l.inbox l.fn.out.items l.out.items
 
 abbrev pub decreases-messages : goal.decreases-messages
 decreases-messages l = length l.inbox

@@ -3,7 +3,7 @@ use Rattle.pgw_dialogue.specs.declared.phase.DialoguePhase.TheVariants as step
 use Rattle.pgw_dialogue.specs.Dialogue.{IsBehind, Takes}
 use Rattle.hothummei_c.specs.declared.session.Session.{Session}
 use Rattle.hothummei_c.specs.Held.{dialogue_of}
-use Rattle.hothummei_c.specs.Session.{Fails, Finishes}
+use Rattle.hothummei_c.specs.Session.{HandleFails, FinishesReport}
 use Rattle.hothummei_c.proofs.SessionLaws.{fails_over, finishes_over, fails_out, finishes_out}
 use Rattle.hothummei_c.proofs.turns.take.Goals as goal
 

@@ -1,12 +1,12 @@
 use Rattle.std.proofs.Common.{◌≡◌, ℕ, List, drop}
 use Rattle.pgw_answers.specs.declared.asking.AnswerEnd.{AnswerEnd}
 use Rattle.pgw_answers.specs.Asking.{AskedAll}
-use Rattle.pgw_answers.specs.Lines.{Line}
+use Rattle.pgw_answers.specs.Lines.{ServerLine}
 use Rattle.pgw_answers.proofs.asking.ask_all.Given as goal
 
 abbrev pub invariant-loop-query : goal.invariant-loop-query
 invariant-loop-query g l = record {
-  asked : (new : Line) (after : List ℕ) (how : AnswerEnd)
+  asked : (new : ServerLine) (after : List ℕ) (how : AnswerEnd)
       → AskedAll l.format (drop l.query-index l.queries) (g.M.Messages.line l.source) new (g.O.Sink.tape
       l.output).wrote after how
       → AskedAll l.format l.queries (g.M.Messages.line l.fn.source) new (g.O.Sink.tape l.fn.output).wrote after how;

@@ -3,7 +3,7 @@ use Rattle.pgw_query.specs.declared.data.DataRow.{DataRow}
 use Rattle.pgw_connection.specs.declared.gathered.Gathered.{Gathered}
 use Rattle.pgw_connection.specs.State.{is_broken}
 use Rattle.pgw_connection.proofs.ForetoldLaws.{foretold_still}
-use Rattle.pgw_calls.specs.Extended.{given}
+use Rattle.pgw_calls.specs.Extended.{call_answer}
 use Rattle.pgw_ask.specs.Asking.{wants}
 use Rattle.pgw_ask.proofs.AskLaws.{adds, answered_caused, came, came_as, called_both, ended_caused, ended_error, ended_ok, ended_still, ends_as, extended, extended_came, extended_ended}
 use Rattle.pgw_ask.proofs.asking.ask_extended.Goals as goal
@@ -21,7 +21,7 @@ returns-in-Ok-request-clause-asks g c =
     let back : c.client-1.given.0 ≡ c.request.new.self.client.now = c.client-1.given.1 (sym (c.request.ensures.same_client ∙ c.extended_query-lent.ensures.same_client)) in
     let good = c.in-Ok-request.ensures.asks.usable usable in
     rw (sym lent, back, c.given.ensures) (
-      adds (given q) q _ _ _ _ x _ good
+      adds (call_answer q) q _ _ _ _ x _ good
           (λ config nonce ts read wrote stands. c.extended_queries_follow_one_another.ensures config nonce ts read wrote q _ _ _ _ _ (extended q c.requires.extended) stands call),
       good,
     )
@@ -35,7 +35,7 @@ returns-in-Err-request-clause-asks g c =
     let back : c.client-1.given.0 ≡ c.request.new.self.client.now = c.client-1.given.1 (sym (c.request.ensures.same_client ∙ c.extended_query-lent.ensures.same_client)) in
     let is = extended q c.requires.extended in
     rw (sym lent, back) (
-    ends_as (given q) q _ _ _ _ c.in-Err-request.error _ c.is_broken.result c.answered.result (c.is_broken.ensures.broken ∙ ap (λ x. is_broken x) back) c.answered.ensures
+    ends_as (call_answer q) q _ _ _ _ c.in-Err-request.error _ c.is_broken.result c.answered.result (c.is_broken.ensures.broken ∙ ap (λ x. is_broken x) back) c.answered.ensures
     (λ config nonce ts read wrote stands. c.extended_queries_follow_one_another.ensures config nonce ts read wrote q _ _ _ _ _ is stands call)
     (extended_came c.extended_queries_are_segments.ensures q is call refl)
     )
@@ -49,7 +49,7 @@ returns-in-Ok-request-clause-came g c =
     let call = called_both q _ (c.in-Ok-request.ensures.asks.asked usable) in
     let back : c.client-1.given.0 ≡ c.request.new.self.client.now = c.client-1.given.1 (sym (c.request.ensures.same_client ∙ c.extended_query-lent.ensures.same_client)) in
     rw (sym lent, back, c.given.ensures)
-    (came (given q) q _ _ _ _ x _ (c.in-Ok-request.ensures.asks.usable usable) (extended_came c.extended_queries_are_segments.ensures q (extended q c.requires.extended) call refl))
+    (came (call_answer q) q _ _ _ _ x _ (c.in-Ok-request.ensures.asks.usable usable) (extended_came c.extended_queries_are_segments.ensures q (extended q c.requires.extended) call refl))
 
 pub returns-in-Err-request-clause-came : goal.returns-in-Err-request-clause-came
 returns-in-Err-request-clause-came g c =
@@ -59,7 +59,7 @@ returns-in-Err-request-clause-came g c =
     let call = called_both q _ (c.in-Err-request.ensures.asks.asked usable) in
     let back : c.client-1.given.0 ≡ c.request.new.self.client.now = c.client-1.given.1 (sym (c.request.ensures.same_client ∙ c.extended_query-lent.ensures.same_client)) in
     rw (sym lent, back) (
-    came_as (given q) q _ _ _ _ c.in-Err-request.error _ c.is_broken.result c.answered.result (c.is_broken.ensures.broken ∙ ap (λ x. is_broken x) back) c.answered.ensures
+    came_as (call_answer q) q _ _ _ _ c.in-Err-request.error _ c.is_broken.result c.answered.result (c.is_broken.ensures.broken ∙ ap (λ x. is_broken x) back) c.answered.ensures
     (extended_came c.extended_queries_are_segments.ensures q (extended q c.requires.extended) call refl)
     )
 

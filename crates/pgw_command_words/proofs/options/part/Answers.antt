@@ -1,6 +1,6 @@
 use Rattle.std.proofs.Common.{◌≡◌, ◌∙◌, ◌-◌, Option, Some, None, length, take, drop, map, string_bytes, sym}
 use Rattle.std.proofs.lemmas.List.{take_rest}
-use Rattle.pgw_command_words.specs.Options.{Parts, taken}
+use Rattle.pgw_command_words.specs.Options.{WordParts, with_flag}
 use Rattle.pgw_command_words.specs.Parting.{parts}
 use Rattle.pgw_command_words.proofs.PartLaws.{goes_on, refused, ends, ends_there}
 use Rattle.pgw_command_words.proofs.options.part.Goals as goal
@@ -9,8 +9,8 @@ pub loop-parted-preserved : goal.loop-parted-preserved
 loop-parted-preserved c =
     let p = c.loop-parted.parted in
     let words = p.rest.now in
-    let told : ◌≡◌ {A = Option Parts} (Some (parts c.in-Some.more))
-    (taken p.options c.flag_of-flag.result (map string_bytes (take (length words - 1) (drop 1 words)))) =
+    let told : ◌≡◌ {A = Option WordParts} (Some (parts c.in-Some.more))
+    (with_flag p.options c.flag_of-flag.result (map string_bytes (take (length words - 1) (drop 1 words)))) =
     rw c.in-Some.is at c.in_ok-more.ensures in
     let more = rw (take_rest words 1) at told in
     let read = goes_on p.options words c.word-item.result c.as_str.result.now c.flag_of-flag.result
@@ -22,8 +22,8 @@ pub returns-in-None : goal.returns-in-None
 returns-in-None c =
     let p = c.loop-parted.parted in
     let words = p.rest.now in
-    let told : ◌≡◌ {A = Option Parts} None
-    (taken p.options c.flag_of-flag.result (map string_bytes (take (length words - 1) (drop 1 words)))) =
+    let told : ◌≡◌ {A = Option WordParts} None
+    (with_flag p.options c.flag_of-flag.result (map string_bytes (take (length words - 1) (drop 1 words)))) =
     rw c.in-None.is at c.in_ok-more.ensures in
     let none = rw (take_rest words 1) at told in
     let read = refused p.options words c.word-item.result c.as_str.result.now c.flag_of-flag.result

@@ -1,7 +1,7 @@
 use Rattle.std.proofs.Common.{not, ap, sym, subst, ◌∙◌}
 use Rattle.pgw_dialogue.specs.Input.{input_of}
 use Rattle.pgw_dialogue.proofs.MachineLaws.{passed_moved, clean_moved}
-use Rattle.pgw_dialogue.specs.Machine.{Passed}
+use Rattle.pgw_dialogue.specs.Machine.{DialoguePasses}
 use Rattle.pgw_dialogue.proofs.machine.take.Goals as goal
 
 pub returns-then-is_none-clause-moved : goal.returns-then-is_none-clause-moved
@@ -13,4 +13,4 @@ returns-clause-moved c =
     let n = c.args.notes.now in
     let new = c.pass_over.new.notes in
     passed_moved (input_of c.args.input.now) n new c.args.message c.unwrap-first.result c.args.out.now.items c.pass_over.result (sym c.take.ensures.value ∙ c.unwrap-first.ensures)
-    (subst (λ f. Passed (record n { first_passed = f }) new c.unwrap-first.result c.args.message c.pass_over.result) c.take.ensures.after c.pass_over.ensures.passed)
+    (subst (λ f. DialoguePasses (record n { first_passed = f }) new c.unwrap-first.result c.args.message c.pass_over.result) c.take.ensures.after c.pass_over.ensures.passed)

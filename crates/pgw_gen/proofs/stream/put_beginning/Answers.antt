@@ -1,7 +1,7 @@
 use Rattle.std.proofs.Common.{◌∷◌, [], subst, sym}
 use Rattle.pgw_startup.specs.declared.authentication.Authentication.TheVariants as authentication
 use Rattle.pgw_backend.specs.declared.backend.PgWireBackendMessage.TheVariants as backend
-use Rattle.pgw_gen.specs.Stream.{HasEncoding, description, ready}
+use Rattle.pgw_gen.specs.Stream.{HasEncoding, description, stream_ready}
 use Rattle.pgw_gen.proofs.StreamLaws.{description_encodes, greeting_encodes, puts_on, ready_encodes}
 use Rattle.pgw_gen.proofs.stream.put_beginning.Goals as goal
 
@@ -20,5 +20,5 @@ returns c =
     let one = c.put.new.out.items in
     let two = c.put-2.new.out.items in
     let all = c.put-3.new.out.items in
-    puts_on (backend.Authentication authentication.Ok ∷ []) (ready ∷ description ∷ []) old one all c.in_ok-put.ensures
-    (puts_on (ready ∷ []) (description ∷ []) one two all (rw c.ready.ensures at c.in_ok-put-2.ensures) (rw c.in_ok-description.ensures at c.in_ok-put-3.ensures))
+    puts_on (backend.Authentication authentication.Ok ∷ []) (stream_ready ∷ description ∷ []) old one all c.in_ok-put.ensures
+    (puts_on (stream_ready ∷ []) (description ∷ []) one two all (rw c.ready.ensures at c.in_ok-put-2.ensures) (rw c.in_ok-description.ensures at c.in_ok-put-3.ensures))

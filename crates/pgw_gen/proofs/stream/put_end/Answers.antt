@@ -1,5 +1,5 @@
 use Rattle.std.proofs.Common.{◌∷◌, [], arith, subst, sym}
-use Rattle.pgw_gen.specs.Stream.{HasEncoding, complete, ready}
+use Rattle.pgw_gen.specs.Stream.{HasEncoding, complete, stream_ready}
 use Rattle.pgw_gen.proofs.StreamLaws.{complete_encodes, puts_on, ready_encodes}
 use Rattle.pgw_gen.proofs.stream.put_end.Goals as goal
 
@@ -10,4 +10,4 @@ pub put-requires-2 : goal.put-requires-2
 put-requires-2 c = subst HasEncoding (sym c.ready.ensures) ready_encodes
 
 pub returns : goal.returns
-returns c = puts_on (complete c.args.count ∷ []) (ready ∷ []) c.args.out.now.items c.put.new.out.items c.put-2.new.out.items (rw c.in_ok-complete.ensures at c.in_ok-put.ensures) (rw c.ready.ensures at c.in_ok-put-2.ensures)
+returns c = puts_on (complete c.args.count ∷ []) (stream_ready ∷ []) c.args.out.now.items c.put.new.out.items c.put-2.new.out.items (rw c.in_ok-complete.ensures at c.in_ok-put.ensures) (rw c.ready.ensures at c.in_ok-put-2.ensures)

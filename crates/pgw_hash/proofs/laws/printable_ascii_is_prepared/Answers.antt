@@ -8,14 +8,14 @@ use Rattle.std.proofs.lemmas.Str.{chars-IsAscii, encodes-IsAscii}
 use Rattle.std.proofs.lemmas.Str.Ascii.{IsAscii-from_all}
 use Rattle.unicode_normalization.specs.Forms.{Nfkc}
 use Rattle.unicode_normalization.proofs.FormsLemmas.{normalize-ascii}
-use Rattle.pgw_hash.specs.Saslprep.{prepared}
+use Rattle.pgw_hash.specs.Saslprep.{saslprep}
 use Rattle.pgw_hash.proofs.laws.printable_ascii_is_prepared.Goals as goal
 
 printable : (b : ℕ) → (31 < b) × (b < 127) → is_ascii_control b ≡ false
 printable b h = grind (arith, nat_tests)
 
 pub returns : goal.returns
-unfolding prepared
+unfolding saslprep
 returns c text all =
     let low : All (λ b. b < 128) text = λ k d below. let h = all k d below in omega arith in
     let ascii : IsAscii text = IsAscii-from_all text low in

@@ -1,7 +1,7 @@
 use Rattle.std.proofs.Common.{◌≡◌, ◌++◌, ◌+◌, ◌≤◌, ℕ, List, length, take, Result, Ok, Err, arith, sym, ap, ◌∙◌}
 use Rattle.std.specs.Result.{OnOk, OnErr}
 use Rattle.std.proofs.lemmas.List.{take_all}
-use Rattle.pgw_link.specs.Tape.{Tape, Flushed, Failed}
+use Rattle.pgw_link.specs.Tape.{Tape, Flushed, LinkFails}
 use Rattle.pgw_link.specs.Sending.{ReadsNothing, Wrote, WroteSome}
 use Rattle.pgw_link.proofs.LogLaws.{keeps_on, put_on}
 use Rattle.pgw_link.proofs.sending.send.Goals as goal
@@ -22,7 +22,7 @@ wrote_all old mid new bytes at all none wrote writes within f = record {
   writes = omega (arith, f.writes, writes, within);
 }
 
-wrote_some : (old mid new : Tape) (bytes : List ℕ) (at : ℕ) → ReadsNothing old mid → mid.wrote ≡ old.wrote ++ take at bytes → mid.flushed ≡ old.flushed → mid.writes ≤ old.writes + at → at ≤ length bytes → Failed mid new mid.reads (mid.writes) → WroteSome old new bytes
+wrote_some : (old mid new : Tape) (bytes : List ℕ) (at : ℕ) → ReadsNothing old mid → mid.wrote ≡ old.wrote ++ take at bytes → mid.flushed ≡ old.flushed → mid.writes ≤ old.writes + at → at ≤ length bytes → LinkFails mid new mid.reads (mid.writes) → WroteSome old new bytes
 wrote_some old mid new bytes at none wrote flushed writes within f = record {
   count = at;
   reads_nothing = record { took = f.took ∙ none.took; ended = f.ended ∙ none.ended; reads = f.reads ∙ none.reads };
@@ -53,7 +53,7 @@ returns-clause-failed g c =
     let old = g.L.Link.tape c.args.link.now in
     let mid = g.L.Link.tape c.loop-at.link in
     let new = g.L.Link.tape c.flush.new.self in
-    on_err (Failed mid new mid.reads mid.writes) (WroteSome old new c.args.bytes.now) c.flush.result (wrote_some old mid new c.args.bytes.now c.loop-at.at i.reads_nothing i.wrote i.flushed i.writes i.at_in) c.flush.ensures.failed
+    on_err (LinkFails mid new mid.reads mid.writes) (WroteSome old new c.args.bytes.now) c.flush.result (wrote_some old mid new c.args.bytes.now c.loop-at.at i.reads_nothing i.wrote i.flushed i.writes i.at_in) c.flush.ensures.failed
 
 pub loop-at-preserved : goal.loop-at-preserved
 loop-at-preserved g c =

@@ -1,7 +1,7 @@
 use Rattle.std.proofs.Common.{refl, ap, inl, inr, [], ◌≡◌}
 use Rattle.std.proofs.lemmas.Result.{err_from_is_err_and}
 use Rattle.pgw_login.proofs.ActLaws.{did_then, did_halt, did_quiet, did_set, did_mark, did_settle, did_introduce, did_saved, did_not_saved}
-use Rattle.pgw_login.specs.Acts.{standing, with_sasl, halts, goes}
+use Rattle.pgw_login.specs.Acts.{standing_in_login, with_sasl, halts, goes}
 use Rattle.pgw_login.specs.declared.state.SASLState.TheVariants.{Finished}
 use Rattle.pgw_login.proofs.noop.welcome.Goals as goal
 

@@ -2,7 +2,7 @@ use Rattle.std.proofs.Common.{inl, inr, refl, ap}
 use Rattle.std.proofs.lemmas.Result.{IfErr-weaker}
 use Rattle.pgw_connection.specs.Line.{IsWithin}
 use Rattle.pgw_pool.specs.Views.{view_of}
-use Rattle.pgw_pool.specs.Starting.{dials, Connects}
+use Rattle.pgw_pool.specs.Starting.{dials, PoolConnects}
 use Rattle.pgw_pool.proofs.StartLaws.{begun, both_ok, connects_as, not_connects_as, within_limit}
 use Rattle.pgw_pool.proofs.starting.log_in.Goals as goal
 
@@ -16,7 +16,7 @@ returns-in-Ok-clause-idle g c =
     let limit = c.args.limit in
     let within = both_ok c.connect.result _ _ (λ client. IsWithin limit (V client).line)
     (λ client w is. within_limit client.read client.limit limit w is) c.connect.ensures.within c.connect.ensures.limit_is in
-    let connects = both_ok c.connect.result _ _ (λ client. Connects c.args.config.now limit c.args.nonce old new (V client))
+    let connects = both_ok c.connect.result _ _ (λ client. PoolConnects c.args.config.now limit c.args.nonce old new (V client))
     (λ client w connected. connects_as c.args.config.now c.in-Ok.copy c.new.result limit c.args.nonce old new (V client) c.in-Ok.ensures c.new.ensures w connected)
     within c.connect.ensures.connected in
     both_ok c.connect.result _ _ _

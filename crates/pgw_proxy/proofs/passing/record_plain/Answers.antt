@@ -2,7 +2,7 @@ use Rattle.std.proofs.Common.{◌≡◌, ◌+◌, ◌++◌, List, [], ℕ, take,
 use Rattle.std.specs.Prelude.{slice_range}
 use Rattle.std.proofs.lemmas.List.{append-nil}
 use Rattle.pgw_query.proofs.RunLaws.{rest_of}
-use Rattle.pgw_proxy.specs.Record.{entry}
+use Rattle.pgw_proxy.specs.Record.{relay_entry}
 use Rattle.pgw_proxy.proofs.PassingLaws.{tapes_none, tapes_on}
 use Rattle.pgw_proxy.proofs.passing.record_plain.Goals as goal
 
@@ -25,7 +25,7 @@ loop-end-preserved c =
     record {
       within = omega (arith, to.1, length-drop n bytes, inv.within);
       tapes = tapes_on c.args.side c.args.ready bytes (drop n bytes) piece n end c.args.tape.now.items c.loop-end.tape.items c.put_record.new.tape.items inv.tapes refl cut to c.in-Ok.ensures.ok;
-      part = (inv.part.0 ++ entry c.args.side piece, c.in-Ok.ensures.ok ∙ ap (λ (l : List ℕ). l ++ entry c.args.side piece) inv.part.1 ∙ append_assoc c.args.tape.now.items inv.part.0 (entry c.args.side piece));
+      part = (inv.part.0 ++ relay_entry c.args.side piece, c.in-Ok.ensures.ok ∙ ap (λ (l : List ℕ). l ++ relay_entry c.args.side piece) inv.part.1 ∙ append_assoc c.args.tape.now.items inv.part.0 (relay_entry c.args.side piece));
     }
 
 pub loop-end-smaller : goal.loop-end-smaller

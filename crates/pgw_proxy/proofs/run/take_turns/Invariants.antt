@@ -1,17 +1,17 @@
 use Rattle.std.proofs.Common.{◌≡◌, take}
-use Rattle.pgw_proxy.specs.Run.{Foretold, end_of, span, start_of}
-use Rattle.pgw_proxy.specs.RunSteps.{Runs}
+use Rattle.pgw_proxy.specs.Run.{IsRelayForetold, relay_links, span, start_of}
+use Rattle.pgw_proxy.specs.RunSteps.{RelayRuns}
 use Rattle.pgw_proxy.proofs.run.take_turns.Given as goal
 
 abbrev pub invariant-loop-side : goal.invariant-loop-side
 invariant-loop-side g l = record {
-  runs : Runs (take l.side-index l.turns) l.proxy l.tape.items
+  runs : RelayRuns (take l.side-index l.turns) l.proxy l.tape.items
       (start_of (span g.A.Link.tape g.A.Link.left g.A.Link.faults l.fn.client l.client)
       (span g.B.Link.tape g.B.Link.left g.B.Link.faults l.fn.server l.server))
-      (end_of (span g.A.Link.tape g.A.Link.left g.A.Link.faults l.fn.client l.client)
+      (relay_links (span g.A.Link.tape g.A.Link.left g.A.Link.faults l.fn.client l.client)
       (span g.B.Link.tape g.B.Link.left g.B.Link.faults l.fn.server l.server));
   client_kept : g.A.Link.plan l.client ≡ g.A.Link.plan l.fn.client;
   server_kept : g.B.Link.plan l.server ≡ g.B.Link.plan l.fn.server;
-  client : g.A.Link.foretells → Foretold (span g.A.Link.tape g.A.Link.left g.A.Link.faults l.fn.client l.client);
-  server : g.B.Link.foretells → Foretold (span g.B.Link.tape g.B.Link.left g.B.Link.faults l.fn.server l.server);
+  client : g.A.Link.foretells → IsRelayForetold (span g.A.Link.tape g.A.Link.left g.A.Link.faults l.fn.client l.client);
+  server : g.B.Link.foretells → IsRelayForetold (span g.B.Link.tape g.B.Link.left g.B.Link.faults l.fn.server l.server);
 }

@@ -1,11 +1,11 @@
 use Rattle.std.proofs.Common.{sym, subst, List, ℕ}
-use Rattle.pgw_proxy.specs.Taking.{Runs}
+use Rattle.pgw_proxy.specs.Taking.{RelaysUpTo}
 use Rattle.pgw_proxy.proofs.TakingLaws.{runs_start, runs_then}
 use Rattle.pgw_proxy.proofs.taking.take_all.Goals as goal
 
 pub messages-init : goal.messages-init
 messages-init g c = record {
-  runs = subst (λ (l : List ℕ). Runs c.args.side c.args.context.now c.args.bytes.now c.args.context.now l c.args.out.now.items c.args.out.now.items c.args.tape.now.items c.args.tape.now.items) (sym c.requires) (runs_start c.args.side c.args.context.now c.args.bytes.now c.args.out.now.items c.args.tape.now.items);
+  runs = subst (λ (l : List ℕ). RelaysUpTo c.args.side c.args.context.now c.args.bytes.now c.args.context.now l c.args.out.now.items c.args.out.now.items c.args.tape.now.items c.args.tape.now.items) (sym c.requires) (runs_start c.args.side c.args.context.now c.args.bytes.now c.args.out.now.items c.args.tape.now.items);
 }
 
 pub messages-preserved : goal.messages-preserved

@@ -1,5 +1,5 @@
 use Rattle.std.proofs.Common.{ap, ◌∙◌, ◌++◌, List, ℕ, arith, length, length-append}
-use Rattle.pgw_proxy.specs.Record.{entry}
+use Rattle.pgw_proxy.specs.Record.{relay_entry}
 use Rattle.pgw_proxy.proofs.MetLaws.{met}
 use Rattle.pgw_proxy.proofs.TakingLaws.{ran_none, ran_fault, ran_broken_at, runs_one, bytes_are}
 use Rattle.pgw_proxy.proofs.taking.take_next.Goals as goal
@@ -37,7 +37,7 @@ returns-in-Ok g c =
     let h = met c.args.side c.args.context.now left rest c.in-Ok-Some.message c.take_message.new.context found in
     let is = c.message_bytes-message.ensures ∙ bytes_are c.args.bytes.now left rest c.bytes-before.result.now c.bytes.result.now h.g c.requires h.cut c.bytes-before.ensures c.bytes.ensures in
     runs_one c.args.side c.args.context.now c.take_message.new.context left rest c.args.out.now.items c.pass_on.new.out.items c.args.tape.now.items c.pass_on.new.tape.items c.in-Ok-Some.message h found
-    (c.in-Ok.ensures.out ∙ ap (λ (l : List ℕ). c.args.out.now.items ++ l) is) (c.in-Ok.ensures.tape ∙ ap (λ (l : List ℕ). c.args.tape.now.items ++ entry c.args.side l) is)
+    (c.in-Ok.ensures.out ∙ ap (λ (l : List ℕ). c.args.out.now.items ++ l) is) (c.in-Ok.ensures.tape ∙ ap (λ (l : List ℕ). c.args.tape.now.items ++ relay_entry c.args.side l) is)
 
 pub returns-in-Err-pass_on : goal.returns-in-Err-pass_on
 returns-in-Err-pass_on g c =

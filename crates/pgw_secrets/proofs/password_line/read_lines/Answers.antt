@@ -2,7 +2,7 @@ use Rattle.std.proofs.Common.{◌≡◌, ◌≤◌, ◌∙◌, ap, sym, subst, t
 use Rattle.std.proofs.lemmas.List.{take_all}
 use Rattle.pgw_secrets.specs.Found.{Lacks}
 use Rattle.pgw_secrets.specs.PasswordFile.{without_return, IsFile}
-use Rattle.pgw_secrets.specs.PasswordReader.{EndsAt}
+use Rattle.pgw_secrets.specs.PasswordReader.{IsPasswordLineEnd}
 use Rattle.pgw_secrets.proofs.Rests.{first_line, last_line, goes_on, ends}
 use Rattle.pgw_secrets.proofs.password_line.read_lines.Goals as goal
 
@@ -10,7 +10,7 @@ pub loop-end-preserved : goal.loop-end-preserved
 loop-end-preserved c more is =
     let text : List ℕ = c.loop-end.rest in
     let at = c.in-Some.end in
-    let found : EndsAt text (Some at) = subst (λ (l : List ℕ). EndsAt l (Some at)) c.as_slice.ensures c.in-Some.ensures in
+    let found : IsPasswordLineEnd text (Some at) = subst (λ (l : List ℕ). IsPasswordLineEnd l (Some at)) c.as_slice.ensures c.in-Some.ensures in
     let behind : IsFile (drop (at + 1) text) more = subst (λ (l : List ℕ). IsFile l more) c.advance.ensures is in
     goes_on c.args.bytes.now text (drop (at + 1) text) (without_return (take at text)) c.loop-end.entries c.add_line.new.entries more (first_line text at found.0 found.1) c.in_ok-add_line-in-Some.ensures c.loop-end.invariant behind
 

@@ -1,5 +1,5 @@
 use Rattle.std.proofs.Common.{◌∙◌, ◌++◌, ◌-◌, List, ℕ, length, take, refl, ap, subst}
-use Rattle.pgw_dialogue.specs.Steps.{Took}
+use Rattle.pgw_dialogue.specs.Steps.{TookInbox}
 use Rattle.pgw_dialogue.proofs.DialogueLaws.{takes, takes_broken, takes_done}
 use Rattle.pgw_session.specs.declared.types.Request.{Request}
 use Rattle.pgw_session.specs.Input.{input_with}
@@ -17,8 +17,8 @@ returns-in-Refused-clause-takes c = takes_broken (dialogue_of c.args.self.now) c
 pub returns-clause-takes : goal.returns-clause-takes
 returns-clause-takes c =
     let old = c.args.self.now in
-    let part = subst (λ (b : List ℕ). Took (input_with old.config c.as_slice.result.now old.nonce) old.notes c.feed-fed.new.notes (old.inbox ++ b) c.feed-fed.new.inbox c.args.out.now.items c.feed-fed.new.out.items c.feed-fed.result) c.within-bytes.ensures c.feed-fed.ensures.took in
-    let took = subst (λ (rs : List Request). Took (input_with old.config rs old.nonce) old.notes c.feed-fed.new.notes (old.inbox ++ take old.room c.args.piece.now) c.feed-fed.new.inbox c.args.out.now.items c.feed-fed.new.out.items c.feed-fed.result) c.as_slice.ensures part in
+    let part = subst (λ (b : List ℕ). TookInbox (input_with old.config c.as_slice.result.now old.nonce) old.notes c.feed-fed.new.notes (old.inbox ++ b) c.feed-fed.new.inbox c.args.out.now.items c.feed-fed.new.out.items c.feed-fed.result) c.within-bytes.ensures c.feed-fed.ensures.took in
+    let took = subst (λ (rs : List Request). TookInbox (input_with old.config rs old.nonce) old.notes c.feed-fed.new.notes (old.inbox ++ take old.room c.args.piece.now) c.feed-fed.new.inbox c.args.out.now.items c.feed-fed.new.out.items c.feed-fed.result) c.as_slice.ensures part in
     takes (dialogue_of old) _ c.args.piece.now c.args.out.now.items c.feed-fed.new.out.items c.feed-fed.result c.answer_behind-answer.result (ap state_of c.in-Going.is) refl took
     (ap (λ (b : List ℕ). old.room - length b) c.within-bytes.ensures) c.answer_behind-answer.ensures (ap state_of c.state_behind-self.ensures ∙ same_state c.answer_behind-answer.result)
 

@@ -3,7 +3,7 @@ use Rattle.pgw_link.specs.Tape.{Tape}
 use Rattle.pgw_connection.specs.Desk.{client_of}
 use Rattle.pgw_connection.specs.Line.{Line, Foretold, line}
 use Rattle.pgw_connection.specs.Extended.{none_gathered, as_lists, Finish}
-use Rattle.pgw_connection.specs.ExtendedSteps.{Exchanged}
+use Rattle.pgw_connection.specs.ExtendedSteps.{LineExchange}
 use Rattle.pgw_connection.proofs.connection.Connection.exchange.Given as goal
 
 -- what is exchanged from here on is exchanged from the beginning
@@ -16,8 +16,8 @@ invariant-messages g l = record {
       Foretold (g.L.Link.left l.fn.self.link) is (g.L.Link.tape l.fn.self.link) now;
   later : g.L.Link.faults l.fn.self.link ≤ g.L.Link.faults l.self.link;
   exchanged : (final : Line) (last : Finish _ _) →
-      Exchanged g.H.ExtendedQueryHandler.means l.fn.kind l.handler (client_of l.self.desk) (as_lists g.H.Responses.ResponseList.listed l.gathered) (line (g.L.Link.tape l.self.link) (g.L.Link.faults l.self.link) l.self.inbox l.self.read l.self.limit) final last →
-      Exchanged g.H.ExtendedQueryHandler.means l.fn.kind l.fn.handler (client_of l.fn.self.desk) none_gathered (line (g.L.Link.tape l.fn.self.link) (g.L.Link.faults l.fn.self.link) l.fn.self.inbox l.fn.self.read l.fn.self.limit) final last;
+      LineExchange g.H.ExtendedQueryHandler.means l.fn.kind l.handler (client_of l.self.desk) (as_lists g.H.Responses.ResponseList.listed l.gathered) (line (g.L.Link.tape l.self.link) (g.L.Link.faults l.self.link) l.self.inbox l.self.read l.self.limit) final last →
+      LineExchange g.H.ExtendedQueryHandler.means l.fn.kind l.fn.handler (client_of l.fn.self.desk) none_gathered (line (g.L.Link.tape l.fn.self.link) (g.L.Link.faults l.fn.self.link) l.fn.self.inbox l.fn.self.read l.fn.self.limit) final last;
 }
 
 abbrev pub decreases-messages : goal.decreases-messages

@@ -3,7 +3,7 @@ use Rattle.pgw_backend.specs.declared.backend.PgWireBackendMessage.{PgWireBacken
 use Rattle.pgw_backend.specs.declared.client_error.PgWireClientError.{PgWireClientError as ClientError}
 use Rattle.pgw_connection.specs.Desk.{client_of}
 use Rattle.pgw_connection.specs.Line.{Line, Foretold, line}
-use Rattle.pgw_connection.specs.Reading.{Came}
+use Rattle.pgw_connection.specs.Reading.{MessageCame}
 use Rattle.pgw_connection.proofs.connection.Connection.next_message.Given as goal
 
 -- what comes from here on comes from the beginning
@@ -16,8 +16,8 @@ invariant-reads g l = record {
       (g.L.Link.tape l.fn.self.link) (g.L.Link.tape l.self.link);
   later : g.L.Link.faults l.fn.self.link ≤ g.L.Link.faults l.self.link;
   came : (final : Line) (r : Result Backend ClientError) →
-      Came (client_of l.self.desk) (line (g.L.Link.tape l.self.link) (g.L.Link.faults l.self.link) l.self.inbox l.self.read l.self.limit) final r →
-      Came (client_of l.fn.self.desk) (line (g.L.Link.tape l.fn.self.link) (g.L.Link.faults l.fn.self.link) l.fn.self.inbox l.fn.self.read l.fn.self.limit) final r;
+      MessageCame (client_of l.self.desk) (line (g.L.Link.tape l.self.link) (g.L.Link.faults l.self.link) l.self.inbox l.self.read l.self.limit) final r →
+      MessageCame (client_of l.fn.self.desk) (line (g.L.Link.tape l.fn.self.link) (g.L.Link.faults l.fn.self.link) l.fn.self.inbox l.fn.self.read l.fn.self.limit) final r;
 }
 
 abbrev pub decreases-reads : goal.decreases-reads

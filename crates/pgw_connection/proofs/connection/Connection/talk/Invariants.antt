@@ -1,10 +1,10 @@
 use Rattle.std.proofs.Common.{◌≡◌, ◌≤◌, ◌+◌, ◌-◌, length, false, ℕ, List, Option}
 use Rattle.pgw_link.specs.Tape.{Tape}
-use Rattle.pgw_connection.specs.Talk.{End}
+use Rattle.pgw_connection.specs.Talk.{CallEnd}
 use Rattle.pgw_connection.specs.Desk.{client_of}
 use Rattle.pgw_connection.specs.Line.{Line, Foretold}
 use Rattle.pgw_connection.specs.Connection.{line_in}
-use Rattle.pgw_connection.specs.Calls.{Talked}
+use Rattle.pgw_connection.specs.Calls.{TalksToCallEnd}
 use Rattle.pgw_connection.proofs.connection.Connection.talk.Given as goal
 
 -- what is said from here on is said from the beginning
@@ -20,10 +20,10 @@ invariant-messages g l =
           Foretold (g.L.Link.left is.link) left (g.L.Link.tape is.link) now →
           Foretold (g.L.Link.left was.link) left (g.L.Link.tape was.link) now;
       later : g.L.Link.faults was.link ≤ g.L.Link.faults is.link;
-      talked : (final : Line) (last : End _) →
-          Talked g.R.Hearer.hears g.R.Hearer.goes_on l.hearer (client_of is.desk)
+      talked : (final : Line) (last : CallEnd _) →
+          TalksToCallEnd g.R.Hearer.hears g.R.Hearer.goes_on l.hearer (client_of is.desk)
           (line_in g.L.Link.tape g.L.Link.faults is) final last →
-          Talked g.R.Hearer.hears g.R.Hearer.goes_on l.fn.hearer (client_of was.desk)
+          TalksToCallEnd g.R.Hearer.hears g.R.Hearer.goes_on l.fn.hearer (client_of was.desk)
           (line_in g.L.Link.tape g.L.Link.faults was) final last;
     }
 

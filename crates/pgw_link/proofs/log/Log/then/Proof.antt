@@ -17,7 +17,7 @@ use denote.RattleType.{owns}
 use denote.Triple.Entry.{alive}
 use denote.Triple.Walked.{says, Stays, stay_dropped, Goes-dropped, walk_of, ends_at}
 use Rattle.pgw_link.proofs.Walks.{none, none_made}
-use Rattle.pgw_link.specs.Log.{tape_of, noted}
+use Rattle.pgw_link.specs.Log.{tape_of, with_note}
 use Rattle.pgw_link.specs.contracts.log.Log as Log
 use Rattle.pgw_link.specs.contracts.log.Note as Note
 use Rattle.pgw_link.specs.contracts.log.Log.then as f
@@ -37,7 +37,7 @@ then_spec 𝓤 𝓛 𝓜 𝓡 wired =
     f.Key.name code.function (code.unfolded 𝓤 𝓛.H 𝓜 𝓡 wired)
     (λ κs. (shr_vals, (shr_vals, tt))) (λ κs. (shr_Tells (named 0) κs.0 Log.the_row, (shr_Tells (named 1) κs.1.0 (Note.the_row (named_lft 3 2 tt κs)), tt))) (λ κs qs bounds a g are.
     let y : W.Ghost = ((κs, qs, bounds, a, (shr_vals a.0, (shr_vals a.1.0, tt))), g) in
-    let t = noted (tape_of a.0.now) a.1.0.now in
+    let t = with_note (tape_of a.0.now) a.1.0.now in
     let made : (Log.the_row).Denot =
     record { took = t.took; wrote = t.wrote; flushed = t.flushed; ended = t.ended; reads = t.reads; writes = t.writes } in
     qed 𝓛 ((raw (alive 𝓛 f.ended.signature κs qs) ⊛ ‵ (owns (types_at f.ended.signature.params κs) a y.0.4)) ∷ raw ((c κs a).requires g) ∷ []) ∵

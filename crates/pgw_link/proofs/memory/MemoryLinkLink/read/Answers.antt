@@ -1,6 +1,6 @@
 use Rattle.std.proofs.Common.{◌≡◌, ◌<◌, ◌≤◌, ◌+◌, ◌*◌, ℕ, length, take, arith, sym, ap, subst, ◌∙◌}
 use Rattle.pgw_link.specs.Tape.{Tape}
-use Rattle.pgw_link.specs.Calls.{number_of}
+use Rattle.pgw_link.specs.Calls.{call_number}
 use Rattle.pgw_link.proofs.CallLaws.{numbered}
 use Rattle.pgw_link.proofs.LogLaws.{after_reads, in_cuts, nothing_left, taken}
 use Rattle.pgw_link.proofs.memory.MemoryLinkLink.read.Goals as goal
@@ -9,7 +9,7 @@ pub invariant_of-self-2-clause-reads_counted : goal.invariant_of-self-2-clause-r
 invariant_of-self-2-clause-reads_counted c =
     let s = c.args.self.now in
     let reads = ap (λ (t : Tape). t.reads) c.then-self-2.ensures ∙ after_reads _ c.copy_from-count.new.buf c.copy_from-count.result in
-    numbered s.reads.made c.is_failing.new.self.made s.log.reads s.reads_counted c.is_failing.ensures.made ∙ ap number_of (sym reads)
+    numbered s.reads.made c.is_failing.new.self.made s.log.reads s.reads_counted c.is_failing.ensures.made ∙ ap call_number (sym reads)
 
 pub invariant_of-self-2-clause-read_in_cuts : goal.invariant_of-self-2-clause-read_in_cuts
 invariant_of-self-2-clause-read_in_cuts c =

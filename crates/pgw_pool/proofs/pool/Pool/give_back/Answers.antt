@@ -1,5 +1,5 @@
 use Rattle.std.proofs.Common.{map, refl, sym, subst}
-use Rattle.pgw_pool.specs.Views.{view_of, session_view, count_of}
+use Rattle.pgw_pool.specs.Views.{view_of, session_view, lease_count}
 use Rattle.pgw_pool.specs.Returning.{GivenBack}
 use Rattle.pgw_pool.specs.declared.returned.Returned.TheVariants.{Kept, Dropped}
 use Rattle.pgw_pool.proofs.ReturnLaws.{given_back, drops_from, gives_foretold}
@@ -56,8 +56,8 @@ returns-in-Dropped-clause-dropped g c = λ h l lease.
 
 pub returns-in-Kept-clause-all_counted : goal.returns-in-Kept-clause-all_counted
 returns-in-Kept-clause-all_counted g c = λ hs h l are is.
-    back_counted hs h l (map count_of c.args.self.now.idle.items) (map count_of c.keep.new.self.idle.items) c.args.lease.leases Kept c.keep.ensures.had are is
+    back_counted hs h l (map lease_count c.args.self.now.idle.items) (map lease_count c.keep.new.self.idle.items) c.args.lease.leases Kept c.keep.ensures.had are is
 
 pub returns-in-Dropped-clause-all_counted : goal.returns-in-Dropped-clause-all_counted
 returns-in-Dropped-clause-all_counted g c = λ hs h l are is.
-    back_counted hs h l (map count_of c.args.self.now.idle.items) (map count_of c.args.self.now.idle.items) c.args.lease.leases (Dropped c.in-Dropped.cause) refl are is
+    back_counted hs h l (map lease_count c.args.self.now.idle.items) (map lease_count c.args.self.now.idle.items) c.args.lease.leases (Dropped c.in-Dropped.cause) refl are is

@@ -1,4 +1,4 @@
-use Rattle.pgw_pool.specs.Views.{session_view, session_left, count_of}
+use Rattle.pgw_pool.specs.Views.{session_view, session_left, lease_count}
 use Rattle.pgw_pool.proofs.HistoryLaws.{mapped_behind}
 use Rattle.pgw_pool.proofs.pool.Pool.keep.Goals as goal
 
@@ -14,5 +14,5 @@ returns-clause-lefts g c =
 
 pub returns-clause-had : goal.returns-clause-had
 returns-clause-had g c =
-    let grown = mapped_behind count_of c.args.self.now.idle.items c.push_back_reserved.new.self.items _ c.push_back_reserved.ensures.items in
+    let grown = mapped_behind lease_count c.args.self.now.idle.items c.push_back_reserved.new.self.items _ c.push_back_reserved.ensures.items in
     grown

@@ -1,5 +1,5 @@
 use Rattle.std.proofs.Common.{map, refl, ap, rules}
-use Rattle.pgw_pool.specs.Views.{session_view, count_of}
+use Rattle.pgw_pool.specs.Views.{session_view, lease_count}
 use Rattle.pgw_pool.proofs.HistoryLaws.{lends_first}
 use Rattle.pgw_pool.proofs.LeaseCounts.{lends_counted}
 use Rattle.pgw_pool.proofs.pool.Pool.lend.Goals as goal
@@ -18,9 +18,9 @@ returns-in-Some-clause-lent g c = record {
 }
 
 pub returns-in-Some-clause-had : goal.returns-in-Some-clause-had
-returns-in-Some-clause-had g c = (count_of c.in-Some.session, ap (map count_of) c.in-Some.ensures.items, c.saturating_add-leases.ensures)
+returns-in-Some-clause-had g c = (lease_count c.in-Some.session, ap (map lease_count) c.in-Some.ensures.items, c.saturating_add-leases.ensures)
 
 pub returns-in-Some-clause-all_counted : goal.returns-in-Some-clause-all_counted
 returns-in-Some-clause-all_counted g c = λ hs are.
-    lends_counted hs (map count_of c.args.self.now.idle.items) (map count_of c.pop_front.new.self.items) c.saturating_add-leases.result
-    (count_of c.in-Some.session, ap (map count_of) c.in-Some.ensures.items, c.saturating_add-leases.ensures) are
+    lends_counted hs (map lease_count c.args.self.now.idle.items) (map lease_count c.pop_front.new.self.items) c.saturating_add-leases.result
+    (lease_count c.in-Some.session, ap (map lease_count) c.in-Some.ensures.items, c.saturating_add-leases.ensures) are

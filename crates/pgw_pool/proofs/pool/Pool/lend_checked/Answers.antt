@@ -1,5 +1,5 @@
 use Rattle.std.proofs.Common.{map, refl, ap, rules}
-use Rattle.pgw_pool.specs.Views.{view_of, left_in, session_view, session_left, count_of}
+use Rattle.pgw_pool.specs.Views.{view_of, left_in, session_view, session_left, lease_count}
 use Rattle.pgw_pool.specs.declared.checking.CheckError.TheVariants as refusal
 use Rattle.pgw_pool.proofs.CheckLaws.{checks_first, lends_checked, stay_checked}
 use Rattle.pgw_pool.proofs.LeaseCounts.{lends_fit_counted, stay_counted}
@@ -92,17 +92,17 @@ returns-in-Err-clause-stay g c = λ hs are.
     (search rules, (last, checks), c.saturating_add-self.ensures) are
 
 pub returns-in-Ok-clause-had : goal.returns-in-Ok-clause-had
-returns-in-Ok-clause-had g c = (count_of c.in-Some.session, ap (map count_of) c.in-Some.ensures.items, c.saturating_add-leases.ensures)
+returns-in-Ok-clause-had g c = (lease_count c.in-Some.session, ap (map lease_count) c.in-Some.ensures.items, c.saturating_add-leases.ensures)
 
 pub returns-in-Ok-clause-all_counted : goal.returns-in-Ok-clause-all_counted
 returns-in-Ok-clause-all_counted g c = λ hs are.
-    lends_fit_counted hs (map count_of c.args.self.now.idle.items) (map count_of c.pop_front.new.self.items) c.saturating_add-leases.result
-    (count_of c.in-Some.session, ap (map count_of) c.in-Some.ensures.items, c.saturating_add-leases.ensures) are
+    lends_fit_counted hs (map lease_count c.args.self.now.idle.items) (map lease_count c.pop_front.new.self.items) c.saturating_add-leases.result
+    (lease_count c.in-Some.session, ap (map lease_count) c.in-Some.ensures.items, c.saturating_add-leases.ensures) are
 
 pub returns-in-Err-clause-leaves : goal.returns-in-Err-clause-leaves
-returns-in-Err-clause-leaves g c = (count_of c.in-Some.session, ap (map count_of) c.in-Some.ensures.items)
+returns-in-Err-clause-leaves g c = (lease_count c.in-Some.session, ap (map lease_count) c.in-Some.ensures.items)
 
 pub returns-in-Err-clause-stay_counted : goal.returns-in-Err-clause-stay_counted
 returns-in-Err-clause-stay_counted g c = λ hs are.
-    stay_counted (refusal.Unfit c.in-Err.why) hs (map count_of c.args.self.now.idle.items) (map count_of c.pop_front.new.self.items)
-    (count_of c.in-Some.session, ap (map count_of) c.in-Some.ensures.items) are
+    stay_counted (refusal.Unfit c.in-Err.why) hs (map lease_count c.args.self.now.idle.items) (map lease_count c.pop_front.new.self.items)
+    (lease_count c.in-Some.session, ap (map lease_count) c.in-Some.ensures.items) are

@@ -1,5 +1,5 @@
 use Rattle.std.proofs.Common.{map}
-use Rattle.pgw_pool.specs.Views.{view_of, session_view, count_of}
+use Rattle.pgw_pool.specs.Views.{view_of, session_view, lease_count}
 use Rattle.pgw_pool.proofs.SpareLaws.{idle_joins}
 use Rattle.pgw_pool.proofs.LeaseCounts.{one_joins}
 use Rattle.pgw_pool.proofs.pool.Pool.put.Goals as goal
@@ -18,8 +18,8 @@ returns-else-number-eq0-clause-stands g c = λ hs h are idle own.
 
 pub returns-then-number-eq0-clause-all_counted : goal.returns-then-number-eq0-clause-all_counted
 returns-then-number-eq0-clause-all_counted g c = λ hs h are is.
-    one_joins hs h (map count_of c.args.self.now.idle.items) (map count_of c.keep.new.self.idle.items) c.args.spare.leases c.keep.ensures.had are is
+    one_joins hs h (map lease_count c.args.self.now.idle.items) (map lease_count c.keep.new.self.idle.items) c.args.spare.leases c.keep.ensures.had are is
 
 pub returns-else-number-eq0-clause-all_counted : goal.returns-else-number-eq0-clause-all_counted
 returns-else-number-eq0-clause-all_counted g c = λ hs h are is.
-    one_joins hs h (map count_of c.args.self.now.idle.items) (map count_of c.keep-else-number-eq0.new.self.idle.items) c.args.spare.leases c.keep-else-number-eq0.ensures.had are is
+    one_joins hs h (map lease_count c.args.self.now.idle.items) (map lease_count c.keep-else-number-eq0.new.self.idle.items) c.args.spare.leases c.keep-else-number-eq0.ensures.had are is

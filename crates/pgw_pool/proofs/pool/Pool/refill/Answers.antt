@@ -1,6 +1,6 @@
 use Rattle.std.proofs.Common.{map, refl}
 use Rattle.pgw_pool.specs.Histories.{new_history}
-use Rattle.pgw_pool.specs.Views.{view_of, session_view, count_of}
+use Rattle.pgw_pool.specs.Views.{view_of, session_view, lease_count}
 use Rattle.pgw_pool.proofs.HistoryLaws.{idle_one_more}
 use Rattle.pgw_pool.proofs.LeaseCounts.{one_joins}
 use Rattle.pgw_pool.proofs.pool.Pool.refill.Goals as goal
@@ -32,4 +32,4 @@ returns-in-Ok-clause-foretold g c = λ t.
 
 pub returns-in-Ok-clause-all_counted : goal.returns-in-Ok-clause-all_counted
 returns-in-Ok-clause-all_counted g c = λ hs are.
-    one_joins hs (new_history c.args.config.now c.args.nonce) (map count_of c.args.self.now.idle.items) (map count_of c.keep.new.self.idle.items) 0 c.keep.ensures.had are refl
+    one_joins hs (new_history c.args.config.now c.args.nonce) (map lease_count c.args.self.now.idle.items) (map lease_count c.keep.new.self.idle.items) 0 c.keep.ensures.had are refl

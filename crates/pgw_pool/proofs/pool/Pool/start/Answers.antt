@@ -1,6 +1,6 @@
 use Rattle.std.proofs.Common.{◌≡◌, List, [], length, get_or, map, replicate, arith, inr, refl, ◌∙◌, ap, subst}
 use Rattle.pgw_pool.specs.Histories.{AreIdle}
-use Rattle.pgw_pool.specs.Views.{view_of, left_in, session_view, session_left, count_of}
+use Rattle.pgw_pool.specs.Views.{view_of, left_in, session_view, session_left, lease_count}
 use Rattle.pgw_pool.specs.Starting.{dials, new_histories, ConnectAll, ConnectForetold}
 use Rattle.pgw_pool.proofs.HistoryLaws.{mapped_behind}
 use Rattle.pgw_pool.proofs.LeaseCounts.{new_counted, one_more_new}
@@ -15,7 +15,7 @@ loop-nonce-init g c =
       count = c.in-Ok.ensures.len;
       room = c.in-Ok.ensures.exact;
       later = (omega arith);
-      had = ap (map count_of) c.in-Ok.ensures.items;
+      had = ap (map lease_count) c.in-Ok.ensures.items;
       idle = idle_first c.args.config.now c.args.nonces.now _ none;
       connected = connected_first c.args.config.now c.args.limit (dials (g.D.Dialer.tape d) (g.D.Dialer.offers d) (g.D.Dialer.faults d)) c.args.nonces.now _ none;
       foretold = λ t. foretold_first c.args.config.now c.args.limit (dials (g.D.Dialer.tape d) (g.D.Dialer.offers d) (g.D.Dialer.faults d)) c.args.nonces.now _ _ (ap (map (session_left g.L.Link.left)) c.in-Ok.ensures.items) none;
@@ -35,12 +35,12 @@ loop-nonce-preserved g c =
     let before = c.loop-nonce.idle.items in
     let grown = mapped_behind S before c.push_back_reserved.new.self.items _ c.push_back_reserved.ensures.items in
     let lefts_grown = mapped_behind T before c.push_back_reserved.new.self.items _ c.push_back_reserved.ensures.items in
-    let counts_grown = mapped_behind count_of before c.push_back_reserved.new.self.items _ c.push_back_reserved.ensures.items in
+    let counts_grown = mapped_behind lease_count before c.push_back_reserved.new.self.items _ c.push_back_reserved.ensures.items in
     record {
       count = (let len = c.push_back_reserved.ensures.len in let count = i.count in omega (arith, len, count));
       room = c.push_back_reserved.ensures.capacity ∙ i.room;
       later = (let l = i.later in let m = c.in-Ok-log_in.ensures.cause.later in omega (arith, l, m));
-      had = one_more_new c.args.nonces.now c.loop-nonce.nonce-index (map count_of before) (map count_of c.push_back_reserved.new.self.items) c.loop-nonce-test.true counts_grown i.had;
+      had = one_more_new c.args.nonces.now c.loop-nonce.nonce-index (map lease_count before) (map lease_count c.push_back_reserved.new.self.items) c.loop-nonce-test.true counts_grown i.had;
       idle = idle_next c.args.config.now c.args.nonces.now c.loop-nonce.nonce-index (get_or c.args.nonces.now c.loop-nonce.nonce-index []) (map S c.loop-nonce.idle.items) (map S c.push_back_reserved.new.self.items) (V client) c.loop-nonce-test.true refl grown i.idle c.in-Ok-log_in.ensures.idle;
       connected = connected_next c.args.config.now c.args.limit c.args.nonces.now c.loop-nonce.nonce-index (get_or c.args.nonces.now c.loop-nonce.nonce-index [])
           (dials (g.D.Dialer.tape first) (g.D.Dialer.offers first) (g.D.Dialer.faults first)) (dials (g.D.Dialer.tape mid) (g.D.Dialer.offers mid) (g.D.Dialer.faults mid)) (dials (g.D.Dialer.tape now) (g.D.Dialer.offers now) (g.D.Dialer.faults now))
@@ -96,9 +96,9 @@ returns-in-Err-log_in-clause-cause g c = caused_before _ _ _ c.in-Err-log_in.err
 
 pub returns-clause-had : goal.returns-clause-had
 returns-clause-had g c =
-    subst (λ (ns : List (List _)). map count_of c.loop-nonce.idle.items ≡ replicate (length ns) 0) (all_taken c.args.nonces.now c.loop-nonce.nonce-index c.loop-nonce-test.false) c.loop-nonce.invariant.had
+    subst (λ (ns : List (List _)). map lease_count c.loop-nonce.idle.items ≡ replicate (length ns) 0) (all_taken c.args.nonces.now c.loop-nonce.nonce-index c.loop-nonce-test.false) c.loop-nonce.invariant.had
 
 pub returns-clause-all_counted : goal.returns-clause-all_counted
 returns-clause-all_counted g c =
-    let had = subst (λ (ns : List (List _)). map count_of c.loop-nonce.idle.items ≡ replicate (length ns) 0) (all_taken c.args.nonces.now c.loop-nonce.nonce-index c.loop-nonce-test.false) c.loop-nonce.invariant.had in
+    let had = subst (λ (ns : List (List _)). map lease_count c.loop-nonce.idle.items ≡ replicate (length ns) 0) (all_taken c.args.nonces.now c.loop-nonce.nonce-index c.loop-nonce-test.false) c.loop-nonce.invariant.had in
     had ∙ new_counted c.args.config.now c.args.nonces.now

@@ -7,7 +7,7 @@ use Rattle.std.specs.BTreeMap.{is_at}
 use Rattle.std.specs.Map.{lookup}
 use Rattle.std.specs.FinMap as map
 use Rattle.pgw_registry.specs.Pairs.{pair_cmp}
-use Rattle.pgw_registry.specs.Nested.{both_flat, at_either, is_other}
+use Rattle.pgw_registry.specs.Nested.{both_flat, at_either, is_other_key}
 use Rattle.pgw_registry.proofs.Maps.{written_entries, kept}
 use Rattle.pgw_registry.proofs.Nesting.{pair_cmp_total, pairs_alone, at_both, first_put, other_put, others_kept, on_ok_from, on_err_from}
 use Rattle.pgw_registry.proofs.pairs.Pairs.insert.Goals as goal
@@ -19,7 +19,7 @@ returns-then-has_other-clause-ok c =
     let firsts = c.self.inside.firsts.entries in
     let old = c.self.inside.numbers.entries in
     let new = c.add_to.new.numbers.entries in
-    let other : is_other (lookup (is_at (int_cmp number)) firsts) c.args.key.items ≡ true = ap (is_other (lookup (is_at (int_cmp number)) firsts)) (sym c.as_slice.ensures.value) ∙ sym c.has_other.ensures ∙ c.if-has_other.true in
+    let other : is_other_key (lookup (is_at (int_cmp number)) firsts) c.args.key.items ≡ true = ap (is_other_key (lookup (is_at (int_cmp number)) firsts)) (sym c.as_slice.ensures.value) ∙ sym c.has_other.ensures ∙ c.if-has_other.true in
     on_ok_from c.add_to.result
     (λ written. written_entries pair_cmp_total pairs_alone (both_flat firsts old) (both_flat firsts new) (c.args.pid, c.args.key.items) c.args.handle
     (λ q. at_both firsts new c.self.invariant.0 c.add_to.ensures.ordered q.0 q.1
@@ -50,7 +50,7 @@ returns-else-has_other-clause-ok c =
     let old = c.self.inside.firsts.entries in
     let new = c.put_first.new.firsts.entries in
     let numbers = c.self.inside.numbers.entries in
-    let own : is_other (lookup (is_at (int_cmp number)) old) c.args.key.items ≡ false = ap (is_other (lookup (is_at (int_cmp number)) old)) (sym c.as_slice.ensures.value) ∙ sym c.has_other.ensures ∙ c.if-has_other.false in
+    let own : is_other_key (lookup (is_at (int_cmp number)) old) c.args.key.items ≡ false = ap (is_other_key (lookup (is_at (int_cmp number)) old)) (sym c.as_slice.ensures.value) ∙ sym c.has_other.ensures ∙ c.if-has_other.false in
     on_ok_from c.put_first.result
     (λ written. written_entries pair_cmp_total pairs_alone (both_flat old numbers) (both_flat new numbers) (c.args.pid, c.args.key.items) c.args.handle
     (λ q. at_both new numbers c.put_first.ensures.ordered c.self.invariant.1 q.0 q.1

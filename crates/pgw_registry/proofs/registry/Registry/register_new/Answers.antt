@@ -4,7 +4,7 @@ use mir.Syntax.{w32}
 use mir.Val.{to_z, of_z}
 use Rattle.std.specs.FinMap as map
 use Rattle.pgw_registry.specs.Sequential.{Book}
-use Rattle.pgw_registry.specs.Registry.{FewHolders, NamesPairs, pair}
+use Rattle.pgw_registry.specs.Registry.{FewHolders, NamesPairs, cancel_key_pair}
 use Rattle.pgw_registry.proofs.Holders.{few_written}
 use Rattle.pgw_registry.proofs.Names.{names_spare, names_more, name_is, put_back}
 use Rattle.pgw_registry.proofs.registry.Registry.register_new.Goals as goal
@@ -31,7 +31,7 @@ invariant_of-self-in-Ok c =
       omega arith,
       few_written c.self.inside.handles c.insert-3.new.self (c.self.inside.handles_made + 1) c.self.inside.events _ c.in-Ok.ensures.ok c.self.invariant.2 (omega arith) (omega arith),
       names_more c.self.inside.pairs c.insert-2.new.self c.insert.new.self c.self.inside.handles_made n c.args.copy.items c.in_ok-insert-2.ensures.ok
-          (name_is c.self.inside.names c.insert.new.self c.self.inside.handles_made _ c.in_ok-insert.ensures.ok ∙ (λ i. Some (pair n (key i)))) spare,
+          (name_is c.self.inside.names c.insert.new.self c.self.inside.handles_made _ c.in_ok-insert.ensures.ok ∙ (λ i. Some (cancel_key_pair n (key i)))) spare,
     )
 
 pub invariant_of-self-in-Err : goal.invariant_of-self-in-Err

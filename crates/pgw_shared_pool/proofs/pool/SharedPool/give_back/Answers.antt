@@ -1,10 +1,10 @@
 use Rattle.std.proofs.Common.{ℕ, List, [], ◌∷◌, subst, sym}
 use Rattle.pgw_pool.specs.declared.returned.Returned.TheVariants.{Kept, Dropped}
-use Rattle.pgw_pool.specs.Histories.{View, IsIdle}
+use Rattle.pgw_pool.specs.Histories.{View, IsIdleInPool}
 use Rattle.pgw_pool.specs.Returning.{GivesBack}
 use Rattle.pgw_pool.specs.Spares.{spare_view}
 use Rattle.pgw_pool.specs.Stocks.{Out}
-use Rattle.pgw_pool.specs.Views.{number_of, lease_view}
+use Rattle.pgw_pool.specs.Views.{lease_number, lease_view}
 use Rattle.pgw_shared_pool.proofs.ShelfLaws.{comes_back}
 use Rattle.pgw_shared_pool.proofs.pool.SharedPool.give_back.Goals as goal
 
@@ -28,5 +28,5 @@ invariant_of-give_back g c =
     let tape = g.L.Link.tape in
     let faults = g.L.Link.faults in
     let v = spare_view tape faults c.in-Ok.spare in
-    let back = comes_back (number_of c.lease.inside.lease) (lease_view tape faults c.lease.inside.lease) v c.in-Ok.ensures.gives_back c.lease.invariant in
-    (back.0, subst (λ (n : ℕ). IsIdle n back.0 v) (sym c.in-Ok.ensures.number) back.1)
+    let back = comes_back (lease_number c.lease.inside.lease) (lease_view tape faults c.lease.inside.lease) v c.in-Ok.ensures.gives_back c.lease.invariant in
+    (back.0, subst (λ (n : ℕ). IsIdleInPool n back.0 v) (sym c.in-Ok.ensures.number) back.1)
