@@ -9,7 +9,7 @@
 # plant: wrong bodies that a crate's contracts let through (make plant CRATE=pgw_wire).
 SHELL = /bin/bash
 PROGRAM = crates/hothummei/out/hothummei
-VISIT = crates/hothummei_visit/out/hothummei_visit
+VISIT = crates/example_visit/out/example_visit
 RELAY = crates/example_relay/out/example_relay
 CLIENT = crates/example_client/out/example_client
 POOL = crates/example_pool/out/example_pool
@@ -61,7 +61,7 @@ program: needs-rt
 	@(cd crates/hothummei && rt run -- --version > ../../$(LOG) 2>&1) || { echo "make program: the build failed, see $(LOG)" >&2; exit 1; }
 
 visit: needs-rt
-	@(cd crates/hothummei_visit && rt run >> ../../$(LOG) 2>&1) || { echo "make visit: the build failed, see $(LOG)" >&2; exit 1; }
+	@(cd crates/example_visit && rt run >> ../../$(LOG) 2>&1) || { echo "make visit: the build failed, see $(LOG)" >&2; exit 1; }
 
 relay: needs-rt
 	@(cd crates/example_relay && rt run >> ../../$(LOG) 2>&1) || { echo "make relay: the build failed, see $(LOG)" >&2; exit 1; }

@@ -15,7 +15,7 @@ use crate::visit::leave_open;
 use anyhow::{Result, bail};
 use pgw_client::{ClientSocket, Config, SocketDialer, Timeouts};
 use pgw_pool::Pool;
-use pgw_shared_pool::SharedPool;
+use pgw_pool_shared::SharedPool;
 use rand::RngExt;
 use rand::rngs::StdRng;
 use std::alloc::{AllocGlobal, Global};

@@ -3,7 +3,7 @@
 use crate::LIMIT;
 use crate::visit::{patience, visit};
 use pgw_client::{ClientSocket, Config, SocketDialer, Timeouts};
-use pgw_shared_pool::{GivenBack, Refilled, SharedPool};
+use pgw_pool_shared::{GivenBack, Refilled, SharedPool};
 use rand::RngExt;
 use rand::rngs::StdRng;
 use std::alloc::{AllocGlobal, Global};

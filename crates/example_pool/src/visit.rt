@@ -4,7 +4,7 @@ use anyhow::{Context, Result, bail};
 use pgw_client::{
     Answer, ClientSocket, ErrorInfo, ErrorResponse, Listed, PgWireClientResult, Request, Response,
 };
-use pgw_shared_pool::{DropCause, GivenBack, LendRefusal, SharedLease, SharedPool};
+use pgw_pool_shared::{DropCause, GivenBack, LendRefusal, SharedLease, SharedPool};
 use std::alloc::Global;
 use std::sync::Wait;
 use std::time::{Clock, Duration};

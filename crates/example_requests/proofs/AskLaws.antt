@@ -14,26 +14,26 @@ use Rattle.pgw_session.specs.declared.types.Answer.{Answer}
 use Rattle.pgw_session.specs.declared.types.Answer.TheVariants as answer
 use Rattle.pgw_handlers.specs.Client.{Client}
 use Rattle.pgw_handlers.specs.Handling.{HasCause, IsCaused}
-use Rattle.pgw_connection.specs.declared.gathered.Gathered.{Gathered}
-use Rattle.pgw_connection.specs.Line.{Line, MovesLine, IsFlushed, Pause, Reasons}
-use Rattle.pgw_calls.specs.Calls.{Comes}
-use Rattle.pgw_connection.specs.ExtendedSteps.{gathered_as}
-use Rattle.pgw_connection.specs.Lent.{all_responses}
-use Rattle.pgw_connection.proofs.CallLaws.{moved_on}
-use Rattle.pgw_calls.specs.Extended.{call_answer as given_by}
+use Rattle.pgw_client_calls.specs.declared.gathered.Gathered.{Gathered}
+use Rattle.pgw_client_calls.specs.Line.{Line, MovesLine, IsFlushed, Pause, Reasons}
+use Rattle.pgw_client_laws.specs.Calls.{Comes}
+use Rattle.pgw_client_calls.specs.ExtendedSteps.{gathered_as}
+use Rattle.pgw_client_calls.specs.Lent.{all_responses}
+use Rattle.pgw_client_calls.proofs.CallLaws.{moved_on}
+use Rattle.pgw_client_laws.specs.Extended.{call_answer as given_by}
 use Rattle.pgw_handlers.specs.Simple.{HeardInQuery, simple_query}
-use Rattle.pgw_default_handlers.specs.declared.simple.DefaultSimpleQueryHandler.{DefaultSimpleQueryHandler as SimpleHandler}
-use Rattle.pgw_default_handlers.specs.declared.extended.DefaultExtendedQueryHandler.{DefaultExtendedQueryHandler as ExtendedHandler}
-use Rattle.pgw_default_handlers.specs.Simple.{QueryMeans}
-use Rattle.pgw_default_handlers.specs.Extended.{ExtendedMeans}
-use Rattle.pgw_connection.specs.Talk.{CallEnd, OpensTalk as TalkAsked, passes}
-use Rattle.pgw_connection.specs.Calls.{LineCall}
-use Rattle.pgw_connection.specs.Extended.{Finish, Requested, in_lists}
-use Rattle.pgw_connection.specs.ExtendedSteps.{MakesCall}
-use Rattle.pgw_calls.specs.Calls.{SimpleCallEnds}
-use Rattle.pgw_calls.specs.Extended.{EndsExtendedCall, IsExtended}
-use Rattle.pgw_calls.specs.Turns.{IsAnswered}
-use Rattle.pgw_calls.specs.Stands.{Made, made_call, StandsForCalls, OneMore, StandsBehind}
+use Rattle.pgw_handlers_default.specs.declared.simple.DefaultSimpleQueryHandler.{DefaultSimpleQueryHandler as SimpleHandler}
+use Rattle.pgw_handlers_default.specs.declared.extended.DefaultExtendedQueryHandler.{DefaultExtendedQueryHandler as ExtendedHandler}
+use Rattle.pgw_handlers_default.specs.Simple.{QueryMeans}
+use Rattle.pgw_handlers_default.specs.Extended.{ExtendedMeans}
+use Rattle.pgw_client_calls.specs.Talk.{CallEnd, OpensTalk as TalkAsked, passes}
+use Rattle.pgw_client_calls.specs.Calls.{LineCall}
+use Rattle.pgw_client_calls.specs.Extended.{Finish, Requested, in_lists}
+use Rattle.pgw_client_calls.specs.ExtendedSteps.{MakesCall}
+use Rattle.pgw_client_laws.specs.Calls.{SimpleCallEnds}
+use Rattle.pgw_client_laws.specs.Extended.{EndsExtendedCall, IsExtended}
+use Rattle.pgw_client_laws.specs.Turns.{IsAnswered}
+use Rattle.pgw_client_laws.specs.Stands.{Made, made_call, StandsForCalls, OneMore, StandsBehind}
 use Rattle.example_requests.specs.declared.asking.Question.{Question}
 use Rattle.example_requests.specs.declared.asking.Question.TheVariants as question
 use Rattle.example_requests.specs.declared.asking.Reply.{Reply}

@@ -8,10 +8,10 @@ use Rattle.pgw_session.specs.declared.types.Request.TheVariants as request
 use Rattle.pgw_session.specs.declared.types.Answer.{Answer}
 use Rattle.pgw_session.specs.declared.types.Answer.TheVariants as answer
 use Rattle.pgw_handlers.specs.Client.{Client}
-use Rattle.pgw_connection.specs.Line.{Line, MovesLine, Pause}
-use Rattle.pgw_calls.specs.Calls.{Comes}
-use Rattle.pgw_calls.specs.Turns.{IsAnswered}
-use Rattle.pgw_calls.specs.Stands.{Made, StandsForCalls, StandsBehind}
+use Rattle.pgw_client_calls.specs.Line.{Line, MovesLine, Pause}
+use Rattle.pgw_client_laws.specs.Calls.{Comes}
+use Rattle.pgw_client_laws.specs.Turns.{IsAnswered}
+use Rattle.pgw_client_laws.specs.Stands.{Made, StandsForCalls, StandsBehind}
 use Rattle.example_requests.specs.declared.asking.Question.{Question}
 use Rattle.example_requests.specs.declared.asking.Question.TheVariants as question
 use Rattle.example_requests.specs.declared.asking.Reply.{Reply}

@@ -1,20 +1,20 @@
 //! Questions, asked one after the other.
 ghost use Rattle.std.specs.Prelude.{◌≡◌, [], ◌∷◌, Err, IfErr, IfOk, OnOk, false, true};
 ghost use Rattle.pgw_backend.specs.declared.client_error.PgWireClientError.TheVariants as failure;
-ghost use Rattle.pgw_connection.specs.State.{line_of, known_by, is_broken};
+ghost use Rattle.pgw_client_calls.specs.State.{line_of, known_by, is_broken};
 ghost use Rattle.example_requests.specs.declared.asking.Question.TheVariants as question;
 ghost use Rattle.pgw_handlers.specs.Handling.{HasCause};
 ghost use Rattle.example_requests.specs.Asking.{AddsQuestions, FailsQuestion, StopsQuestions, error_reply};
 
-use pgw_calls::laws::{
+use pgw_client_laws::laws::{
     extended_queries_are_segments, extended_queries_follow_one_another,
     simple_queries_are_segments, simple_queries_follow_one_another,
 };
 use pgw_client::{
     DataRows, ErrorResponse, Link, Listed, PgWireClientError, PgWireClientResult, Response, Text,
 };
-use pgw_connection::PgWireClient;
-use pgw_default_handlers::{DefaultExtendedQueryHandler, DefaultSimpleQueryHandler};
+use pgw_client_calls::PgWireClient;
+use pgw_handlers_default::{DefaultExtendedQueryHandler, DefaultSimpleQueryHandler};
 use std::alloc::Global;
 
 /// What a server is asked.

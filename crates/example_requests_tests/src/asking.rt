@@ -5,8 +5,8 @@ use pgw_client::{
     Config, Listed, MemoryDialer, MemoryLink, Octets, OutOfMemory, PgWireClientError,
     PgWireClientResult, Text,
 };
-use pgw_connection::PgWireClient;
-use pgw_default_handlers::DefaultStartupHandler;
+use pgw_client_calls::PgWireClient;
+use pgw_handlers_default::DefaultStartupHandler;
 use std::alloc::Global;
 use std::process::Abort;
 use std::test::Fail;

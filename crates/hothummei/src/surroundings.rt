@@ -3,8 +3,8 @@
 use crate::credentials::look_up;
 use pgw_backend::client_error::PgWireClientError;
 use pgw_config::config::Config;
-use pgw_environment::places::places_of;
-use pgw_environment::variables::Variables;
+use pgw_config_environment::places::places_of;
+use pgw_config_environment::variables::Variables;
 use pgw_types::listed::Listed;
 use pgw_types::memory::OutOfMemory;
 use pgw_types::text::Text;

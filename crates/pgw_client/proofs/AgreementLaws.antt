@@ -7,7 +7,7 @@ use Rattle.pgw_backend.specs.declared.client_error.PgWireClientError.{PgWireClie
 use Rattle.pgw_backend.specs.declared.client_error.PgWireClientError.TheVariants as client
 use Rattle.pgw_link.specs.Tape.{Tape}
 use Rattle.pgw_link.specs.Foresight.{TapeEnds, Foreseen}
-use Rattle.pgw_course.specs.Course.{Over, CourseWaits, sent_of}
+use Rattle.pgw_machine.specs.Course.{Over, CourseWaits, sent_of}
 use Rattle.pgw_session.specs.declared.types.SessionReport.{SessionReport}
 use Rattle.pgw_session.specs.Input.{Input}
 use Rattle.pgw_session.specs.Machine.{error_of}

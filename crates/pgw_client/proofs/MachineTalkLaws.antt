@@ -7,7 +7,7 @@ use Rattle.pgw_frontend.specs.Frontend.{encoding, encodings, both}
 use Rattle.pgw_backend.specs.declared.client_error.PgWireClientError.{PgWireClientError as ClientError}
 use Rattle.pgw_backend.specs.declared.client_error.PgWireClientError.TheVariants as client
 use Rattle.pgw_link.specs.Tape.{Tape}
-use Rattle.pgw_course.specs.Course.{Front, More, Bad, Whole, Move, On, Ends, Course, Waits, Over, Rules, onto, eat, feed, run, sent_of, map_course}
+use Rattle.pgw_machine.specs.Course.{Front, More, Bad, Whole, Move, On, Ends, Course, Waits, Over, Rules, onto, eat, feed, run, sent_of, map_course}
 use Rattle.pgw_session.specs.declared.types.SessionReport.{SessionReport}
 use Rattle.pgw_session.specs.declared.notes.Notes.{Notes}
 use Rattle.pgw_session.specs.Input.{Input}
@@ -22,12 +22,12 @@ use Rattle.pgw_session.proofs.Events.{clean_heard}
 use Rattle.pgw_session.proofs.Complete.{prefix_split}
 use Rattle.pgw_session.proofs.Sound.{SoundAt, Cause, conversation_sound}
 use Rattle.pgw_session.proofs.NotesLaws.{notes_tell}
-use Rattle.pgw_course.specs.Play.{course_behind}
+use Rattle.pgw_machine.specs.Play.{course_behind}
 use Rattle.pgw_dialogue.specs.Machine.{NotesCourse, StartsRun, notes_end, report_at, runs}
 use Rattle.pgw_client.specs.SessionSteps.{Paused, SessionReason, Conversed, LinkSession, Stopping, Reason, memory, unsent, stopped, failed, unread, at_limit, at_end}
 use Rattle.pgw_link.specs.Sending.{Wrote, WroteSome}
 use Rattle.pgw_dialogue.specs.Machine.{talk_end}
-use Rattle.pgw_course.specs.Course.{CourseWaits}
+use Rattle.pgw_machine.specs.Course.{CourseWaits}
 use Rattle.pgw_dialogue.proofs.WireLaws.{memory_or}
 
 cancel : (xs a b : List ℕ) → xs ++ a ≡ xs ++ b → a ≡ b

@@ -8,7 +8,7 @@ use Rattle.pgw_backend.specs.declared.client_error.PgWireClientError.{PgWireClie
 use Rattle.pgw_backend.specs.declared.client_error.PgWireClientError.TheVariants as client
 use Rattle.pgw_link.specs.Tape.{Tape, MovedBy}
 use Rattle.pgw_link.specs.Foresight.{TapeEnds, Foreseen}
-use Rattle.pgw_course.specs.Course.{Waits, Over, sent_of}
+use Rattle.pgw_machine.specs.Course.{Waits, Over, sent_of}
 use Rattle.pgw_session.specs.declared.types.SessionReport.{SessionReport}
 use Rattle.pgw_session.specs.Demands.{refused_config}
 use Rattle.pgw_session.specs.Events.{Event}

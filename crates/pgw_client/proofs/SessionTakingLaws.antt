@@ -4,8 +4,8 @@ use Rattle.std.proofs.lemmas.List.{append-nil, take-append-drop, length-take-le}
 use Rattle.pgw_link.specs.Tape.{Tape}
 use Rattle.pgw_backend.specs.declared.client_error.PgWireClientError.{PgWireClientError as ClientError}
 use Rattle.pgw_backend.specs.declared.client_error.PgWireClientError.TheVariants as client
-use Rattle.pgw_course.specs.Course.{Waits, Over, sent_of}
-use Rattle.pgw_course.proofs.CourseLaws.{sent_grows}
+use Rattle.pgw_machine.specs.Course.{Waits, Over, sent_of}
+use Rattle.pgw_machine.proofs.CourseLaws.{sent_grows}
 use Rattle.pgw_session.specs.declared.notes.Notes.{Notes}
 use Rattle.pgw_session.specs.Input.{Input}
 use Rattle.pgw_session.specs.Machine.{End, error_of, rules_by}
@@ -16,7 +16,7 @@ use Rattle.pgw_dialogue.proofs.WireLaws.{memory_or}
 use Rattle.pgw_dialogue.specs.Machine.{IsWholeEnd, NotesCourse, report_at, runs}
 use Rattle.pgw_client.specs.SessionSteps.{Broke, ClientGoesOn, ClientSettles, memory, stopped}
 use Rattle.pgw_link.specs.Sending.{Wrote, WroteSome}
-use Rattle.pgw_course.specs.Course.{Begins}
+use Rattle.pgw_machine.specs.Course.{Begins}
 use Rattle.pgw_client.specs.SessionSteps as outcomes
 
 -- a message is refused

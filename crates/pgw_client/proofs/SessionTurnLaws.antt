@@ -9,8 +9,8 @@ use Rattle.pgw_link.proofs.LogLaws.{ends_further, ends_on, foreseen_kept, forese
 use Rattle.pgw_backend.specs.Front.{front, More}
 use Rattle.pgw_backend.specs.declared.client_error.PgWireClientError.{PgWireClientError as ClientError}
 use Rattle.pgw_backend.specs.declared.client_error.PgWireClientError.TheVariants as client
-use Rattle.pgw_course.specs.Course.{Waits, run, sent_of}
-use Rattle.pgw_course.proofs.CourseLaws.{run_append, run_more}
+use Rattle.pgw_machine.specs.Course.{Waits, run, sent_of}
+use Rattle.pgw_machine.proofs.CourseLaws.{run_append, run_more}
 use Rattle.pgw_session.specs.declared.notes.Notes.{Notes}
 use Rattle.pgw_session.specs.Input.{Input}
 use Rattle.pgw_session.specs.Machine.{rules_by}
@@ -20,7 +20,7 @@ use Rattle.pgw_dialogue.specs.Wire.{Unless}
 use Rattle.pgw_dialogue.specs.Machine.{NotesCourse, notes_end, runs}
 use Rattle.pgw_client.specs.SessionSteps.{Broke, ClientSettles, SessionCameTo, Reading, Conversed, Paused, FillFails, failed, memory, at_limit, at_end}
 use Rattle.pgw_link.specs.Sending.{ReadsNothing}
-use Rattle.pgw_course.specs.Course.{CourseWaits}
+use Rattle.pgw_machine.specs.Course.{CourseWaits}
 use Rattle.pgw_client.specs.SessionSteps as outcomes
 use Rattle.pgw_dialogue.proofs.MachineLaws.{begins_at}
 use Rattle.pgw_dialogue.proofs.WireLaws.{memory_or}

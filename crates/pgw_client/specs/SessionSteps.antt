@@ -6,7 +6,7 @@ use Rattle.pgw_link.specs.Tape.{Tape, Took, LinkFails}
 use Rattle.pgw_link.specs.Sending.{ReadsNothing}
 use Rattle.pgw_backend.specs.declared.client_error.PgWireClientError.{PgWireClientError as ClientError}
 use Rattle.pgw_backend.specs.declared.client_error.PgWireClientError.TheVariants as client
-use Rattle.pgw_course.specs.Course.{Begins, Course, Waits, CourseWaits, Over, sent_of}
+use Rattle.pgw_machine.specs.Course.{Begins, Course, Waits, CourseWaits, Over, sent_of}
 use Rattle.pgw_session.specs.declared.types.SessionReport.{SessionReport}
 use Rattle.pgw_session.specs.declared.notes.Notes.{Notes}
 use Rattle.pgw_session.specs.Input.{Input}

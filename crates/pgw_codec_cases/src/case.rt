@@ -4,7 +4,7 @@ use crate::answer::answer;
 use anyhow::{Result, bail};
 use pgw_backend::backend::PgWireBackendMessage;
 use pgw_frontend::frontend::PgWireFrontendMessage;
-use pgw_opening::cancel::CancelRequest;
+use pgw_control::cancel::CancelRequest;
 use pgw_types::context::{DecodeContext, ProtocolVersion};
 use std::alloc::Global;
 

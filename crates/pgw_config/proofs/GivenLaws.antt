@@ -8,8 +8,8 @@ use Rattle.pgw_types.specs.Numbers.{number_in}
 use Rattle.pgw_types.specs.declared.context.ProtocolVersion.TheVariants.{PROTOCOL3_0}
 use Rattle.pgw_types.specs.declared.config_error.ConfigError.{ConfigError}
 use Rattle.pgw_types.specs.Marks.{pieces_at}
-use Rattle.pgw_conninfo.specs.declared.part.Part.{Part}
-use Rattle.pgw_conninfo.specs.declared.part.Part.TheVariants as part
+use Rattle.pgw_config_text.specs.declared.part.Part.{Part}
+use Rattle.pgw_config_text.specs.declared.part.Part.TheVariants as part
 use Rattle.pgw_config.specs.Choices.{with_value, ssl_mode_of, ssl_negotiation_of, target_of_word, channel_binding_of, load_balance_of}
 use Rattle.pgw_config.specs.Config.{no_config, host_named}
 use Rattle.pgw_config.specs.HostAddr.{addr_of}

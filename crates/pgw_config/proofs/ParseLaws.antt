@@ -2,10 +2,10 @@
 use Rattle.std.proofs.Common.{◌≡◌, ℕ, List, Option, Some, None, Result, Ok, Err, sym, ap, subst, ◌∙◌}
 use Rattle.std.specs.Prelude.{IfOk}
 use Rattle.pgw_types.specs.declared.config_error.ConfigError.{ConfigError}
-use Rattle.pgw_conninfo.specs.declared.part.Cut.{Cut}
-use Rattle.pgw_conninfo.specs.declared.part.Fault.{Fault}
-use Rattle.pgw_conninfo.specs.declared.part.Fault.TheVariants as fault
-use Rattle.pgw_conninfo.specs.Text.{HasCut}
+use Rattle.pgw_config_text.specs.declared.part.Cut.{Cut}
+use Rattle.pgw_config_text.specs.declared.part.Fault.{Fault}
+use Rattle.pgw_config_text.specs.declared.part.Fault.TheVariants as fault
+use Rattle.pgw_config_text.specs.Text.{HasCut}
 use Rattle.pgw_config.specs.Answers.{IsConfigAnswer}
 use Rattle.pgw_config.specs.Config.{no_config}
 use Rattle.pgw_config.specs.Parse.{parse_result, outcome_of, HasOutcome, IsParsed}

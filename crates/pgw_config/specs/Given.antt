@@ -4,8 +4,8 @@ use Rattle.std.specs.Prelude.{◌≡◌, ℕ, zero, suc, ℤ, pos, negsuc, List,
 use Rattle.std.specs.List.{filter_map, flat_map}
 use Rattle.pgw_types.specs.Numbers.{number_in}
 use Rattle.pgw_types.specs.Marks.{pieces_at}
-use Rattle.pgw_conninfo.specs.declared.part.Part.{Part}
-use Rattle.pgw_conninfo.specs.declared.part.Part.TheVariants as part
+use Rattle.pgw_config_text.specs.declared.part.Part.{Part}
+use Rattle.pgw_config_text.specs.declared.part.Part.TheVariants as part
 use Rattle.pgw_config.specs.Choices.{ssl_mode_of, ssl_negotiation_of, target_of_word, channel_binding_of, load_balance_of}
 use Rattle.pgw_config.specs.Config.{host_named}
 use Rattle.pgw_config.specs.HostAddr.{addr_of}

@@ -2,10 +2,10 @@
 use Rattle.std.specs.Prelude.{◌≡◌, ◌≢◌, ℕ, List, codes, Option, Some, None, Result, Ok, Err}
 use Rattle.pgw_types.specs.declared.config_error.ConfigError.{ConfigError}
 use Rattle.pgw_types.specs.declared.config_error.ConfigError.TheVariants.{InvalidConfig, InvalidUtf8ConfigValue, OutOfMemory}
-use Rattle.pgw_conninfo.specs.declared.part.Cut.{Cut}
-use Rattle.pgw_conninfo.specs.declared.part.Fault.{Fault}
-use Rattle.pgw_conninfo.specs.declared.part.Fault.TheVariants as fault
-use Rattle.pgw_conninfo.specs.Text.{HasCut}
+use Rattle.pgw_config_text.specs.declared.part.Cut.{Cut}
+use Rattle.pgw_config_text.specs.declared.part.Fault.{Fault}
+use Rattle.pgw_config_text.specs.declared.part.Fault.TheVariants as fault
+use Rattle.pgw_config_text.specs.Text.{HasCut}
 use Rattle.pgw_config.specs.Config.{no_config}
 use Rattle.pgw_config.specs.Settings.{next_applied, all_applied}
 use Rattle.pgw_config.specs.declared.config.Config.{Config}

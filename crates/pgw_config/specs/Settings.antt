@@ -12,8 +12,8 @@ use Rattle.pgw_config.specs.declared.keys.Key.{Key}
 use Rattle.pgw_config.specs.declared.keys.Key.TheVariants as key
 use Rattle.pgw_config.specs.declared.keys.TextKey.{TextKey}
 use Rattle.pgw_config.specs.declared.keys.TextKey.TheVariants as text
-use Rattle.pgw_conninfo.specs.declared.part.Part.{Part}
-use Rattle.pgw_conninfo.specs.declared.part.Part.TheVariants as part
+use Rattle.pgw_config_text.specs.declared.part.Part.{Part}
+use Rattle.pgw_config_text.specs.declared.part.Part.TheVariants as part
 
 -- a later text replaces an earlier one
 abbrev pub with_text : Config → TextKey → List ℕ → Config

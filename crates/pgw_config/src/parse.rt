@@ -3,16 +3,16 @@ ghost use Rattle.std.specs.Prelude.{◌≡◌, Result, Err, Some, IfOk};
 ghost use Rattle.pgw_types.specs.declared.config_error.ConfigError.{ConfigError as TheError};
 ghost use Rattle.pgw_config.specs.Answers.{IsConfigAnswer};
 ghost use Rattle.pgw_config.specs.Parse.{parse_result, outcome_of, HasOutcome, IsParsed};
-ghost use Rattle.pgw_conninfo.specs.Text.{HasCut};
-ghost use Rattle.pgw_conninfo.specs.declared.part.Cut.{Cut as TheCut};
+ghost use Rattle.pgw_config_text.specs.Text.{HasCut};
+ghost use Rattle.pgw_config_text.specs.declared.part.Cut.{Cut as TheCut};
 ghost use Rattle.pgw_config.specs.Given.{GivesConfig};
 ghost use Rattle.pgw_config.specs.declared.config.Config.{Config as TheConfig};
 
 use crate::address::invalid;
 use crate::config::Config;
 use crate::settings::apply_all;
-use pgw_conninfo::part::{Cut, Fault};
-use pgw_conninfo::text;
+use pgw_config_text::part::{Cut, Fault};
+use pgw_config_text::text;
 use pgw_types::config_error::{ConfigError, ConfigResult};
 use std::alloc::Global;
 

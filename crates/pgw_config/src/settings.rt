@@ -9,7 +9,7 @@ use crate::config::Config;
 use crate::keys::{Key, TextKey, key_named};
 use crate::lists::{extend, named_host};
 use crate::numbers::count;
-use pgw_conninfo::part::Part;
+use pgw_config_text::part::Part;
 use pgw_types::config_error::{ConfigError, ConfigResult};
 use pgw_types::listed::Duplicate;
 use pgw_types::memory::OutOfMemory;

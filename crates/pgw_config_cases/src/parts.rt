@@ -1,8 +1,8 @@
 //! The parts of a connection text.
 
 use anyhow::Result;
-use pgw_conninfo::part::{Fault, Part};
-use pgw_conninfo::text;
+use pgw_config_text::part::{Fault, Part};
+use pgw_config_text::text;
 use std::alloc::Global;
 
 fn part_shown(alloc: Global, part: &Part) -> Result<String> {

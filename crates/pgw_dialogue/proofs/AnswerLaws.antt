@@ -3,7 +3,7 @@ use Rattle.std.proofs.Common.{◌≡◌, ◌≤◌, ℕ, zero, suc, List, [], �
 use Rattle.pgw_backend.specs.declared.client_error.PgWireClientError.{PgWireClientError as ClientError}
 use Rattle.pgw_backend.specs.declared.client_error.PgWireClientError.TheVariants as client
 use Rattle.pgw_session.specs.Failures.{IsRefused}
-use Rattle.pgw_course.specs.Course.{Waits, Over}
+use Rattle.pgw_machine.specs.Course.{Waits, Over}
 use Rattle.pgw_session.specs.Events.{Event}
 use Rattle.pgw_session.specs.Faults.{IsStartupError}
 use Rattle.pgw_session.specs.Failures.{WaitsAt}

@@ -3,7 +3,7 @@ use Rattle.std.proofs.Common.{◌≡◌, ℕ, List, [], ◌∷◌, ◌++◌, Som
 use Rattle.pgw_types.specs.declared.error.PgWireError.{PgWireError}
 use Rattle.pgw_backend.specs.declared.client_error.PgWireClientError.{PgWireClientError as ClientError}
 use Rattle.pgw_backend.specs.declared.client_error.PgWireClientError.TheVariants as client
-use Rattle.pgw_course.specs.Course.{Waits, Over, onto}
+use Rattle.pgw_machine.specs.Course.{Waits, Over, onto}
 use Rattle.pgw_frontend.specs.Frontend.{encodings}
 use Rattle.pgw_session.specs.declared.notes.Notes.{Notes}
 use Rattle.pgw_session.specs.Demands.{refused_config}

@@ -4,14 +4,14 @@ use Rattle.std.proofs.lemmas.List.{append-nil, take_all, take-append-le, length-
 use Rattle.std.proofs.Math.Seq.{take-append-add}
 use Rattle.pgw_backend.specs.declared.client_error.PgWireClientError.{PgWireClientError as ClientError}
 use Rattle.pgw_backend.specs.declared.client_error.PgWireClientError.TheVariants as client
-use Rattle.pgw_course.specs.Course.{Waits, Over}
+use Rattle.pgw_machine.specs.Course.{Waits, Over}
 use Rattle.pgw_session.specs.declared.notes.Notes.{Notes}
 use Rattle.pgw_session.specs.Input.{Input}
 use Rattle.pgw_session.specs.Machine.{End, error_of}
 use Rattle.pgw_session.specs.Notes.{view}
 use Rattle.pgw_session.specs.Talk.{Talk, Ending, conversation}
 use Rattle.pgw_dialogue.specs.Machine.{NotesCourse, report_at, runs}
-use Rattle.pgw_course.specs.Course.{Begins}
+use Rattle.pgw_machine.specs.Course.{Begins}
 use Rattle.pgw_dialogue.proofs.WireLaws.{memory_or}
 use Rattle.pgw_dialogue.specs.declared.dialogue.Dialogue.{Dialogue}
 use Rattle.pgw_dialogue.specs.declared.phase.DialoguePhase.{DialoguePhase}

@@ -8,8 +8,8 @@ use Rattle.pgw_frontend.specs.Frontend.{encodings}
 use Rattle.pgw_backend.specs.declared.backend.PgWireBackendMessage.{PgWireBackendMessage as Backend}
 use Rattle.pgw_backend.specs.declared.client_error.PgWireClientError.{PgWireClientError as ClientError}
 use Rattle.pgw_backend.specs.declared.client_error.PgWireClientError.TheVariants as client
-use Rattle.pgw_course.specs.Course.{Begins, On, Waits, onto, sent_of}
-use Rattle.pgw_course.proofs.CourseLaws.{sent_grows}
+use Rattle.pgw_machine.specs.Course.{Begins, On, Waits, onto, sent_of}
+use Rattle.pgw_machine.proofs.CourseLaws.{sent_grows}
 use Rattle.pgw_session.specs.declared.types.Request.{Request}
 use Rattle.pgw_session.specs.declared.notes.Notes.{Notes}
 use Rattle.pgw_session.specs.declared.stage.Stage.TheVariants.{Starting}

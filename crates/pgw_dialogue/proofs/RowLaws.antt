@@ -9,8 +9,8 @@ use Rattle.pgw_query.specs.declared.data.DataRow.{DataRow}
 use Rattle.pgw_backend.specs.Front.{Spells, SpellsIn}
 use Rattle.pgw_backend.specs.declared.backend.PgWireBackendMessage.TheVariants as backend
 use Rattle.pgw_backend.proofs.FrontLaws.{spells_front}
-use Rattle.pgw_course.specs.Course.{On, Waits, run}
-use Rattle.pgw_course.proofs.CourseLaws.{run_goes}
+use Rattle.pgw_machine.specs.Course.{On, Waits, run}
+use Rattle.pgw_machine.proofs.CourseLaws.{run_goes}
 use Rattle.pgw_query.specs.Runs.{MovesRows, SpellsRow, SpellsRows}
 use Rattle.pgw_session.specs.declared.notes.Notes.{Notes}
 use Rattle.pgw_session.specs.declared.tally.Tally.{Tally}

@@ -4,8 +4,8 @@ use Rattle.std.proofs.Common.{◌≡◌, ◌≤◌, ◌-◌, ℕ, List, [], ◌+
 use Rattle.std.proofs.lemmas.List.{append-nil, take_all}
 use Rattle.pgw_backend.specs.declared.client_error.PgWireClientError.{PgWireClientError as ClientError}
 use Rattle.pgw_backend.specs.declared.client_error.PgWireClientError.TheVariants as client
-use Rattle.pgw_course.specs.Course.{Waits, WantsMore, run, sent_of}
-use Rattle.pgw_course.proofs.CourseLaws.{run_append, run_more, run_over, run_wants, sent_grows}
+use Rattle.pgw_machine.specs.Course.{Waits, WantsMore, run, sent_of}
+use Rattle.pgw_machine.proofs.CourseLaws.{run_append, run_more, run_over, run_wants, sent_grows}
 use Rattle.pgw_session.specs.declared.notes.Notes.{Notes}
 use Rattle.pgw_session.specs.Input.{Input}
 use Rattle.pgw_session.specs.Machine.{rules_by}

@@ -1,8 +1,8 @@
 -- From what a dialogue notes to the conversation.
 use Rattle.std.proofs.Common.{◌≡◌, ℕ, List, [], ◌++◌, refl, ◌∙◌, ap, sym, subst, append_assoc}
 use Rattle.std.proofs.lemmas.List.{append-nil}
-use Rattle.pgw_course.specs.Course.{Course, Waits, Over, run, sent_of, map_course}
-use Rattle.pgw_course.proofs.CourseLaws.{run_append, run_more, run_over, sent_grows}
+use Rattle.pgw_machine.specs.Course.{Course, Waits, Over, run, sent_of, map_course}
+use Rattle.pgw_machine.proofs.CourseLaws.{run_append, run_more, run_over, sent_grows}
 use Rattle.pgw_session.specs.declared.notes.Notes.{Notes}
 use Rattle.pgw_session.specs.declared.types.SessionReport.{SessionReport}
 use Rattle.pgw_session.specs.Input.{Input}
@@ -17,7 +17,7 @@ use Rattle.pgw_session.proofs.NotesLaws.{notes_tell}
 use Rattle.pgw_session.proofs.ReadingLaws.{reads_more, steady_by}
 use Rattle.pgw_session.proofs.Sound.{SoundAt, Cause, conversation_sound}
 use Rattle.pgw_dialogue.specs.Machine.{NotesCourse, IsWholeEnd, report_at, runs}
-use Rattle.pgw_course.specs.Course.{Begins}
+use Rattle.pgw_machine.specs.Course.{Begins}
 
 -- the conversation as it is noted
 abbrev pub noted : Input → Course Talk Ending → NotesCourse

@@ -2,7 +2,7 @@
 use Rattle.std.proofs.Common.{◌≡◌, ◌<◌, ◌⊎◌, ℕ, List, [], ◌++◌, length, Some, None, inl, inr, arith, refl, ◌∙◌, ap, sym, subst}
 use Rattle.std.proofs.lemmas.List.{append-nil}
 use Rattle.pgw_backend.specs.declared.client_error.PgWireClientError.{PgWireClientError as ClientError}
-use Rattle.pgw_course.specs.Course.{Course, Waits, Over, sent_of}
+use Rattle.pgw_machine.specs.Course.{Course, Waits, Over, sent_of}
 use Rattle.pgw_session.specs.Input.{Input}
 use Rattle.pgw_session.specs.Failures.{BytesTell, WaitsStill}
 use Rattle.pgw_session.specs.Machine.{Complete, error_of}

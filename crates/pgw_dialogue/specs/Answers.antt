@@ -4,7 +4,7 @@ use Rattle.pgw_backend.specs.declared.backend.PgWireBackendMessage.{PgWireBacken
 use Rattle.pgw_backend.specs.declared.client_error.PgWireClientError.{PgWireClientError as ClientError}
 use Rattle.pgw_backend.specs.declared.client_error.PgWireClientError.TheVariants as client
 use Rattle.pgw_session.specs.Failures.{IsRefused}
-use Rattle.pgw_course.specs.Course.{Course, Waits, Over}
+use Rattle.pgw_machine.specs.Course.{Course, Waits, Over}
 use Rattle.pgw_session.specs.declared.types.SessionReport.{SessionReport}
 use Rattle.pgw_session.specs.Events.{Event}
 use Rattle.pgw_session.specs.Failures.{HasNoPlace, IsHopeless, IsUnfinished, Unreadable, Unsendable, WaitsAt, WaitsStill}

@@ -4,8 +4,8 @@ use Rattle.pgw_backend.specs.declared.client_error.PgWireClientError.{PgWireClie
 use Rattle.pgw_backend.specs.declared.client_error.PgWireClientError.TheVariants as client
 use Rattle.pgw_session.specs.Input.{input_with, Input}
 use Rattle.pgw_dialogue.specs.Machine.{notes_end, report_at}
-use Rattle.pgw_course.specs.Course.{Begins, CourseWaits}
-use Rattle.pgw_course.specs.Course.{Course, Waits, Over}
+use Rattle.pgw_machine.specs.Course.{Begins, CourseWaits}
+use Rattle.pgw_machine.specs.Course.{Course, Waits, Over}
 use Rattle.pgw_frontend.specs.Frontend.{encodings}
 use Rattle.pgw_session.specs.declared.types.SessionReport.{SessionReport}
 use Rattle.pgw_session.specs.Demands.{refused_config}

@@ -5,7 +5,7 @@ use Rattle.pgw_backend.specs.Front.{front, More, Whole}
 use Rattle.pgw_backend.specs.declared.backend.PgWireBackendMessage.{PgWireBackendMessage as Backend}
 use Rattle.pgw_backend.specs.declared.client_error.PgWireClientError.{PgWireClientError as ClientError}
 use Rattle.pgw_backend.specs.declared.client_error.PgWireClientError.TheVariants as client
-use Rattle.pgw_course.specs.Course.{Move, On, Ends, Course, Waits, Over, run}
+use Rattle.pgw_machine.specs.Course.{Move, On, Ends, Course, Waits, Over, run}
 use Rattle.pgw_session.specs.declared.types.SessionReport.{SessionReport}
 use Rattle.pgw_session.specs.declared.notes.Notes.{Notes}
 use Rattle.pgw_session.specs.declared.stage.Next.{Next}

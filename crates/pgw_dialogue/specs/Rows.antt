@@ -1,7 +1,7 @@
 -- What taking rows does. The proofs carry it, and no public clause of a session cites it.
 use Rattle.std.specs.Prelude.{◌≡◌, ◌<◌, ℕ, List, [], ◌++◌, length, Bool, true, false, Option, Some, None}
 use Rattle.pgw_query.specs.declared.data.DataRow.{DataRow}
-use Rattle.pgw_course.specs.Course.{Waits}
+use Rattle.pgw_machine.specs.Course.{Waits}
 use Rattle.pgw_backend.specs.declared.backend.PgWireBackendMessage.TheVariants as backend
 use Rattle.pgw_query.specs.Runs.{SpellsRows}
 use Rattle.pgw_session.specs.declared.notes.Notes.{Notes}

@@ -2,9 +2,9 @@
 use Rattle.std.specs.Prelude.{◌≡◌, List, ℕ, ◌++◌, Bool, true, false, Some, Result, Ok, Err}
 use Rattle.pgw_backend.specs.declared.client_error.PgWireClientError.{PgWireClientError as ClientError}
 use Rattle.pgw_dialogue.specs.Machine.{NotesCourse, IsWholeEnd, report_at, runs}
-use Rattle.pgw_course.specs.Course.{Begins}
+use Rattle.pgw_machine.specs.Course.{Begins}
 use Rattle.pgw_dialogue.specs.Wire.{Unless}
-use Rattle.pgw_course.specs.Course.{Waits, Over}
+use Rattle.pgw_machine.specs.Course.{Waits, Over}
 use Rattle.pgw_session.specs.declared.notes.Notes.{Notes}
 use Rattle.pgw_session.specs.Input.{Input}
 use Rattle.pgw_session.specs.Machine.{End, error_of}

@@ -6,8 +6,8 @@ use pgw_client::{
     Answer, Config, Listed, MemoryLink, Octets, OutOfMemory, PgWireClientError, PgWireClientResult,
     Request, Response, SessionReport,
 };
-use pgw_example::ask::ask;
-use pgw_example::push::over_pieces;
+use example_dialogue::ask::ask;
+use example_dialogue::push::over_pieces;
 use std::alloc::Global;
 use std::test::Fail;
 

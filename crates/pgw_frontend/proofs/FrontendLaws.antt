@@ -11,8 +11,8 @@ use Rattle.pgw_wire.specs.declared.framing.Framing.TheVariants.{Typed, Untyped, 
 use Rattle.pgw_startup.specs.Startup.{startup_of, SpellsStartup}
 use Rattle.pgw_wire.specs.Formats.{SpellsUntyped, IsRow, SpellsTyped, SpellsNat, NoBody}
 use Rattle.pgw_startup.specs.Password.{family_of, SpellsRaw}
-use Rattle.pgw_opening.specs.Openings.{has_code, ssl_request_of, gss_enc_request_of, cancel_request_of, SpellsCancelRequest, SpellsCoded}
-use Rattle.pgw_opening.specs.Terminate.{terminate_of}
+use Rattle.pgw_control.specs.Openings.{has_code, ssl_request_of, gss_enc_request_of, cancel_request_of, SpellsCancelRequest, SpellsCoded}
+use Rattle.pgw_control.specs.Terminate.{terminate_of}
 use Rattle.pgw_query.specs.Rows.{query_of, SpellsQuery}
 use Rattle.pgw_ext.specs.Rows.{parse_of, bind_of, close_of, describe_of, execute_of, flush_of, sync_of, SpellsParse, SpellsBind, SpellsClose, SpellsDescribe, SpellsExecute}
 use Rattle.pgw_copy.specs.Rows.{copy_data_of, copy_done_of, copy_fail_of, SpellsCopyData, SpellsCopyDone, SpellsCopyFail}
@@ -20,13 +20,13 @@ use Rattle.pgw_frontend.specs.declared.frontend.SslNegotiationMetaMessage.TheVar
 use Rattle.pgw_frontend.specs.declared.frontend.PgWireFrontendMessage.{PgWireFrontendMessage}
 use Rattle.pgw_frontend.specs.declared.frontend.PgWireFrontendMessage.TheVariants as frontend
 use Rattle.pgw_startup.specs.declared.startup.Startup.{Startup}
-use Rattle.pgw_opening.specs.declared.cancel.CancelRequest.{CancelRequest}
+use Rattle.pgw_control.specs.declared.cancel.CancelRequest.{CancelRequest}
 use Rattle.pgw_wire.specs.Framing.{wire_front, Decodes, as_one_of}
 use Rattle.pgw_wire.proofs.Laws.{bind_ok, chosen}
 use Rattle.pgw_wire.proofs.MessageLaws.{some_is, made_of}
 use Rattle.pgw_startup.proofs.FirstLaws.{startup_found, startup_again}
 use Rattle.pgw_startup.proofs.ClientLaws.{raw}
-use Rattle.pgw_opening.proofs.OpeningLaws.{ssl_found, ssl_again, gss_found, gss_again, cancel_found, cancel_again, stands, coded_has, cancel_has, terminate}
+use Rattle.pgw_control.proofs.OpeningLaws.{ssl_found, ssl_again, gss_found, gss_again, cancel_found, cancel_again, stands, coded_has, cancel_has, terminate}
 use Rattle.pgw_query.proofs.RowLaws.{query}
 use Rattle.pgw_ext.proofs.RowLaws.{parse, bind, close, describe, execute, flush, sync}
 use Rattle.pgw_copy.proofs.RowLaws.{copy_data, copy_done, copy_fail}

@@ -14,9 +14,9 @@ use Rattle.pgw_wire.proofs.Stable.{Stable, bind_err, front_stable, stable_choice
 use Rattle.pgw_startup.specs.declared.startup.Startup.{Startup}
 use Rattle.pgw_startup.specs.Startup.{startup_of}
 use Rattle.pgw_startup.specs.Password.{family_of}
-use Rattle.pgw_opening.specs.declared.cancel.CancelRequest.{CancelRequest}
-use Rattle.pgw_opening.specs.Openings.{ssl_request_of, gss_enc_request_of, cancel_request_of}
-use Rattle.pgw_opening.specs.Terminate.{terminate_of}
+use Rattle.pgw_control.specs.declared.cancel.CancelRequest.{CancelRequest}
+use Rattle.pgw_control.specs.Openings.{ssl_request_of, gss_enc_request_of, cancel_request_of}
+use Rattle.pgw_control.specs.Terminate.{terminate_of}
 use Rattle.pgw_query.specs.Rows.{query_of}
 use Rattle.pgw_ext.specs.Rows.{parse_of, bind_of, close_of, describe_of, execute_of, flush_of, sync_of}
 use Rattle.pgw_copy.specs.Rows.{copy_data_of, copy_done_of, copy_fail_of}

@@ -10,7 +10,7 @@ use Rattle.pgw_startup.specs.Startup.{startup, is_startup_refused, SpellsStartup
 use Rattle.pgw_wire.specs.Formats.{SpellsTyped, NoBody}
 use Rattle.pgw_startup.specs.Password.{SpellsRaw, password_body, password_fault}
 use Rattle.pgw_startup.specs.declared.password.PasswordMessageFamily.TheVariants as family
-use Rattle.pgw_opening.specs.Openings.{cancel_request, SpellsCancelRequest}
+use Rattle.pgw_control.specs.Openings.{cancel_request, SpellsCancelRequest}
 use Rattle.pgw_query.specs.Rows.{SpellsQuery}
 use Rattle.pgw_ext.specs.Rows.{SpellsParse, SpellsBind, SpellsExecute, parse, is_parse_refused, bind, is_bind_refused, SpellsTarget}
 use Rattle.pgw_copy.specs.Rows.{SpellsCopyData, SpellsCopyDone, SpellsCopyFail}
@@ -23,7 +23,7 @@ use Rattle.pgw_wire.specs.Writing.{text, i32, has_zero, refused_if}
 use Rattle.pgw_wire.proofs.WrittenLaws.{text_written, typed_written as plain_written, unrefused, appended}
 use Rattle.pgw_startup.proofs.FirstWritten.{startup_written}
 use Rattle.pgw_wire.proofs.UntypedLaws.{untyped_written}
-use Rattle.pgw_opening.proofs.OpeningWritten.{coded_written, cancel_written}
+use Rattle.pgw_control.proofs.OpeningWritten.{coded_written, cancel_written}
 use Rattle.pgw_ext.specs.Kinds.{name, is_name_refused}
 use Rattle.pgw_ext.specs.Sound.{IsName}
 use Rattle.pgw_ext.specs.declared.parse.Parse.{Parse}

@@ -10,8 +10,8 @@ use Rattle.pgw_wire.specs.Writing.{text, i32, u32, has_zero, refused_if}
 use Rattle.pgw_startup.specs.Startup.{startup_of, startup, is_startup_refused}
 use Rattle.pgw_startup.specs.declared.password.PasswordMessageFamily.{PasswordMessageFamily}
 use Rattle.pgw_startup.specs.Password.{family_of, password_body, password_fault}
-use Rattle.pgw_opening.specs.Openings.{has_code, ssl_request_of, gss_enc_request_of, cancel_request_of, cancel_request}
-use Rattle.pgw_opening.specs.Terminate.{terminate_of}
+use Rattle.pgw_control.specs.Openings.{has_code, ssl_request_of, gss_enc_request_of, cancel_request_of, cancel_request}
+use Rattle.pgw_control.specs.Terminate.{terminate_of}
 use Rattle.pgw_query.specs.Rows.{query_of}
 use Rattle.pgw_ext.specs.Kinds.{name, is_name_refused}
 use Rattle.pgw_ext.specs.Rows.{parse_of, parse, is_parse_refused, bind_of, bind, is_bind_refused, close_of, describe_of, execute_of, flush_of, sync_of}

@@ -8,7 +8,7 @@ use Rattle.pgw_startup.specs.Startup.{SpellsStartup}
 use Rattle.pgw_startup.specs.Password.{SpellsRaw, password_body}
 use Rattle.pgw_wire.specs.Keys.{SuitsKey}
 use Rattle.pgw_startup.specs.declared.password.PasswordMessageFamily.TheVariants as family
-use Rattle.pgw_opening.specs.Openings.{SpellsCoded, SpellsCancelRequest}
+use Rattle.pgw_control.specs.Openings.{SpellsCoded, SpellsCancelRequest}
 use Rattle.pgw_query.specs.Rows.{SpellsQuery}
 use Rattle.pgw_ext.specs.Rows.{SpellsParse, SpellsBind, SpellsClose, SpellsDescribe, SpellsExecute}
 use Rattle.pgw_copy.specs.Rows.{SpellsCopyData, SpellsCopyDone, SpellsCopyFail}

@@ -3,7 +3,7 @@ use Rattle.std.specs.Prelude.{ℕ, ◌<◌, ◌^◌, List, Option, Some, None, F
 use Rattle.std.specs.List.{AllByRecursion}
 use Rattle.std.specs.Int.{w32}
 use Rattle.pgw_startup.specs.Sound.{IsStartup}
-use Rattle.pgw_opening.specs.Sound.{IsCancelRequest}
+use Rattle.pgw_control.specs.Sound.{IsCancelRequest}
 use Rattle.pgw_wire.specs.Sound.{IsOid, IsCode}
 use Rattle.pgw_frontend.specs.declared.frontend.PgWireFrontendMessage.{PgWireFrontendMessage}
 use Rattle.pgw_frontend.specs.declared.frontend.PgWireFrontendMessage.TheVariants as frontend

@@ -8,7 +8,7 @@ pub fn equality_is_exact()
     ensures negotiation { IsExact ⟦<SslNegotiationMetaMessage as PartialEq>⟧.eq }
     ensures message { IsExact ⟦<PgWireFrontendMessage as PartialEq>⟧.eq }
 {
-    pgw_opening::equality::equality_is_exact();
+    pgw_control::equality::equality_is_exact();
     pgw_startup::equality::equality_is_exact();
     pgw_query::equality::equality_is_exact();
     pgw_ext::equality::equality_is_exact();

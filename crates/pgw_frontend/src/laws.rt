@@ -3,7 +3,7 @@ ghost use Rattle.std.specs.Prelude.{◌≡◌, ◌<◌, ◌^◌, ◌++◌, ℕ, 
 ghost use Rattle.pgw_wire.specs.Formats.{SpellsUntyped};
 ghost use Rattle.pgw_startup.specs.declared.startup.Startup.{Startup as TheStartup};
 ghost use Rattle.pgw_startup.specs.Startup.{SpellsStartup};
-ghost use Rattle.pgw_opening.specs.Openings.{has_code};
+ghost use Rattle.pgw_control.specs.Openings.{has_code};
 ghost use Rattle.pgw_types.specs.declared.context.DecodeContext.{DecodeContext as TheContext};
 ghost use Rattle.pgw_types.specs.declared.context.ProtocolVersion.{ProtocolVersion as TheVersion};
 ghost use Rattle.pgw_frontend.specs.declared.frontend.PgWireFrontendMessage.{PgWireFrontendMessage as TheMessage};

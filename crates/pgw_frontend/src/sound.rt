@@ -3,11 +3,11 @@ ghost use Rattle.std.specs.Prelude.{IsTrue};
 ghost use Rattle.std.specs.FinMap as map;
 ghost use Rattle.std.specs.List.{AllByRecursion};
 ghost use Rattle.pgw_startup.specs.Sound.{IsPair, IsStartup};
-ghost use Rattle.pgw_opening.specs.Sound.{IsCancelRequest};
+ghost use Rattle.pgw_control.specs.Sound.{IsCancelRequest};
 ghost use Rattle.pgw_frontend.specs.FrontendTexts.{IsText, IsSoundFrontend};
 
 use crate::frontend::PgWireFrontendMessage;
-use pgw_opening::cancel::CancelRequest;
+use pgw_control::cancel::CancelRequest;
 use pgw_startup::startup::Startup;
 use pgw_types::text::Text;
 use pgw_wire::params::Params;

@@ -1,7 +1,7 @@
 -- What becomes of a pass where a query is canceled.
 use Rattle.std.specs.Prelude.{Bool, Result, Ok, Err}
 use Rattle.pgw_wire.specs.Keys.{key_bytes}
-use Rattle.pgw_opening.specs.declared.cancel.CancelRequest.{CancelRequest}
+use Rattle.pgw_control.specs.declared.cancel.CancelRequest.{CancelRequest}
 use Rattle.pgw_registry.specs.Passes.{Known, Makes, OnlyFull}
 use Rattle.pgw_registry.specs.declared.call.Call.TheVariants.{Cancel}
 use Rattle.pgw_registry.specs.declared.call.Reply.TheVariants.{Canceled}

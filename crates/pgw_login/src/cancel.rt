@@ -1,7 +1,7 @@
 //! What a server does with a request to cancel, and with an error.
 ghost use Rattle.std.specs.Prelude.{◌≡◌, Result, Ok};
 ghost use Rattle.std.specs.Arc.{arc_value};
-ghost use Rattle.pgw_opening.specs.declared.cancel.CancelRequest.{CancelRequest as Request};
+ghost use Rattle.pgw_control.specs.declared.cancel.CancelRequest.{CancelRequest as Request};
 ghost use Rattle.pgw_registry.specs.Passes.{Known};
 ghost use Rattle.pgw_registry.specs.declared.error.RegistryError.{RegistryError as Refusal};
 ghost use Rattle.pgw_types.specs.declared.error.PgWireError.{PgWireError as Error};
@@ -10,7 +10,7 @@ ghost use Rattle.pgw_login.specs.Canceling.{CanceledBy};
 
 use crate::client_info::ClientInfo;
 use crate::noop::NoopHandler;
-use pgw_opening::cancel::CancelRequest;
+use pgw_control::cancel::CancelRequest;
 use pgw_registry::error::RegistryError;
 use pgw_registry::manager::{ConnectionManager, Pass};
 use pgw_types::error::PgWireError;

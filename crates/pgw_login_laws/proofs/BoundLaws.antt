@@ -21,17 +21,17 @@ use Rattle.pgw_scram.specs.declared.password.Password.{Password as Kept}
 use Rattle.pgw_scram.specs.declared.server.ScramServerAuth.{ScramServerAuth}
 use Rattle.pgw_scram.specs.declared.server.ScramServerAuthWaitingForClientFinal.{ScramServerAuthWaitingForClientFinal as WaitingForClientFinal}
 use Rattle.pgw_scram.proofs.BoundLaws.{bound_to}
-use Rattle.pgw_server.specs.Server.{Stage}
-use Rattle.pgw_server.specs.Taken.{Taken}
-use Rattle.pgw_server.specs.Entry.{Source}
+use Rattle.pgw_login_server.specs.Server.{Stage}
+use Rattle.pgw_login_server.specs.Taken.{Taken}
+use Rattle.pgw_login_server.specs.Entry.{Source}
 use Rattle.pgw_login_laws.specs.Bound.{IsBoundBy}
 use Rattle.pgw_login_laws.specs.Entry.{ProvesScram, GivesSalted, TakesSalted, GivesStored, TakesStored}
 use Rattle.pgw_secrets.specs.Server as secret
 use Rattle.pgw_secrets.specs.declared.server.StoredScramAuth.{StoredScramAuth}
 use Rattle.pgw_secrets.specs.declared.server.StoredScramWaiting.{StoredScramWaiting}
-use Rattle.pgw_sasl.specs.Scram.{binds, is_misnamed, offered_by}
-use Rattle.pgw_sasl.specs.Stored as stored
-use Rattle.pgw_sasl.specs.Stored.{SecretSource, over}
+use Rattle.pgw_login_sasl.specs.Scram.{binds, is_misnamed, offered_by}
+use Rattle.pgw_login_sasl.specs.Stored as stored
+use Rattle.pgw_login_sasl.specs.Stored.{SecretSource, over}
 
 -- ---- client-first
 

@@ -10,7 +10,7 @@ use Rattle.pgw_startup.specs.declared.sasl.SASLResponse.{SASLResponse}
 use Rattle.pgw_login.specs.Login.{Login}
 use Rattle.pgw_login.specs.declared.state.SASLState.{SASLState}
 use Rattle.pgw_login.specs.declared.state.SASLState.TheVariants as state
-use Rattle.pgw_sasl.specs.Turns.{is_finished}
+use Rattle.pgw_login_sasl.specs.Turns.{is_finished}
 
 -- server-first was sent
 abbrev pub is_sent : SASLState → Bool

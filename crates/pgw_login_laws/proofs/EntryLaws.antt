@@ -36,26 +36,26 @@ use Rattle.pgw_login.specs.declared.handler.Heard.TheVariants as of
 use Rattle.pgw_login.specs.declared.state.LoginState.{LoginState}
 use Rattle.pgw_login.specs.declared.state.SASLState.{SASLState}
 use Rattle.pgw_login.specs.declared.state.SASLState.TheVariants as state
-use Rattle.pgw_server.specs.Server.{Stage, begins_within}
-use Rattle.pgw_server.specs.Taken.{Taken}
-use Rattle.pgw_server.specs.Entry.{lets_in, LetsInBy, IsNamed}
-use Rattle.pgw_server.proofs.EntryActs.{not_both, then_both, Quiet, nothing_said, quiet_then, quiet_sends, quiet_passes, quiet_opens, quiet_memory, quiet_marks, Roots, roots_then, roots_sends, roots_marked, roots_passes, roots_finishes, opened}
-use Rattle.pgw_server.proofs.EntryLaws.{IsKnown, Goes, guarded}
-use Rattle.pgw_server.proofs.PasswordEntry.{heard_password, heard_startup, quiet_says, on_and_off, never_ready, known_begun, known_proven, known_on, known_passed}
-use Rattle.pgw_sasl.specs.Methods.{sasl_method}
-use Rattle.pgw_sasl.specs.Oauth.{token_of, judged, Judged, oauth_reply, ByToken, ByData}
-use Rattle.pgw_sasl.specs.Replies.{Reply}
-use Rattle.pgw_sasl.specs.Scram.{and_some, ByScram}
-use Rattle.pgw_sasl.specs.Sasl.{sasl_request, Offers, ByOauth, By, ByTurn, Replied, EndsSaslLogin, RespondsBy, SaslOn, SaslMeans}
-use Rattle.pgw_sasl.specs.Turns.{sasl_stage, named_by, named_method, further, turned, sasl_start, entered}
+use Rattle.pgw_login_server.specs.Server.{Stage, begins_within}
+use Rattle.pgw_login_server.specs.Taken.{Taken}
+use Rattle.pgw_login_server.specs.Entry.{lets_in, LetsInBy, IsNamed}
+use Rattle.pgw_login_server.proofs.EntryActs.{not_both, then_both, Quiet, nothing_said, quiet_then, quiet_sends, quiet_passes, quiet_opens, quiet_memory, quiet_marks, Roots, roots_then, roots_sends, roots_marked, roots_passes, roots_finishes, opened}
+use Rattle.pgw_login_server.proofs.EntryLaws.{IsKnown, Goes, guarded}
+use Rattle.pgw_login_server.proofs.PasswordEntry.{heard_password, heard_startup, quiet_says, on_and_off, never_ready, known_begun, known_proven, known_on, known_passed}
+use Rattle.pgw_login_sasl.specs.Methods.{sasl_method}
+use Rattle.pgw_login_sasl.specs.Oauth.{token_of, judged, Judged, oauth_reply, ByToken, ByData}
+use Rattle.pgw_login_sasl.specs.Replies.{Reply}
+use Rattle.pgw_login_sasl.specs.Scram.{and_some, ByScram}
+use Rattle.pgw_login_sasl.specs.Sasl.{sasl_request, Offers, ByOauth, By, ByTurn, Replied, EndsSaslLogin, RespondsBy, SaslOn, SaslMeans}
+use Rattle.pgw_login_sasl.specs.Turns.{sasl_stage, named_by, named_method, further, turned, sasl_start, entered}
 use Rattle.pgw_login_laws.specs.Entry.{IsInitial, HasMethodName, IsFurther, IsOffered, ProvesScram, ProvesToken, ProvesByScram, ProvesByToken, ProvesSasl}
 use Rattle.pgw_login_laws.proofs.Ends.{is_sent, Apart, CameFirst, none_given, gave, CameFurther, none_taken, taken, IsEnd}
-use Rattle.pgw_sasl.specs.declared.methods.Method.{Method}
-use Rattle.pgw_sasl.specs.declared.methods.Method.TheVariants.{Scram, OauthBearer}
-use Rattle.pgw_sasl.specs.declared.oauth.Oauth.{Oauth}
-use Rattle.pgw_sasl.specs.declared.scram.ScramAuth.{ScramAuth}
-use Rattle.pgw_sasl.specs.declared.turn.Stage.TheVariants as turn
-use Rattle.pgw_sasl.specs.declared.validator.ValidatorModuleResult.{ValidatorModuleResult}
+use Rattle.pgw_login_sasl.specs.declared.methods.Method.{Method}
+use Rattle.pgw_login_sasl.specs.declared.methods.Method.TheVariants.{Scram, OauthBearer}
+use Rattle.pgw_login_sasl.specs.declared.oauth.Oauth.{Oauth}
+use Rattle.pgw_login_sasl.specs.declared.scram.ScramAuth.{ScramAuth}
+use Rattle.pgw_login_sasl.specs.declared.turn.Stage.TheVariants as turn
+use Rattle.pgw_login_sasl.specs.declared.validator.ValidatorModuleResult.{ValidatorModuleResult}
 
 module _ {S X W : Type 0} {D : X → Type 0} (E : S → ScramServerAuth → Login → PasswordMessageFamily → List ℕ
     → SASLState → Result (Authentication × SASLState) PgWireError → Type 0)

@@ -16,11 +16,11 @@ use Rattle.pgw_login.specs.Hearing.{heard}
 use Rattle.pgw_login.specs.declared.handler.Heard.{Heard}
 use Rattle.pgw_login.specs.declared.handler.Heard.TheVariants as of
 use Rattle.pgw_login.specs.declared.state.SASLState.{SASLState}
-use Rattle.pgw_server.specs.Lasting.{IsReady, KeepsReady}
-use Rattle.pgw_server.proofs.LastingLaws.{no_error, passed, finishes_ready, opens_once}
-use Rattle.pgw_sasl.specs.Replies.{Reply}
-use Rattle.pgw_sasl.specs.Turns.{is_finished}
-use Rattle.pgw_sasl.specs.Sasl.{Offers, sasl_messages, EndsSaslLogin, RespondsBy, SaslOn, SaslMeans}
+use Rattle.pgw_login_server.specs.Lasting.{IsReady, KeepsReady}
+use Rattle.pgw_login_server.proofs.LastingLaws.{no_error, passed, finishes_ready, opens_once}
+use Rattle.pgw_login_sasl.specs.Replies.{Reply}
+use Rattle.pgw_login_sasl.specs.Turns.{is_finished}
+use Rattle.pgw_login_sasl.specs.Sasl.{Offers, sasl_messages, EndsSaslLogin, RespondsBy, SaslOn, SaslMeans}
 
 -- acts that leave a client which may ask so
 Stays : (Standing → Standing → List Backend → Answer → Type 0) → Type 0

@@ -12,8 +12,8 @@ use Rattle.pgw_scram.specs.declared.server.ScramServerAuthWaitingForClientFinal.
 use Rattle.pgw_login.specs.Login.{Login}
 use Rattle.pgw_login.specs.declared.state.SASLState.{SASLState}
 use Rattle.pgw_login.specs.declared.state.SASLState.TheVariants as state
-use Rattle.pgw_server.specs.Entry.{Source}
-use Rattle.pgw_sasl.specs.Scram.{offered_under, first_reply, FirstWith, FirstOn, FirstReplies, final_reply, ScramReplies}
+use Rattle.pgw_login_server.specs.Entry.{Source}
+use Rattle.pgw_login_sasl.specs.Scram.{offered_under, first_reply, FirstWith, FirstOn, FirstReplies, final_reply, ScramReplies}
 use Rattle.pgw_login_laws.specs.Entry.{GivesSalted, TakesSalted}
 use Rattle.pgw_login_laws.proofs.Ends.{Apart, CameFirst, none_given, gave, CameFurther, none_taken, taken, IsEnd}
 

@@ -12,8 +12,8 @@ use Rattle.pgw_secrets.specs.declared.server.StoredScramWaiting.{StoredScramWait
 use Rattle.pgw_login.specs.Login.{Login}
 use Rattle.pgw_login.specs.declared.state.SASLState.{SASLState}
 use Rattle.pgw_login.specs.declared.state.SASLState.TheVariants as state
-use Rattle.pgw_sasl.specs.Scram.{final_reply}
-use Rattle.pgw_sasl.specs.Stored.{SecretSource, over, offered_under, first_reply, FirstWith, FirstOn, FirstReplies, StoredReplies}
+use Rattle.pgw_login_sasl.specs.Scram.{final_reply}
+use Rattle.pgw_login_sasl.specs.Stored.{SecretSource, over, offered_under, first_reply, FirstWith, FirstOn, FirstReplies, StoredReplies}
 use Rattle.pgw_login_laws.specs.Entry.{GivesStored, TakesStored}
 use Rattle.pgw_login_laws.proofs.Ends.{Apart, CameFirst, none_given, gave, CameFurther, none_taken, taken, IsEnd}
 

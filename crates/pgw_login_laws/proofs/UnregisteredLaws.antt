@@ -11,11 +11,11 @@ use Rattle.pgw_login.specs.Hearing.{heard}
 use Rattle.pgw_login.specs.declared.handler.Heard.{Heard}
 use Rattle.pgw_login.specs.declared.handler.Heard.TheVariants as of
 use Rattle.pgw_login.specs.declared.state.SASLState.{SASLState}
-use Rattle.pgw_server.specs.Unregistered.{Nowhere, StaysUnregistered}
-use Rattle.pgw_server.proofs.UnregisteredLaws.{Unties, unties_refuses, unties_passes, unties_marks, unties_sends, unties_memory, unties_then, unties_opens, unties_finishes, unties_or_fails, stays_unregistered}
-use Rattle.pgw_sasl.specs.Replies.{Reply}
-use Rattle.pgw_sasl.specs.Sasl.{Offers, sasl_messages, EndsSaslLogin, RespondsBy, SaslOn, SaslMeans}
-use Rattle.pgw_sasl.specs.Turns.{is_finished}
+use Rattle.pgw_login_server.specs.Unregistered.{Nowhere, StaysUnregistered}
+use Rattle.pgw_login_server.proofs.UnregisteredLaws.{Unties, unties_refuses, unties_passes, unties_marks, unties_sends, unties_memory, unties_then, unties_opens, unties_finishes, unties_or_fails, stays_unregistered}
+use Rattle.pgw_login_sasl.specs.Replies.{Reply}
+use Rattle.pgw_login_sasl.specs.Sasl.{Offers, sasl_messages, EndsSaslLogin, RespondsBy, SaslOn, SaslMeans}
+use Rattle.pgw_login_sasl.specs.Turns.{is_finished}
 
 module _ (methods : List (List ℕ)) (S O : Login → PasswordMessageFamily → List ℕ → SASLState → Reply → Type 0)
     (P : LoginClient → Option Held → Type 0) where

@@ -16,22 +16,22 @@ use Rattle.pgw_frontend.specs.declared.frontend.PgWireFrontendMessage.{PgWireFro
 use Rattle.pgw_frontend.specs.declared.frontend.PgWireFrontendMessage.TheVariants as frontend
 use Rattle.pgw_backend.specs.declared.backend.PgWireBackendMessage.TheVariants as backend
 use Rattle.pgw_login.specs.Login.{Login}
-use Rattle.pgw_server.specs.Server.{Stage}
-use Rattle.pgw_server.specs.Taken.{Taken}
-use Rattle.pgw_server.specs.Entry.{IsNamed, Proving, Source}
-use Rattle.pgw_sasl.specs.Methods.{sasl_method}
-use Rattle.pgw_sasl.specs.Oauth.{token_of}
+use Rattle.pgw_login_server.specs.Server.{Stage}
+use Rattle.pgw_login_server.specs.Taken.{Taken}
+use Rattle.pgw_login_server.specs.Entry.{IsNamed, Proving, Source}
+use Rattle.pgw_login_sasl.specs.Methods.{sasl_method}
+use Rattle.pgw_login_sasl.specs.Oauth.{token_of}
 use Rattle.pgw_secrets.specs.Server.{AcceptsStored}
 use Rattle.pgw_secrets.specs.declared.secret.StoredSecret.{StoredSecret}
 use Rattle.pgw_secrets.specs.declared.server.StoredScramWaiting.{StoredScramWaiting}
-use Rattle.pgw_sasl.specs.Scram.{offered_under}
-use Rattle.pgw_sasl.specs.Stored.{SecretSource, over, offered_under as stored_under}
-use Rattle.pgw_sasl.specs.declared.methods.Method.{Method}
-use Rattle.pgw_sasl.specs.declared.methods.Method.TheVariants.{Scram, OauthBearer}
-use Rattle.pgw_sasl.specs.declared.oauth.Oauth.{Oauth}
-use Rattle.pgw_sasl.specs.declared.scram.ScramAuth.{ScramAuth}
-use Rattle.pgw_sasl.specs.declared.stored.Secrets.{Secrets}
-use Rattle.pgw_sasl.specs.declared.validator.ValidatorModuleResult.{ValidatorModuleResult}
+use Rattle.pgw_login_sasl.specs.Scram.{offered_under}
+use Rattle.pgw_login_sasl.specs.Stored.{SecretSource, over, offered_under as stored_under}
+use Rattle.pgw_login_sasl.specs.declared.methods.Method.{Method}
+use Rattle.pgw_login_sasl.specs.declared.methods.Method.TheVariants.{Scram, OauthBearer}
+use Rattle.pgw_login_sasl.specs.declared.oauth.Oauth.{Oauth}
+use Rattle.pgw_login_sasl.specs.declared.scram.ScramAuth.{ScramAuth}
+use Rattle.pgw_login_sasl.specs.declared.stored.Secrets.{Secrets}
+use Rattle.pgw_login_sasl.specs.declared.validator.ValidatorModuleResult.{ValidatorModuleResult}
 
 -- the message names this method, with this payload; or it is a further one, with this payload
 abbrev pub IsInitial : Message → Method → List ℕ → Type 0

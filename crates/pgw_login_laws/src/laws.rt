@@ -2,24 +2,24 @@
 ghost use Rattle.std.specs.Prelude.{◌≡◌, List, codes};
 ghost use Rattle.pgw_login_laws.specs.Bound.{IsBoundBy};
 ghost use Rattle.pgw_login_laws.specs.Entry.{ProvesSasl, ProvesScram, ProvesSalted, ProvesStored, GivesSalted, GivesStored, TakesSalted, TakesStored};
-ghost use Rattle.pgw_sasl.specs.Methods.{offered_methods};
-ghost use Rattle.pgw_sasl.specs.Sasl.{ByOauth, SaslMeans};
-ghost use Rattle.pgw_sasl.specs.Scram.{ByScram, by_passwords};
-ghost use Rattle.pgw_sasl.specs.Stored.{by_secrets};
+ghost use Rattle.pgw_login_sasl.specs.Methods.{offered_methods};
+ghost use Rattle.pgw_login_sasl.specs.Sasl.{ByOauth, SaslMeans};
+ghost use Rattle.pgw_login_sasl.specs.Scram.{ByScram, by_passwords};
+ghost use Rattle.pgw_login_sasl.specs.Stored.{by_secrets};
 ghost use Rattle.pgw_scram.specs.declared.server.ScramServerAuth.{ScramServerAuth as TheServer};
-ghost use Rattle.pgw_server.specs.Entry.{LetsInBy};
-ghost use Rattle.pgw_server.specs.Lasting.{KeepsReady};
-ghost use Rattle.pgw_server.specs.Server.{Stage as TheStage};
-ghost use Rattle.pgw_server.specs.Taken.{Taken};
-ghost use Rattle.pgw_server.specs.Unregistered.{Nowhere, StaysUnregistered};
+ghost use Rattle.pgw_login_server.specs.Entry.{LetsInBy};
+ghost use Rattle.pgw_login_server.specs.Lasting.{KeepsReady};
+ghost use Rattle.pgw_login_server.specs.Server.{Stage as TheStage};
+ghost use Rattle.pgw_login_server.specs.Taken.{Taken};
+ghost use Rattle.pgw_login_server.specs.Unregistered.{Nowhere, StaysUnregistered};
 
 use pgw_login::provider::ServerParameterProvider;
 use pgw_login::registers::Registers;
 use pgw_login::source::{AuthSource, SecretSource};
-use pgw_sasl::handler::SASLAuthStartupHandler;
-use pgw_sasl::scram::ScramSource;
-use pgw_sasl::stored::Secrets;
-use pgw_sasl::validator::OauthValidator;
+use pgw_login_sasl::handler::SASLAuthStartupHandler;
+use pgw_login_sasl::scram::ScramSource;
+use pgw_login_sasl::stored::Secrets;
+use pgw_login_sasl::validator::OauthValidator;
 
 /// A client that may ask may ask until a message is refused, whatever methods the handler has.
 pub fn sasl_keeps_a_finished_login<A, P, G, M>(handler: &SASLAuthStartupHandler<A, P, G, M>)

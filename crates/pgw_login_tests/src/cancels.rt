@@ -5,7 +5,7 @@ ghost use Rattle.std.specs.Arc.{arc_value};
 use pgw_login::cancel::{CancelHandler, DefaultCancelHandler};
 use pgw_login::noop::NoopHandler;
 use pgw_login::registers::{Managed, Registers};
-use pgw_opening::cancel::CancelRequest;
+use pgw_control::cancel::CancelRequest;
 use pgw_registry::manager::{
     CancelToken, ConnectionGuard, ConnectionHandle, ConnectionManager, Pass,
 };

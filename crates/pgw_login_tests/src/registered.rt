@@ -11,7 +11,7 @@ use pgw_login::client_info::DefaultClient;
 use pgw_login::md5::Md5PasswordAuthStartupHandler;
 use pgw_login::outbox::ByteOutbox;
 use pgw_login::state::LoginState;
-use pgw_opening::cancel::CancelRequest;
+use pgw_control::cancel::CancelRequest;
 use pgw_registry::generator::RandomPidSecretKeyGenerator;
 use pgw_registry::manager::{ConnectionGuard, ConnectionHandle, ConnectionManager, Pass};
 use pgw_types::memory::OutOfMemory;

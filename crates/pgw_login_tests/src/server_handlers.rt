@@ -8,7 +8,7 @@ use pgw_login::cleartext::CleartextPasswordAuthStartupHandler;
 use pgw_login::client_info::DefaultClient;
 use pgw_login::md5::Md5PasswordAuthStartupHandler;
 use pgw_login::noop::NoopHandler;
-use pgw_opening::cancel::CancelRequest;
+use pgw_control::cancel::CancelRequest;
 use pgw_registry::generator::RandomPidSecretKeyGenerator;
 use pgw_registry::manager::ConnectionManager;
 use pgw_types::error::PgWireError;

@@ -10,7 +10,7 @@ use pgw_login::outbox::{ByteOutbox, Outbox};
 use pgw_login::provider::ServerParameterProvider;
 use pgw_login::source::{AuthSource, LoginInfo};
 use pgw_login::state::LoginState;
-use pgw_opening::terminate::Terminate;
+use pgw_control::terminate::Terminate;
 use pgw_registry::generator::PidSeat;
 use pgw_scram::password::Password as Kept;
 use pgw_startup::password::{Password, PasswordMessageFamily};

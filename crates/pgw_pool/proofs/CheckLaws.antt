@@ -9,9 +9,9 @@ use Rattle.pgw_session.specs.declared.types.Response.{Response}
 use Rattle.pgw_session.specs.declared.types.Response.TheVariants.{EmptyQuery, Query, Execution}
 use Rattle.pgw_session.specs.declared.types.Answer.TheVariants as answer
 use Rattle.pgw_session.specs.Events.{Event}
-use Rattle.pgw_connection.specs.Line.{MovesLine, IsFlushed}
-use Rattle.pgw_calls.specs.Turns.{IsAnswered}
-use Rattle.pgw_calls.specs.Stands.{Made, made_call, StandsForCalls, OneMore, StandsBehind}
+use Rattle.pgw_client_calls.specs.Line.{MovesLine, IsFlushed}
+use Rattle.pgw_client_laws.specs.Turns.{IsAnswered}
+use Rattle.pgw_client_laws.specs.Stands.{Made, made_call, StandsForCalls, OneMore, StandsBehind}
 use Rattle.pgw_pool.specs.Histories.{History, checked, View, check, lent_as, with_check, made_over, IsChecked, IsCheckedIn, BeginsIdle, StandsBy, IsIdleInPool, IsLent, AreIdle}
 use Rattle.pgw_pool.specs.Lending.{IsCutLease}
 use Rattle.pgw_pool.specs.Returning.{cause_of, IsAskedIn, LeaseEndsBy, FailsBy, IsFailed}

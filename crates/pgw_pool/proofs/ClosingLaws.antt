@@ -2,7 +2,7 @@
 use Rattle.std.proofs.Common.{◌≡◌, ℕ, List, ◌∷◌, Result, sym, subst}
 use Rattle.pgw_backend.specs.declared.client_error.PgWireClientError.{PgWireClientError as ClientError}
 use Rattle.pgw_link.specs.Dials.{DialTape}
-use Rattle.pgw_connection.specs.Closing.{Closed}
+use Rattle.pgw_client_calls.specs.Closing.{Closed}
 use Rattle.pgw_pool.specs.Histories.{View}
 use Rattle.pgw_pool.specs.Closing.{first_pool_error, ClosesIdleSessions, one_closed}
 

@@ -17,9 +17,9 @@ use Rattle.pgw_session.specs.Standings.{first_standing, standing_at}
 use Rattle.pgw_session.specs.Requests.{role, sends_of}
 use Rattle.pgw_session.specs.Segments.{IsEnd, IsRequestSegment}
 use Rattle.pgw_handlers.specs.Client.{Client}
-use Rattle.pgw_connection.specs.Line.{Line, MovesLine, IsFlushed}
-use Rattle.pgw_calls.specs.Turns.{knowing}
-use Rattle.pgw_calls.specs.Stands.{Made, made_call, events_of}
+use Rattle.pgw_client_calls.specs.Line.{Line, MovesLine, IsFlushed}
+use Rattle.pgw_client_laws.specs.Turns.{knowing}
+use Rattle.pgw_client_laws.specs.Stands.{Made, made_call, events_of}
 use Rattle.pgw_pool.specs.Histories.{Lent, Over, ended, checked, History, lent_as, with_lease, reset, made_in, made_over, IsOver, EndsInStatus, IsReset, AreReset, BeginsIdle, LeasesAscend, View, StandsBy, IsIdleInPool, AreIdle, IsLent}
 use Rattle.pgw_pool.specs.Lending.{LendsFirst}
 

@@ -14,10 +14,10 @@ use Rattle.pgw_frontend.specs.Frontend.{encoding, encodings}
 use Rattle.pgw_session.specs.declared.types.Request.{Request}
 use Rattle.pgw_session.specs.Requests.{sends_of}
 use Rattle.pgw_handlers.specs.Client.{Client}
-use Rattle.pgw_connection.specs.Line.{MovesLine, Pause, IsFlushed, Foretold}
-use Rattle.pgw_calls.specs.Turns.{IsAnswered, IsPassedSegment}
-use Rattle.pgw_calls.specs.Calls.{IsRefusedCall, Comes}
-use Rattle.pgw_calls.specs.Stands.{Made, made_call, StandsForCalls, OneMore, StandsBehind}
+use Rattle.pgw_client_calls.specs.Line.{MovesLine, Pause, IsFlushed, Foretold}
+use Rattle.pgw_client_laws.specs.Turns.{IsAnswered, IsPassedSegment}
+use Rattle.pgw_client_laws.specs.Calls.{IsRefusedCall, Comes}
+use Rattle.pgw_client_laws.specs.Stands.{Made, made_call, StandsForCalls, OneMore, StandsBehind}
 use Rattle.pgw_pool.specs.declared.returned.Returned.{Returned}
 use Rattle.pgw_pool.specs.declared.returned.Returned.TheVariants.{Kept, Dropped}
 use Rattle.pgw_pool.specs.declared.returned.DropCause.{DropCause}

@@ -6,11 +6,11 @@ use Rattle.pgw_session.specs.declared.types.Request.{Request}
 use Rattle.pgw_session.specs.declared.types.Answer.{Answer}
 use Rattle.pgw_session.specs.Events.{Event}
 use Rattle.pgw_handlers.specs.Client.{Client}
-use Rattle.pgw_connection.specs.Line.{Line, MovesLine, IsFlushed, Pause}
-use Rattle.pgw_calls.specs.Turns.{IsAnswered}
-use Rattle.pgw_calls.specs.Calls.{BreaksClient}
-use Rattle.pgw_calls.specs.Stands.{Made, made_call, StandsForCalls, OneMore, BrokenBehind, StandsBehind}
-use Rattle.pgw_ask.specs.Asking.{same, IsReason, FailsToAsk, failed, wants, Asks}
+use Rattle.pgw_client_calls.specs.Line.{Line, MovesLine, IsFlushed, Pause}
+use Rattle.pgw_client_laws.specs.Turns.{IsAnswered}
+use Rattle.pgw_client_laws.specs.Calls.{BreaksClient}
+use Rattle.pgw_client_laws.specs.Stands.{Made, made_call, StandsForCalls, OneMore, BrokenBehind, StandsBehind}
+use Rattle.pgw_client_ask.specs.Asking.{same, IsReason, FailsToAsk, failed, wants, Asks}
 use Rattle.pgw_pool.specs.Histories.{Lent, History, with_request, made_over, View, StandsBy, IsLent}
 use Rattle.pgw_pool.specs.Lending.{MakesOne, IsStarvedIn, IsCutLease, LeaseRan}
 use Rattle.pgw_pool.proofs.HistoryLaws.{over_link}

@@ -8,7 +8,7 @@ use Rattle.pgw_session.specs.Events.{Event, all_events}
 use Rattle.pgw_session.specs.Standings.{first_standing}
 use Rattle.pgw_session.specs.Transcript.{IsTranscript, SpellsGot, EncodesSent}
 use Rattle.pgw_handlers.specs.Client.{Client}
-use Rattle.pgw_calls.specs.Stands.{Made, made_call, StandsForCalls, requests_of, segments_of, AreAnswered, IsSession}
+use Rattle.pgw_client_laws.specs.Stands.{Made, made_call, StandsForCalls, requests_of, segments_of, AreAnswered, IsSession}
 use Rattle.pgw_pool.specs.Histories.{Lent, Over, ended, checked, History, reset, made_in, made_over, IsOver, AreReset, View, StandsBy, IsIdleInPool, IsLent}
 use Rattle.pgw_pool.specs.Sessions.{requests_in, requests_over, segments_in, segments_over, IsAllAnswered, AreAllAnswered, IsMadeOf}
 

@@ -11,14 +11,14 @@ use Rattle.pgw_handlers.specs.Client.{Client}
 use Rattle.pgw_handlers.specs.Handling.{HasCause, IsCaused}
 use Rattle.pgw_handlers.specs.Startup.{HeardAtStartup, startup}
 use Rattle.pgw_handlers.specs.declared.client_info.ServerInformation.{ServerInformation}
-use Rattle.pgw_default_handlers.specs.declared.startup.DefaultStartupHandler.{DefaultStartupHandler}
-use Rattle.pgw_default_handlers.specs.Startup.{StartupMeans, exchanges}
-use Rattle.pgw_connection.specs.Talk.{end}
-use Rattle.pgw_connection.specs.Desk.{first_client, with_information}
-use Rattle.pgw_connection.specs.Line.{Line, MovesLine, IsFlushed, Foretold, IsWithin}
-use Rattle.pgw_connection.specs.Calls.{LineCall}
-use Rattle.pgw_connection.specs.Connecting.{new_line, Connected, NotConnected}
-use Rattle.pgw_calls.specs.Stands.{StandsForCalls}
+use Rattle.pgw_handlers_default.specs.declared.startup.DefaultStartupHandler.{DefaultStartupHandler}
+use Rattle.pgw_handlers_default.specs.Startup.{StartupMeans, exchanges}
+use Rattle.pgw_client_calls.specs.Talk.{end}
+use Rattle.pgw_client_calls.specs.Desk.{first_client, with_information}
+use Rattle.pgw_client_calls.specs.Line.{Line, MovesLine, IsFlushed, Foretold, IsWithin}
+use Rattle.pgw_client_calls.specs.Calls.{LineCall}
+use Rattle.pgw_client_calls.specs.Connecting.{new_line, Connected, NotConnected}
+use Rattle.pgw_client_laws.specs.Stands.{StandsForCalls}
 use Rattle.pgw_pool.specs.Histories.{History, View, new_history, IsIdleInPool, AreIdle}
 use Rattle.pgw_pool.specs.Starting.{new_histories, handler_with, Dials, PoolConnects, ConnectAll, no_login, login_more, ConnectForetold, nothing_offered, offer_more, NotConnects, WantsAt, NotStarted}
 use Rattle.pgw_pool.proofs.HistoryLaws.{idle_more}

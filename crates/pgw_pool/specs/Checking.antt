@@ -8,13 +8,13 @@ use Rattle.pgw_session.specs.declared.types.Response.{Response}
 use Rattle.pgw_session.specs.declared.types.Response.TheVariants.{EmptyQuery}
 use Rattle.pgw_session.specs.declared.types.Answer.TheVariants as answer
 use Rattle.pgw_session.specs.Events.{Event}
-use Rattle.pgw_connection.specs.Line.{Foretold}
+use Rattle.pgw_client_calls.specs.Line.{Foretold}
 use Rattle.pgw_pool.specs.declared.returned.DropCause.TheVariants as cause
 use Rattle.pgw_pool.specs.declared.checking.Unfit.{Unfit}
 use Rattle.pgw_pool.specs.declared.checking.Unfit.TheVariants.{Answered, Dropped}
 use Rattle.pgw_pool.specs.declared.checking.CheckError.{CheckError}
 use Rattle.pgw_pool.specs.declared.checking.CheckError.TheVariants as refusal
-use Rattle.pgw_calls.specs.Turns.{IsAnswered}
+use Rattle.pgw_client_laws.specs.Turns.{IsAnswered}
 use Rattle.pgw_pool.specs.Histories.{History, View, check, lent_as, with_check, IsCheckedIn, BeginsIdle, IsLent, AreIdle}
 use Rattle.pgw_pool.specs.Lending.{most_leases}
 use Rattle.pgw_pool.specs.Returning.{cause_of, IsAskedIn, LeaseEndsBy, IsFailed}

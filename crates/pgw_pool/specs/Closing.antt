@@ -2,7 +2,7 @@
 use Rattle.std.specs.Prelude.{ℕ, List, ◌∷◌, Result, Ok, Err}
 use Rattle.pgw_backend.specs.declared.client_error.PgWireClientError.{PgWireClientError as ClientError}
 use Rattle.pgw_link.specs.Dials.{DialTape}
-use Rattle.pgw_connection.specs.Closing.{Closed}
+use Rattle.pgw_client_calls.specs.Closing.{Closed}
 use Rattle.pgw_pool.specs.Histories.{View}
 
 abbrev pub first_pool_error : Result (Unit {0}) ClientError → Result (Unit {0}) ClientError →

@@ -12,9 +12,9 @@ use Rattle.pgw_session.specs.declared.types.Response.TheVariants.{EmptyQuery}
 use Rattle.pgw_session.specs.declared.types.Answer.TheVariants as answer
 use Rattle.pgw_session.specs.Events.{Event, Got}
 use Rattle.pgw_handlers.specs.Client.{Client}
-use Rattle.pgw_connection.specs.Line.{Line, IsFlushed}
-use Rattle.pgw_calls.specs.Turns.{IsAnswered}
-use Rattle.pgw_calls.specs.Stands.{Made, made_call, events_of, StandsForCalls}
+use Rattle.pgw_client_calls.specs.Line.{Line, IsFlushed}
+use Rattle.pgw_client_laws.specs.Turns.{IsAnswered}
+use Rattle.pgw_client_laws.specs.Stands.{Made, made_call, events_of, StandsForCalls}
 
 -- ---- leases
 

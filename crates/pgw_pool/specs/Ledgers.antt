@@ -8,7 +8,7 @@ use Rattle.pgw_config.specs.declared.config.Config.{Config}
 use Rattle.pgw_session.specs.declared.types.Request.{Request}
 use Rattle.pgw_session.specs.declared.types.Answer.{Answer}
 use Rattle.pgw_session.specs.Events.{Event}
-use Rattle.pgw_calls.specs.Turns.{IsAnswered, IsPassedSegment}
+use Rattle.pgw_client_laws.specs.Turns.{IsAnswered, IsPassedSegment}
 use Rattle.pgw_pool.specs.declared.returned.Returned.{Returned}
 use Rattle.pgw_pool.specs.declared.returned.Returned.TheVariants.{Kept, Dropped}
 use Rattle.pgw_pool.specs.declared.returned.DropCause.{DropCause}

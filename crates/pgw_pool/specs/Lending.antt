@@ -6,9 +6,9 @@ use Rattle.pgw_session.specs.declared.types.Request.{Request}
 use Rattle.pgw_session.specs.declared.types.Answer.{Answer}
 use Rattle.pgw_session.specs.Events.{Event}
 use Rattle.pgw_handlers.specs.Client.{Client}
-use Rattle.pgw_calls.specs.Turns.{IsAnswered, IsPassedSegment}
-use Rattle.pgw_calls.specs.Calls.{IsStarvedCall}
-use Rattle.pgw_calls.specs.Stands.{Made, StandsForCalls, BrokenBehind}
+use Rattle.pgw_client_laws.specs.Turns.{IsAnswered, IsPassedSegment}
+use Rattle.pgw_client_laws.specs.Calls.{IsStarvedCall}
+use Rattle.pgw_client_laws.specs.Stands.{Made, StandsForCalls, BrokenBehind}
 use Rattle.pgw_pool.specs.declared.pool.LendError.{LendError}
 use Rattle.pgw_pool.specs.declared.pool.LendError.TheVariants.{Empty, Exhausted}
 use Rattle.pgw_pool.specs.Histories.{History, Lent, View, lent_as, with_request, made_over, BeginsIdle, AreReset, IsLent, AreIdle}

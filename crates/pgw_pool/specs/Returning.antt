@@ -11,12 +11,12 @@ use Rattle.pgw_session.specs.declared.types.Response.{Response}
 use Rattle.pgw_session.specs.declared.types.Answer.TheVariants as answer
 use Rattle.pgw_session.specs.Events.{Event}
 use Rattle.pgw_handlers.specs.Handling.{HasCause}
-use Rattle.pgw_connection.specs.Line.{MovesLine, Pause, IsFlushed, EndedWell, Halts, AtEnd, Foretold, StaysWithin}
-use Rattle.pgw_connection.specs.Talk.{passes}
-use Rattle.pgw_connection.specs.Calls.{IsHalted}
-use Rattle.pgw_calls.specs.Turns.{IsAnswered, IsPassedSegment}
-use Rattle.pgw_calls.specs.Calls.{Comes}
-use Rattle.pgw_calls.specs.Stands.{Made, made_call, StandsForCalls, StandsBehind}
+use Rattle.pgw_client_calls.specs.Line.{MovesLine, Pause, IsFlushed, EndedWell, Halts, AtEnd, Foretold, StaysWithin}
+use Rattle.pgw_client_calls.specs.Talk.{passes}
+use Rattle.pgw_client_calls.specs.Calls.{IsHalted}
+use Rattle.pgw_client_laws.specs.Turns.{IsAnswered, IsPassedSegment}
+use Rattle.pgw_client_laws.specs.Calls.{Comes}
+use Rattle.pgw_client_laws.specs.Stands.{Made, made_call, StandsForCalls, StandsBehind}
 use Rattle.pgw_pool.specs.declared.returned.Returned.{Returned}
 use Rattle.pgw_pool.specs.declared.returned.Returned.TheVariants.{Kept, Dropped}
 use Rattle.pgw_pool.specs.declared.returned.DropCause.{DropCause}

@@ -5,7 +5,7 @@ use Rattle.pgw_session.specs.Input.{input_with}
 use Rattle.pgw_session.specs.Events.{Event, all_events}
 use Rattle.pgw_session.specs.Standings.{first_standing}
 use Rattle.pgw_session.specs.Transcript.{IsTranscript, SpellsGot, EncodesSent}
-use Rattle.pgw_calls.specs.Stands.{Made, requests_of, segments_of, AreAnswered}
+use Rattle.pgw_client_laws.specs.Stands.{Made, requests_of, segments_of, AreAnswered}
 use Rattle.pgw_pool.specs.Histories.{Over, ended, checked, History, reset, check, View}
 
 -- the requests of leases that are over: each lease's own, and then its reset; and those of checks

@@ -7,11 +7,11 @@ use Rattle.pgw_config.specs.declared.config.Config.{Config}
 use Rattle.pgw_link.specs.Tape.{new_tape}
 use Rattle.pgw_link.specs.Dials.{DialTape, MakesNext}
 use Rattle.pgw_handlers.specs.Startup.{HeardAtStartup, startup}
-use Rattle.pgw_default_handlers.specs.declared.startup.DefaultStartupHandler.{DefaultStartupHandler}
+use Rattle.pgw_handlers_default.specs.declared.startup.DefaultStartupHandler.{DefaultStartupHandler}
 use Rattle.pgw_session.specs.declared.stage.Stage.TheVariants.{Starting}
-use Rattle.pgw_default_handlers.specs.Startup.{StartupMeans, exchanges}
-use Rattle.pgw_connection.specs.Line.{Foretold, IsWithin}
-use Rattle.pgw_connection.specs.Connecting.{Connected, NotConnected}
+use Rattle.pgw_handlers_default.specs.Startup.{StartupMeans, exchanges}
+use Rattle.pgw_client_calls.specs.Line.{Foretold, IsWithin}
+use Rattle.pgw_client_calls.specs.Connecting.{Connected, NotConnected}
 use Rattle.pgw_pool.specs.Histories.{History, View, new_history, IsIdleInPool}
 
 -- a session for each nonce, of which none was lent

@@ -4,7 +4,7 @@ use Rattle.pgw_backend.specs.declared.client_error.PgWireClientError.{PgWireClie
 use Rattle.pgw_backend.specs.declared.client_error.PgWireClientError.TheVariants as client
 use Rattle.pgw_session.specs.declared.types.Request.{Request}
 use Rattle.pgw_session.specs.declared.types.Answer.{Answer}
-use Rattle.pgw_ask.specs.Asking.{Asks}
+use Rattle.pgw_client_ask.specs.Asking.{Asks}
 use Rattle.pgw_pool.specs.declared.returned.Returned.{Returned}
 use Rattle.pgw_config.specs.declared.config.Config.{Config}
 use Rattle.pgw_pool.specs.Histories.{History, Lent, View, new_history, IsIdleInPool, IsLent, AreIdle}

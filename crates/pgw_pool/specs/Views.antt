@@ -3,7 +3,7 @@ use Rattle.std.specs.Prelude.{ℕ, List, map, Option}
 use Rattle.std.specs.VecDeque.{deque_capacity}
 use Rattle.pgw_link.specs.Tape.{Tape}
 use Rattle.pgw_link.specs.declared.link.Link as Link
-use Rattle.pgw_connection.specs.State.{ClientState, line_of, link_of, known_by, is_broken}
+use Rattle.pgw_client_calls.specs.State.{ClientState, line_of, link_of, known_by, is_broken}
 use Rattle.pgw_pool.specs.declared.lease.Lease.{Lease}
 use Rattle.pgw_pool.specs.declared.pool.Pool.{Pool}
 use Rattle.pgw_pool.specs.declared.session.Session.{Session}

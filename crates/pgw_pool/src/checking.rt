@@ -2,7 +2,7 @@
 ghost use Rattle.std.specs.Prelude.{◌≡◌, ◌<◌, List, length, ◌+◌, Result, IfOk, IfErr, OnOk, OnErr};
 ghost use Rattle.pgw_backend.specs.declared.client_error.PgWireClientError.{PgWireClientError as TheError};
 ghost use Rattle.pgw_session.specs.declared.types.Response.{Response as TheResponse};
-ghost use Rattle.pgw_connection.specs.Line.{Foretold};
+ghost use Rattle.pgw_client_calls.specs.Line.{Foretold};
 ghost use Rattle.pgw_pool.specs.Histories.{check};
 ghost use Rattle.pgw_pool.specs.Views.{view_of, left_in};
 ghost use Rattle.pgw_pool.specs.Returning.{IsAskedIn};
@@ -12,10 +12,10 @@ use crate::lease::Lease;
 use crate::pool::Pool;
 use crate::returned::{DropCause, cause_of};
 use crate::session::Session;
-use pgw_calls::laws::{simple_queries_are_segments, simple_queries_follow_one_another};
+use pgw_client_laws::laws::{simple_queries_are_segments, simple_queries_follow_one_another};
 use pgw_client::{Link, Listed, PgWireClientResult, Response, TransactionStatus};
-use pgw_connection::{ClientInfo, PgWireClient};
-use pgw_default_handlers::DefaultSimpleQueryHandler;
+use pgw_client_calls::{ClientInfo, PgWireClient};
+use pgw_handlers_default::DefaultSimpleQueryHandler;
 use std::alloc::Global;
 
 /// Why a session is not fit to be lent.

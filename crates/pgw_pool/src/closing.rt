@@ -2,7 +2,7 @@
 ghost use Rattle.std.specs.Prelude.{◌≡◌, [], ◌+◌, ◌-◌, ◌≤◌, length, false};
 ghost use Rattle.pgw_types.specs.Counts.{next_count};
 ghost use Rattle.pgw_handlers.specs.Handling.{HasCause};
-ghost use Rattle.pgw_connection.specs.Closing.{Closed};
+ghost use Rattle.pgw_client_calls.specs.Closing.{Closed};
 ghost use Rattle.pgw_pool.specs.Closing.{first_pool_error};
 
 use crate::lease::Lease;

@@ -1,7 +1,7 @@
 //! Leases that end by how many their session has had.
 ghost use Rattle.std.specs.Prelude.{◌≡◌, ◌<◌, ◌≤◌, ◌+◌, ◌-◌, List, length, false};
 ghost use Rattle.pgw_handlers.specs.Handling.{HasCause};
-ghost use Rattle.pgw_connection.specs.Closing.{Closed};
+ghost use Rattle.pgw_client_calls.specs.Closing.{Closed};
 
 use crate::lease::Lease;
 use crate::pool::Pool;

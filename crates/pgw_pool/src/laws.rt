@@ -1,12 +1,12 @@
 //! What holds of the sessions of a pool.
 ghost use Rattle.std.specs.Prelude.{◌≡◌, ℕ, List, [], ◌++◌};
-ghost use Rattle.pgw_calls.specs.Stands.{AreAnswered};
+ghost use Rattle.pgw_client_laws.specs.Stands.{AreAnswered};
 ghost use Rattle.pgw_pool.specs.Histories.{History, Lent, View, IsIdleInPool, IsLent};
 ghost use Rattle.pgw_pool.specs.Sessions.{AreAllAnswered, IsMadeOf};
 ghost use Rattle.pgw_pool.specs.Stocks.{Stock, StockSteps, IsStockInOrder};
 ghost use Rattle.pgw_pool.specs.Ledgers.{Loan, Ledger, IsLedger, LedgerCall, calls_of, Entries};
 
-use pgw_calls::laws::clients_are_sessions;
+use pgw_client_laws::laws::clients_are_sessions;
 
 /// What a session of a pool got and sent is its startup segment, then for each of its leases the segments of that lease's
 /// own requests and one of the reset; and while it is lent those of the requests made so far. No request may have been

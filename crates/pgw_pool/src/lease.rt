@@ -2,14 +2,14 @@
 ghost use Rattle.std.specs.Prelude.{◌≡◌, ℕ, Err, IfOk, IfErr, true, false};
 ghost use Rattle.pgw_backend.specs.declared.client_error.PgWireClientError.TheVariants as failure;
 ghost use Rattle.pgw_handlers.specs.Handling.{HasCause};
-ghost use Rattle.pgw_connection.specs.State.{link_of};
-ghost use Rattle.pgw_connection.specs.Canceling.{IsTokenOf};
-ghost use Rattle.pgw_connection.specs.Connecting.{LacksAddress};
-ghost use Rattle.pgw_ask.specs.Asking.{Asks, EndsRequest};
+ghost use Rattle.pgw_client_calls.specs.State.{link_of};
+ghost use Rattle.pgw_client_calls.specs.Canceling.{IsTokenOf};
+ghost use Rattle.pgw_client_calls.specs.Connecting.{LacksAddress};
+ghost use Rattle.pgw_client_ask.specs.Asking.{Asks, EndsRequest};
 
-use pgw_ask::ask;
+use pgw_client_ask::ask;
 use pgw_client::{Answer, Link, PgWireClientResult, Request};
-use pgw_connection::{CancelToken, PgWireClient};
+use pgw_client_calls::{CancelToken, PgWireClient};
 use std::alloc::Global;
 
 /// A session that is lent, until it is given back to a pool. It cannot be let go in another way.
@@ -21,7 +21,7 @@ pub struct Lease<L: Link> {
 
 impl<L: Link> Lease<L> {
     ghost use Rattle.pgw_pool.specs.Histories.{History, Lent, IsLent};
-    ghost use Rattle.pgw_connection.specs.Line.{Foretold, StaysWithin};
+    ghost use Rattle.pgw_client_calls.specs.Line.{Foretold, StaysWithin};
     ghost use Rattle.pgw_pool.specs.Views.{lease_number, leases_of, client_in, left_of, lease_view};
     ghost use Rattle.pgw_pool.specs.Lending.{LeaseRan};
 

@@ -8,7 +8,7 @@ use crate::returned::{Returned, reset};
 use crate::session::Session;
 use crate::starting::log_in;
 use pgw_client::{Config, Dialer, Link, PgWireClientError, PgWireClientResult};
-use pgw_connection::PgWireClient;
+use pgw_client_calls::PgWireClient;
 use std::alloc::Global;
 use std::collections::VecDeque;
 

@@ -2,16 +2,16 @@
 ghost use Rattle.std.specs.Prelude.{◌≡◌, List, Result};
 ghost use Rattle.pgw_backend.specs.declared.client_error.PgWireClientError.{PgWireClientError as TheError};
 ghost use Rattle.pgw_session.specs.declared.types.Response.{Response as TheResponse};
-ghost use Rattle.pgw_connection.specs.Line.{Foretold};
+ghost use Rattle.pgw_client_calls.specs.Line.{Foretold};
 ghost use Rattle.pgw_pool.specs.Views.{view_of, left_in};
 ghost use Rattle.pgw_pool.specs.Returning.{IsAsked, cause_of, kept_by, returned_by};
 
-use pgw_calls::laws::{simple_queries_are_segments, simple_queries_follow_one_another};
+use pgw_client_laws::laws::{simple_queries_are_segments, simple_queries_follow_one_another};
 use pgw_client::{
     ErrorResponse, Link, Listed, PgWireClientError, PgWireClientResult, Response, TransactionStatus,
 };
-use pgw_connection::{ClientInfo, PgWireClient};
-use pgw_default_handlers::DefaultSimpleQueryHandler;
+use pgw_client_calls::{ClientInfo, PgWireClient};
+use pgw_handlers_default::DefaultSimpleQueryHandler;
 use std::alloc::Global;
 
 /// What is asked of a session at the end of a lease.

@@ -5,14 +5,14 @@ ghost use Rattle.pgw_types.specs.Counts.{next_count};
 ghost use Rattle.pgw_handlers.specs.Handling.{HasCause};
 ghost use Rattle.pgw_link.specs.Tape.{new_tape};
 ghost use Rattle.pgw_link.specs.Dials.{MakesNext};
-ghost use Rattle.pgw_connection.specs.Line.{Foretold};
+ghost use Rattle.pgw_client_calls.specs.Line.{Foretold};
 
 use crate::lease::Lease;
 use crate::pool::Pool;
 use crate::returned::{DropCause, Returned, reset};
 use crate::starting::log_in;
 use pgw_client::{Config, Dialer, Link, PgWireClientResult};
-use pgw_connection::PgWireClient;
+use pgw_client_calls::PgWireClient;
 use std::alloc::Global;
 
 /// A session that was logged in and never lent, or whose last lease is over and was reset. With it

@@ -2,17 +2,17 @@
 ghost use Rattle.std.specs.Prelude.{◌≡◌, ◌⊎◌, ℕ, List, Option, false, IfOk, IfErr};
 ghost use Rattle.pgw_link.specs.Tape.{new_tape};
 ghost use Rattle.pgw_link.specs.Dials.{MakesNext};
-ghost use Rattle.pgw_connection.specs.Line.{Foretold};
+ghost use Rattle.pgw_client_calls.specs.Line.{Foretold};
 ghost use Rattle.pgw_backend.specs.declared.client_error.PgWireClientError.TheVariants as failure;
 ghost use Rattle.pgw_handlers.specs.Handling.{HasCause};
 ghost use Rattle.pgw_pool.specs.Histories.{IsIdleInPool, new_history};
 ghost use Rattle.pgw_pool.specs.Views.{view_of, left_in};
 ghost use Rattle.pgw_pool.specs.Starting.{dials, PoolConnects, NotConnects};
 
-use pgw_calls::laws::logins_begin_a_client;
+use pgw_client_laws::laws::logins_begin_a_client;
 use pgw_client::{Config, Dialer, Link, PgWireClientError, PgWireClientResult};
-use pgw_connection::PgWireClient;
-use pgw_default_handlers::DefaultStartupHandler;
+use pgw_client_calls::PgWireClient;
+use pgw_handlers_default::DefaultStartupHandler;
 use pgw_types::listed::Duplicate;
 use std::alloc::Global;
 

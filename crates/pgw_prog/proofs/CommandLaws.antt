@@ -2,7 +2,7 @@
 use Rattle.std.proofs.Common.{◌≡◌, ◌≤◌, ℕ, ◌+◌, List, [], ◌∷◌, ◌++◌, length, map, take, drop, get_or, Option, Some, None, codes, refl, sym, ap, ◌∙◌, arith}
 use Rattle.std.specs.Option.{IfSome}
 use Rattle.pgw_session.specs.declared.types.Request.{Request}
-use Rattle.pgw_script.specs.Line.{script_number}
+use Rattle.pgw_prog_script.specs.Line.{script_number}
 use Rattle.pgw_prog.specs.declared.command.Command.{Command}
 use Rattle.pgw_prog.specs.declared.command.Command.TheVariants as command
 use Rattle.pgw_prog.specs.Command.{command_for, connect_for, passfile_for, queries_of, IsSessionCommand}

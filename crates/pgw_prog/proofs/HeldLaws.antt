@@ -23,13 +23,13 @@ use Rattle.pgw_session.specs.Input.{Input}
 use Rattle.pgw_session.specs.Transcript.{Completed, Completes, report_of}
 use Rattle.pgw_client.specs.Session.{AnswersReport}
 use Rattle.pgw_prog.specs.declared.printed.Printed.{Printed}
-use Rattle.pgw_course.specs.Course.{Over}
+use Rattle.pgw_machine.specs.Course.{Over}
 use Rattle.pgw_session.specs.Talk.{conversation, whole_talk}
 use Rattle.pgw_session.proofs.Whole.{conversation_completes}
-use Rattle.pgw_script.specs.declared.script.Script.{Script}
+use Rattle.pgw_prog_script.specs.declared.script.Script.{Script}
 use Rattle.pgw_prog.specs.Held.{MemorySession, PrintsSession, Says, PrintsOutcome, Holds, NamesCall, IsNear, memory_span, exit_status}
 use Rattle.pgw_client.specs.OverLink.{LinkSpan, OverLink}
-use Rattle.pgw_printing.specs.SessionText.{session_text}
+use Rattle.pgw_prog_printing.specs.SessionText.{session_text}
 use Rattle.pgw_prog.proofs.OverLaws.{from_fresh}
 
 -- which calls failed, of those made by then

@@ -3,9 +3,9 @@ use Rattle.std.proofs.Common.{◌≡◌, ℕ, List, ◌++◌, Result, Ok, Err, s
 use Rattle.std.specs.Result.{IfOk}
 use Rattle.std.proofs.lemmas.List.{append_cancel_left}
 use Rattle.pgw_types.specs.declared.memory.OutOfMemory.{OutOfMemory}
-use Rattle.pgw_script.specs.Form.{Form, read_script}
-use Rattle.pgw_script.specs.Grammar.{IsScriptIn}
-use Rattle.pgw_script.proofs.GrammarLaws.{scripts, faults, same_script, no_fault}
+use Rattle.pgw_prog_script.specs.Form.{Form, read_script}
+use Rattle.pgw_prog_script.specs.Grammar.{IsScriptIn}
+use Rattle.pgw_prog_script.proofs.GrammarLaws.{scripts, faults, same_script, no_fault}
 use Rattle.pgw_prog.specs.declared.printed.Printed.{Printed}
 use Rattle.pgw_prog.specs.declared.program.ScriptKind.{ScriptKind}
 use Rattle.pgw_prog.specs.Program.{AnswersText, AnswersScript, ScriptPrints, SaysLine}

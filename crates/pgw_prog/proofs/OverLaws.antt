@@ -6,7 +6,7 @@ use Rattle.pgw_link.specs.Tape.{Tape, MovedBy, new_tape}
 use Rattle.pgw_link.proofs.LogLaws.{ends_still, foreseen_still}
 use Rattle.pgw_backend.specs.declared.client_error.PgWireClientError.{PgWireClientError}
 use Rattle.pgw_backend.specs.declared.client_error.PgWireClientError.TheVariants as client
-use Rattle.pgw_course.specs.Course.{sent_of}
+use Rattle.pgw_machine.specs.Course.{sent_of}
 use Rattle.pgw_session.specs.declared.types.SessionReport.{SessionReport}
 use Rattle.pgw_session.specs.Demands.{refused_config}
 use Rattle.pgw_session.specs.Input.{Input}

@@ -2,11 +2,11 @@
 use Rattle.std.proofs.Common.{◌≡◌, ℕ, List, ◌++◌, Result, Ok, Err, ap, subst, ◌∙◌, inr, append_assoc}
 use Rattle.std.specs.Result.{IfOk, OnOk}
 use Rattle.pgw_types.specs.declared.memory.OutOfMemory.{OutOfMemory}
-use Rattle.pgw_pair.specs.declared.parties.PairInput.{PairInput}
-use Rattle.pgw_pair.specs.declared.parties.PairOutcome.{PairOutcome}
-use Rattle.pgw_pair.specs.Parties.{TwoParty}
-use Rattle.pgw_script.specs.declared.pair_script.PairScript.{PairScript}
-use Rattle.pgw_script.specs.PairScript.{IsPairScript, pair_form}
+use Rattle.pgw_login_pair.specs.declared.parties.PairInput.{PairInput}
+use Rattle.pgw_login_pair.specs.declared.parties.PairOutcome.{PairOutcome}
+use Rattle.pgw_login_pair.specs.Parties.{TwoParty}
+use Rattle.pgw_prog_script.specs.declared.pair_script.PairScript.{PairScript}
+use Rattle.pgw_prog_script.specs.PairScript.{IsPairScript, pair_form}
 use Rattle.pgw_prog.specs.declared.printed.Printed.{Printed}
 use Rattle.pgw_prog.specs.declared.program.ScriptKind.TheVariants as scripts_of
 use Rattle.pgw_prog.specs.Held.{Says}

@@ -2,10 +2,10 @@
 use Rattle.std.proofs.Common.{◌≡◌, ℕ, List, ◌++◌, Result, Ok, Err, ap, ◌∙◌, inr}
 use Rattle.std.specs.Result.{IfOk}
 use Rattle.pgw_types.specs.declared.memory.OutOfMemory.{OutOfMemory}
-use Rattle.pgw_script.specs.declared.pool_script.PoolScript.{PoolScript}
-use Rattle.pgw_script.specs.PoolScript.{IsPoolScript, pool_form}
-use Rattle.pgw_pool_script.specs.declared.run.PoolOutcome.{PoolOutcome}
-use Rattle.pgw_pool_script.specs.Outcome.{RunsPool}
+use Rattle.pgw_prog_script.specs.declared.pool_script.PoolScript.{PoolScript}
+use Rattle.pgw_prog_script.specs.PoolScript.{IsPoolScript, pool_form}
+use Rattle.pgw_prog_pool.specs.declared.run.PoolOutcome.{PoolOutcome}
+use Rattle.pgw_prog_pool.specs.Outcome.{RunsPool}
 use Rattle.pgw_prog.specs.declared.printed.Printed.{Printed}
 use Rattle.pgw_prog.specs.declared.program.ScriptKind.TheVariants as scripts_of
 use Rattle.pgw_prog.specs.Held.{Says}

@@ -4,9 +4,9 @@ use Rattle.std.specs.Result.{IfOk}
 use Rattle.std.proofs.lemmas.List.{append-nil, append_cancel_left, length-append}
 use Rattle.pgw_types.specs.declared.memory.OutOfMemory.{OutOfMemory}
 use Rattle.pgw_session.specs.Events.{Event}
-use Rattle.pgw_script.specs.declared.script.Script.{Script}
+use Rattle.pgw_prog_script.specs.declared.script.Script.{Script}
 use Rattle.pgw_prog.specs.declared.printed.Printed.{Printed}
-use Rattle.pgw_script.specs.Script.{session_form}
+use Rattle.pgw_prog_script.specs.Script.{session_form}
 use Rattle.pgw_link.specs.Memory.{Making}
 use Rattle.pgw_link.specs.Stream.{SinkTape}
 use Rattle.pgw_types.specs.Counts.{Rose}
@@ -14,7 +14,7 @@ use Rattle.pgw_types.specs.declared.config_error.ConfigError.{ConfigError}
 use Rattle.pgw_backend.specs.ClientError.{of_config}
 use Rattle.pgw_backend.specs.declared.client_error.PgWireClientError.TheVariants as client
 use Rattle.pgw_config.specs.declared.config.Config.{Config}
-use Rattle.pgw_printing.specs.SessionText.{session_text}
+use Rattle.pgw_prog_printing.specs.SessionText.{session_text}
 use Rattle.pgw_prog.specs.Held.{PrintsSession, PrintsOutcome, Holds, CanComplete, NamesCall, IsNear, FailsNear, script_input, script_making, completed_text}
 use Rattle.pgw_prog.specs.declared.command.Command.{Command}
 use Rattle.pgw_prog.specs.declared.command.Command.TheVariants as kind

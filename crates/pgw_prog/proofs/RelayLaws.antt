@@ -9,8 +9,8 @@ use Rattle.pgw_link.specs.Memory.{Making, memory_tape, memory_left, faults_of, m
 use Rattle.pgw_proxy.specs.declared.recorded.Side.{Side}
 use Rattle.pgw_proxy.specs.declared.run.ProxyRun.{ProxyRun}
 use Rattle.pgw_proxy.specs.Run.{IsRelayForetold, Relays, Span, span}
-use Rattle.pgw_script.specs.declared.relay_script.RelayScript.{RelayScript}
-use Rattle.pgw_script.specs.RelayScript.{IsRelayScript, relay_form}
+use Rattle.pgw_prog_script.specs.declared.relay_script.RelayScript.{RelayScript}
+use Rattle.pgw_prog_script.specs.RelayScript.{IsRelayScript, relay_form}
 use Rattle.pgw_prog.specs.declared.printed.Printed.{Printed}
 use Rattle.pgw_prog.specs.declared.program.ScriptKind.TheVariants as scripts_of
 use Rattle.pgw_prog.specs.Held.{InCuts, Says}

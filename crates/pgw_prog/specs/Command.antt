@@ -5,7 +5,7 @@ use Rattle.pgw_prog.specs.declared.command.Command.{Command}
 use Rattle.pgw_prog.specs.declared.command.Command.TheVariants as command
 use Rattle.pgw_session.specs.declared.types.Request.{Request}
 use Rattle.pgw_session.specs.declared.types.Request.TheVariants as request
-use Rattle.pgw_script.specs.Line.{script_number}
+use Rattle.pgw_prog_script.specs.Line.{script_number}
 
 abbrev pub command_named : List ℕ → Command
 command_named word =

@@ -17,9 +17,9 @@ use Rattle.pgw_session.specs.Events.{Event}
 use Rattle.pgw_session.specs.Input.{Input, input_with}
 use Rattle.pgw_session.specs.Transcript.{Completes, report_of}
 use Rattle.pgw_client.specs.OverLink.{LinkSpan, OverLink}
-use Rattle.pgw_script.specs.declared.script.Script.{Script}
+use Rattle.pgw_prog_script.specs.declared.script.Script.{Script}
 use Rattle.pgw_prog.specs.declared.printed.Printed.{Printed}
-use Rattle.pgw_printing.specs.SessionText.{session_text}
+use Rattle.pgw_prog_printing.specs.SessionText.{session_text}
 
 -- the session that the script asks for, with this configuration
 abbrev pub script_input : Script → Config → Input

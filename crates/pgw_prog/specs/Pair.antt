@@ -5,18 +5,18 @@ use Rattle.pgw_backend.specs.declared.client_error.PgWireClientError.{
   PgWireClientError as ClientError,
 }
 use Rattle.pgw_hash.specs.Pbkdf2.{salted_password}
-use Rattle.pgw_pair.specs.declared.parties.PairInput.{PairInput}
-use Rattle.pgw_pair.specs.declared.parties.PairOutcome.{PairOutcome}
-use Rattle.pgw_pair.specs.declared.parties.ClientEnd.{ClientEnd}
-use Rattle.pgw_pair.specs.declared.parties.ClientEnd.TheVariants as client
-use Rattle.pgw_pair.specs.declared.parties.ServerEnd.{ServerEnd}
-use Rattle.pgw_pair.specs.declared.parties.ServerEnd.TheVariants as server
-use Rattle.pgw_pair.specs.Parties.{TwoParty}
-use Rattle.pgw_script.specs.declared.pair_script.PairScript.{PairScript}
+use Rattle.pgw_login_pair.specs.declared.parties.PairInput.{PairInput}
+use Rattle.pgw_login_pair.specs.declared.parties.PairOutcome.{PairOutcome}
+use Rattle.pgw_login_pair.specs.declared.parties.ClientEnd.{ClientEnd}
+use Rattle.pgw_login_pair.specs.declared.parties.ClientEnd.TheVariants as client
+use Rattle.pgw_login_pair.specs.declared.parties.ServerEnd.{ServerEnd}
+use Rattle.pgw_login_pair.specs.declared.parties.ServerEnd.TheVariants as server
+use Rattle.pgw_login_pair.specs.Parties.{TwoParty}
+use Rattle.pgw_prog_script.specs.declared.pair_script.PairScript.{PairScript}
 use Rattle.pgw_prog.specs.declared.printed.Printed.{Printed}
-use Rattle.pgw_printing.specs.ErrorNames.{client_name, wire_name}
+use Rattle.pgw_prog_printing.specs.ErrorNames.{client_name, wire_name}
 use Rattle.pgw_prog.specs.Held.{Says}
-use Rattle.pgw_printing.specs.Pieces.{line_end}
+use Rattle.pgw_prog_printing.specs.Pieces.{line_end}
 
 -- the login that the script asks for: the server keeps the salted password of the text `stored`
 abbrev pub pair_input : PairScript → PairInput

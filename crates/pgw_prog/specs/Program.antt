@@ -5,10 +5,10 @@ use Rattle.pgw_types.specs.Counts.{Rose}
 use Rattle.pgw_link.specs.Stream.{SourceTape, SinkTape}
 use Rattle.pgw_backend.specs.declared.client_error.PgWireClientError.TheVariants as client
 use Rattle.pgw_session.specs.Events.{Event}
-use Rattle.pgw_script.specs.declared.script.Script.{Script}
-use Rattle.pgw_script.specs.declared.pair_script.PairScript.{PairScript}
-use Rattle.pgw_script.specs.declared.relay_script.RelayScript.{RelayScript}
-use Rattle.pgw_script.specs.declared.pool_script.PoolScript.{PoolScript}
+use Rattle.pgw_prog_script.specs.declared.script.Script.{Script}
+use Rattle.pgw_prog_script.specs.declared.pair_script.PairScript.{PairScript}
+use Rattle.pgw_prog_script.specs.declared.relay_script.RelayScript.{RelayScript}
+use Rattle.pgw_prog_script.specs.declared.pool_script.PoolScript.{PoolScript}
 use Rattle.pgw_prog.specs.declared.printed.Printed.{Printed}
 use Rattle.pgw_prog.specs.declared.command.Command.{Command}
 use Rattle.pgw_prog.specs.declared.command.Command.TheVariants as kind
@@ -17,12 +17,12 @@ use Rattle.pgw_prog.specs.declared.program.ScriptKind.{ScriptKind}
 use Rattle.pgw_prog.specs.declared.program.ScriptKind.TheVariants as scripts
 use Rattle.pgw_prog.specs.declared.program.Stop.{Stop}
 use Rattle.pgw_prog.specs.declared.program.Stop.TheVariants as stop
-use Rattle.pgw_script.specs.Form.{Form}
-use Rattle.pgw_script.specs.Grammar.{IsScriptIn, IsFaultIn}
-use Rattle.pgw_script.specs.Script.{IsScript, session_form}
-use Rattle.pgw_script.specs.PairScript.{IsPairScript, pair_form}
-use Rattle.pgw_script.specs.RelayScript.{IsRelayScript, relay_form}
-use Rattle.pgw_script.specs.PoolScript.{IsPoolScript, pool_form}
+use Rattle.pgw_prog_script.specs.Form.{Form}
+use Rattle.pgw_prog_script.specs.Grammar.{IsScriptIn, IsFaultIn}
+use Rattle.pgw_prog_script.specs.Script.{IsScript, session_form}
+use Rattle.pgw_prog_script.specs.PairScript.{IsPairScript, pair_form}
+use Rattle.pgw_prog_script.specs.RelayScript.{IsRelayScript, relay_form}
+use Rattle.pgw_prog_script.specs.PoolScript.{IsPoolScript, pool_form}
 use Rattle.pgw_prog.specs.declared.command.NewSecret.{NewSecret}
 use Rattle.pgw_prog.specs.declared.passfile.Asked.{Asked}
 use Rattle.pgw_prog.specs.Command.{reads_source}
@@ -34,8 +34,8 @@ use Rattle.pgw_prog.specs.Passfile.{AnswersPassfile, PrintsFound}
 use Rattle.pgw_prog.specs.Relay.{PrintsRelay, PrintsRelayText}
 use Rattle.pgw_prog.specs.Pool.{PrintsPool, PrintsPoolText}
 use Rattle.pgw_prog.specs.Secret.{SaysSecret, PrintsSecret}
-use Rattle.pgw_printing.specs.Pieces.{line_end}
-use Rattle.pgw_printing.specs.SessionText.{error_line, session_text}
+use Rattle.pgw_prog_printing.specs.Pieces.{line_end}
+use Rattle.pgw_prog_printing.specs.SessionText.{error_line, session_text}
 use Rattle.pgw_prog.specs.Transfer.{SourceSpan, SinkSpan, TookWhole, TookFront, TookTooMany}
 
 -- the line with this number is the first outside the grammar

@@ -4,7 +4,7 @@ ghost use Rattle.pgw_prog.specs.Command.{command_for, command_named as named, co
 
 use crate::passfile::Asked;
 use pgw_client::Request;
-use pgw_script::number::read_number;
+use pgw_prog_script::number::read_number;
 use pgw_types::listed::Listed;
 use pgw_types::memory::OutOfMemory;
 use pgw_types::text::Text;

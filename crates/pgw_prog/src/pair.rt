@@ -6,12 +6,12 @@ ghost use Rattle.pgw_prog.specs.Pair.{pair_input, client_refusal, client_line, s
 use crate::printed::Printed;
 use pgw_backend::client_error::PgWireClientError;
 use pgw_hash::pbkdf2::gen_salted_password;
-use pgw_pair::parties::{ClientEnd, PairInput, PairOutcome, ServerEnd};
-use pgw_pair::two_party;
-use pgw_printing::error_names::{put_client_name, put_wire_name};
-use pgw_printing::pieces::put;
+use pgw_login_pair::parties::{ClientEnd, PairInput, PairOutcome, ServerEnd};
+use pgw_login_pair::two_party;
+use pgw_prog_printing::error_names::{put_client_name, put_wire_name};
+use pgw_prog_printing::pieces::put;
 use pgw_scram::password::Password;
-use pgw_script::pair_script::PairScript;
+use pgw_prog_script::pair_script::PairScript;
 use pgw_types::error::PgWireError;
 use pgw_types::memory::OutOfMemory;
 use pgw_types::octets::Octets;

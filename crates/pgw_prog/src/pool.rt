@@ -1,17 +1,17 @@
 //! The pool of a pool script.
 ghost use Rattle.std.specs.Prelude.{◌<◌, ◌++◌, IfOk, codes, decimal};
-ghost use Rattle.pgw_printing.specs.Pieces.{line_end};
-ghost use Rattle.pgw_printing.specs.SessionText.{error_line};
+ghost use Rattle.pgw_prog_printing.specs.Pieces.{line_end};
+ghost use Rattle.pgw_prog_printing.specs.SessionText.{error_line};
 ghost use Rattle.pgw_prog.specs.Held.{Says};
 ghost use Rattle.pgw_prog.specs.Pool.{pool_text, pool_status, PrintsPool};
 
 use crate::printed::Printed;
 use crate::told::{told_of_pool_line, told_of_refusal};
 use pgw_backend::client_error::PgWireClientError;
-use pgw_pool_script::run::{PoolOutcome, run_pool};
-use pgw_printing::pieces::{put, put_decimal};
-use pgw_printing::session_text::put_error;
-use pgw_script::pool_script::PoolScript;
+use pgw_prog_pool::run::{PoolOutcome, run_pool};
+use pgw_prog_printing::pieces::{put, put_decimal};
+use pgw_prog_printing::session_text::put_error;
+use pgw_prog_script::pool_script::PoolScript;
 use pgw_types::memory::OutOfMemory;
 use std::alloc::Global;
 

@@ -1,10 +1,10 @@
 //! What people are told on standard error. No clause speaks of these texts; where memory runs out, nothing is told.
 
 use pgw_backend::client_error::{PgWireClientError, PgWireClientResult};
-use pgw_conninfo::part::Part;
-use pgw_conninfo::text::cut;
+use pgw_config_text::part::Part;
+use pgw_config_text::text::cut;
 use pgw_proxy::fault::ProxyFault;
-use pgw_script::expected::{
+use pgw_prog_script::expected::{
     expected_at, expected_in_pair_at, expected_in_pool_at, expected_in_relay_at,
 };
 use pgw_session::types::SessionReport;

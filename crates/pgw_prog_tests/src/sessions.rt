@@ -1,8 +1,8 @@
 //! Sessions of any size over links of their own.
 
 use pgw_backend::client_error::{PgWireClientError, PgWireClientResult};
-use pgw_gen::stream::stream;
-use pgw_gen::summary::GenSummary;
+use pgw_prog_generate::stream::stream;
+use pgw_prog_generate::summary::GenSummary;
 use pgw_link::link::Link;
 use pgw_link::memory::MemoryLink;
 use pgw_link::stream_link::StreamLink;

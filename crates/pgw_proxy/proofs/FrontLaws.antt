@@ -5,7 +5,7 @@ use Rattle.pgw_types.specs.declared.context.DecodeContext.{DecodeContext}
 use Rattle.pgw_wire.specs.declared.framing.Framing.TheVariants.{Code}
 use Rattle.pgw_wire.specs.Framing.{code_in, wire_front, as_one_of, Decodes}
 use Rattle.pgw_wire.proofs.Stable.{Stable}
-use Rattle.pgw_opening.specs.Openings.{ssl_request_of, gss_enc_request_of}
+use Rattle.pgw_control.specs.Openings.{ssl_request_of, gss_enc_request_of}
 use Rattle.pgw_frontend.specs.declared.frontend.SslNegotiationMetaMessage.TheVariants as negotiation
 use Rattle.pgw_frontend.specs.declared.frontend.PgWireFrontendMessage.{PgWireFrontendMessage as Frontend}
 use Rattle.pgw_frontend.specs.declared.frontend.PgWireFrontendMessage.TheVariants as frontend

@@ -4,7 +4,7 @@ use Rattle.pgw_types.specs.declared.context.ProtocolVersion.{ProtocolVersion}
 use Rattle.pgw_types.specs.declared.context.DecodeContext.{DecodeContext}
 use Rattle.std.specs.Int.{w32}
 use Rattle.pgw_wire.specs.Formats.{SpellsNat}
-use Rattle.pgw_opening.specs.Openings.{SpellsCoded}
+use Rattle.pgw_control.specs.Openings.{SpellsCoded}
 use Rattle.pgw_backend.specs.declared.backend.PgWireBackendMessage.{PgWireBackendMessage as Backend}
 use Rattle.pgw_backend.specs.declared.backend.PgWireBackendMessage.TheVariants as backend
 use Rattle.pgw_backend.specs.Backend.{backend_front}

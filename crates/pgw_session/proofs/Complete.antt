@@ -2,9 +2,9 @@
 use Rattle.std.proofs.Common.{◌≡◌, ◌≤◌, ◌⊎◌, ℕ, List, [], ◌∷◌, ◌++◌, length, inl, inr, arith, refl, ◌∙◌, ap, sym, length-append}
 use Rattle.pgw_session.specs.Events.{Event}
 use Rattle.pgw_session.specs.Transcript.{Completes}
-use Rattle.pgw_course.specs.Course.{Waits, Over, run}
+use Rattle.pgw_machine.specs.Course.{Waits, Over, run}
 use Rattle.pgw_session.specs.Talk.{Talk, Ending, talk_rules, conversation, beginning, whole_talk}
-use Rattle.pgw_course.proofs.CourseLaws.{run_over, run_append}
+use Rattle.pgw_machine.proofs.CourseLaws.{run_over, run_append}
 use Rattle.pgw_session.proofs.Whole.{conversation_completes}
 use Rattle.pgw_session.specs.Input.{Input}
 

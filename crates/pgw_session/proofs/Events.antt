@@ -19,7 +19,7 @@ use Rattle.pgw_session.specs.Requests.{sends_of}
 use Rattle.pgw_session.specs.Segments.{is_ready, sends}
 use Rattle.pgw_session.specs.Answers.{tally_of, tally_at, tally_after}
 use Rattle.pgw_session.specs.Transcript.{SpellsGot}
-use Rattle.pgw_course.specs.Course.{Move, On, Ends}
+use Rattle.pgw_machine.specs.Course.{Move, On, Ends}
 use Rattle.pgw_session.specs.Table.{next_after, stage_for}
 use Rattle.pgw_session.specs.Machine.{sending}
 use Rattle.pgw_session.proofs.Moves.{opens, moves, passing, turn}

@@ -12,10 +12,10 @@ use Rattle.pgw_session.specs.Standings.{first_standing, standing_of}
 use Rattle.pgw_session.specs.Answers.{tally_of}
 use Rattle.pgw_session.specs.Transcript.{IsLegalPrefix, SpellsGot, EncodesSent, Completed, report_of}
 use Rattle.pgw_session.specs.Failures.{IsServersTurn, RefusedAt, at_once, at_ready, at_the_end, HasNoPlace, NextAtStartup, WaitsAt, LeftWith, Unreadable, Unsendable, IsHopeless, IsUnfinished, FailsAtStartup, EndsAs, WaitsStill, BytesTell, complete, misplaced, unreadable, unsendable, refused, waiting}
-use Rattle.pgw_course.specs.Course.{Course, Waits, Over, run, sent_of}
+use Rattle.pgw_machine.specs.Course.{Course, Waits, Over, run, sent_of}
 use Rattle.pgw_session.specs.Machine.{Outcome, Complete, Unencoded, Unexpected, Unread, Refused, end_with}
 use Rattle.pgw_session.specs.Talk.{Talk, Ending, said, heard_of, first_passed, talk_rules, beginning, conversation, whole_talk}
-use Rattle.pgw_course.proofs.CourseLaws.{run_append}
+use Rattle.pgw_machine.proofs.CourseLaws.{run_append}
 use Rattle.pgw_session.proofs.Events.{sents_gots, clean_heard}
 use Rattle.pgw_session.proofs.Whole.{conversation_completes, lost_run, lost_not_ended}
 use Rattle.pgw_session.proofs.Sound.{conversation_sound, SoundAt, Final, Open, OpenIf, Cause, FirstAtStartup, Misplaces, Passed, open_awaits}

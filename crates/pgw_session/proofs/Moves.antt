@@ -8,7 +8,7 @@ use Rattle.pgw_session.specs.declared.stage.Stage.{Stage}
 use Rattle.pgw_session.specs.declared.stage.Next.{Next}
 use Rattle.pgw_session.specs.Input.{Input}
 use Rattle.pgw_session.specs.Events.{Event, Sent}
-use Rattle.pgw_course.specs.Course.{Move}
+use Rattle.pgw_machine.specs.Course.{Move}
 use Rattle.pgw_session.specs.Machine.{sending, opens_next, moves_by, passes_by, turn_by}
 use Rattle.pgw_session.specs.Talk.{Talk, Ending, between, first_passed, talk_book}
 

@@ -8,12 +8,12 @@ use Rattle.pgw_session.specs.declared.stage.Next.TheVariants.{Goes, Closes, Wron
 use Rattle.pgw_session.specs.Events.{Event, Got, all_events}
 use Rattle.pgw_session.specs.Standings.{standing_of}
 use Rattle.pgw_session.specs.Transcript.{IsTranscript, IsLegalPrefix}
-use Rattle.pgw_course.specs.Course.{Waits, onto, run}
+use Rattle.pgw_machine.specs.Course.{Waits, onto, run}
 use Rattle.pgw_session.specs.Table.{next_after}
 use Rattle.pgw_session.proofs.ReadingLaws.{reads_more, reads_whole, steady_by}
 use Rattle.pgw_session.proofs.Moves.{moves, turn}
 use Rattle.pgw_session.specs.Talk.{Talk, said, heard_of, talk_book, talk_rules, beginning, conversation, HasRefused}
-use Rattle.pgw_course.proofs.CourseLaws.{run_append, whole_from}
+use Rattle.pgw_machine.proofs.CourseLaws.{run_append, whole_from}
 use Rattle.pgw_session.proofs.Events.{clean_heard}
 use Rattle.pgw_session.proofs.Grammar.{RestBy, by_rest}
 use Rattle.pgw_session.proofs.Whole.{no_place}

@@ -12,7 +12,7 @@ use Rattle.pgw_session.specs.Events.{Event, Sent, Got, all_events}
 use Rattle.pgw_session.specs.Standings.{standing_of, standing_at, standing_by, first_standing}
 use Rattle.pgw_session.specs.Answers.{tally_of, tally_at, tally_after, no_tally, answer_of, answers_of}
 use Rattle.pgw_session.specs.Machine.{open_request, map_end, rules_by, beginning_by}
-use Rattle.pgw_course.specs.Course.{run, map_course}
+use Rattle.pgw_machine.specs.Course.{run, map_course}
 use Rattle.pgw_session.specs.declared.types.Answer.{Answer}
 use Rattle.pgw_session.specs.declared.tally.Tally.{Tally}
 use Rattle.pgw_config.specs.declared.config.Config.{Config}

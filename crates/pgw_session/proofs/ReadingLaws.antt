@@ -6,7 +6,7 @@ use Rattle.pgw_backend.specs.Front as message
 use Rattle.pgw_backend.specs.Front.{front}
 use Rattle.pgw_backend.specs.declared.backend.PgWireBackendMessage.{PgWireBackendMessage as Backend}
 use Rattle.pgw_backend.proofs.FrontLaws.{front_nil, front_whole, front_take, front_whole_more, front_bad_more}
-use Rattle.pgw_course.specs.Course.{More, Bad, Whole, IsReading, IsSteady}
+use Rattle.pgw_machine.specs.Course.{More, Bad, Whole, IsReading, IsSteady}
 use Rattle.pgw_session.specs.Input.{Input}
 use Rattle.pgw_session.specs.Reading.{session_front, version_front}
 use Rattle.pgw_session.specs.Machine.{Notebook, rules_by}

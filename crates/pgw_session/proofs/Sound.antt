@@ -22,7 +22,7 @@ use Rattle.pgw_session.specs.Requests.{sends_of}
 use Rattle.pgw_session.specs.Segments.{IsBegun, IsQuiet, IsSimple, startup_message, is_ready, is_other, sends}
 use Rattle.pgw_session.specs.Transcript.{AreSegments, IsTranscript, IsLegalPrefix, SpellsGot, EncodesSent, opening_at, segment_opening}
 use Rattle.pgw_session.specs.Failures.{IsServersTurn, ArePassedOver, place_of, refusal_at}
-use Rattle.pgw_course.specs.Course.{Move, On, Ends, Course, Waits, Over, onto, eat, feed, run}
+use Rattle.pgw_machine.specs.Course.{Move, On, Ends, Course, Waits, Over, onto, eat, feed, run}
 use Rattle.pgw_session.specs.Reading.{session_front}
 use Rattle.pgw_session.specs.Table.{next_after, stage_for}
 use Rattle.pgw_session.specs.Machine.{Outcome, Complete, Unencoded, Unexpected, Unread, Refused, sending}

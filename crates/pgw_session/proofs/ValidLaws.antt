@@ -28,7 +28,7 @@ use Rattle.pgw_session.specs.Events.{Event, all_events, sents}
 use Rattle.pgw_session.specs.Transcript.{IsTranscript, IsLegalPrefix, EncodesSent, SpellsGot, Completes}
 use Rattle.pgw_session.specs.Demands.{refused_binding, refused_demand, refused_config}
 use Rattle.pgw_session.specs.Standings.{first_standing}
-use Rattle.pgw_course.specs.Course.{Over}
+use Rattle.pgw_machine.specs.Course.{Over}
 use Rattle.pgw_session.proofs.FailureLaws.{unencoded}
 use Rattle.pgw_session.proofs.SentLaws.{AreSent, MaySend, transcript_sent, prefix_sent, due_sent}
 use Rattle.pgw_session.specs.Input.{Input}

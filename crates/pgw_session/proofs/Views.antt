@@ -14,8 +14,8 @@ use Rattle.pgw_session.specs.Input.{Input}
 use Rattle.pgw_session.specs.Requests.{sends_of}
 use Rattle.pgw_session.specs.Segments.{startup_message, is_ready, sends}
 use Rattle.pgw_session.specs.Table.{next_after, stage_for}
-use Rattle.pgw_course.specs.Course.{On, Course, onto, run, map_course, map_move, IsView}
-use Rattle.pgw_course.proofs.CourseLaws.{run_seen, onto_seen}
+use Rattle.pgw_machine.specs.Course.{On, Course, onto, run, map_course, map_move, IsView}
+use Rattle.pgw_machine.proofs.CourseLaws.{run_seen, onto_seen}
 use Rattle.pgw_session.specs.Reading.{version_front}
 use Rattle.pgw_session.specs.Machine.{Notebook, End, map_end, open_request, sending, opens_next, moves_by, passes_by, turn_by, rules_by, beginning_by}
 

@@ -16,13 +16,13 @@ use Rattle.pgw_session.specs.Standings.{first_standing, standing_of}
 use Rattle.pgw_session.specs.Requests.{sends_of}
 use Rattle.pgw_session.specs.Segments.{AreAll, IsBegun, IsStartupSegment, startup_message, is_early, is_ready, sends}
 use Rattle.pgw_session.specs.Transcript.{AreSegments, IsTranscript, IsLegalPrefix, SpellsGot, EncodesSent}
-use Rattle.pgw_course.specs.Course.{On, Course, Waits, Over, Rules, onto, eat, feed, run}
+use Rattle.pgw_machine.specs.Course.{On, Course, Waits, Over, Rules, onto, eat, feed, run}
 use Rattle.pgw_session.specs.Reading.{session_front}
 use Rattle.pgw_session.specs.Table.{next_after, by_login, news_or, stage_for}
 use Rattle.pgw_session.specs.Machine.{Outcome, Complete, Unencoded, sending}
 use Rattle.pgw_session.proofs.Moves.{moves, opens, opening, passing, turn}
 use Rattle.pgw_session.specs.Talk.{Talk, Ending, said, heard_of, talk_rules, beginning, conversation, whole_talk, HasRefused, EndsByGot}
-use Rattle.pgw_course.proofs.CourseLaws.{run_over}
+use Rattle.pgw_machine.proofs.CourseLaws.{run_over}
 use Rattle.pgw_session.proofs.Hears.{hear, hears, hear_append, hear_over, hear_one, gots, gots_append, gots_sends, gots_gots, sents_append, sents_sends, spelled_onto}
 use Rattle.pgw_session.proofs.Events.{encodings_append, joined_cut, talk_follows, first_sends}
 use Rattle.pgw_session.proofs.Grammar.{Rest, RestBy, rest_by, rest_nil, rest_sent}

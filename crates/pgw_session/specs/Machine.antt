@@ -18,7 +18,7 @@ use Rattle.pgw_session.specs.Input.{Input}
 use Rattle.pgw_session.specs.Requests.{sends_of}
 use Rattle.pgw_session.specs.Segments.{startup_message, is_ready, sends}
 use Rattle.pgw_session.specs.Table.{next_after, stage_for}
-use Rattle.pgw_course.specs.Course.{Move, On, Ends, Course, Rules, onto}
+use Rattle.pgw_machine.specs.Course.{Move, On, Ends, Course, Rules, onto}
 use Rattle.pgw_session.specs.Reading.{version_front}
 
 -- What is noted of a session: how far the open segment has come, how many have closed, which message was passed over

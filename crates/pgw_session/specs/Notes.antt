@@ -10,7 +10,7 @@ use Rattle.pgw_session.specs.declared.stage.Stage.TheVariants.{Starting}
 use Rattle.pgw_session.specs.Input.{Input}
 use Rattle.pgw_session.specs.Standings.{first_standing, standing_by, standing_of}
 use Rattle.pgw_session.specs.Answers.{answer_by, answers_of, tally_after, tally_of, no_tally}
-use Rattle.pgw_course.specs.Course.{Course, run}
+use Rattle.pgw_machine.specs.Course.{Course, run}
 use Rattle.pgw_session.specs.Machine.{Notebook, End, rules_by, beginning_by}
 use Rattle.pgw_session.specs.Talk.{Talk, heard_of, first_passed}
 

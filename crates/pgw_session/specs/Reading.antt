@@ -5,7 +5,7 @@ use Rattle.pgw_types.specs.declared.context.ProtocolVersion.{ProtocolVersion}
 use Rattle.pgw_types.specs.declared.error.PgWireError.{PgWireError}
 use Rattle.pgw_backend.specs.Front as message
 use Rattle.pgw_backend.specs.declared.backend.PgWireBackendMessage.{PgWireBackendMessage as Backend}
-use Rattle.pgw_course.specs.Course.{Front, More, Bad, Whole}
+use Rattle.pgw_machine.specs.Course.{Front, More, Bad, Whole}
 
 abbrev pub session_front : message.BackendFront → Front Backend PgWireError
 session_front message.More = More

@@ -8,7 +8,7 @@ use Rattle.pgw_session.specs.declared.stage.Stage.TheVariants.{Starting}
 use Rattle.pgw_session.specs.Input.{Input}
 use Rattle.pgw_session.specs.Events.{Event, Sent, Got, all_events}
 use Rattle.pgw_session.specs.Standings.{standing_of}
-use Rattle.pgw_course.specs.Course.{Course, Waits, Over, Rules, run}
+use Rattle.pgw_machine.specs.Course.{Course, Waits, Over, Rules, run}
 use Rattle.pgw_session.specs.Machine.{Notebook, End, Outcome, Complete, Unencoded, rules_by, beginning_by}
 
 -- The segments that have closed; the events of the open one and how far it has come; and what was got since a message

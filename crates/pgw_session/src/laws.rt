@@ -35,7 +35,7 @@ ghost use Rattle.pgw_startup.specs.declared.authentication.Authentication.TheVar
 ghost use Rattle.pgw_session.specs.Bound.{BindsTo, LogsInBound, LetsNoneIn, CanEnd};
 ghost use Rattle.pgw_session.specs.Demands.{refused_config};
 ghost use Rattle.pgw_session.specs.Valid.{IsValidInput, IsLoginValid, CanLogIn};
-ghost use Rattle.pgw_course.specs.Course.{Waits, Over, onto, map_course, sent_of};
+ghost use Rattle.pgw_machine.specs.Course.{Waits, Over, onto, map_course, sent_of};
 ghost use Rattle.pgw_session.specs.Machine.{opens_next, end_with, map_end, Complete, Unencoded, Unexpected, Unread, Refused};
 ghost use Rattle.pgw_session.specs.Notes.{noted_of, view};
 ghost use Rattle.pgw_session.specs.Talk.{between, first_passed, talk_book, Talk, Ending, said, conversation, whole_talk, HasRefused};

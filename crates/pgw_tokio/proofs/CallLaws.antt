@@ -13,14 +13,14 @@ use Rattle.pgw_dialogue.specs.Wire.{IsEndError}
 use Rattle.pgw_link.specs.Tape.{Tape}
 use Rattle.pgw_session.specs.declared.types.Request.{Request}
 use Rattle.pgw_session.specs.Input.{Input}
-use Rattle.pgw_moving.specs.Calls.{Call, Gave, Ended, Wrote, Flushed, Waited, Unread, Unwritten, Unflushed, CallGoesOn, fault_of}
-use Rattle.pgw_moving.specs.declared.engine.Turn.{Turn}
-use Rattle.pgw_moving.specs.declared.engine.Turn.TheVariants as turn
-use Rattle.pgw_moving.specs.Moving.{Mover, Runs, Step}
-use Rattle.pgw_push.specs.declared.client.PushClient.{PushClient}
-use Rattle.pgw_push.specs.Calls.{HasAnswer, IsLeft}
-use Rattle.pgw_push.specs.Standing.{IsPushBroken, IsIdle, IsOpen, StandsFor}
-use Rattle.pgw_push.specs.Told.{asked_of}
+use Rattle.pgw_tokio_moving.specs.Calls.{Call, Gave, Ended, Wrote, Flushed, Waited, Unread, Unwritten, Unflushed, CallGoesOn, fault_of}
+use Rattle.pgw_tokio_moving.specs.declared.engine.Turn.{Turn}
+use Rattle.pgw_tokio_moving.specs.declared.engine.Turn.TheVariants as turn
+use Rattle.pgw_tokio_moving.specs.Moving.{Mover, Runs, Step}
+use Rattle.pgw_client_push.specs.declared.client.PushClient.{PushClient}
+use Rattle.pgw_client_push.specs.Calls.{HasAnswer, IsLeft}
+use Rattle.pgw_client_push.specs.Standing.{IsPushBroken, IsIdle, IsOpen, StandsFor}
+use Rattle.pgw_client_push.specs.Told.{asked_of}
 use Rattle.pgw_tokio.specs.declared.calling.ClientEngine.{ClientEngine}
 use Rattle.pgw_tokio.specs.Calling.{MeansEnd, client_members}
 use Rattle.pgw_tokio.specs.Failing.{Fails, IsStreamFlushed}

@@ -8,7 +8,7 @@ use Rattle.tokio.specs.declared.io.async_write.AsyncWrite as AsyncWrite
 use Rattle.pgw_types.specs.Counts.{Rose}
 use Rattle.pgw_backend.specs.declared.client_error.PgWireClientError.{PgWireClientError as ClientError}
 use Rattle.pgw_backend.specs.declared.client_error.PgWireClientError.TheVariants as client
-use Rattle.pgw_course.specs.Course.{onto}
+use Rattle.pgw_machine.specs.Course.{onto}
 use Rattle.pgw_link.specs.Tape.{Tape, new_tape}
 use Rattle.pgw_link.specs.Foresight.{TapeEnds, Foreseen}
 use Rattle.pgw_session.specs.declared.types.SessionReport.{SessionReport}
@@ -32,15 +32,15 @@ use Rattle.pgw_client.specs.SessionSteps.{LinkSession}
 use Rattle.pgw_client.proofs.MachineTalkLaws.{unstarted}
 use Rattle.pgw_client.proofs.RefusedLaws.{refused_causes, refused_lockstep, refused_paced}
 use Rattle.pgw_client.proofs.SessionLaws.{causes, told, paced, lockstep, completed, reports}
-use Rattle.pgw_moving.specs.Calls.{Call}
-use Rattle.pgw_moving.specs.Calls.{Trail}
-use Rattle.pgw_moving.specs.declared.engine.Engine as Engine
-use Rattle.pgw_moving.specs.declared.engine.Turn.TheVariants as turn
-use Rattle.pgw_moving.specs.declared.exchange.Stop.{Stop}
-use Rattle.pgw_moving.specs.declared.exchange.Stop.TheVariants as stop
-use Rattle.pgw_moving.specs.declared.moving.Moved.{Moved}
-use Rattle.pgw_moving.specs.Moving.{Mover}
-use Rattle.pgw_moving.specs.Future.{CameTo}
+use Rattle.pgw_tokio_moving.specs.Calls.{Call}
+use Rattle.pgw_tokio_moving.specs.Calls.{Trail}
+use Rattle.pgw_tokio_moving.specs.declared.engine.Engine as Engine
+use Rattle.pgw_tokio_moving.specs.declared.engine.Turn.TheVariants as turn
+use Rattle.pgw_tokio_moving.specs.declared.exchange.Stop.{Stop}
+use Rattle.pgw_tokio_moving.specs.declared.exchange.Stop.TheVariants as stop
+use Rattle.pgw_tokio_moving.specs.declared.moving.Moved.{Moved}
+use Rattle.pgw_tokio_moving.specs.Moving.{Mover}
+use Rattle.pgw_tokio_moving.specs.Future.{CameTo}
 use Rattle.pgw_tokio.specs.declared.engine.SessionEngine.{SessionEngine}
 use Rattle.pgw_tokio.specs.declared.holding.Ended.{Ended as TheEnded}
 use Rattle.pgw_tokio.specs.Engine.{StandsAs, Waits}

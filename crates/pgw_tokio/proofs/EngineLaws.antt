@@ -10,7 +10,7 @@ use Rattle.pgw_dialogue.specs.Demands.{RefusesKey}
 use Rattle.pgw_dialogue.specs.Dialogue.{IsBehind, IsStarved, Starts, Takes}
 use Rattle.pgw_dialogue.specs.declared.dialogue.Dialogue.{Dialogue}
 use Rattle.pgw_dialogue.specs.declared.phase.DialoguePhase.{DialoguePhase}
-use Rattle.pgw_moving.specs.declared.engine.Turn.{Turn}
+use Rattle.pgw_tokio_moving.specs.declared.engine.Turn.{Turn}
 use Rattle.pgw_tokio.specs.declared.engine.SessionEngine.{SessionEngine}
 use Rattle.pgw_tokio.specs.Engine.{Feeds}
 use Rattle.pgw_tokio.specs.First.{first_turn, refusal_of, refused_at, turn_of}

@@ -16,15 +16,15 @@ use Rattle.pgw_tokio.specs.declared.sockets.Connecting.TheVariants.{Limited}
 use Rattle.tokio.specs.declared.io.async_read.AsyncRead as AsyncRead
 use Rattle.tokio.specs.declared.io.async_write.AsyncWrite as AsyncWrite
 use Rattle.pgw_session.specs.Input.{Input}
-use Rattle.pgw_moving.specs.Calls.{Call}
-use Rattle.pgw_moving.specs.declared.engine.Turn.{Turn}
-use Rattle.pgw_moving.specs.declared.engine.Turn.TheVariants as turn
-use Rattle.pgw_moving.specs.declared.exchange.Exchange.{Exchange}
-use Rattle.pgw_moving.specs.declared.exchange.Stop.{Stop}
-use Rattle.pgw_moving.specs.declared.exchange.Stop.TheVariants as stop
-use Rattle.pgw_moving.specs.declared.moving.Moved.{Moved}
-use Rattle.pgw_moving.specs.Future.{CameTo, fresh_mover}
-use Rattle.pgw_moving.specs.Moving.{Mover, held_in, Stops as Ends_by}
+use Rattle.pgw_tokio_moving.specs.Calls.{Call}
+use Rattle.pgw_tokio_moving.specs.declared.engine.Turn.{Turn}
+use Rattle.pgw_tokio_moving.specs.declared.engine.Turn.TheVariants as turn
+use Rattle.pgw_tokio_moving.specs.declared.exchange.Exchange.{Exchange}
+use Rattle.pgw_tokio_moving.specs.declared.exchange.Stop.{Stop}
+use Rattle.pgw_tokio_moving.specs.declared.exchange.Stop.TheVariants as stop
+use Rattle.pgw_tokio_moving.specs.declared.moving.Moved.{Moved}
+use Rattle.pgw_tokio_moving.specs.Future.{CameTo, fresh_mover}
+use Rattle.pgw_tokio_moving.specs.Moving.{Mover, held_in, Stops as Ends_by}
 use Rattle.pgw_tokio.specs.declared.engine.SessionEngine.{SessionEngine}
 use Rattle.pgw_tokio.specs.declared.holding.Ended.{Ended as TheEnded}
 use Rattle.pgw_tokio.specs.declared.holding.SessionFuture.{SessionFuture}

@@ -4,13 +4,13 @@ use Rattle.std.specs.declared.io.Error.{Error}
 use Rattle.tokio.specs.declared.io.async_read.AsyncRead as AsyncRead
 use Rattle.tokio.specs.declared.io.async_write.AsyncWrite as AsyncWrite
 use Rattle.pgw_link.specs.Tape.{Tape}
-use Rattle.pgw_moving.specs.Calls.{Call, Gave, Ended, Wrote, Flushed, Waited, Unread, Unwritten, Unflushed, CallGoesOn}
-use Rattle.pgw_moving.specs.Calls.{fault_of}
-use Rattle.pgw_moving.specs.declared.engine.Engine as Engine
-use Rattle.pgw_moving.specs.declared.engine.Turn.TheVariants as turn
-use Rattle.pgw_moving.specs.declared.exchange.Stop.{Stop}
-use Rattle.pgw_moving.specs.declared.exchange.Stop.TheVariants as stop
-use Rattle.pgw_moving.specs.Moving.{Mover, Runs, Step, Stops as Ends_by}
+use Rattle.pgw_tokio_moving.specs.Calls.{Call, Gave, Ended, Wrote, Flushed, Waited, Unread, Unwritten, Unflushed, CallGoesOn}
+use Rattle.pgw_tokio_moving.specs.Calls.{fault_of}
+use Rattle.pgw_tokio_moving.specs.declared.engine.Engine as Engine
+use Rattle.pgw_tokio_moving.specs.declared.engine.Turn.TheVariants as turn
+use Rattle.pgw_tokio_moving.specs.declared.exchange.Stop.{Stop}
+use Rattle.pgw_tokio_moving.specs.declared.exchange.Stop.TheVariants as stop
+use Rattle.pgw_tokio_moving.specs.Moving.{Mover, Runs, Step, Stops as Ends_by}
 use Rattle.pgw_tokio.specs.Tape.{with_call, tape_after}
 
 -- nothing is put out, and no more is asked for

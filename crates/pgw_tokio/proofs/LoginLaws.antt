@@ -9,16 +9,16 @@ use Rattle.pgw_backend.specs.declared.client_error.PgWireClientError.TheVariants
 use Rattle.pgw_link.specs.Tape.{Tape, new_tape}
 use Rattle.pgw_session.specs.declared.types.Request.{Request}
 use Rattle.pgw_session.specs.Input.{Input}
-use Rattle.pgw_moving.specs.Calls.{Call, Ended, Trail}
-use Rattle.pgw_moving.specs.Future.{CameTo}
-use Rattle.pgw_moving.specs.Moving.{Mover, held_in, Stops as Ends_by}
-use Rattle.pgw_moving.specs.declared.exchange.Exchange.{Exchange}
-use Rattle.pgw_moving.specs.declared.exchange.Stop.{Stop}
-use Rattle.pgw_moving.specs.declared.exchange.Stop.TheVariants as stop
-use Rattle.pgw_moving.specs.declared.moving.Moved.{Moved}
-use Rattle.pgw_push.specs.declared.client.PushClient.{PushClient}
-use Rattle.pgw_push.specs.Standing.{IsIdle, StandsFor}
-use Rattle.pgw_push.specs.Told.{asked_of}
+use Rattle.pgw_tokio_moving.specs.Calls.{Call, Ended, Trail}
+use Rattle.pgw_tokio_moving.specs.Future.{CameTo}
+use Rattle.pgw_tokio_moving.specs.Moving.{Mover, held_in, Stops as Ends_by}
+use Rattle.pgw_tokio_moving.specs.declared.exchange.Exchange.{Exchange}
+use Rattle.pgw_tokio_moving.specs.declared.exchange.Stop.{Stop}
+use Rattle.pgw_tokio_moving.specs.declared.exchange.Stop.TheVariants as stop
+use Rattle.pgw_tokio_moving.specs.declared.moving.Moved.{Moved}
+use Rattle.pgw_client_push.specs.declared.client.PushClient.{PushClient}
+use Rattle.pgw_client_push.specs.Standing.{IsIdle, StandsFor}
+use Rattle.pgw_client_push.specs.Told.{asked_of}
 use Rattle.pgw_tokio.specs.declared.calling.ClientEngine.{ClientEngine}
 use Rattle.pgw_tokio.specs.declared.client.AsyncClient.{AsyncClient}
 use Rattle.pgw_tokio.specs.declared.login.LoggingIn.{LoggingIn}

@@ -7,7 +7,7 @@ use Rattle.tokio.specs.declared.io.async_read.AsyncRead as AsyncRead
 use Rattle.tokio.specs.declared.io.async_write.AsyncWrite as AsyncWrite
 use Rattle.pgw_backend.specs.declared.client_error.PgWireClientError.{PgWireClientError as ClientError}
 use Rattle.pgw_backend.specs.declared.client_error.PgWireClientError.TheVariants as client
-use Rattle.pgw_course.specs.Course.{Begins, Waits, Over, CourseWaits, sent_of}
+use Rattle.pgw_machine.specs.Course.{Begins, Waits, Over, CourseWaits, sent_of}
 use Rattle.pgw_link.specs.Tape.{Tape, new_tape}
 use Rattle.pgw_session.specs.declared.types.SessionReport.{SessionReport}
 use Rattle.pgw_session.specs.Input.{Input}
@@ -23,12 +23,12 @@ use Rattle.pgw_dialogue.proofs.DialogueLaws.{stands_in, taken_below}
 use Rattle.pgw_dialogue.proofs.ToldLaws.{sent_is}
 use Rattle.pgw_dialogue.proofs.WireLaws.{memory_or}
 use Rattle.pgw_client.specs.SessionSteps.{Caused, HoldsClientSession as SessionHeld, Reason, LinkSession, memory, unsent, stopped, failed, unread, at_limit, at_end}
-use Rattle.pgw_moving.specs.Calls.{Call, Gave, Ended, Wrote, Flushed, Waited, Unread, Unwritten, Unflushed, Trail, fault_of}
-use Rattle.pgw_moving.specs.declared.engine.Engine as Engine
-use Rattle.pgw_moving.specs.declared.engine.Turn.TheVariants as turn
-use Rattle.pgw_moving.specs.declared.exchange.Stop.{Stop}
-use Rattle.pgw_moving.specs.declared.exchange.Stop.TheVariants as stop
-use Rattle.pgw_moving.specs.Moving.{Mover, IsSent, Step, Stops as Ends_by}
+use Rattle.pgw_tokio_moving.specs.Calls.{Call, Gave, Ended, Wrote, Flushed, Waited, Unread, Unwritten, Unflushed, Trail, fault_of}
+use Rattle.pgw_tokio_moving.specs.declared.engine.Engine as Engine
+use Rattle.pgw_tokio_moving.specs.declared.engine.Turn.TheVariants as turn
+use Rattle.pgw_tokio_moving.specs.declared.exchange.Stop.{Stop}
+use Rattle.pgw_tokio_moving.specs.declared.exchange.Stop.TheVariants as stop
+use Rattle.pgw_tokio_moving.specs.Moving.{Mover, IsSent, Step, Stops as Ends_by}
 use Rattle.pgw_tokio.specs.declared.engine.SessionEngine.{SessionEngine}
 use Rattle.pgw_tokio.specs.Stream.{AnswersAs, AnswersOver}
 use Rattle.pgw_tokio.specs.Tape.{stream_errors, error_list, with_call, tape_after}

@@ -5,7 +5,7 @@ use Rattle.tokio.specs.declared.io.async_read.AsyncRead as AsyncRead
 use Rattle.tokio.specs.declared.io.async_write.AsyncWrite as AsyncWrite
 use Rattle.pgw_backend.specs.declared.client_error.PgWireClientError.{PgWireClientError as ClientError}
 use Rattle.pgw_backend.specs.declared.client_error.PgWireClientError.TheVariants as client
-use Rattle.pgw_course.specs.Course.{Course, Waits, Over, CourseWaits, sent_of}
+use Rattle.pgw_machine.specs.Course.{Course, Waits, Over, CourseWaits, sent_of}
 use Rattle.pgw_link.specs.Tape.{Tape}
 use Rattle.pgw_session.specs.Input.{Input}
 use Rattle.pgw_session.specs.Machine.{error_of}
@@ -19,11 +19,11 @@ use Rattle.pgw_dialogue.specs.declared.phase.State.TheVariants as state
 use Rattle.pgw_dialogue.proofs.DialogueLaws.{taken_below}
 use Rattle.pgw_dialogue.proofs.ToldLaws.{sent_is}
 use Rattle.pgw_dialogue.proofs.WireLaws.{memory_or}
-use Rattle.pgw_moving.specs.Calls.{Call, Gave, Ended, Wrote, Flushed, Waited, Unread, Unwritten, Unflushed, CallGoesOn}
-use Rattle.pgw_moving.specs.declared.engine.Engine as Engine
-use Rattle.pgw_moving.specs.declared.engine.Turn.{Turn}
-use Rattle.pgw_moving.specs.declared.engine.Turn.TheVariants as turn
-use Rattle.pgw_moving.specs.Moving.{Mover, Runs, Step}
+use Rattle.pgw_tokio_moving.specs.Calls.{Call, Gave, Ended, Wrote, Flushed, Waited, Unread, Unwritten, Unflushed, CallGoesOn}
+use Rattle.pgw_tokio_moving.specs.declared.engine.Engine as Engine
+use Rattle.pgw_tokio_moving.specs.declared.engine.Turn.{Turn}
+use Rattle.pgw_tokio_moving.specs.declared.engine.Turn.TheVariants as turn
+use Rattle.pgw_tokio_moving.specs.Moving.{Mover, Runs, Step}
 use Rattle.pgw_tokio.specs.declared.engine.SessionEngine.{SessionEngine}
 use Rattle.pgw_tokio.specs.Engine.{Feeds, StandsAs}
 use Rattle.pgw_tokio.specs.First.{refusal_of, turn_of}

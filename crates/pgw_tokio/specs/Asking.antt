@@ -12,11 +12,11 @@ use Rattle.pgw_session.specs.declared.types.Answer.{Answer}
 use Rattle.pgw_session.specs.declared.types.Request.{Request}
 use Rattle.pgw_session.specs.Input.{Input}
 use Rattle.pgw_session.specs.Requests.{sends_of}
-use Rattle.pgw_moving.specs.Calls.{Call, Trail}
-use Rattle.pgw_moving.specs.Future.{CameTo}
-use Rattle.pgw_moving.specs.Moving.{Mover, held_in}
-use Rattle.pgw_moving.specs.declared.moving.Moved.{Moved}
-use Rattle.pgw_push.specs.Calls.{IsLastAnswer, input_with_request}
+use Rattle.pgw_tokio_moving.specs.Calls.{Call, Trail}
+use Rattle.pgw_tokio_moving.specs.Future.{CameTo}
+use Rattle.pgw_tokio_moving.specs.Moving.{Mover, held_in}
+use Rattle.pgw_tokio_moving.specs.declared.moving.Moved.{Moved}
+use Rattle.pgw_client_push.specs.Calls.{IsLastAnswer, input_with_request}
 use Rattle.pgw_tokio.specs.declared.asking.Answered.{Answered}
 use Rattle.pgw_tokio.specs.declared.asking.Asking.{Asking}
 use Rattle.pgw_tokio.specs.declared.calling.ClientEngine.{ClientEngine}
@@ -110,7 +110,7 @@ CanAsk f = IsSomeAnd f.moving.state (λ x. ClientStands x.engine x.turn)
 -- ---- what it gives
 
 module _ {S : Type 0} (reader : AsyncRead.Ghosts S) (writer : AsyncWrite.Ghosts S) where
-  -- Calls were made, as `pgw_moving` tells them, and it is answered by why no more was moved; so it is what is
+  -- Calls were made, as `pgw_tokio_moving` tells them, and it is answered by why no more was moved; so it is what is
   -- promised of a request, where it was about to ask one.
   pub record Gives (f : Asking S) (answered : Answered S) : Type 0 where
     pub moved : Moved S ClientEngine

@@ -8,15 +8,15 @@ use Rattle.pgw_session.specs.Failures.{EndsAs}
 use Rattle.pgw_session.specs.Input.{Input}
 use Rattle.pgw_dialogue.specs.Wire.{IsEndError, Unless}
 use Rattle.pgw_dialogue.specs.declared.phase.DialoguePhase.{DialoguePhase}
-use Rattle.pgw_moving.specs.declared.engine.Engine as Engine
-use Rattle.pgw_moving.specs.declared.engine.Turn.{Turn}
-use Rattle.pgw_moving.specs.declared.engine.Turn.TheVariants.{More, Over}
-use Rattle.pgw_moving.specs.declared.exchange.Stop.{Stop}
-use Rattle.pgw_moving.specs.declared.exchange.Stop.TheVariants as stop
-use Rattle.pgw_push.specs.declared.client.PushClient.{PushClient}
-use Rattle.pgw_push.specs.Calls.{AsksNext, HasAnswer, IsLastAnswer}
-use Rattle.pgw_push.specs.Standing.{IsIdle, IsOpen, StandsFor}
-use Rattle.pgw_push.specs.Told.{answers_in, asked_of, push_room}
+use Rattle.pgw_tokio_moving.specs.declared.engine.Engine as Engine
+use Rattle.pgw_tokio_moving.specs.declared.engine.Turn.{Turn}
+use Rattle.pgw_tokio_moving.specs.declared.engine.Turn.TheVariants.{More, Over}
+use Rattle.pgw_tokio_moving.specs.declared.exchange.Stop.{Stop}
+use Rattle.pgw_tokio_moving.specs.declared.exchange.Stop.TheVariants as stop
+use Rattle.pgw_client_push.specs.declared.client.PushClient.{PushClient}
+use Rattle.pgw_client_push.specs.Calls.{AsksNext, HasAnswer, IsLastAnswer}
+use Rattle.pgw_client_push.specs.Standing.{IsIdle, IsOpen, StandsFor}
+use Rattle.pgw_client_push.specs.Told.{answers_in, asked_of, push_room}
 use Rattle.pgw_tokio.specs.declared.calling.ClientEngine.{ClientEngine}
 use Rattle.pgw_tokio.specs.Feeding.{FeedsClient}
 use Rattle.pgw_tokio.specs.First.{refusal_of, turn_of}

@@ -2,8 +2,8 @@
 use Rattle.std.specs.Prelude.{◌≡◌, ℕ, List, Option, None}
 use Rattle.std.specs.declared.io.Error.{Error}
 use Rattle.pgw_session.specs.Input.{Input}
-use Rattle.pgw_push.specs.declared.client.PushClient.{PushClient}
-use Rattle.pgw_push.specs.Standing.{IsIdle, StandsFor}
+use Rattle.pgw_client_push.specs.declared.client.PushClient.{PushClient}
+use Rattle.pgw_client_push.specs.Standing.{IsIdle, StandsFor}
 use Rattle.pgw_tokio.specs.declared.client.AsyncClient.{AsyncClient}
 
 -- its stream; the client that it moves the bytes of; and the error of the call that failed, if one did

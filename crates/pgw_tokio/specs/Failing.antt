@@ -6,8 +6,8 @@ use Rattle.pgw_backend.specs.declared.client_error.PgWireClientError.TheVariants
 use Rattle.pgw_dialogue.specs.Dialogue.{AnswersDialogue}
 use Rattle.pgw_dialogue.specs.Wire.{IsEndError, Unless}
 use Rattle.pgw_link.specs.Tape.{Tape}
-use Rattle.pgw_push.specs.declared.client.PushClient.{PushClient}
-use Rattle.pgw_push.specs.Standing.{StandsFor}
+use Rattle.pgw_client_push.specs.declared.client.PushClient.{PushClient}
+use Rattle.pgw_client_push.specs.Standing.{StandsFor}
 use Rattle.pgw_session.specs.Failures.{EndsAs}
 use Rattle.pgw_session.specs.Input.{Input}
 

@@ -8,14 +8,14 @@ use Rattle.pgw_dialogue.specs.Demands.{IsInvalidConfig}
 use Rattle.pgw_dialogue.specs.Dialogue.{StartCause}
 use Rattle.pgw_session.specs.Input.{Input}
 use Rattle.pgw_session.specs.Segments.{startup_message}
-use Rattle.pgw_moving.specs.Calls.{Call, Trail}
-use Rattle.pgw_moving.specs.Future.{CameTo}
-use Rattle.pgw_moving.specs.Moving.{Mover, held_in}
-use Rattle.pgw_moving.specs.declared.engine.Turn.TheVariants.{More}
-use Rattle.pgw_moving.specs.declared.exchange.Stop.{Stop}
-use Rattle.pgw_moving.specs.declared.moving.Moved.{Moved}
-use Rattle.pgw_push.specs.declared.client.PushClient.{PushClient}
-use Rattle.pgw_push.specs.Standing.{IsOpen, StandsFor}
+use Rattle.pgw_tokio_moving.specs.Calls.{Call, Trail}
+use Rattle.pgw_tokio_moving.specs.Future.{CameTo}
+use Rattle.pgw_tokio_moving.specs.Moving.{Mover, held_in}
+use Rattle.pgw_tokio_moving.specs.declared.engine.Turn.TheVariants.{More}
+use Rattle.pgw_tokio_moving.specs.declared.exchange.Stop.{Stop}
+use Rattle.pgw_tokio_moving.specs.declared.moving.Moved.{Moved}
+use Rattle.pgw_client_push.specs.declared.client.PushClient.{PushClient}
+use Rattle.pgw_client_push.specs.Standing.{IsOpen, StandsFor}
 use Rattle.pgw_tokio.specs.declared.calling.ClientEngine.{ClientEngine}
 use Rattle.pgw_tokio.specs.declared.client.AsyncClient.{AsyncClient}
 use Rattle.pgw_tokio.specs.declared.login.LoggingIn.{LoggingIn}
@@ -109,7 +109,7 @@ EndsLogin stream e why (Err n) =
     × LoginAnswers e.client e.refusal why (Err n.error)
 
 module _ {S : Type 0} (reader : AsyncRead.Ghosts S) (writer : AsyncWrite.Ghosts S) where
-  -- Calls were made, as `pgw_moving` tells them, and it is answered by why no more was moved; so it is what is
+  -- Calls were made, as `pgw_tokio_moving` tells them, and it is answered by why no more was moved; so it is what is
   -- promised of a login, where it was about to log in.
   pub record Gives (f : LoggingIn S) (result : Result (AsyncClient S) (NotLoggedIn S)) : Type 0 where
     pub moved : Moved S ClientEngine

@@ -2,7 +2,7 @@
 use Rattle.std.specs.Prelude.{◌<◌, ℕ, Option, Some, None, IsSomeAnd}
 use Rattle.std.proofs.Common.{sym, subst}
 use Rattle.pgw_dialogue.specs.declared.dialogue.Dialogue.{Dialogue}
-use Rattle.pgw_moving.specs.declared.engine.Turn.TheVariants.{More}
+use Rattle.pgw_tokio_moving.specs.declared.engine.Turn.TheVariants.{More}
 use Rattle.pgw_tokio.specs.declared.engine.SessionEngine.{SessionEngine}
 use Rattle.pgw_tokio.specs.Engine.{StandsAs, Waits}
 

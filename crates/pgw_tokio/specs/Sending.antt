@@ -6,15 +6,15 @@ use Rattle.tokio.specs.declared.io.async_read.AsyncRead as AsyncRead
 use Rattle.tokio.specs.declared.io.async_write.AsyncWrite as AsyncWrite
 use Rattle.pgw_backend.specs.declared.client_error.PgWireClientError.{PgWireClientError as ClientError}
 use Rattle.pgw_backend.specs.declared.client_error.PgWireClientError.TheVariants as client
-use Rattle.pgw_moving.specs.Calls.{Call, Trail}
-use Rattle.pgw_moving.specs.Future.{CameTo}
-use Rattle.pgw_moving.specs.Moving.{Mover, held_in}
-use Rattle.pgw_moving.specs.declared.engine.Engine as Engine
-use Rattle.pgw_moving.specs.declared.engine.Turn.{Turn}
-use Rattle.pgw_moving.specs.declared.engine.Turn.TheVariants.{More, Over}
-use Rattle.pgw_moving.specs.declared.exchange.Stop.{Stop}
-use Rattle.pgw_moving.specs.declared.exchange.Stop.TheVariants as stop
-use Rattle.pgw_moving.specs.declared.moving.Moved.{Moved}
+use Rattle.pgw_tokio_moving.specs.Calls.{Call, Trail}
+use Rattle.pgw_tokio_moving.specs.Future.{CameTo}
+use Rattle.pgw_tokio_moving.specs.Moving.{Mover, held_in}
+use Rattle.pgw_tokio_moving.specs.declared.engine.Engine as Engine
+use Rattle.pgw_tokio_moving.specs.declared.engine.Turn.{Turn}
+use Rattle.pgw_tokio_moving.specs.declared.engine.Turn.TheVariants.{More, Over}
+use Rattle.pgw_tokio_moving.specs.declared.exchange.Stop.{Stop}
+use Rattle.pgw_tokio_moving.specs.declared.exchange.Stop.TheVariants as stop
+use Rattle.pgw_tokio_moving.specs.declared.moving.Moved.{Moved}
 use Rattle.pgw_tokio.specs.declared.sending.Sending.{Sending}
 use Rattle.pgw_tokio.specs.declared.sending.Sent.{Sent}
 use Rattle.pgw_tokio.specs.declared.sending.Silent.{Silent}
@@ -88,7 +88,7 @@ EndsSending stream why refusal sent =
     (sent.stream ≡ stream) × (sent.fault ≡ None) × SentOver refusal sent.result
 
 module _ {S : Type 0} (reader : AsyncRead.Ghosts S) (writer : AsyncWrite.Ghosts S) where
-  -- Calls were made, as `pgw_moving` tells them; so it is all that is promised of bytes that it was about to write.
+  -- Calls were made, as `pgw_tokio_moving` tells them; so it is all that is promised of bytes that it was about to write.
   pub record Gives (f : Sending S) (sent : Sent S) : Type 0 where
     pub moved : Moved S Silent
     pub came : IsSomeAnd f.moving.state (λ x. CameTo reader writer silent_members (held_in x) moved)

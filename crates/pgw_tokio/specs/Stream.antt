@@ -16,14 +16,14 @@ use Rattle.pgw_dialogue.specs.Wire.{IsEndError, Unless}
 use Rattle.pgw_dialogue.specs.declared.dialogue.Dialogue.{Dialogue}
 use Rattle.pgw_dialogue.specs.Dialogue.{StartCause, Starts}
 use Rattle.pgw_client.specs.OverLink.{LinkSpan, OverLink}
-use Rattle.pgw_moving.specs.Calls.{Call, Trail}
-use Rattle.pgw_moving.specs.declared.engine.Turn.{Turn}
-use Rattle.pgw_moving.specs.declared.engine.Turn.TheVariants as turn
-use Rattle.pgw_moving.specs.declared.exchange.Stop.{Stop}
-use Rattle.pgw_moving.specs.declared.exchange.Stop.TheVariants as stop
-use Rattle.pgw_moving.specs.Moving.{Mover, held_in}
-use Rattle.pgw_moving.specs.Future.{CameTo}
-use Rattle.pgw_moving.specs.declared.moving.Moved.{Moved}
+use Rattle.pgw_tokio_moving.specs.Calls.{Call, Trail}
+use Rattle.pgw_tokio_moving.specs.declared.engine.Turn.{Turn}
+use Rattle.pgw_tokio_moving.specs.declared.engine.Turn.TheVariants as turn
+use Rattle.pgw_tokio_moving.specs.declared.exchange.Stop.{Stop}
+use Rattle.pgw_tokio_moving.specs.declared.exchange.Stop.TheVariants as stop
+use Rattle.pgw_tokio_moving.specs.Moving.{Mover, held_in}
+use Rattle.pgw_tokio_moving.specs.Future.{CameTo}
+use Rattle.pgw_tokio_moving.specs.declared.moving.Moved.{Moved}
 use Rattle.pgw_tokio.specs.declared.engine.SessionEngine.{SessionEngine}
 use Rattle.pgw_tokio.specs.declared.holding.Ended.{Ended}
 use Rattle.pgw_tokio.specs.declared.holding.SessionFuture.{SessionFuture}
@@ -105,7 +105,7 @@ AnswersAs e stop.End answer fault =
 AnswersAs e (stop.Fault f) answer fault = (answer ≡ Err client.IoError) × (fault ≡ Some f)
 
 module _ {S : Type 0} (reader : AsyncRead.Ghosts S) (writer : AsyncWrite.Ghosts S) where
-  -- What the future gives. Calls were made, as `pgw_moving` tells them, and it is answered by why no more was moved;
+  -- What the future gives. Calls were made, as `pgw_tokio_moving` tells them, and it is answered by why no more was moved;
   -- so it is all that is promised of a session, where it was about to hold one.
   pub record Gives (f : SessionFuture S) (ended : Ended S) : Type 0 where
     pub moved : Moved S SessionEngine

@@ -2,7 +2,7 @@
 use Rattle.std.specs.Prelude.{◌+◌, List, [], ◌∷◌, ◌++◌, length, Option, Some, None}
 use Rattle.std.specs.declared.io.Error.{Error}
 use Rattle.pgw_link.specs.Tape.{Tape, new_tape}
-use Rattle.pgw_moving.specs.Calls.{Call, Gave, Ended, Wrote, Flushed, Waited, Unread, Unwritten, Unflushed, fault_of}
+use Rattle.pgw_tokio_moving.specs.Calls.{Call, Gave, Ended, Wrote, Flushed, Waited, Unread, Unwritten, Unflushed, fault_of}
 
 abbrev pub with_call : Tape → Call → Tape
 with_call t (Gave bytes) = record t { took = t.took ++ bytes; reads = t.reads + 1 }

@@ -1,6 +1,6 @@
 //! A request that was asked over a stream that may keep one waiting.
 ghost use Rattle.std.specs.Prelude.{◌≡◌, IsSomeAnd};
-ghost use Rattle.pgw_moving.specs.Moving.{held_in, WaitsFor};
+ghost use Rattle.pgw_tokio_moving.specs.Moving.{held_in, WaitsFor};
 ghost use Rattle.pgw_tokio.specs.Asking.{CanAsk, Gives};
 ghost use Rattle.pgw_tokio.specs.Calling.{ClientStandsBehind, RequestAnswers};
 ghost use Rattle.pgw_tokio.specs.Faults.{fault_after};
@@ -10,7 +10,7 @@ use crate::client::AsyncClient;
 use futures::Future;
 use futures::task::{Context, Poll};
 use pgw_backend::client_error::PgWireClientResult;
-use pgw_moving::{Moved, Moving};
+use pgw_tokio_moving::{Moved, Moving};
 use pgw_session::types::Answer;
 use std::io;
 use tokio::io::{AsyncRead, AsyncWrite};

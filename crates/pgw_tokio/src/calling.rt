@@ -1,15 +1,15 @@
 //! A client as an engine, while it logs in and while a request is asked.
 ghost use Rattle.std.specs.Prelude.{◌≡◌, ◌≤◌, ◌++◌, ℕ, List, [], true, length};
-ghost use Rattle.pgw_push.specs.Standing.{IsIdle, IsOpen};
-ghost use Rattle.pgw_push.specs.Told.{push_room};
+ghost use Rattle.pgw_client_push.specs.Standing.{IsIdle, IsOpen};
+ghost use Rattle.pgw_client_push.specs.Told.{push_room};
 ghost use Rattle.pgw_tokio.specs.Faults.{fault_after};
 ghost use Rattle.pgw_tokio.specs.Feeding.{FeedsClient};
 
 use crate::engine::turn_after;
 use bytes::BytesMut;
 use pgw_backend::client_error::{PgWireClientError, PgWireClientResult};
-use pgw_moving::{Engine, Stop, Turn};
-use pgw_push::PushClient;
+use pgw_tokio_moving::{Engine, Stop, Turn};
+use pgw_client_push::PushClient;
 use pgw_session::types::{Answer, Request};
 use std::io;
 

@@ -9,7 +9,7 @@ use bytes::BytesMut;
 use pgw_backend::client_error::{PgWireClientError, PgWireClientResult};
 use pgw_config::config::Config;
 use pgw_dialogue::{Dialogue, DialoguePhase};
-use pgw_moving::{Engine, Turn};
+use pgw_tokio_moving::{Engine, Turn};
 use pgw_session::types::{Request, SessionReport};
 use std::alloc::Global;
 

@@ -1,6 +1,6 @@
 //! A session over a stream that may keep one waiting.
 ghost use Rattle.std.specs.Prelude.{◌≡◌, IfOk, IsSomeAnd};
-ghost use Rattle.pgw_moving.specs.Moving.{held_in, WaitsFor};
+ghost use Rattle.pgw_tokio_moving.specs.Moving.{held_in, WaitsFor};
 ghost use Rattle.pgw_session.specs.Input.{input_with};
 ghost use Rattle.pgw_tokio.specs.Engine.{StreamStandsBehind};
 ghost use Rattle.pgw_tokio.specs.Stream.{AnswersAs, CanPoll, Gives, IsSessionOf};
@@ -11,7 +11,7 @@ use futures::Future;
 use futures::task::{Context, Poll};
 use pgw_backend::client_error::{PgWireClientError, PgWireClientResult};
 use pgw_config::config::Config;
-use pgw_moving::{Moved, Moving, Stop, new_piece};
+use pgw_tokio_moving::{Moved, Moving, Stop, new_piece};
 use pgw_session::types::{Request, SessionReport};
 use pgw_types::memory::OutOfMemory;
 use std::alloc::Global;

@@ -1,6 +1,6 @@
 //! A login over a stream that may keep one waiting.
 ghost use Rattle.std.specs.Prelude.{◌≡◌, [], IfErr, IfOk, IfSome, IsSomeAnd};
-ghost use Rattle.pgw_moving.specs.Moving.{held_in, WaitsFor};
+ghost use Rattle.pgw_tokio_moving.specs.Moving.{held_in, WaitsFor};
 ghost use Rattle.pgw_session.specs.Demands.{refused_config};
 ghost use Rattle.pgw_session.specs.Input.{input_with};
 ghost use Rattle.pgw_tokio.specs.Calling.{ClientStandsBehind};
@@ -13,8 +13,8 @@ use futures::Future;
 use futures::task::{Context, Poll};
 use pgw_backend::client_error::PgWireClientError;
 use pgw_config::config::Config;
-use pgw_moving::{Moved, Moving, Turn, new_piece};
-use pgw_push::PushClient;
+use pgw_tokio_moving::{Moved, Moving, Turn, new_piece};
+use pgw_client_push::PushClient;
 use std::alloc::Global;
 use std::io;
 use tokio::io::{AsyncRead, AsyncWrite};

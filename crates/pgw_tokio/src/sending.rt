@@ -1,13 +1,13 @@
 //! Bytes that are written over a stream, with nothing awaited.
 ghost use Rattle.std.specs.Prelude.{◌≡◌, [], IsSomeAnd};
-ghost use Rattle.pgw_moving.specs.Moving.{held_in, WaitsFor};
+ghost use Rattle.pgw_tokio_moving.specs.Moving.{held_in, WaitsFor};
 ghost use Rattle.pgw_tokio.specs.Sending.{CanSend, EndsSending, Gives, IsToSend, SilentFeeds, SilentStands, one_is_there};
 
 use bytes::BytesMut;
 use futures::Future;
 use futures::task::{Context, Poll};
 use pgw_backend::client_error::{PgWireClientError, PgWireClientResult};
-use pgw_moving::{Engine, Moved, Moving, Piece, Stop, Turn};
+use pgw_tokio_moving::{Engine, Moved, Moving, Piece, Stop, Turn};
 use std::io;
 use tokio::io::{AsyncRead, AsyncWrite};
 

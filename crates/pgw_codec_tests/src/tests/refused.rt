@@ -5,7 +5,7 @@ use bytes::BytesMut;
 use pgw_backend::backend::PgWireBackendMessage;
 use pgw_ext::extendedquery::PortalSuspended;
 use pgw_frontend::frontend::{PgWireFrontendMessage, SslNegotiationMetaMessage};
-use pgw_opening::cancel::CancelRequest;
+use pgw_control::cancel::CancelRequest;
 use pgw_query::response::CommandComplete;
 use pgw_startup::startup::Startup;
 use pgw_types::error::PgWireResult;

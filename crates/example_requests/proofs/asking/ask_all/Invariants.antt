@@ -1,5 +1,5 @@
 use Rattle.std.proofs.Common.{◌≡◌, ◌≤◌, false, take}
-use Rattle.pgw_connection.specs.State.{line_of, known_by, is_broken}
+use Rattle.pgw_client_calls.specs.State.{line_of, known_by, is_broken}
 use Rattle.example_requests.specs.Asking.{AddsQuestions}
 use Rattle.example_requests.proofs.asking.ask_all.Given as goal
 

@@ -1,8 +1,8 @@
 use Rattle.std.proofs.Common.{◌≡◌, [], false, ap, refl, sym, subst, ◌∙◌}
 use Rattle.pgw_session.specs.declared.types.Request.TheVariants as request
-use Rattle.pgw_default_handlers.specs.Extended.{ExtendedMeans}
-use Rattle.pgw_connection.specs.State.{is_broken}
-use Rattle.pgw_connection.proofs.RequestLaws.{called_as}
+use Rattle.pgw_handlers_default.specs.Extended.{ExtendedMeans}
+use Rattle.pgw_client_calls.specs.State.{is_broken}
+use Rattle.pgw_client_calls.proofs.RequestLaws.{called_as}
 use Rattle.example_requests.specs.declared.asking.Question.TheVariants as question
 use Rattle.example_requests.specs.declared.asking.Reply.TheVariants as reply
 use Rattle.example_requests.proofs.AskLaws.{answered_caused, fails_by, remote_adds, replied_caused, rows_answered, rows_came, rows_failed, rows_of, rows_listed, given_listed}

@@ -1,7 +1,7 @@
 use Rattle.std.proofs.Common.{ℕ, List, take, arith, refl, ap, sym, ◌∙◌, ◌++◌, length, length-drop, length-take-le, take-append-drop, Some}
 use Rattle.std.proofs.lemmas.List.{drop_all}
 use Rattle.pgw_backend.proofs.FrontLaws.{front_take, front_whole}
-use Rattle.pgw_course.proofs.CourseLaws.{run_bad, run_ends, run_goes}
+use Rattle.pgw_machine.proofs.CourseLaws.{run_bad, run_ends, run_goes}
 use Rattle.pgw_session.specs.Machine.{rules_by, Unread}
 use Rattle.pgw_session.specs.Notes.{notes_book}
 use Rattle.pgw_session.proofs.ReadingLaws.{reads_bad, reads_whole, steady_by}

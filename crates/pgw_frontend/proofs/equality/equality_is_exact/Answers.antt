@@ -5,7 +5,7 @@ use Rattle.pgw_frontend.specs.declared.frontend.PgWireFrontendMessage.TheVariant
 use Rattle.pgw_frontend.specs.contracts.frontend.PgWireFrontendMessage.{as_values}
 use Rattle.pgw_frontend.specs.declared.frontend.SslNegotiationMetaMessage.{SslNegotiationMetaMessage}
 use Rattle.pgw_startup.specs.declared.startup.Startup.{Startup}
-use Rattle.pgw_opening.specs.declared.cancel.CancelRequest.{CancelRequest}
+use Rattle.pgw_control.specs.declared.cancel.CancelRequest.{CancelRequest}
 use Rattle.pgw_startup.specs.declared.password.PasswordMessageFamily.{PasswordMessageFamily}
 use Rattle.pgw_ext.specs.declared.execute.PortalSuspended.{PortalSuspended}
 use Rattle.pgw_query.specs.declared.simplequery.Query.{Query}
@@ -16,7 +16,7 @@ use Rattle.pgw_ext.specs.declared.target.Describe.{Describe}
 use Rattle.pgw_ext.specs.declared.execute.Execute.{Execute}
 use Rattle.pgw_ext.specs.declared.flush.Flush.{Flush}
 use Rattle.pgw_ext.specs.declared.flush.Sync.{Sync}
-use Rattle.pgw_opening.specs.declared.terminate.Terminate.{Terminate}
+use Rattle.pgw_control.specs.declared.terminate.Terminate.{Terminate}
 use Rattle.pgw_copy.specs.declared.data.CopyData.{CopyData}
 use Rattle.pgw_copy.specs.declared.data.CopyDone.{CopyDone}
 use Rattle.pgw_copy.specs.declared.data.CopyFail.{CopyFail}

@@ -1,5 +1,5 @@
-use Rattle.pgw_sasl.specs.Scram.{ByScram}
-use Rattle.pgw_sasl.specs.Sasl.{ByOauth}
+use Rattle.pgw_login_sasl.specs.Scram.{ByScram}
+use Rattle.pgw_login_sasl.specs.Sasl.{ByOauth}
 use Rattle.pgw_login_laws.proofs.LastingLaws.{sasl_keeps}
 use Rattle.pgw_login_laws.proofs.laws.sasl_keeps_a_finished_login.Goals as goal
 

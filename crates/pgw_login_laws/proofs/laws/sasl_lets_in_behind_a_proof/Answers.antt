@@ -1,5 +1,5 @@
-use Rattle.pgw_sasl.specs.Methods.{offered_methods}
-use Rattle.pgw_sasl.specs.Scram.{by_passwords}
+use Rattle.pgw_login_sasl.specs.Methods.{offered_methods}
+use Rattle.pgw_login_sasl.specs.Scram.{by_passwords}
 use Rattle.pgw_login_laws.specs.Entry.{GivesSalted, TakesSalted}
 use Rattle.pgw_login_laws.proofs.SaltedEnd.{waits, salted_apart, salted_end}
 use Rattle.pgw_login_laws.proofs.EntryLaws.{sasl_lets_in}

@@ -1,5 +1,5 @@
-use Rattle.pgw_sasl.specs.Methods.{offered_methods}
-use Rattle.pgw_sasl.specs.Stored.{by_secrets}
+use Rattle.pgw_login_sasl.specs.Methods.{offered_methods}
+use Rattle.pgw_login_sasl.specs.Stored.{by_secrets}
 use Rattle.pgw_login_laws.specs.Entry.{GivesStored, TakesStored}
 use Rattle.pgw_login_laws.proofs.StoredEnd.{waits, stored_apart, stored_end}
 use Rattle.pgw_login_laws.proofs.EntryLaws.{sasl_lets_in}

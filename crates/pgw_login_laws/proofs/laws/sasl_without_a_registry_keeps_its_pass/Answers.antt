@@ -1,6 +1,6 @@
-use Rattle.pgw_sasl.specs.Methods.{offered_methods}
-use Rattle.pgw_sasl.specs.Scram.{ByScram}
-use Rattle.pgw_sasl.specs.Sasl.{ByOauth}
+use Rattle.pgw_login_sasl.specs.Methods.{offered_methods}
+use Rattle.pgw_login_sasl.specs.Scram.{ByScram}
+use Rattle.pgw_login_sasl.specs.Sasl.{ByOauth}
 use Rattle.pgw_login_laws.proofs.UnregisteredLaws.{sasl_unties}
 use Rattle.pgw_login_laws.proofs.laws.sasl_without_a_registry_keeps_its_pass.Goals as goal
 

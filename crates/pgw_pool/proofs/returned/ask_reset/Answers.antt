@@ -1,5 +1,5 @@
 use Rattle.std.proofs.Common.{refl, ap, codes}
-use Rattle.pgw_ask.proofs.AskLaws.{simple_came}
+use Rattle.pgw_client_ask.proofs.AskLaws.{simple_came}
 use Rattle.pgw_pool.specs.Views.{view_of}
 use Rattle.pgw_pool.proofs.returned.ask_reset.Goals as goal
 

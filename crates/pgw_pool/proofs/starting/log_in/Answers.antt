@@ -1,6 +1,6 @@
 use Rattle.std.proofs.Common.{inl, inr, refl, ap}
 use Rattle.std.proofs.lemmas.Result.{IfErr-weaker}
-use Rattle.pgw_connection.specs.Line.{IsWithin}
+use Rattle.pgw_client_calls.specs.Line.{IsWithin}
 use Rattle.pgw_pool.specs.Views.{view_of}
 use Rattle.pgw_pool.specs.Starting.{dials, PoolConnects}
 use Rattle.pgw_pool.proofs.StartLaws.{begun, both_ok, connects_as, not_connects_as, within_limit}

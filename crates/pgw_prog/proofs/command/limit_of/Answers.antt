@@ -1,7 +1,7 @@
 use Rattle.std.proofs.Common.{codes, sym, ap, ◌∙◌}
 use Rattle.std.specs.Cmp.Lexicographic.{bytes_decides}
 use Rattle.std.specs.Prelude.{string_bytes}
-use Rattle.pgw_script.specs.Line.{script_number}
+use Rattle.pgw_prog_script.specs.Line.{script_number}
 use Rattle.pgw_prog.proofs.CommandLaws.{limit_is}
 use Rattle.pgw_prog.proofs.command.limit_of.Goals as goal
 

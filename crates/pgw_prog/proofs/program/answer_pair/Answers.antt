@@ -1,4 +1,4 @@
-use Rattle.pgw_script.specs.PairScript.{pair_form}
+use Rattle.pgw_prog_script.specs.PairScript.{pair_form}
 use Rattle.pgw_prog.specs.Pair.{PrintsPair}
 use Rattle.pgw_prog.proofs.KindLaws.{answers_ok, answers_fault}
 use Rattle.pgw_prog.proofs.program.answer_pair.Goals as goal

@@ -1,4 +1,4 @@
-use Rattle.pgw_script.specs.PoolScript.{pool_form}
+use Rattle.pgw_prog_script.specs.PoolScript.{pool_form}
 use Rattle.pgw_prog.specs.Pool.{PrintsPool}
 use Rattle.pgw_prog.proofs.KindLaws.{answers_ok, answers_fault}
 use Rattle.pgw_prog.proofs.program.answer_pool.Goals as goal

@@ -1,4 +1,4 @@
-use Rattle.pgw_script.specs.RelayScript.{relay_form}
+use Rattle.pgw_prog_script.specs.RelayScript.{relay_form}
 use Rattle.pgw_prog.specs.Relay.{PrintsRelay}
 use Rattle.pgw_prog.proofs.KindLaws.{answers_ok, answers_fault}
 use Rattle.pgw_prog.proofs.program.answer_relay.Goals as goal

@@ -1,4 +1,4 @@
-use Rattle.pgw_script.specs.Script.{session_form}
+use Rattle.pgw_prog_script.specs.Script.{session_form}
 use Rattle.pgw_prog.specs.Held.{Holds}
 use Rattle.pgw_prog.proofs.KindLaws.{answers_ok, answers_fault}
 use Rattle.pgw_prog.proofs.program.answer_session.Goals as goal

@@ -1,11 +1,11 @@
 use Rattle.std.proofs.Common.{◌≡◌, ℕ, List, [], ◌∷◌, Option, Some, None, Result, Ok, sym, subst}
 use Rattle.pgw_backend.specs.declared.client_error.PgWireClientError.{PgWireClientError as ClientError}
-use Rattle.pgw_moving.specs.declared.exchange.Stop.{Stop}
-use Rattle.pgw_moving.specs.declared.exchange.Stop.TheVariants as stop
-use Rattle.pgw_push.specs.declared.client.PushClient.{PushClient}
-use Rattle.pgw_push.specs.Calls.{IsLastAnswer}
-use Rattle.pgw_push.specs.Standing.{IsIdle, StandsFor}
-use Rattle.pgw_push.specs.Told.{answers_in}
+use Rattle.pgw_tokio_moving.specs.declared.exchange.Stop.{Stop}
+use Rattle.pgw_tokio_moving.specs.declared.exchange.Stop.TheVariants as stop
+use Rattle.pgw_client_push.specs.declared.client.PushClient.{PushClient}
+use Rattle.pgw_client_push.specs.Calls.{IsLastAnswer}
+use Rattle.pgw_client_push.specs.Standing.{IsIdle, StandsFor}
+use Rattle.pgw_client_push.specs.Told.{answers_in}
 use Rattle.pgw_session.specs.declared.types.Answer.{Answer}
 use Rattle.pgw_session.specs.Input.{Input}
 use Rattle.pgw_tokio.specs.Calling.{HandsOut, RequestAnswers, RequestOver}

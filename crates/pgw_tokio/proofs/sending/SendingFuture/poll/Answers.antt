@@ -1,8 +1,8 @@
 use Rattle.std.proofs.Common.{◌≡◌, rules}
 use Rattle.futures.specs.declared.task.Poll.TheVariants.{Pending, Ready}
 use Rattle.std.specs.Prelude.{IsSomeAnd}
-use Rattle.pgw_moving.specs.Future.{CameTo}
-use Rattle.pgw_moving.specs.Moving.{held_in}
+use Rattle.pgw_tokio_moving.specs.Future.{CameTo}
+use Rattle.pgw_tokio_moving.specs.Moving.{held_in}
 use Rattle.pgw_tokio.specs.Sending.{silent_members}
 use Rattle.pgw_tokio.proofs.FutureLaws.{on_pending, on_ready}
 use Rattle.pgw_tokio.proofs.SendLaws.{gives_by}

@@ -1,5 +1,0 @@
-use Rattle.pgw_calls.proofs.CallLaws.{ended_stands}
-use Rattle.pgw_calls.proofs.laws.ended_clients_stand.Goals as goal
-
-pub returns : goal.returns
-returns c = ended_stands

@@ -1,5 +1,0 @@
-use Rattle.pgw_calls.proofs.LoginLaws.{login_call}
-use Rattle.pgw_calls.proofs.laws.logins_are_startup_segments.Goals as goal
-
-pub returns : goal.returns
-returns c = login_call

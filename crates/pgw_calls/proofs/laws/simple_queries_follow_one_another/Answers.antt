@@ -1,5 +1,0 @@
-use Rattle.pgw_calls.proofs.CallLaws.{query_stands}
-use Rattle.pgw_calls.proofs.laws.simple_queries_follow_one_another.Goals as goal
-
-pub returns : goal.returns
-returns c = query_stands

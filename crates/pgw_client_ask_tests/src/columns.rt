@@ -1,0 +1,49 @@
+//! Columns, looked up by their names.
+
+use pgw_client_ask::column;
+use pgw_client::{FieldFormat, FieldInfo, Listed, OutOfMemory, PgType, Text};
+use std::alloc::Global;
+use std::test::Fail;
+
+const NAMES: &[&str] = &["a", "b", "a", "", "größe"];
+
+// A name, and the place of the first column that has it.
+const CASES: &[(&str, Option<usize>)] = &[
+    ("a", Some(0)),
+    ("b", Some(1)),
+    ("", Some(3)),
+    ("größe", Some(4)),
+    ("A", None),
+    ("ab", None),
+    ("gr", None),
+];
+
+fn named(alloc: Global, name: &str) -> Result<FieldInfo, OutOfMemory> {
+    Ok(FieldInfo {
+        name: Text::from_str(alloc, name)?,
+        table_id: None,
+        column_id: None,
+        datatype: PgType::Int4,
+        type_size: 4,
+        type_modifier: -1,
+        format: FieldFormat::Text,
+    })
+}
+
+fn fields(alloc: Global) -> Result<Listed<FieldInfo>, OutOfMemory> {
+    let mut fields = Listed::new(alloc);
+    for name in NAMES {
+        fields.push(named(alloc, name)?)?;
+    }
+    Ok(fields)
+}
+
+#[test]
+fn columns_are_found(rt: HostRuntime) -> Result<(), Fail> {
+    let fields = fields(rt.alloc())?;
+    for case in CASES {
+        let (name, place) = *case;
+        assert_eq!(rt; column(fields.as_slice(), name), place, "{name}");
+    }
+    Ok(())
+}

@@ -1,0 +1,15 @@
+use Rattle.std.proofs.Common.{ap, sym}
+use Rattle.pgw_client_calls.specs.Targets.{target_of}
+use Rattle.pgw_session.specs.declared.types.Request.TheVariants as request
+use Rattle.pgw_client_calls.specs.ExtendedSteps.{gathered_as}
+use Rattle.pgw_client_calls.specs.Lent.{description_of}
+use Rattle.pgw_client_calls.proofs.LentLaws.{asks_as}
+use Rattle.pgw_client_calls.proofs.extended.ExtendedQueryClient.describe.Goals as goal
+
+pub returns-in-Ok-clause-asks : goal.returns-in-Ok-clause-asks
+returns-in-Ok-clause-asks g c =
+    asks_as g.L.Link.foretells g.L.Link.left g.L.Link.tape g.L.Link.faults g.H.ExtendedQueryHandler.means g.H.Responses.ResponseList.listed (request.Describe (target_of c.args.target)) _ _ _ description_of _ c.ask.result _ (ap (gathered_as description_of) (sym c.in-Ok.is)) (c.ask.ensures.asks _ c.describe.ensures)
+
+pub returns-in-Err-clause-asks : goal.returns-in-Err-clause-asks
+returns-in-Err-clause-asks g c =
+    asks_as g.L.Link.foretells g.L.Link.left g.L.Link.tape g.L.Link.faults g.H.ExtendedQueryHandler.means g.H.Responses.ResponseList.listed (request.Describe (target_of c.args.target)) _ _ _ description_of _ c.ask.result _ (ap (gathered_as description_of) (sym c.in-Err.is)) (c.ask.ensures.asks _ c.describe.ensures)

@@ -1,5 +1,0 @@
-use Rattle.pgw_connection.proofs.ConnectLaws.{lacks}
-use Rattle.pgw_connection.proofs.connect.address_in.Goals as goal
-
-pub returns-in-Err-clause-lacks : goal.returns-in-Err-clause-lacks
-returns-in-Err-clause-lacks c = lacks c.args.config.now c.in-Err.why c.from.result c.in-Err.ensures c.from.ensures

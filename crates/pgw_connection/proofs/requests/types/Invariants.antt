@@ -1,5 +1,0 @@
-use Rattle.std.proofs.Common.{◌≡◌, take}
-use Rattle.pgw_connection.proofs.requests.types.Given as goal
-
-abbrev pub invariant-loop-oid : goal.invariant-loop-oid
-invariant-loop-oid l = l.types ≡ take l.oid-index l.oids

@@ -1,7 +1,0 @@
-use Rattle.std.proofs.Common.{◌≡◌, map, take, fold}
-use Rattle.pgw_conninfo.specs.Part.{adds}
-use Rattle.pgw_conninfo.specs.Url.{host_in}
-use Rattle.pgw_conninfo.proofs.url.add_hosts.Given as goal
-
-abbrev pub invariant-loop-host : goal.invariant-loop-host
-invariant-loop-host l = l.cut ≡ fold (λ cut text. adds cut (host_in text)) l.fn.cut (map (λ piece. piece.now) (take l.host-index l.host-items))

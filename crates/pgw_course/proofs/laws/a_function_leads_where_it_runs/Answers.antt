@@ -1,5 +1,0 @@
-use Rattle.pgw_course.proofs.FrontLaws as laws
-use Rattle.pgw_course.proofs.laws.a_function_leads_where_it_runs.Goals as goal
-
-pub returns : goal.returns
-returns g c = laws.run_leads

@@ -1,5 +1,0 @@
-use Rattle.pgw_course.proofs.CourseLaws.{run_over}
-use Rattle.pgw_course.proofs.laws.an_end_stays.Goals as goal
-
-pub returns : goal.returns
-returns g c = run_over

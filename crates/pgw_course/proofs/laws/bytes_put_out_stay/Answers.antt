@@ -1,5 +1,0 @@
-use Rattle.pgw_course.proofs.CourseLaws.{sent_grows}
-use Rattle.pgw_course.proofs.laws.bytes_put_out_stay.Goals as goal
-
-pub returns : goal.returns
-returns g c = sent_grows

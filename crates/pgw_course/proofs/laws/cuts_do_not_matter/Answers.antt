@@ -1,5 +1,0 @@
-use Rattle.pgw_course.proofs.CourseLaws.{run_append}
-use Rattle.pgw_course.proofs.laws.cuts_do_not_matter.Goals as goal
-
-pub returns : goal.returns
-returns g c = run_append

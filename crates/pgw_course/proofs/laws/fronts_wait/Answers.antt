@@ -1,5 +1,0 @@
-use Rattle.pgw_course.proofs.FrontLaws as laws
-use Rattle.pgw_course.proofs.laws.fronts_wait.Goals as goal
-
-pub returns : goal.returns
-returns g c = laws.fronts_wait

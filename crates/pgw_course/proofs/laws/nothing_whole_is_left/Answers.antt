@@ -1,5 +1,0 @@
-use Rattle.pgw_course.proofs.CourseLaws.{run_wants}
-use Rattle.pgw_course.proofs.laws.nothing_whole_is_left.Goals as goal
-
-pub returns : goal.returns
-returns g c = run_wants

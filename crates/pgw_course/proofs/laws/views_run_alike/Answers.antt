@@ -1,5 +1,0 @@
-use Rattle.pgw_course.proofs.CourseLaws.{run_seen}
-use Rattle.pgw_course.proofs.laws.views_run_alike.Goals as goal
-
-pub returns : goal.returns
-returns g c = run_seen

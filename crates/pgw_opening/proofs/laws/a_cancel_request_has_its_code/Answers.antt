@@ -1,5 +1,0 @@
-use Rattle.pgw_opening.proofs.OpeningLaws.{cancel_has}
-use Rattle.pgw_opening.proofs.laws.a_cancel_request_has_its_code.Goals as goal
-
-pub returns : goal.returns
-returns c = cancel_has

@@ -1,6 +1,0 @@
-use Rattle.std.proofs.Common.{◌≡◌, fold, take}
-use Rattle.pgw_output.specs.TableLines.{widened}
-use Rattle.pgw_output.proofs.layout.widen_by.Given as goal
-
-abbrev pub invariant-loop-row : goal.invariant-loop-row
-invariant-loop-row l = l.columns ≡ fold widened l.fn.columns (take l.row-index l.rows)

@@ -1,5 +1,0 @@
-use Rattle.pgw_pair.proofs.Refusing.{server_refuses_logins}
-use Rattle.pgw_pair.proofs.laws.server_refuses_logins.Goals as goal
-
-pub returns : goal.returns
-returns c = server_refuses_logins

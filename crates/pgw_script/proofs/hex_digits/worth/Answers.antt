@@ -1,8 +1,0 @@
-use Rattle.pgw_script.proofs.WorthLaws.{worth_at, worth_fits}
-use Rattle.pgw_script.proofs.hex_digits.worth.Goals as goal
-
-pub returns-clause-value : goal.returns-clause-value
-returns-clause-value c = worth_at c.args.byte c.ranges.byte.fits
-
-pub returns-clause-bound : goal.returns-clause-bound
-returns-clause-bound c = worth_fits c.args.byte c.ranges.byte.fits

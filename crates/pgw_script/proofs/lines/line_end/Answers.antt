@@ -1,5 +1,0 @@
-use Rattle.pgw_script.proofs.FeedLaws.{first_feed}
-use Rattle.pgw_script.proofs.lines.line_end.Goals as goal
-
-pub returns-clause-place : goal.returns-clause-place
-returns-clause-place c = first_feed c.args.text.now c.memchr.result c.memchr.ensures

@@ -1,7 +1,0 @@
-use Rattle.std.proofs.Common.{◌≡◌, map, take}
-use Rattle.pgw_config.specs.Pieces.{all_read}
-use Rattle.pgw_script.specs.RequestLine.{parameter_in}
-use Rattle.pgw_script.proofs.request_line.all_parameters.Given as goal
-
-abbrev pub invariant-loop-piece : goal.invariant-loop-piece
-invariant-loop-piece l = l.all ≡ all_read parameter_in (map (λ piece. piece.now) (take l.piece-index l.pieces))

@@ -1,6 +1,0 @@
-use Rattle.std.proofs.Common.{◌∙◌}
-use Rattle.pgw_script.proofs.SignedLaws.{parsed_32}
-use Rattle.pgw_script.proofs.request_line.parse_i32.Goals as goal
-
-pub returns : goal.returns
-returns c = c.ok.ensures.value ∙ parsed_32 c.args.text.now c.parse.result c.parse.ensures.value.0

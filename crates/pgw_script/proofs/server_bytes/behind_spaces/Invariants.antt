@@ -1,6 +1,0 @@
-use Rattle.std.proofs.Common.{◌≡◌, drop}
-use Rattle.pgw_script.specs.ServerBytes.{digits}
-use Rattle.pgw_script.proofs.server_bytes.behind_spaces.Given as goal
-
-abbrev pub invariant-loop-at : goal.invariant-loop-at
-invariant-loop-at l = digits (drop l.at l.fn.text) ≡ digits l.fn.text

@@ -1,4 +1,0 @@
-use Rattle.pgw_server.proofs.connection.ServerCore.serve.Goals as goal
-
-pub returns-clause-comes : goal.returns-clause-comes
-returns-clause-comes g c = rw c.replace-buffer.ensures.value at c.take_all-answer.ensures.comes

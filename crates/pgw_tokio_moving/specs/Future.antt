@@ -1,0 +1,30 @@
+-- What the future that moves bytes gives.
+use Rattle.std.specs.Prelude.{◌≡◌, false, ℕ, List}
+use Rattle.tokio.specs.declared.io.async_read.AsyncRead as AsyncRead
+use Rattle.tokio.specs.declared.io.async_write.AsyncWrite as AsyncWrite
+use Rattle.pgw_tokio_moving.specs.declared.engine.Engine as Engine
+use Rattle.pgw_tokio_moving.specs.declared.engine.Turn.{Turn}
+use Rattle.pgw_tokio_moving.specs.declared.moving.Moved.{Moved}
+use Rattle.pgw_tokio_moving.specs.Moving.{Mover, held_in, HasSoundEngine, Ran}
+
+-- before the first call
+abbrev pub fresh_mover : {S E : Type 0} → S → E → Turn → List ℕ → Mover S E
+fresh_mover stream engine turn out = record {
+  stream = stream;
+  engine = engine;
+  turn = turn;
+  out =
+      out;
+  unflushed = false;
+}
+
+module _ {S E : Type 0} (reader : AsyncRead.Ghosts S) (writer : AsyncWrite.Ghosts S)
+    (engine : Engine.Ghosts E) where
+  -- the stream and the engine come back as its calls left them, and it says why no more was moved
+  pub record CameTo (held : Mover S E) (moved : Moved S E) : Type 0 where
+    pub last : Mover S E
+    pub ran : Ran reader writer engine held moved.stop last
+    pub stands : HasSoundEngine engine last
+    pub stream : moved.stream ≡ last.stream
+    pub engine_is : moved.engine ≡ last.engine
+    pub out : moved.out.items ≡ last.out

@@ -1,5 +1,0 @@
-use Rattle.pgw_turns.proofs.StepLaws.{fair}
-use Rattle.pgw_turns.proofs.laws.first_come_is_first_served.Goals as goal
-
-pub returns : goal.returns
-returns c = fair
